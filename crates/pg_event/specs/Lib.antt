@@ -1,0 +1,9 @@
+pub mod Numbers
+pub mod Heads
+pub mod Form
+pub mod Values
+pub mod Invalidation
+pub mod Walk
+pub mod Witness
+pub mod Spelling
+pub mod Reading
