@@ -1,1 +1,4 @@
+pub mod Listed
 pub mod Machine
+pub mod Refused
+pub mod Stepping

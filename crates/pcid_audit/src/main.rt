@@ -1,0 +1,32 @@
+//! pcid-audit: the program over the standard streams.
+#![tactic(auto)]
+
+use pg_codec::Watched;
+use pg_tool::pcid_audit;
+use std::env;
+use std::io::{self, Lock, Read, Write};
+use std::process::ExitCode;
+
+const MEMORY: u8 = 3;
+
+fn main(rt: HostRuntime) -> ExitCode {
+    let mut input = Watched::new(rt.reader());
+    let mut output = Watched::new(rt.stdout());
+    let mut errors = Watched::new(rt.stderr());
+    let Ok(arguments) = env::args(&rt) else {
+        return ExitCode::from(MEMORY);
+    };
+    let mut all = Vec::new(rt.alloc());
+    for argument in arguments {
+        if all.push(argument).is_err() {
+            return ExitCode::from(MEMORY);
+        }
+    }
+    let mut words: Vec<&str> = Vec::new(rt.alloc());
+    for argument in all.iter().skip(1) {
+        if words.push(argument.as_str()).is_err() {
+            return ExitCode::from(MEMORY);
+        }
+    }
+    ExitCode::from(pcid_audit(&rt, &words, &mut input, &mut output, &mut errors))
+}

@@ -1,0 +1,6 @@
+use Rattle.std.proofs.Common.{◌<◌, ◌^◌, ◌%◌}
+use Rattle.pg_check.proofs.Leaves.{offset-lt}
+use Rattle.pg_check.proofs.access.offset.Goals as goal
+
+pub returns-clause-within : goal.returns-clause-within
+returns-clause-within c = rw c.page_size.ensures (offset-lt c.args.la c.args.shift c.requires)

@@ -1,0 +1,75 @@
+-- Parts that a loop reads one after the other from what a reader has left.
+use Rattle.std.proofs.Common.{◌≡◌, ℕ, ◌-◌, ◌+◌, ◌≤◌, ◌<◌, List, [], ◌∷◌, ◌++◌, length, Option, Some, None, Result, Ok, Err, refl, sym, ap, ◌∙◌, subst, append_assoc, length-append, arith, inl, inr}
+use Rattle.std.proofs.lemmas.Bool.{cases_lt}
+use Rattle.std.proofs.lemmas.List.{get_or-append-add, get_or_append_left}
+use Rattle.std.specs.Prelude.{slice_index}
+use Rattle.pg_event.specs.Reading.{Part}
+use Rattle.pg_codec.specs.declared.error.ReadError.{ReadError}
+use Rattle.pg_codec.specs.declared.error.ReadError.TheVariants as errors
+use Rattle.pg_codec.specs.Reads.{Reads, Took, AreBytes}
+use Rattle.pg_codec.specs.Parts.{with_front}
+use Rattle.pg_codec.proofs.Many.{IsMany, begins, goes_on, ends, is_done}
+
+-- reading what is left now gives what reading all at the start gives
+abbrev pub Going : {A : Type 0} → (List ℕ → Part A) → (List ℕ → Part A) → Option (List ℕ) → Option (List ℕ) → Type 0
+Going total now None left = Unit {0}
+Going total now (Some bytes) None = ⊥
+Going total now (Some bytes) (Some rest) = now rest ≡ total bytes
+
+module _ {A : Type 0} (one : ℕ → List ℕ → Part A) (many : ℕ → ℕ → List ℕ → Part (List A)) (is : IsMany one many) (base count : ℕ) where
+  abbrev pub at_place : List A → ℕ → List ℕ → Part (List A)
+  at_place front i bytes = with_front front (many (base + i) (count - i) bytes)
+
+  pub going_starts : (left : Option (List ℕ)) → Going (many base count) (at_place [] 0) left left
+  going_starts None = tt
+  going_starts (Some bytes) = begins one many is base count bytes
+
+  pub going_on : (front : List A) (i : ℕ) (x : A) (start before after : Option (List ℕ)) → i < count → Going (many base count) (at_place front i) start before
+      → Reads before after (Ok x) (one (base + i)) → Going (many base count) (at_place (front ++ x ∷ []) (i + 1)) start after
+  going_on front i x None before after lt so_far h = tt
+  going_on front i x (Some bytes) None after lt so_far h = absurd so_far
+  going_on front i x (Some bytes) (Some rest) None lt so_far h = absurd h
+  going_on front i x (Some bytes) (Some rest) (Some more) lt so_far h = goes_on one many is front base count i rest x more (many base count bytes) lt h so_far
+
+  going_fails : (front : List A) (i : ℕ) (e : ReadError) (bytes rest : List ℕ) → i < count → at_place front i rest ≡ many base count bytes → (after : Option (List ℕ))
+      → Reads (Some rest) after (Err e) (one (base + i)) → Reads (Some bytes) after (Err e) (many base count)
+  going_fails front i (errors.Refused d) bytes rest lt so_far after h = ends one many is front base count i rest d (many base count bytes) lt h so_far
+  going_fails front i errors.Failed bytes rest lt so_far after h = absurd h
+  going_fails front i errors.Device bytes rest lt so_far after h = tt
+  going_fails front i errors.Memory bytes rest lt so_far after h = tt
+
+  pub going_ends : (front : List A) (i : ℕ) (e : ReadError) (start before after : Option (List ℕ)) → i < count → Going (many base count) (at_place front i) start before
+      → Reads before after (Err e) (one (base + i)) → Reads start after (Err e) (many base count)
+  going_ends front i e None before after lt so_far h = tt
+  going_ends front i e (Some bytes) None after lt so_far h = absurd so_far
+  going_ends front i e (Some bytes) (Some rest) after lt so_far h = going_fails front i e bytes rest lt so_far after h
+
+  pub going_done : (front : List A) (i : ℕ) (start after : Option (List ℕ)) → count ≤ i → Going (many base count) (at_place front i) start after → Reads start after (Ok front) (many base count)
+  going_done front i None after le so_far = tt
+  going_done front i (Some bytes) None le so_far = absurd so_far
+  going_done front i (Some bytes) (Some rest) le so_far = is_done one many is front base count i rest (many base count bytes) le so_far
+
+pub memory_reads : {A : Type 0} (read : List ℕ → Part A) (start after : Option (List ℕ)) → Reads start after (Err errors.Memory) read
+memory_reads read None after = tt
+memory_reads read (Some bytes) after = tt
+
+pub device_reads : {A : Type 0} (read : List ℕ → Part A) (start after : Option (List ℕ)) → Reads start after (Err errors.Device) read
+device_reads read None after = tt
+device_reads read (Some bytes) after = tt
+
+bytes_joined : (xs ys : List ℕ) → AreBytes xs → AreBytes ys → AreBytes (xs ++ ys)
+bytes_joined xs ys p q i =
+    elim (cases_lt i (length xs)) [
+      | inl lt ↦ rw (get_or_append_left xs ys 0 i lt) (p i)
+      | inr le ↦ let place : i ≡ length xs + (i - length xs) = omega arith in subst (λ j. slice_index (xs ++ ys) j < 256) (sym place) (rw (get_or-append-add xs ys (i - length xs) 0) (q (i - length xs)))
+    ]
+
+pub took_none : (left : Option (List ℕ)) → Took left left
+took_none None = tt
+took_none (Some bytes) = ([], λ i. omega arith, refl)
+
+pub took_then : (a b c : Option (List ℕ)) → Took a b → Took b c → Took a c
+took_then None b c p q = tt
+took_then (Some bytes) None c p q = absurd p
+took_then (Some bytes) (Some rest) None p q = absurd q
+took_then (Some bytes) (Some rest) (Some more) p q = (p.0 ++ q.0, bytes_joined p.0 q.0 p.1 q.1, p.2 ∙ ap (λ l. p.0 ++ l) q.2 ∙ sym (append_assoc p.0 q.0 more))

@@ -1,0 +1,10 @@
+pub mod Pushed
+pub mod Written
+pub mod Many
+pub mod Local
+pub mod Widths
+pub mod Pulled
+pub mod Next
+pub mod Going
+pub mod Steps
+pub mod Pushing

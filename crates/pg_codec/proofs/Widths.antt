@@ -1,0 +1,133 @@
+-- How far each part of a record looks.
+use Rattle.std.proofs.Common.{◌≡◌, ℕ, zero, suc, ◌+◌, ◌*◌, ◌^◌, ◌≤◌, Bool, true, false, cond, eqb, ltb, leb, ◌&&◌, List, [], ◌∷◌, ◌++◌, length, take, drop, codes, Option, Some, None, Result, Ok, Err, arith, sym, ap, ◌∙◌, refl, take-append-drop, length-append, length-take}
+use Rattle.std.specs.Int.{w16, w32, w64}
+use Rattle.std.proofs.lemmas.Bool.{le-ltb}
+use Rattle.std.proofs.lemmas.Bool.Decides.{nat_tests}
+use Rattle.std.proofs.lemmas.List.{take-append-le}
+use lib.Seq.{drop-append-le}
+use Rattle.pg_event.specs.declared.event.Event.{Event}
+use Rattle.pg_event.specs.declared.event.Event.TheVariants as events
+use Rattle.pg_event.specs.declared.event.Outcome.TheVariants as outcomes
+use Rattle.pg_event.specs.declared.event.Malformed.{Malformed}
+use Rattle.pg_event.specs.declared.refusal.Refusal.{Refusal}
+use Rattle.pg_event.specs.declared.refusal.Refusal.TheVariants as refusals
+use Rattle.pg_event.specs.Heads.{Head}
+use Rattle.pg_event.specs.Form.{broken_rule}
+use Rattle.pg_event.specs.Reading.{◌>>=◌, Part, byte_at, number_at, passing, same_bytes, magic_at, start_at, outcome_at, numbers_at, moments_at, write_at, access_at, mov_cr3_at, invlpg_at, invpcid_at, mov_cr4_pge_at, fields_at, well_formed_at, event_at}
+use Rattle.pg_codec.specs.Parts.{settings_at}
+use Rattle.pg_codec.proofs.Local.{IsLocal, extended, byte_local, number_local, done_local, refused_local, then_local, wider, cond_local, bounded_local, made_local, done, ok_is}
+
+outcome_local : IsLocal 9 outcome_at
+unfolding outcome_at
+outcome_local =
+    bounded_local 1 8 (λ n. ltb n 2) refusals.Tag byte_at _ byte_local (λ tag _. cond_local 8 (eqb tag 0) _ _
+    (made_local 8 (number_at w64) (λ page. outcomes.Page page) (number_local w64))
+    (wider 2 8 _ (omega arith) (made_local 2 (number_at w16) (λ code. outcomes.Fault code) (number_local w16))))
+
+numbers_local : (n : ℕ) → IsLocal (4 * n) (numbers_at n)
+unfolding numbers_at
+numbers_local zero = done_local []
+numbers_local (suc n) =
+    wider (4 + (4 * n + 0)) (4 * suc n) _ (omega arith)
+    (then_local 4 (4 * n + 0) (number_at w32) (λ first bytes. numbers_at n bytes >>= λ others. Ok (first ∷ others.0, others.1)) (number_local w32)
+      (λ first. made_local (4 * n) (numbers_at n) (λ others. first ∷ others) (numbers_local n)))
+
+few : (n : ℕ) → (leb 1 n && leb n 4) ≡ true → n ≤ 4
+few n h = grind (arith, nat_tests)
+
+moments_local : IsLocal 17 moments_at
+unfolding moments_at
+moments_local =
+    bounded_local 1 16 (λ n. leb 1 n && leb n 4) refusals.Tag byte_at (λ n bytes. numbers_at n bytes) byte_local
+    (λ n h. let le = few n h in wider (4 * n) 16 (numbers_at n) (omega arith) (numbers_local n))
+
+write_local : (p : ℕ) → IsLocal 16 (write_at p)
+unfolding write_at
+write_local p = then_local 8 8 (number_at w64) (λ addr bytes. number_at w64 bytes >>= λ value. Ok (events.Write p addr value.0, value.1)) (number_local w64) (λ addr. made_local 8 (number_at w64) (λ value. events.Write p addr value) (number_local w64))
+
+access_local : (p : ℕ) → IsLocal 35 (access_at p)
+unfolding access_at
+access_local p =
+    then_local 1 34 byte_at (λ flags bytes. number_at w64 bytes >>= λ la. outcome_at la.1 >>= λ outcome. moments_at outcome.1 >>= λ moments. Ok (events.Access p flags la.0 outcome.0 moments.0, moments.1)) byte_local (λ flags.
+      then_local 8 26 (number_at w64) (λ la bytes. outcome_at bytes >>= λ outcome. moments_at outcome.1 >>= λ moments. Ok (events.Access p flags la outcome.0 moments.0, moments.1)) (number_local w64) (λ la.
+        then_local 9 17 outcome_at (λ outcome bytes. moments_at bytes >>= λ moments. Ok (events.Access p flags la outcome moments.0, moments.1)) outcome_local (λ outcome.
+          made_local 17 moments_at (λ moments. events.Access p flags la outcome moments) moments_local)))
+
+invpcid_local : (p : ℕ) → IsLocal 11 (invpcid_at p)
+unfolding invpcid_at
+invpcid_local p =
+    then_local 1 10 byte_at (λ kind bytes. number_at w16 bytes >>= λ pcid. number_at w64 pcid.1 >>= λ la. Ok (events.Invpcid p kind pcid.0 la.0, la.1)) byte_local (λ kind.
+      then_local 2 8 (number_at w16) (λ pcid bytes. number_at w64 bytes >>= λ la. Ok (events.Invpcid p kind pcid la.0, la.1)) (number_local w16) (λ pcid.
+        made_local 8 (number_at w64) (λ la. events.Invpcid p kind pcid la) (number_local w64)))
+
+mov_cr3_local : (p : ℕ) → IsLocal 8 (mov_cr3_at p)
+unfolding mov_cr3_at
+mov_cr3_local p = made_local 8 (number_at w64) (λ operand. events.MovCr3 p operand) (number_local w64)
+
+invlpg_local : (p : ℕ) → IsLocal 8 (invlpg_at p)
+unfolding invlpg_at
+invlpg_local p = made_local 8 (number_at w64) (λ la. events.Invlpg p la) (number_local w64)
+
+mov_cr4_pge_local : (p : ℕ) → IsLocal 1 (mov_cr4_pge_at p)
+unfolding mov_cr4_pge_at
+mov_cr4_pge_local p = bounded_local 1 0 (λ n. ltb n 2) refusals.Tag byte_at (λ on bytes. Ok (events.MovCr4Pge p (eqb on 1), bytes)) byte_local (λ on _. done_local (events.MovCr4Pge p (eqb on 1)))
+
+fields_local : (tag p : ℕ) → IsLocal 35 (fields_at tag p)
+unfolding fields_at
+fields_local tag p =
+    cond_local 35 (eqb tag 0x10) _ _ (wider 16 35 _ (omega arith) (write_local p))
+    (cond_local 35 (eqb tag 0x11) _ _ (access_local p)
+      (cond_local 35 (eqb tag 0x12) _ _ (wider 8 35 _ (omega arith) (mov_cr3_local p))
+        (cond_local 35 (eqb tag 0x13) _ _ (wider 8 35 _ (omega arith) (invlpg_local p))
+          (cond_local 35 (eqb tag 0x14) _ _ (wider 11 35 _ (omega arith) (invpcid_local p))
+            (wider 1 35 _ (omega arith) (mov_cr4_pge_local p))))))
+
+judged_local : (i : ℕ) (rule : Option Malformed) (e : Event) → IsLocal 0 (λ bytes. well_formed_at i rule (e, bytes))
+judged_local i None e = done_local e
+judged_local i (Some rule) e = refused_local (refusals.Malformed i rule)
+
+pub event_local : (head : Head) (i : ℕ) → IsLocal 37 (event_at head i)
+unfolding event_at
+event_local head i =
+    bounded_local 1 36 (λ n. leb 0x10 n && leb n 0x15) refusals.Tag byte_at (λ tag bytes. byte_at bytes >>= λ p. fields_at tag p.0 p.1 >>= λ e. well_formed_at i (broken_rule head e.0) e) byte_local (λ tag _.
+      then_local 1 35 byte_at (λ p bytes. fields_at tag p bytes >>= λ e. well_formed_at i (broken_rule head e.0) e) byte_local (λ p.
+        then_local 35 0 (fields_at tag p) (λ e bytes. well_formed_at i (broken_rule head e) (e, bytes)) (fields_local tag p) (λ e. judged_local i (broken_rule head e) e)))
+
+pub start_local : (m : ℕ) → IsLocal 9 (start_at m)
+unfolding start_at
+start_local m =
+    bounded_local 8 1 (λ n. ltb n (2 ^ m)) refusals.HeaderField (number_at w64) (λ cr3 bytes. passing (λ n. ltb n 2) refusals.HeaderField (byte_at bytes) >>= λ pge. Ok ((cr3, eqb pge.0 1), pge.1)) (number_local w64) (λ cr3 _.
+      bounded_local 1 0 (λ n. ltb n 2) refusals.HeaderField byte_at (λ pge bytes. Ok ((cr3, eqb pge 1), bytes)) byte_local (λ pge _. done_local (cr3, eqb pge 1)))
+
+tested : (b : Bool) (front rest more : List ℕ) → cond b (Ok (front, rest ++ more)) (Err refusals.Magic) ≡ extended more (cond b (Ok (front, rest)) (Err refusals.Magic))
+tested true front rest more = refl
+tested false front rest more = refl
+
+found : (short good : Bool) (y x : List ℕ × List ℕ) → cond short (Err refusals.Truncated) (cond good (Ok y) (Err refusals.Magic)) ≡ done x → y.1 ≡ x.1
+found true good y x e = absurd cc
+found false true y x e = ap (λ z. z.1) (ok_is y x e)
+found false false y x e = absurd cc
+
+magic_same : (front more : List ℕ) → 8 ≤ length front → magic_at (front ++ more) ≡ extended more (magic_at front)
+unfolding magic_at
+magic_same front more h =
+    let long : ltb (length (front ++ more)) 8 ≡ false = le-ltb _ _ (omega (arith, length-append front more)) in
+    let enough : ltb (length front) 8 ≡ false = le-ltb _ _ h in
+    rw (long, enough, take-append-le 8 front more h, drop-append-le 8 front more h) (tested (same_bytes (take 8 front) (codes "PGRECORD")) (take 8 front) (drop 8 front) more)
+
+magic_used : (bytes : List ℕ) (x : List ℕ × List ℕ) → magic_at bytes ≡ Ok x → (text : List ℕ) × (bytes ≡ text ++ x.1) × (length text ≤ 8)
+unfolding magic_at
+magic_used bytes x e = (take 8 bytes, sym (take-append-drop 8 bytes) ∙ ap (λ l. take 8 bytes ++ l) (found (ltb (length bytes) 8) (same_bytes (take 8 bytes) (codes "PGRECORD")) (take 8 bytes, drop 8 bytes) x e), omega (arith, length-take 8 bytes))
+
+magic_local : IsLocal 8 magic_at
+magic_local = record { same = magic_same; used = magic_used }
+
+pub settings_local : IsLocal 17 settings_at
+unfolding settings_at
+settings_local =
+    then_local 8 9 magic_at _ magic_local (λ magic.
+      bounded_local 2 7 (λ n. eqb n 1) refusals.Version (number_at w16) _ (number_local w16) (λ version _.
+        bounded_local 1 6 (λ n. leb 36 n && leb n 52) refusals.HeaderField byte_at _ byte_local (λ m _.
+          bounded_local 1 5 (λ n. ltb n 16) refusals.HeaderField byte_at _ byte_local (λ flags _.
+            bounded_local 1 4 (λ n. leb 1 n && leb n 64) refusals.HeaderField byte_at _ byte_local (λ count _.
+              bounded_local 4 0 (λ n. leb 1 n && leb n 65536) refusals.HeaderField (number_at w32) _ (number_local w32) (λ size _. done_local _))))))

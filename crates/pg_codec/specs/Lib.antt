@@ -1,0 +1,6 @@
+pub mod Streams
+pub mod Errors
+pub mod Writing
+pub mod Reads
+pub mod Parts
+pub mod Readers

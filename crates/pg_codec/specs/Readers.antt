@@ -1,0 +1,62 @@
+-- What a reader of records is seen as.
+use Rattle.std.specs.Prelude.{◌≡◌, ℕ, ◌+◌, ◌==◌, ◌≤◌, ◌<◌, ◌^◌, true, List, length, Option, Some, None, Result, Ok, Err}
+use Rattle.std.specs.List.{AllByRecursion}
+use Rattle.pg_event.specs.Form.{broken_rule}
+use Rattle.pg_event.specs.declared.event.Event.{Event}
+use Rattle.pg_event.specs.Heads.{Head}
+use Rattle.pg_codec.specs.declared.error.ReadError.{ReadError}
+use Rattle.pg_codec.specs.declared.stage.Progress.{Progress}
+use Rattle.pg_codec.specs.declared.stage.Stage.{Stage}
+use Rattle.pg_codec.specs.declared.stage.Stage.TheVariants.{Start, Segments, Ended, Refused}
+use Rattle.pg_codec.specs.Parts.{closed_chunk_at}
+use Rattle.pg_codec.specs.Reads.{Reads}
+
+-- what it pulled and has not read, and where it stands
+pub record Reader : Type 0 where
+  pub unread : List ℕ
+  pub stage : Stage
+
+-- where a reader stands behind the header
+abbrev pub behind_header : Head → Stage
+behind_header head = Segments (record { header = head; number = 0; before = 0; full = true })
+
+abbrev pub stage_after_header : Result Head ReadError → Stage
+stage_after_header (Ok head) = behind_header head
+stage_after_header (Err e) = Refused
+
+-- where a reader stands behind a segment, or the end
+abbrev pub behind_chunk : Progress → Option (List Event) → Stage
+behind_chunk p None = Ended
+behind_chunk p (Some events) =
+    Segments (record { header = p.header; number = p.number + 1; before = p.before + length events; full = length events == p.header.segment })
+
+abbrev pub stage_after_chunk : Stage → Result (Option (List Event)) ReadError → Stage
+stage_after_chunk (Segments p) (Ok chunk) = behind_chunk p chunk
+stage_after_chunk _ _ = Refused
+
+-- the header is read first and once; a reader that refused may be asked again
+abbrev pub MayReadHeader : Stage → Type 0
+MayReadHeader Start = Unit {0}
+MayReadHeader Refused = Unit {0}
+MayReadHeader _ = ⊥
+
+-- a segment is read behind the header and before the end; a reader that refused may be asked again
+abbrev pub MayReadSegment : Stage → Type 0
+MayReadSegment (Segments p) = Unit {0}
+MayReadSegment Refused = Unit {0}
+MayReadSegment _ = ⊥
+
+-- where a reader stands before a segment, the call reads it, or the end
+abbrev pub ReadsSegment : Stage → Option (List ℕ) → Option (List ℕ) → Result (Option (List Event)) ReadError → Type 0
+ReadsSegment (Segments p) old new result = Reads old new result (closed_chunk_at p.header p.number p.before p.full)
+ReadsSegment _ old new result = Unit {0}
+
+-- a segment that may come where a reader stands: some well-formed events, and not too many
+abbrev pub IsNext : Stage → Option (List Event) → Type 0
+IsNext (Segments p) (Some events) = (1 ≤ length events) × (p.before + length events < 2 ^ 32) × AllByRecursion (λ e. broken_rule p.header e ≡ None) events
+IsNext _ _ = Unit {0}
+
+-- what a reader keeps of where it stands
+abbrev pub IsSound : Stage → Type 0
+IsSound (Segments p) = (p.header.cfg.m ≤ 52) × (p.number ≤ p.before)
+IsSound _ = Unit {0}

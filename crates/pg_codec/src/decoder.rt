@@ -1,0 +1,113 @@
+//! Events at the front of a slice.
+
+ghost use Rattle.std.specs.Prelude.{◌≡◌, ◌≤◌, None, IfOk};
+ghost use Rattle.pg_event.specs.Form.{broken_rule};
+ghost use Rattle.pg_event.specs.Reading.{write_at, access_at, mov_cr3_at, invlpg_at, invpcid_at, mov_cr4_pge_at, fields_at, event_at};
+ghost use Rattle.pg_codec.specs.Reads.{Gives};
+
+use crate::fields::{byte_of, moments_of, outcome_of, u16_of, u64_of};
+use pg_event::{Event, Header, Refusal, well_formed};
+
+#[tactic(auto, unfolding(pg_event::specs::Reading::write_at))]
+fn write_of(p: u16, bytes: &[u8]) -> Result<(Event, &[u8]), Refusal>
+    ensures { Gives (λ x. (x.0, x.1.now)) result (write_at p bytes.now) }
+{
+    let (addr, rest) = u64_of(bytes)?;
+    let (value, rest) = u64_of(rest)?;
+    Ok((Event::Write { p, addr, value }, rest))
+}
+
+#[tactic(auto, unfolding(pg_event::specs::Reading::access_at))]
+fn access_of(p: u16, bytes: &[u8]) -> Result<(Event, &[u8]), Refusal>
+    ensures { Gives (λ x. (x.0, x.1.now)) result (access_at p bytes.now) }
+{
+    let (flags, rest) = byte_of(bytes)?;
+    let (la, rest) = u64_of(rest)?;
+    let (outcome, rest) = outcome_of(rest)?;
+    match moments_of(rest) {
+        Err(refusal) => Err(refusal),
+        Ok((moments, rest)) => Ok((
+            Event::Access {
+                p,
+                flags,
+                la,
+                outcome,
+                moments,
+            },
+            rest,
+        )),
+    }
+}
+
+#[tactic(auto, unfolding(pg_event::specs::Reading::mov_cr3_at))]
+fn mov_cr3_of(p: u16, bytes: &[u8]) -> Result<(Event, &[u8]), Refusal>
+    ensures { Gives (λ x. (x.0, x.1.now)) result (mov_cr3_at p bytes.now) }
+{
+    let (operand, rest) = u64_of(bytes)?;
+    Ok((Event::MovCr3 { p, operand }, rest))
+}
+
+#[tactic(auto, unfolding(pg_event::specs::Reading::invlpg_at))]
+fn invlpg_of(p: u16, bytes: &[u8]) -> Result<(Event, &[u8]), Refusal>
+    ensures { Gives (λ x. (x.0, x.1.now)) result (invlpg_at p bytes.now) }
+{
+    let (la, rest) = u64_of(bytes)?;
+    Ok((Event::Invlpg { p, la }, rest))
+}
+
+#[tactic(auto, unfolding(pg_event::specs::Reading::invpcid_at))]
+fn invpcid_of(p: u16, bytes: &[u8]) -> Result<(Event, &[u8]), Refusal>
+    ensures { Gives (λ x. (x.0, x.1.now)) result (invpcid_at p bytes.now) }
+{
+    let (kind, rest) = byte_of(bytes)?;
+    let (pcid, rest) = u16_of(rest)?;
+    let (la, rest) = u64_of(rest)?;
+    Ok((Event::Invpcid { p, kind, pcid, la }, rest))
+}
+
+#[tactic(auto, unfolding(pg_event::specs::Reading::mov_cr4_pge_at))]
+fn mov_cr4_pge_of(p: u16, bytes: &[u8]) -> Result<(Event, &[u8]), Refusal>
+    ensures { Gives (λ x. (x.0, x.1.now)) result (mov_cr4_pge_at p bytes.now) }
+{
+    let (on, rest) = byte_of(bytes)?;
+    if on >= 2 {
+        return Err(Refusal::Tag);
+    }
+    Ok((Event::MovCr4Pge { p, on: on == 1 }, rest))
+}
+
+/// The fields of an event after its tag and processor.
+#[tactic(auto, unfolding(pg_event::specs::Reading::fields_at))]
+fn fields_of(tag: u8, p: u16, bytes: &[u8]) -> Result<(Event, &[u8]), Refusal>
+    ensures { Gives (λ x. (x.0, x.1.now)) result (fields_at tag p bytes.now) }
+{
+    match tag {
+        0x10 => write_of(p, bytes),
+        0x11 => access_of(p, bytes),
+        0x12 => mov_cr3_of(p, bytes),
+        0x13 => invlpg_of(p, bytes),
+        0x14 => invpcid_of(p, bytes),
+        _ => mov_cr4_pge_of(p, bytes),
+    }
+}
+
+/// Event number `i`, which has to be well formed.
+#[tactic(auto, unfolding(pg_event::specs::Reading::event_at))]
+pub(crate) fn event_of<'a>(header: &Header, i: u64, bytes: &'a [u8]) -> Result<(Event, &'a [u8]), Refusal>
+    requires { header.now.cfg.m ≤ 52 }
+    ensures value { Gives (λ x. (x.0, x.1.now)) result (event_at header.now i bytes.now) }
+    ensures well { IfOk result (λ x. broken_rule header.now x.0 ≡ None) }
+{
+    let (tag, rest) = byte_of(bytes)?;
+    if tag < 0x10 || tag > 0x15 {
+        return Err(Refusal::Tag);
+    }
+    let (p, rest) = byte_of(rest)?;
+    match fields_of(tag, p as u16, rest) {
+        Err(refusal) => Err(refusal),
+        Ok((event, rest)) => match well_formed(header, &event) {
+            Ok(()) => Ok((event, rest)),
+            Err(rule) => Err(Refusal::Malformed { event: i, rule }),
+        },
+    }
+}

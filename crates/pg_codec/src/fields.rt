@@ -1,0 +1,104 @@
+//! Fields at the front of a slice. Each answers its value and the bytes after it.
+
+ghost use Rattle.std.specs.Prelude.{◌≡◌, ◌+◌, ◌≤◌, length};
+ghost use Rattle.std.specs.Int.{w16, w32, w64};
+ghost use Rattle.pg_event.specs.Reading.{byte_at, number_at, outcome_at, moments_at, numbers_at};
+ghost use Rattle.pg_codec.specs.Reads.{Gives};
+ghost use Rattle.pg_codec.specs.Parts.{with_front};
+
+use pg_event::{Moments, Outcome, Refusal};
+
+pub(crate) fn byte_of(bytes: &[u8]) -> Result<(u8, &[u8]), Refusal>
+    ensures { Gives (λ x. (x.0, x.1.now)) result (byte_at bytes.now) }
+{
+    match bytes {
+        [] => Err(Refusal::Truncated),
+        [byte, rest @ ..] => Ok((*byte, rest)),
+    }
+}
+
+pub(crate) fn u16_of(bytes: &[u8]) -> Result<(u16, &[u8]), Refusal>
+    ensures { Gives (λ x. (x.0, x.1.now)) result (number_at w16 bytes.now) }
+{
+    if bytes.len() < 2 {
+        return Err(Refusal::Truncated);
+    }
+    let (front, rest) = bytes.split_at(2);
+    Ok((u16::from_le_bytes([front[0], front[1]]), rest))
+}
+
+pub(crate) fn u32_of(bytes: &[u8]) -> Result<(u32, &[u8]), Refusal>
+    ensures { Gives (λ x. (x.0, x.1.now)) result (number_at w32 bytes.now) }
+{
+    if bytes.len() < 4 {
+        return Err(Refusal::Truncated);
+    }
+    let (front, rest) = bytes.split_at(4);
+    let number = u32::from_le_bytes([front[0], front[1], front[2], front[3]]);
+    Ok((number, rest))
+}
+
+pub(crate) fn u64_of(bytes: &[u8]) -> Result<(u64, &[u8]), Refusal>
+    ensures { Gives (λ x. (x.0, x.1.now)) result (number_at w64 bytes.now) }
+{
+    if bytes.len() < 8 {
+        return Err(Refusal::Truncated);
+    }
+    let (front, rest) = bytes.split_at(8);
+    let number = u64::from_le_bytes([
+        front[0], front[1], front[2], front[3], front[4], front[5], front[6], front[7],
+    ]);
+    Ok((number, rest))
+}
+
+/// A page or a code, by the tag.
+#[tactic(auto, unfolding(pg_event::specs::Reading::outcome_at))]
+pub(crate) fn outcome_of(bytes: &[u8]) -> Result<(Outcome, &[u8]), Refusal>
+    ensures { Gives (λ x. (x.0, x.1.now)) result (outcome_at bytes.now) }
+{
+    let (tag, rest) = byte_of(bytes)?;
+    if tag >= 2 {
+        return Err(Refusal::Tag);
+    }
+    if tag == 0 {
+        let (page, rest) = u64_of(rest)?;
+        return Ok((Outcome::Page(page), rest));
+    }
+    let (code, rest) = u16_of(rest)?;
+    Ok((Outcome::Fault(code), rest))
+}
+
+/// So many moments, behind those that were read.
+fn more_moments(front: Moments, count: u8, bytes: &[u8]) -> Result<(Moments, &[u8]), Refusal>
+    requires { length front + count ≤ 4 }
+    ensures { Gives (λ x. (x.0, x.1.now)) result (with_front front (numbers_at count bytes.now)) }
+{
+    let mut moments = front;
+    let mut rest = bytes;
+    for _ in 0..count {
+        let (moment, after) = u32_of(rest)?;
+        moments = moments.with(moment).unwrap();
+        rest = after;
+    }
+    Ok((moments, rest))
+}
+
+fn numbers_of(count: u8, bytes: &[u8]) -> Result<(Moments, &[u8]), Refusal>
+    requires some { 1 ≤ count }
+    requires few { count ≤ 4 }
+    ensures { Gives (λ x. (x.0, x.1.now)) result (numbers_at count bytes.now) }
+{
+    let (first, rest) = u32_of(bytes)?;
+    more_moments(Moments::first(first), count - 1, rest)
+}
+
+#[tactic(auto, unfolding(pg_event::specs::Reading::moments_at))]
+pub(crate) fn moments_of(bytes: &[u8]) -> Result<(Moments, &[u8]), Refusal>
+    ensures { Gives (λ x. (x.0, x.1.now)) result (moments_at bytes.now) }
+{
+    let (count, rest) = byte_of(bytes)?;
+    if count < 1 || count > 4 {
+        return Err(Refusal::Tag);
+    }
+    numbers_of(count, rest)
+}

@@ -1,0 +1,81 @@
+//! The parts of a header at the front of a slice.
+
+ghost use Rattle.std.specs.Prelude.{◌≡◌, ◌≤◌, ◌<◌, ◌^◌, length, IfOk};
+ghost use Rattle.pg_event.specs.Reading.{same_bytes, magic_at, start_at};
+ghost use Rattle.pg_codec.specs.Reads.{Gives};
+ghost use Rattle.pg_codec.specs.Parts.{settings_at, AreSettings};
+
+use crate::fields::{byte_of, u16_of, u32_of, u64_of};
+use crate::settings::Settings;
+use pg_entry::{Cfg, CfgFlags};
+use pg_event::Refusal;
+
+fn same_bytes(xs: &[u8], ys: &[u8]) -> bool
+    ensures { result ≡ same_bytes xs.now ys.now }
+{
+    xs == ys
+}
+
+#[tactic(auto, unfolding(pg_event::specs::Reading::magic_at))]
+fn magic_of(bytes: &[u8]) -> Result<(&[u8], &[u8]), Refusal>
+    ensures { Gives (λ x. (x.0.now, x.1.now)) result (magic_at bytes.now) }
+{
+    if bytes.len() < 8 {
+        return Err(Refusal::Truncated);
+    }
+    let (front, rest) = bytes.split_at(8);
+    if !same_bytes(front, b"PGRECORD") {
+        return Err(Refusal::Magic);
+    }
+    Ok((front, rest))
+}
+
+/// A header up to its processors.
+#[tactic(auto, unfolding(crate::specs::Parts::settings_at))]
+pub(crate) fn settings_of(bytes: &[u8]) -> Result<(Settings, &[u8]), Refusal>
+    ensures value { Gives (λ x. (x.0, x.1.now)) result (settings_at bytes.now) }
+    ensures bounds { IfOk result (λ x. AreSettings x.0) }
+{
+    let (_, rest) = magic_of(bytes)?;
+    let (version, rest) = u16_of(rest)?;
+    if version != 1 {
+        return Err(Refusal::Version);
+    }
+    let (m, rest) = byte_of(rest)?;
+    if m < 36 || m > 52 {
+        return Err(Refusal::HeaderField);
+    }
+    let (flags, rest) = byte_of(rest)?;
+    if flags >= 16 {
+        return Err(Refusal::HeaderField);
+    }
+    let (count, rest) = byte_of(rest)?;
+    if count < 1 || count > 64 {
+        return Err(Refusal::HeaderField);
+    }
+    let (segment, rest) = u32_of(rest)?;
+    if segment < 1 || segment > 65536 {
+        return Err(Refusal::HeaderField);
+    }
+    let flags = CfgFlags(flags);
+    let cfg = Cfg { flags, m };
+    Ok((Settings { cfg, count, segment }, rest))
+}
+
+/// The CR3 of a processor at the start, and whether it has global pages.
+#[tactic(auto, unfolding(pg_event::specs::Reading::start_at))]
+pub(crate) fn start_of(m: u8, bytes: &[u8]) -> Result<((u64, bool), &[u8]), Refusal>
+    requires { m ≤ 52 }
+    ensures value { Gives (λ x. (x.0, x.1.now)) result (start_at m bytes.now) }
+    ensures cr3 { IfOk result (λ x. x.0.0 < 2 ^ m) }
+{
+    let (cr3, rest) = u64_of(bytes)?;
+    if cr3 >= 1 << m {
+        return Err(Refusal::HeaderField);
+    }
+    let (pge, rest) = byte_of(rest)?;
+    if pge >= 2 {
+        return Err(Refusal::HeaderField);
+    }
+    Ok(((cr3, pge == 1), rest))
+}

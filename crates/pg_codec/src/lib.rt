@@ -1,0 +1,29 @@
+//! Records as bytes: readers and writers over any stream, and streams whose failures are counted.
+#![tactic(auto)]
+
+mod block;
+mod buffer;
+mod chunk;
+mod decoder;
+mod error;
+mod fields;
+mod front;
+mod number;
+mod parts;
+mod reader;
+mod series;
+mod settings;
+mod spelling;
+mod stage;
+mod stream;
+mod watched;
+mod writer;
+
+pub use error::ReadError;
+pub use reader::RecordReader;
+pub use stream::{Failed, Sink, Source, put_all};
+pub use watched::Watched;
+pub use writer::{write_end, write_header, write_segment};
+
+#[cfg(test)]
+mod tests;

@@ -1,0 +1,123 @@
+//! Records from any source, segment by segment.
+
+ghost use Rattle.std.specs.Prelude.{◌≡◌, ◌+◌, ◌^◌, ◌<◌, ◌≤◌, [], length, IfOk, IfSome, OnOk, Err, option_map};
+ghost use Rattle.pg_event.specs.Spelling.{IsHead};
+ghost use Rattle.pg_event.specs.Reading.{header_at};
+ghost use Rattle.pg_codec.specs.declared.stage.Stage.TheVariants.{Start, Refused};
+ghost use Rattle.pg_codec.specs.Reads.{left_of, Reads, seen, Took, CountsDevice};
+ghost use Rattle.pg_codec.specs.Readers.{MayReadHeader, MayReadSegment, ReadsSegment, IsNext, stage_after_header, stage_after_chunk, behind_chunk};
+
+use crate::buffer::Buffer;
+use crate::chunk::{next_closed_chunk, next_header};
+use crate::error::ReadError;
+use crate::stage::{Progress, Stage};
+use crate::stream::Source;
+use pg_event::{Event, Header};
+use std::alloc::{AllocError, Global};
+use std::marker::Model;
+use std::mem;
+
+/// Reads a record from a source, which each call is passed: the header, and then segment by segment.
+/// It pulls ahead in large blocks. What it has left is what it pulled and has not read, and then what
+/// the source has left.
+#[derive(Drop)]
+pub struct RecordReader {
+    buffer: Buffer,
+    stage: Stage,
+}
+
+impl Model for RecordReader {
+    ghost use Rattle.pg_codec.specs.Readers.{Reader, IsSound};
+
+    ghost Value = { Reader };
+
+    ghost view = { λ r. record { unread = r.buffer; stage = r.stage } };
+
+    ghost invariant = { λ r. IsSound r.stage };
+}
+
+fn behind_chunk(progress: Progress, chunk: &Option<Vec<Event>>) -> Stage
+    requires number { progress.number ≤ progress.before }
+    requires limit { IfSome chunk.now (λ v. progress.before + length v.items < 2 ^ 32) }
+    requires some { IfSome chunk.now (λ v. 1 ≤ length v.items) }
+    ensures { result ≡ behind_chunk progress (option_map (λ v. v.items) chunk.now) }
+{
+    match chunk {
+        None => Stage::Ended,
+        Some(events) => {
+            let count = events.len() as u32;
+            let full = count == progress.header.segment;
+            Stage::Segments(Progress {
+                number: progress.number + 1,
+                before: progress.before + count,
+                full,
+                header: progress.header,
+            })
+        }
+    }
+}
+
+impl RecordReader {
+    /// A reader that has read nothing. It takes the memory of its block.
+    pub fn new(alloc: Global) -> Result<RecordReader, AllocError>
+        ensures { IfOk result (λ r. r ≡ record { unread = []; stage = Start }) }
+    {
+        Ok(RecordReader {
+            buffer: Buffer::new(alloc)?,
+            stage: Stage::Start,
+        })
+    }
+
+    /// Reads the header, first and once.
+    pub fn read_header<R: Source>(
+        &mut self,
+        alloc: Global,
+        source: &mut R,
+    ) -> Result<Header, ReadError>
+        requires { MayReadHeader self.old.stage }
+        ensures reads { self.old.stage ≡ Start → Reads (left_of self.old.unread (R.left source.old)) (left_of self.new.unread (R.left source.new)) result header_at }
+        ensures took { OnOk result (Took (left_of self.old.unread (R.left source.old)) (left_of self.new.unread (R.left source.new))) }
+        ensures head { IfOk result (λ h. IsHead h) }
+        ensures stage { self.new.stage ≡ stage_after_header result }
+        ensures device { CountsDevice (R.failed source.old) (R.failed source.new) result }
+        ensures refused { self.old.stage ≡ Refused → (result ≡ Err ReadError.Failed) × (self.new ≡ self.old) × (source.new ≡ source.old) }
+    {
+        match mem::replace(&mut self.stage, Stage::Refused) {
+            Stage::Start => {}
+            _ => return Err(ReadError::Failed),
+        }
+        let header = next_header(alloc, &mut self.buffer, source)?;
+        let kept = header.clone()?;
+        self.stage = Stage::Segments(Progress {
+            header: kept,
+            number: 0,
+            before: 0,
+            full: true,
+        });
+        Ok(header)
+    }
+
+    /// Reads the next segment, or answers `None` once the end mark and the end of the input were
+    /// seen. It comes after the header, and not after `None`.
+    pub fn read_segment<R: Source>(
+        &mut self,
+        alloc: Global,
+        source: &mut R,
+    ) -> Result<Option<Vec<Event>>, ReadError>
+        requires { MayReadSegment self.old.stage }
+        ensures reads { ReadsSegment self.old.stage (left_of self.old.unread (R.left source.old)) (left_of self.new.unread (R.left source.new)) (seen (option_map (λ v. v.items)) result) }
+        ensures took { OnOk result (Took (left_of self.old.unread (R.left source.old)) (left_of self.new.unread (R.left source.new))) }
+        ensures segment { IfOk result (λ chunk. IsNext self.old.stage (option_map (λ v. v.items) chunk)) }
+        ensures stage { self.new.stage ≡ stage_after_chunk self.old.stage (seen (option_map (λ v. v.items)) result) }
+        ensures device { CountsDevice (R.failed source.old) (R.failed source.new) result }
+        ensures refused { self.old.stage ≡ Refused → (result ≡ Err ReadError.Failed) × (self.new ≡ self.old) × (source.new ≡ source.old) }
+    {
+        let progress = match mem::replace(&mut self.stage, Stage::Refused) {
+            Stage::Segments(progress) => progress,
+            _ => return Err(ReadError::Failed),
+        };
+        let chunk = next_closed_chunk(alloc, &mut self.buffer, source, &progress)?;
+        self.stage = behind_chunk(progress, &chunk);
+        Ok(chunk)
+    }
+}

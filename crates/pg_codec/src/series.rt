@@ -1,0 +1,62 @@
+//! Parts of a record that come one after the other.
+
+ghost use Rattle.std.specs.Prelude.{◌≡◌, ◌+◌, ◌^◌, ◌<◌, ◌≤◌, length, IfOk, OnOk, None};
+ghost use Rattle.std.specs.List.{AllByRecursion};
+ghost use Rattle.pg_event.specs.Form.{broken_rule};
+ghost use Rattle.pg_event.specs.Reading.{starts_at, events_at};
+ghost use Rattle.pg_codec.specs.Reads.{left_of, Reads, seen, Took, CountsDevice};
+
+use crate::buffer::Buffer;
+use crate::error::ReadError;
+use crate::parts::{next_event, next_start};
+use crate::stream::Source;
+use pg_event::{Event, Header};
+use std::alloc::Global;
+
+pub(crate) fn next_starts<R: Source>(
+    alloc: Global,
+    buffer: &mut Buffer,
+    source: &mut R,
+    m: u8,
+    count: u8,
+) -> Result<Vec<(u64, bool)>, ReadError>
+    requires { m ≤ 52 }
+    ensures reads { Reads (left_of buffer.old (R.left source.old)) (left_of buffer.new (R.left source.new)) (seen (λ v. v.items) result) (starts_at m count) }
+    ensures starts { IfOk result (λ v. AllByRecursion (λ s. s.0 < 2 ^ m) v.items) }
+    ensures count { IfOk result (λ v. length v.items ≡ count) }
+    ensures took { OnOk result (Took (left_of buffer.old (R.left source.old)) (left_of buffer.new (R.left source.new))) }
+    ensures device { CountsDevice (R.failed source.old) (R.failed source.new) result }
+{
+    let mut starts = Vec::with_capacity(alloc, count as usize)?;
+    for _ in 0..count {
+        let start = next_start(buffer, source, m)?;
+        starts.push(start)?;
+    }
+    Ok(starts)
+}
+
+/// So many events, of which the first has the number `before`.
+pub(crate) fn next_events<R: Source>(
+    alloc: Global,
+    buffer: &mut Buffer,
+    source: &mut R,
+    header: &Header,
+    before: u32,
+    count: u32,
+) -> Result<Vec<Event>, ReadError>
+    requires address { header.now.cfg.m ≤ 52 }
+    requires limit { before + count < 2 ^ 32 }
+    ensures reads { Reads (left_of buffer.old (R.left source.old)) (left_of buffer.new (R.left source.new)) (seen (λ v. v.items) result) (events_at header.now before count) }
+    ensures well { IfOk result (λ v. AllByRecursion (λ e. broken_rule header.now e ≡ None) v.items) }
+    ensures count { IfOk result (λ v. length v.items ≡ count) }
+    ensures took { OnOk result (Took (left_of buffer.old (R.left source.old)) (left_of buffer.new (R.left source.new))) }
+    ensures len { IfOk result (λ v. length v.items ≡ count) }
+    ensures device { CountsDevice (R.failed source.old) (R.failed source.new) result }
+{
+    let mut events = Vec::with_capacity(alloc, count as usize)?;
+    for i in 0..count {
+        let event = next_event(buffer, source, header, (before + i) as u64)?;
+        events.push(event)?;
+    }
+    Ok(events)
+}

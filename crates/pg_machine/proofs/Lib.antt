@@ -1,0 +1,9 @@
+pub mod Bounds
+pub mod Changes
+pub mod Guards
+pub mod Members
+pub mod Outcomes
+pub mod Processors
+pub mod Refusals
+pub mod Same
+pub mod Taken

@@ -1,0 +1,57 @@
+ghost use Rattle.std.specs.Prelude.{◌≡◌, ◌<◌, ◌^◌, [], ◌∷◌, ◌++◌, OnOk, OnErr};
+ghost use Rattle.pg_event.specs.Walk.{entry_address};
+ghost use Rattle.pg_machine.specs.Listed.{value_at};
+
+use pg_entry::{Entry, Level};
+use pg_event::entry_address;
+use std::alloc::{AllocError, Global};
+use std::marker::Model;
+
+/// The words that a run has written, oldest first. All others are 0.
+#[derive(Debug, Drop)]
+pub struct Memory {
+    writes: Vec<(u64, u64)>,
+}
+
+impl Model for Memory {
+    ghost use Rattle.std.specs.Prelude.{ℕ, List};
+
+    ghost Value = { List (ℕ × ℕ) };
+
+    ghost view = { λ m. m.writes.items };
+}
+
+impl Memory {
+    pub fn new(alloc: Global) -> Memory
+        ensures { result ≡ [] }
+    {
+        Memory {
+            writes: Vec::new(alloc),
+        }
+    }
+
+    pub fn read(&self, address: u64) -> u64
+        ensures { result ≡ value_at self.now address }
+    {
+        self.writes.iter().fold(
+            0,
+            |value, write| if write.0 == address { write.1 } else { value },
+        )
+    }
+
+    /// The entry that a level has for a linear address in a table.
+    pub fn entry(&self, table: u64, level: Level, la: u64) -> Entry
+        requires { table < 2 ^ 52 }
+        ensures { result.0 ≡ value_at self.now (entry_address table level la) }
+    {
+        Entry(self.read(entry_address(table, level, la)))
+    }
+
+    pub fn write(&mut self, address: u64, value: u64) -> Result<(), AllocError>
+        ensures ok { OnOk result (self.new ≡ self.old ++ (address, value) ∷ []) }
+        ensures err { OnErr result (self.new ≡ self.old) }
+    {
+        self.writes.push((address, value))?;
+        Ok(())
+    }
+}

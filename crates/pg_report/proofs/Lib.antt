@@ -1,0 +1,5 @@
+pub mod Chunks
+pub mod Shorter
+pub mod Whole
+pub mod Continuing
+pub mod Verdicts

@@ -1,0 +1,12 @@
+//! Reports of records: the audit, its verdict and its text.
+#![tactic(auto)]
+
+mod auditor;
+mod error;
+mod intake;
+mod report;
+
+pub use auditor::{audit_one, report_of, write_report};
+pub use error::{AuditError, refusal_number, rule_number};
+pub use intake::read_record;
+pub use report::{Report, Verdict, reason_name, reason_number};

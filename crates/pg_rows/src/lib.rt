@@ -1,0 +1,17 @@
+//! Worked rows by the whole program, over memory.
+#![tactic(auto)]
+
+#[cfg(test)]
+mod headers;
+#[cfg(test)]
+mod invalidations;
+#[cfg(test)]
+mod refusals;
+#[cfg(test)]
+mod rights;
+#[cfg(test)]
+mod row;
+#[cfg(test)]
+mod tests;
+#[cfg(test)]
+mod walks;

@@ -1,0 +1,43 @@
+use pg_codec::Watched;
+use pg_tool::pcid_audit;
+use std::test::Fail;
+
+/// What the program is given, and what it must answer.
+pub struct Row {
+    /// What the row shows.
+    pub name: &'static str,
+    /// The words after the program's name.
+    pub words: &'static [&'static str],
+    /// Standard input: header, segments, events and end mark in hexadecimal.
+    pub input: &'static [&'static str],
+    /// Standard output.
+    pub output: &'static str,
+    /// Standard error.
+    pub line: &'static str,
+    /// The exit status.
+    pub status: u8,
+}
+
+/// The bytes that the pieces spell in hexadecimal.
+pub fn bytes_of(rt: &HostRuntime, pieces: &[&str]) -> Result<Vec<u8>, Fail> {
+    let mut bytes = Vec::new(rt.alloc());
+    for piece in pieces {
+        let part = hex::decode(rt.alloc(), *piece)?;
+        bytes.extend_from_slice(&part)?;
+    }
+    Ok(bytes)
+}
+
+/// Runs the program on a row, over memory.
+pub fn run(rt: &HostRuntime, row: &Row) -> Result<(), Fail> {
+    let bytes = bytes_of(rt, row.input)?;
+    let mut input = Watched::new(bytes.as_slice());
+    let mut output = Watched::new(Vec::new(rt.alloc()));
+    let mut errors = Watched::new(Vec::new(rt.alloc()));
+    let status = pcid_audit(rt, row.words, &mut input, &mut output, &mut errors);
+    let name = row.name;
+    assert_eq!(rt; output.inner.as_slice(), row.output.as_bytes(), "{name}");
+    assert_eq!(rt; errors.inner.as_slice(), row.line.as_bytes(), "{name}");
+    assert_eq!(rt; status, row.status, "{name}");
+    Ok(())
+}

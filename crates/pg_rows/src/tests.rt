@@ -1,0 +1,43 @@
+use crate::row::run;
+use crate::{headers, invalidations, refusals, rights, walks};
+use std::test::Fail;
+
+#[test]
+fn headers_out_of_range(rt: HostRuntime) -> Result<(), Fail> {
+    for row in &headers::ROWS {
+        run(&rt, row)?;
+    }
+    Ok(())
+}
+
+#[test]
+fn bytes_that_spell_no_record(rt: HostRuntime) -> Result<(), Fail> {
+    for row in &refusals::ROWS {
+        run(&rt, row)?;
+    }
+    Ok(())
+}
+
+#[test]
+fn entries_dropped_and_kept(rt: HostRuntime) -> Result<(), Fail> {
+    for row in &invalidations::ROWS {
+        run(&rt, row)?;
+    }
+    Ok(())
+}
+
+#[test]
+fn kinds_rights_and_codes(rt: HostRuntime) -> Result<(), Fail> {
+    for row in &rights::ROWS {
+        run(&rt, row)?;
+    }
+    Ok(())
+}
+
+#[test]
+fn walks_moments_and_answers(rt: HostRuntime) -> Result<(), Fail> {
+    for row in &walks::ROWS {
+        run(&rt, row)?;
+    }
+    Ok(())
+}

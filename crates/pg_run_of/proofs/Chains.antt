@@ -1,0 +1,179 @@
+-- Walks by moments, and what they witness.
+use Rattle.std.proofs.Common.{◌≡◌, ℕ, ◌+◌, ◌<◌, ◌≤◌, ◌==◌, ◌^◌, Bool, List, [], ◌∷◌, ◌++◌, refl, ap, sym, ◌∙◌, subst, true, false, not, arith, length, Option, Some, None, cond}
+use Rattle.std.proofs.lemmas.Bool.{and_from, eq-eqb, eqb-true, le-leb, and_parts}
+use Rattle.std.proofs.lemmas.List.{length_push}
+use Rattle.std.specs.List.{list_all, AllByRecursion}
+use Rattle.pg_entry.specs.declared.Level.{Level}
+use Rattle.pg_entry.specs.declared.Level.TheVariants.{Four, Three, Two, One}
+use Rattle.pg_entry.specs.Kinds.{kind_of}
+use Rattle.pg_entry.specs.Permission.{all_rights, joined}
+use Rattle.pg_event.specs.declared.event.Event.{Event}
+use Rattle.pg_event.specs.declared.event.Outcome.{Outcome}
+use Rattle.pg_event.specs.declared.event.Want.{Want}
+use Rattle.pg_event.specs.Heads.{Head}
+use Rattle.pg_event.specs.Form.{access_kind}
+use Rattle.pg_event.specs.Values.{mem_at, control_at}
+use Rattle.pg_event.specs.Invalidation.{structure_key, must_drop_structure}
+use Rattle.pg_event.specs.Walk.{Reading, readings, below}
+use Rattle.pg_event.specs.Witness.{is_table, is_wanted, leads_to, is_in_order, last_or, want_of, survives, structures_survive, failing_end, failing_walk, failing_access}
+use Rattle.pg_machine.specs.declared.step.Parent.{Parent}
+use Rattle.pg_run_of.specs.Plan.{root_at}
+use Rattle.pg_run_of.proofs.Standing.{seen, given}
+use Rattle.pg_run_of.proofs.Walks.{no_table_below}
+
+-- the first of the moments, or where there is none the one that comes next
+abbrev pub next_or : ℕ → List ℕ → ℕ
+next_or w [] = w
+next_or w (x ∷ xs) = x
+
+-- the entry that is read at x is a table, and its structure entry lasts until y
+pub record IsHop (head : Head) (all : List Event) (p la pcid y : ℕ) (level : Level) (from : Parent) (x : ℕ) : Type 0 where
+  pub low : x ≤ y
+  pub alike : (control_at head all p x).pcid ≡ pcid
+  pub table : is_table (kind_of head.cfg level (seen (mem_at all) la level from x)) ≡ true
+  pub kept : survives head all p (λ c e. must_drop_structure c e (structure_key pcid level la)) x y ≡ true
+
+-- reading by these moments, and last at w, one comes from a table at a level to another
+abbrev pub Comes : Head → List Event → ℕ → ℕ → ℕ → ℕ → Level → Parent → List ℕ → Level → Parent → Type 0
+Comes head all p la pcid w level from [] at to = (level ≡ at) × (from ≡ to)
+Comes head all p la pcid w level from (x ∷ xs) at to =
+    IsHop head all p la pcid (next_or w xs) level from x
+    × Comes head all p la pcid w (below level) (given head.cfg.m (mem_at all) la level from x) xs at to
+
+-- one more hop
+pub come_on : (head : Head) (all : List Event) (p la pcid x y : ℕ) (level : Level) (from : Parent) (ws : List ℕ) (at : Level) (to : Parent) →
+    Comes head all p la pcid x level from ws at to → IsHop head all p la pcid y at to x →
+    Comes head all p la pcid y level from (ws ++ x ∷ []) (below at) (given head.cfg.m (mem_at all) la at to x)
+come_on head all p la pcid x y level from [] at to h hop =
+    subst (λ f. Comes head all p la pcid y level f (x ∷ []) (below at) (given head.cfg.m (mem_at all) la at to x)) (sym h.1)
+    (subst (λ l. Comes head all p la pcid y l to (x ∷ []) (below at) (given head.cfg.m (mem_at all) la at to x)) (sym h.0) (hop, (refl, refl)))
+come_on head all p la pcid x y level from (v ∷ []) at to h hop =
+    (h.0, come_on head all p la pcid x y (below level) (given head.cfg.m (mem_at all) la level from v) [] at to h.1 hop)
+come_on head all p la pcid x y level from (v ∷ w ∷ ws) at to h hop =
+    (h.0, come_on head all p la pcid x y (below level) (given head.cfg.m (mem_at all) la level from v) (w ∷ ws) at to h.1 hop)
+
+pub next_or-push : (w x : ℕ) (ws : List ℕ) → next_or w (ws ++ x ∷ []) ≡ next_or x ws
+next_or-push w x [] = refl
+next_or-push w x (v ∷ ws) = refl
+
+-- what the moments of an access need, but for its end
+pub record Holds (head : Head) (all : List Event) (p la pcid : ℕ) (want : Want) (i : ℕ) (level : Level) (from : Parent) (ws : List ℕ) : Type 0 where
+  pub order : is_in_order ws i ≡ true
+  pub kinds : leads_to head.cfg want (readings head.cfg.m (mem_at all) la level from.table from.rights ws) ≡ true
+  pub alike : list_all (λ w. (control_at head all p w).pcid == pcid) ws ≡ true
+  pub kept : structures_survive head all p pcid la (readings head.cfg.m (mem_at all) la level from.table from.rights ws) ≡ true
+
+holds_more : (head : Head) (all : List Event) (p la pcid : ℕ) (want : Want) (i : ℕ) (level : Level) (from : Parent) (x y : ℕ) (ys : List ℕ) →
+    IsHop head all p la pcid y level from x → Holds head all p la pcid want i (below level) (given head.cfg.m (mem_at all) la level from x) (y ∷ ys) →
+    Holds head all p la pcid want i level from (x ∷ y ∷ ys)
+holds_more head all p la pcid want i level from x y ys hop h = record {
+  order = and_from _ _ (le-leb x y hop.low) h.order;
+  kinds = and_from _ _ hop.table h.kinds;
+  alike = and_from _ _ (eq-eqb _ _ hop.alike) h.alike;
+  kept = and_from _ _ hop.kept h.kept;
+}
+
+-- what the last reading needs
+pub record Ends (head : Head) (all : List Event) (p la pcid : ℕ) (want : Want) (i : ℕ) (at : Level) (to : Parent) (w : ℕ) : Type 0 where
+  pub low : w ≤ i
+  pub wanted : is_wanted want (kind_of head.cfg at (seen (mem_at all) la at to w)) ≡ true
+  pub alike : (control_at head all p w).pcid ≡ pcid
+
+pub holds : (head : Head) (all : List Event) (p la pcid : ℕ) (want : Want) (i w : ℕ) (level : Level) (from : Parent) (ws : List ℕ) (at : Level) (to : Parent) →
+    Comes head all p la pcid w level from ws at to → Ends head all p la pcid want i at to w →
+    Holds head all p la pcid want i level from (ws ++ w ∷ [])
+holds head all p la pcid want i w level from [] at to h end =
+    subst (λ f. Holds head all p la pcid want i level f (w ∷ [])) (sym h.1) (subst (λ l. Holds head all p la pcid want i l to (w ∷ [])) (sym h.0) (record {
+      order = le-leb w i end.low;
+      kinds = end.wanted;
+      alike = and_from _ _ (eq-eqb _ _ end.alike) refl;
+      kept = refl;
+    }))
+holds head all p la pcid want i w level from (x ∷ []) at to h end =
+    holds_more head all p la pcid want i level from x w [] h.0 (holds head all p la pcid want i w (below level) (given head.cfg.m (mem_at all) la level from x) [] at to h.1 end)
+holds head all p la pcid want i w level from (x ∷ y ∷ ys) at to h end =
+    holds_more head all p la pcid want i level from x y (ys ++ w ∷ []) h.0 (holds head all p la pcid want i w (below level) (given head.cfg.m (mem_at all) la level from x) (y ∷ ys) at to h.1 end)
+
+-- the last reading
+abbrev pub reading_at : List Event → ℕ → Level → Parent → ℕ → Reading
+reading_at all la at to w = record { level = at; value = seen (mem_at all) la at to w; moment = w; rights = joined to.rights (seen (mem_at all) la at to w) }
+
+pub ends_there : (head : Head) (all : List Event) (p la pcid w : ℕ) (level : Level) (from : Parent) (ws : List ℕ) (at : Level) (to : Parent) (r : Reading) →
+    Comes head all p la pcid w level from ws at to →
+    last_or r (readings head.cfg.m (mem_at all) la level from.table from.rights (ws ++ w ∷ [])) ≡ reading_at all la at to w
+ends_there head all p la pcid w level from [] at to r h =
+    ap (λ (l : Level). reading_at all la l from w) h.0 ∙ ap (λ (f : Parent). reading_at all la at f w) h.1
+ends_there head all p la pcid w level from (x ∷ xs) at to r h =
+    ends_there head all p la pcid w (below level) (given head.cfg.m (mem_at all) la level from x) xs at to (reading_at all la level from x) h.1
+
+pub pass : {X : Type 0} (b : Bool) (x : X) (o : Option X) → b ≡ true → o ≡ None → cond (not b) (Some x) o ≡ None
+pass true x o h k = k
+pass false x o h k = absurd (cc)
+
+-- an access by such moments is witnessed
+access_holds : (head : Head) (all : List Event) (i p flags la pcid : ℕ) (outcome : Outcome) (r : Reading) (w : ℕ) (ws : List ℕ) →
+    Holds head all p la pcid (want_of outcome) i Four (record { table = (control_at head all p w).root; rights = all_rights }) (w ∷ ws) →
+    last_or r (readings head.cfg.m (mem_at all) la Four (control_at head all p w).root all_rights (w ∷ ws)) ≡ r →
+    failing_end head all i p (access_kind flags) la pcid outcome r (kind_of head.cfg r.level r.value) ≡ None →
+    failing_access head all i p flags la outcome (w ∷ ws) ≡ None
+access_holds head all i p flags la pcid outcome r w ws h last ends =
+    let own : (control_at head all p w).pcid ≡ pcid = eqb-true _ _ (and_parts _ _ h.alike).0 in
+    subst (λ c. failing_walk head all i p (access_kind flags) la outcome c (w ∷ ws) (readings head.cfg.m (mem_at all) la Four (control_at head all p w).root all_rights (w ∷ ws)) ≡ None) (sym own)
+    (pass _ _ _ h.order (pass _ _ _ h.kinds (pass _ _ _ h.alike (pass _ _ _ h.kept
+    (ap (λ (q : Reading). failing_end head all i p (access_kind flags) la pcid outcome q (kind_of head.cfg q.level q.value)) last ∙ ends)))))
+
+pub access_none : (head : Head) (all : List Event) (i p flags la pcid : ℕ) (outcome : Outcome) (w : ℕ) (ws : List ℕ) (at : Level) (to : Parent) →
+    Comes head all p la pcid w Four (root_at head all p (next_or w ws)) ws at to → Ends head all p la pcid (want_of outcome) i at to w →
+    failing_end head all i p (access_kind flags) la pcid outcome (reading_at all la at to w) (kind_of head.cfg at (seen (mem_at all) la at to w)) ≡ None →
+    failing_access head all i p flags la outcome (ws ++ w ∷ []) ≡ None
+access_none head all i p flags la pcid outcome w [] at to come end ends =
+    access_holds head all i p flags la pcid outcome (reading_at all la at to w) w []
+    (holds head all p la pcid (want_of outcome) i w Four (root_at head all p w) [] at to come end)
+    (ends_there head all p la pcid w Four (root_at head all p w) [] at to (reading_at all la at to w) come) ends
+access_none head all i p flags la pcid outcome w (x ∷ xs) at to come end ends =
+    access_holds head all i p flags la pcid outcome (reading_at all la at to w) x (xs ++ w ∷ [])
+    (holds head all p la pcid (want_of outcome) i w Four (root_at head all p x) (x ∷ xs) at to come end)
+    (ends_there head all p la pcid w Four (root_at head all p x) (x ∷ xs) at to (reading_at all la at to w) come) ends
+
+-- how many moments
+abbrev depth : Level → ℕ
+depth Four = 3
+depth Three = 2
+depth Two = 1
+depth One = 0
+
+short : (head : Head) (all : List Event) (p la pcid w : ℕ) (level : Level) (from : Parent) (ws : List ℕ) (at : Level) (to : Parent) →
+    Comes head all p la pcid w level from ws at to → length ws ≤ depth level
+short head all p la pcid w level from [] at to h = omega arith
+short head all p la pcid w Four from (x ∷ xs) at to h =
+    let less : length xs ≤ 2 = short head all p la pcid w Three (given head.cfg.m (mem_at all) la Four from x) xs at to h.1 in omega arith
+short head all p la pcid w Three from (x ∷ xs) at to h =
+    let less : length xs ≤ 1 = short head all p la pcid w Two (given head.cfg.m (mem_at all) la Three from x) xs at to h.1 in omega arith
+short head all p la pcid w Two from (x ∷ xs) at to h =
+    let less : length xs ≤ 0 = short head all p la pcid w One (given head.cfg.m (mem_at all) la Two from x) xs at to h.1 in omega arith
+short head all p la pcid w One from (x ∷ xs) at to h = absurd (no_table_below head.cfg _ h.0.table)
+
+-- each moment is at most the last, which is below the bound
+next_low : (head : Head) (all : List Event) (p la pcid w : ℕ) (level : Level) (from : Parent) (ws : List ℕ) (at : Level) (to : Parent) →
+    Comes head all p la pcid w level from ws at to → next_or w ws ≤ w
+next_low head all p la pcid w level from [] at to h = omega arith
+next_low head all p la pcid w level from (x ∷ xs) at to h =
+    let more = next_low head all p la pcid w (below level) (given head.cfg.m (mem_at all) la level from x) xs at to h.1 in
+    let low : x ≤ next_or w xs = h.0.low in
+    omega (arith, more, low)
+
+all_low : (head : Head) (all : List Event) (p la pcid w n : ℕ) → w < n → (level : Level) (from : Parent) (ws : List ℕ) (at : Level) (to : Parent) →
+    Comes head all p la pcid w level from ws at to → AllByRecursion (λ x. x < n) (ws ++ w ∷ [])
+all_low head all p la pcid w n lt level from [] at to h = (lt, tt)
+all_low head all p la pcid w n lt level from (x ∷ xs) at to h =
+    let low : x ≤ w = next_low head all p la pcid w level from (x ∷ xs) at to h in
+    (omega (arith, low, lt), all_low head all p la pcid w n lt (below level) (given head.cfg.m (mem_at all) la level from x) xs at to h.1)
+
+-- the moments of a walk fit their fields
+pub moments_fit : (head : Head) (all : List Event) (p la pcid w : ℕ) → w < 2 ^ 32 → (from : Parent) (ws : List ℕ) (at : Level) (to : Parent) →
+    Comes head all p la pcid w Four from ws at to →
+    (1 ≤ length (ws ++ w ∷ [])) × (length (ws ++ w ∷ []) ≤ 4) × AllByRecursion (λ x. x < 2 ^ 32) (ws ++ w ∷ [])
+moments_fit head all p la pcid w lt from ws at to h =
+    let few : length ws ≤ 3 = short head all p la pcid w Four from ws at to h in
+    let count : length (ws ++ w ∷ []) ≡ length ws + 1 = length_push ws w in
+    (omega (arith, count), omega (arith, count, few), all_low head all p la pcid w (2 ^ 32) lt Four from ws at to h)

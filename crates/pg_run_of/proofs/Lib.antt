@@ -1,0 +1,16 @@
+mod Paths
+mod Walks
+mod Fills
+mod Roots
+mod Hops
+mod Places
+mod Accesses
+mod Standing
+mod Ends
+pub mod Whole
+mod Moments
+mod Prefixes
+mod Chains
+mod Kept
+mod Certified
+mod Converse

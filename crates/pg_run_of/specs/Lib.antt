@@ -1,0 +1,4 @@
+pub mod Law
+pub mod Converse
+pub mod Plan
+pub mod Places

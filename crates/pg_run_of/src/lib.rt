@@ -1,0 +1,16 @@
+//! What "accepted" means: the events of an accepted record are those of a run of the machine, and
+//! each run has moments with which its events are an accepted record.
+#![tactic(auto)]
+
+mod fill;
+mod law;
+mod placer;
+mod plan;
+mod values;
+mod visit;
+mod walker;
+
+pub use fill::Fill;
+pub use law::{accepted_events_run, accepted_records_run, runs_are_accepted, runs_are_records};
+pub use plan::plan_run;
+pub use values::{control_at, memory_at};

@@ -1,0 +1,57 @@
+ghost use Rattle.std.specs.Prelude.{◌≡◌, ◌≤◌, ◌<◌, ◌^◌};
+ghost use Rattle.pg_entry.specs.Bits.{field};
+ghost use Rattle.pg_entry.specs.Permission.{joined};
+ghost use Rattle.pg_event.specs.Walk.{below, entry_address};
+ghost use Rattle.pg_run_of.specs.Plan.{table_fill};
+
+use pg_entry::{Entry, Level, combine, field};
+use pg_event::{below, entry_address};
+use pg_machine::{Parent, Step};
+
+/// A walk of processor `p` for a linear address, as far as it has come: the level that it reads
+/// next, and the table that it reads it in.
+#[derive(Clone, Copy, PartialEq, Eq, Debug)]
+pub struct Visit {
+    pub p: u16,
+    pub la: u64,
+    pub level: Level,
+    pub from: Parent,
+}
+
+/// The physical address of the entry that a walk reads next.
+pub fn next_address(visit: Visit) -> u64
+    requires { visit.from.table < 2 ^ 52 }
+    ensures { result ≡ entry_address visit.from.table visit.level visit.la }
+{
+    entry_address(visit.from.table, visit.level, visit.la)
+}
+
+/// The step that fills the table of a level.
+pub fn table_fill(visit: Visit) -> Step
+    ensures { result ≡ table_fill visit.p visit.la visit.level visit.from }
+{
+    let Visit { p, la, level, from } = visit;
+    match level {
+        Level::Four => Step::Fill4 { p, la },
+        Level::Three => Step::Fill3 { p, la, from },
+        Level::Two => Step::Fill2 { p, la, from },
+        Level::One => Step::FillLeaf { p, la, level, from },
+    }
+}
+
+/// The walk one level below, by the value that it has read.
+pub fn descend(m: u8, visit: Visit, value: u64) -> Visit
+    requires width { (12 ≤ m) × (m ≤ 52) }
+    ensures address { (result.p ≡ visit.p) × (result.la ≡ visit.la) }
+    ensures level { result.level ≡ below visit.level }
+    ensures from { result.from ≡ record { table = field value 12 m; rights = joined visit.from.rights value } }
+{
+    Visit {
+        level: below(visit.level),
+        from: Parent {
+            table: field(value, 12, m as u32),
+            rights: combine(visit.from.rights, Entry(value)),
+        },
+        ..visit
+    }
+}

@@ -1,0 +1,62 @@
+use crate::request::{Plan, Task, Usage};
+use clap::error::ErrorKind;
+use clap::{Command, Error};
+use std::alloc::{AllocError, Global};
+
+fn program<'a>(alloc: Global) -> Result<Command<'a>, AllocError> {
+    let check = Command::new(alloc, "check")
+        .about("Reads a record from standard input, and writes its report");
+    Command::new(alloc, "pcid-audit")
+        .about("Audits records of multiprocessor runs under x86-64 four-level paging with PCIDs")
+        .no_binary_name(true)
+        .subcommand_required(true)
+        .subcommand(check)
+}
+
+fn usage_of(alloc: Global, error: Error) -> Usage {
+    if error.kind() == ErrorKind::OutOfMemory {
+        return Usage::Memory;
+    }
+    match format!(in alloc; "{error}") {
+        Ok(text) => {
+            if error.kind() == ErrorKind::DisplayHelp {
+                Usage::Help(text)
+            } else {
+                Usage::Fault(text)
+            }
+        }
+        Err(_) => Usage::Memory,
+    }
+}
+
+/// Reads the words after the program's name.
+pub fn plan<'a>(alloc: Global, words: &'a [&'a str]) -> Result<Plan, Usage> {
+    let command = match program(alloc) {
+        Ok(command) => command,
+        Err(_) => return Err(Usage::Memory),
+    };
+    match command.try_get_matches_from(words) {
+        Ok(_) => Ok(Plan { task: Task::Check }),
+        Err(error) => Err(usage_of(alloc, error)),
+    }
+}
+
+#[cfg(test)]
+mod tests {
+    use super::*;
+    use std::test::Fail;
+
+    #[test]
+    fn plans(rt: HostRuntime) -> Result<(), Fail> {
+        let alloc = rt.alloc();
+        assert_eq!(rt; plan(alloc, &["check"]).ok(), Some(Plan { task: Task::Check }));
+        assert!(rt; matches!(plan(alloc, &["help"]), Err(Usage::Help(_))));
+        assert!(rt; matches!(plan(alloc, &["--help"]), Err(Usage::Help(_))));
+        assert!(rt; matches!(plan(alloc, &["check", "--help"]), Err(Usage::Help(_))));
+        assert!(rt; matches!(plan(alloc, &[]), Err(Usage::Fault(_))));
+        assert!(rt; matches!(plan(alloc, &["judge"]), Err(Usage::Fault(_))));
+        assert!(rt; matches!(plan(alloc, &["check", "more"]), Err(Usage::Fault(_))));
+        assert!(rt; matches!(plan(alloc, &["check", "--single"]), Err(Usage::Fault(_))));
+        Ok(())
+    }
+}

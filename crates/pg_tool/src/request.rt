@@ -1,0 +1,23 @@
+/// What the program is asked to do.
+#[derive(Clone, Copy, Debug, PartialEq, Eq)]
+pub enum Task {
+    /// Read a record, and write its report.
+    Check,
+}
+
+/// What the words of a command line ask for.
+#[derive(Clone, Copy, Debug, PartialEq, Eq)]
+pub struct Plan {
+    pub task: Task,
+}
+
+/// Why the words of a command line give no plan.
+#[derive(Debug, Drop)]
+pub enum Usage {
+    /// Help was asked for: its text.
+    Help(String),
+    /// The words are no command of this program: what is wrong with them, and the usage.
+    Fault(String),
+    /// Memory ran out.
+    Memory,
+}
