@@ -30,7 +30,7 @@ numbers_local zero = done_local []
 numbers_local (suc n) =
     wider (4 + (4 * n + 0)) (4 * suc n) _ (omega arith)
     (then_local 4 (4 * n + 0) (number_at w32) (λ first bytes. numbers_at n bytes >>= λ others. Ok (first ∷ others.0, others.1)) (number_local w32)
-      (λ first. made_local (4 * n) (numbers_at n) (λ others. first ∷ others) (numbers_local n)))
+    (λ first. made_local (4 * n) (numbers_at n) (λ others. first ∷ others) (numbers_local n)))
 
 few : (n : ℕ) → (leb 1 n && leb n 4) ≡ true → n ≤ 4
 few n h = grind (arith, nat_tests)
@@ -49,16 +49,16 @@ access_local : (p : ℕ) → IsLocal 35 (access_at p)
 unfolding access_at
 access_local p =
     then_local 1 34 byte_at (λ flags bytes. number_at w64 bytes >>= λ la. outcome_at la.1 >>= λ outcome. moments_at outcome.1 >>= λ moments. Ok (events.Access p flags la.0 outcome.0 moments.0, moments.1)) byte_local (λ flags.
-      then_local 8 26 (number_at w64) (λ la bytes. outcome_at bytes >>= λ outcome. moments_at outcome.1 >>= λ moments. Ok (events.Access p flags la outcome.0 moments.0, moments.1)) (number_local w64) (λ la.
-        then_local 9 17 outcome_at (λ outcome bytes. moments_at bytes >>= λ moments. Ok (events.Access p flags la outcome moments.0, moments.1)) outcome_local (λ outcome.
-          made_local 17 moments_at (λ moments. events.Access p flags la outcome moments) moments_local)))
+    then_local 8 26 (number_at w64) (λ la bytes. outcome_at bytes >>= λ outcome. moments_at outcome.1 >>= λ moments. Ok (events.Access p flags la outcome.0 moments.0, moments.1)) (number_local w64) (λ la.
+    then_local 9 17 outcome_at (λ outcome bytes. moments_at bytes >>= λ moments. Ok (events.Access p flags la outcome moments.0, moments.1)) outcome_local (λ outcome.
+    made_local 17 moments_at (λ moments. events.Access p flags la outcome moments) moments_local)))
 
 invpcid_local : (p : ℕ) → IsLocal 11 (invpcid_at p)
 unfolding invpcid_at
 invpcid_local p =
     then_local 1 10 byte_at (λ kind bytes. number_at w16 bytes >>= λ pcid. number_at w64 pcid.1 >>= λ la. Ok (events.Invpcid p kind pcid.0 la.0, la.1)) byte_local (λ kind.
-      then_local 2 8 (number_at w16) (λ pcid bytes. number_at w64 bytes >>= λ la. Ok (events.Invpcid p kind pcid la.0, la.1)) (number_local w16) (λ pcid.
-        made_local 8 (number_at w64) (λ la. events.Invpcid p kind pcid la) (number_local w64)))
+    then_local 2 8 (number_at w16) (λ pcid bytes. number_at w64 bytes >>= λ la. Ok (events.Invpcid p kind pcid la.0, la.1)) (number_local w16) (λ pcid.
+    made_local 8 (number_at w64) (λ la. events.Invpcid p kind pcid la) (number_local w64)))
 
 mov_cr3_local : (p : ℕ) → IsLocal 8 (mov_cr3_at p)
 unfolding mov_cr3_at
@@ -77,10 +77,10 @@ unfolding fields_at
 fields_local tag p =
     cond_local 35 (eqb tag 0x10) _ _ (wider 16 35 _ (omega arith) (write_local p))
     (cond_local 35 (eqb tag 0x11) _ _ (access_local p)
-      (cond_local 35 (eqb tag 0x12) _ _ (wider 8 35 _ (omega arith) (mov_cr3_local p))
-        (cond_local 35 (eqb tag 0x13) _ _ (wider 8 35 _ (omega arith) (invlpg_local p))
-          (cond_local 35 (eqb tag 0x14) _ _ (wider 11 35 _ (omega arith) (invpcid_local p))
-            (wider 1 35 _ (omega arith) (mov_cr4_pge_local p))))))
+    (cond_local 35 (eqb tag 0x12) _ _ (wider 8 35 _ (omega arith) (mov_cr3_local p))
+    (cond_local 35 (eqb tag 0x13) _ _ (wider 8 35 _ (omega arith) (invlpg_local p))
+    (cond_local 35 (eqb tag 0x14) _ _ (wider 11 35 _ (omega arith) (invpcid_local p))
+    (wider 1 35 _ (omega arith) (mov_cr4_pge_local p))))))
 
 judged_local : (i : ℕ) (rule : Option Malformed) (e : Event) → IsLocal 0 (λ bytes. well_formed_at i rule (e, bytes))
 judged_local i None e = done_local e
@@ -90,14 +90,14 @@ pub event_local : (head : Head) (i : ℕ) → IsLocal 37 (event_at head i)
 unfolding event_at
 event_local head i =
     bounded_local 1 36 (λ n. leb 0x10 n && leb n 0x15) refusals.Tag byte_at (λ tag bytes. byte_at bytes >>= λ p. fields_at tag p.0 p.1 >>= λ e. well_formed_at i (broken_rule head e.0) e) byte_local (λ tag _.
-      then_local 1 35 byte_at (λ p bytes. fields_at tag p bytes >>= λ e. well_formed_at i (broken_rule head e.0) e) byte_local (λ p.
-        then_local 35 0 (fields_at tag p) (λ e bytes. well_formed_at i (broken_rule head e) (e, bytes)) (fields_local tag p) (λ e. judged_local i (broken_rule head e) e)))
+    then_local 1 35 byte_at (λ p bytes. fields_at tag p bytes >>= λ e. well_formed_at i (broken_rule head e.0) e) byte_local (λ p.
+    then_local 35 0 (fields_at tag p) (λ e bytes. well_formed_at i (broken_rule head e) (e, bytes)) (fields_local tag p) (λ e. judged_local i (broken_rule head e) e)))
 
 pub start_local : (m : ℕ) → IsLocal 9 (start_at m)
 unfolding start_at
 start_local m =
     bounded_local 8 1 (λ n. ltb n (2 ^ m)) refusals.HeaderField (number_at w64) (λ cr3 bytes. passing (λ n. ltb n 2) refusals.HeaderField (byte_at bytes) >>= λ pge. Ok ((cr3, eqb pge.0 1), pge.1)) (number_local w64) (λ cr3 _.
-      bounded_local 1 0 (λ n. ltb n 2) refusals.HeaderField byte_at (λ pge bytes. Ok ((cr3, eqb pge 1), bytes)) byte_local (λ pge _. done_local (cr3, eqb pge 1)))
+    bounded_local 1 0 (λ n. ltb n 2) refusals.HeaderField byte_at (λ pge bytes. Ok ((cr3, eqb pge 1), bytes)) byte_local (λ pge _. done_local (cr3, eqb pge 1)))
 
 tested : (b : Bool) (front rest more : List ℕ) → cond b (Ok (front, rest ++ more)) (Err refusals.Magic) ≡ extended more (cond b (Ok (front, rest)) (Err refusals.Magic))
 tested true front rest more = refl
@@ -126,8 +126,8 @@ pub settings_local : IsLocal 17 settings_at
 unfolding settings_at
 settings_local =
     then_local 8 9 magic_at _ magic_local (λ magic.
-      bounded_local 2 7 (λ n. eqb n 1) refusals.Version (number_at w16) _ (number_local w16) (λ version _.
-        bounded_local 1 6 (λ n. leb 36 n && leb n 52) refusals.HeaderField byte_at _ byte_local (λ m _.
-          bounded_local 1 5 (λ n. ltb n 16) refusals.HeaderField byte_at _ byte_local (λ flags _.
-            bounded_local 1 4 (λ n. leb 1 n && leb n 64) refusals.HeaderField byte_at _ byte_local (λ count _.
-              bounded_local 4 0 (λ n. leb 1 n && leb n 65536) refusals.HeaderField (number_at w32) _ (number_local w32) (λ size _. done_local _))))))
+    bounded_local 2 7 (λ n. eqb n 1) refusals.Version (number_at w16) _ (number_local w16) (λ version _.
+    bounded_local 1 6 (λ n. leb 36 n && leb n 52) refusals.HeaderField byte_at _ byte_local (λ m _.
+    bounded_local 1 5 (λ n. ltb n 16) refusals.HeaderField byte_at _ byte_local (λ flags _.
+    bounded_local 1 4 (λ n. leb 1 n && leb n 64) refusals.HeaderField byte_at _ byte_local (λ count _.
+    bounded_local 4 0 (λ n. leb 1 n && leb n 65536) refusals.HeaderField (number_at w32) _ (number_local w32) (λ size _. done_local _))))))

@@ -62,7 +62,14 @@ fn next_segment<R: Source>(
     if count < 1 || count > progress.header.segment || count > u32::MAX - progress.before {
         return Err(ReadError::Refused(Refusal::SegmentCount));
     }
-    next_events(alloc, buffer, source, &progress.header, progress.before, count)
+    next_events(
+        alloc,
+        buffer,
+        source,
+        &progress.header,
+        progress.before,
+        count,
+    )
 }
 
 /// The end mark after its tag.

@@ -93,7 +93,11 @@ fn fields_of(tag: u8, p: u16, bytes: &[u8]) -> Result<(Event, &[u8]), Refusal>
 
 /// Event number `i`, which has to be well formed.
 #[tactic(auto, unfolding(pg_event::specs::Reading::event_at))]
-pub(crate) fn event_of<'a>(header: &Header, i: u64, bytes: &'a [u8]) -> Result<(Event, &'a [u8]), Refusal>
+pub(crate) fn event_of<'a>(
+    header: &Header,
+    i: u64,
+    bytes: &'a [u8],
+) -> Result<(Event, &'a [u8]), Refusal>
     requires { header.now.cfg.m ≤ 52 }
     ensures value { Gives (λ x. (x.0, x.1.now)) result (event_at header.now i bytes.now) }
     ensures well { IfOk result (λ x. broken_rule header.now x.0 ≡ None) }

@@ -59,7 +59,14 @@ pub(crate) fn settings_of(bytes: &[u8]) -> Result<(Settings, &[u8]), Refusal>
     }
     let flags = CfgFlags(flags);
     let cfg = Cfg { flags, m };
-    Ok((Settings { cfg, count, segment }, rest))
+    Ok((
+        Settings {
+            cfg,
+            count,
+            segment,
+        },
+        rest,
+    ))
 }
 
 /// The CR3 of a processor at the start, and whether it has global pages.

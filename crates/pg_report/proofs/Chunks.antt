@@ -20,9 +20,9 @@ goes_on bound head number before (Some segment, rest) =
 
 module _ (bound : ℕ) (head : Head) (number before : ℕ) where
   by_chunk : (chunk : Part (Option (List Event))) → (chunk >>= λ c. elim c.0 [
-      | None ↦ Ok ([], c.1)
-      | Some segment ↦ chunks_at bound head (number + 1) (before + length segment) (length segment == head.segment) c.1 >>= λ others. Ok (segment ++ others.0, others.1)
-    ]) ≡ (chunk >>= goes_on bound head number before)
+    | None ↦ Ok ([], c.1)
+    | Some segment ↦ chunks_at bound head (number + 1) (before + length segment) (length segment == head.segment) c.1 >>= λ others. Ok (segment ++ others.0, others.1)
+  ]) ≡ (chunk >>= goes_on bound head number before)
   unfolding goes_on
   by_chunk (Ok (None, rest)) = refl
   by_chunk (Ok (Some segment, rest)) = refl
@@ -71,7 +71,7 @@ unfolding goes_on
 rest_after_segment head front segment number full left after total rest h shorter =
     let n = rest.bound in
     let step : chunks_at n head number (length front) full left ≡
-        (chunks_at (pred n) head (number + 1) (length front + length segment) (length segment == head.segment) after >>= λ others. Ok (segment ++ others.0, others.1)) =
+    (chunks_at (pred n) head (number + 1) (length front + length segment) (length segment == head.segment) after >>= λ others. Ok (segment ++ others.0, others.1)) =
     by_a_chunk n head number (length front) full left rest.long ∙ ap (λ c. c >>= goes_on (pred n) head number (length front)) h in
     let joined = ap (with_front front) step ∙ regroup front segment (chunks_at (pred n) head (number + 1) (length front + length segment) (length segment == head.segment) after) in
     let count : length front + length segment ≡ length (front ++ segment) = sym (length-append front segment) in

@@ -1,5 +1,7 @@
 use pg_codec::Watched;
 use pg_tool::pcid_audit;
+use std::alloc::{AllocGlobal, Global};
+use std::process::Abort;
 use std::test::Fail;
 
 /// What the program is given, and what it must answer.
@@ -19,18 +21,18 @@ pub struct Row {
 }
 
 /// The bytes that the pieces spell in hexadecimal.
-pub fn bytes_of(rt: &HostRuntime, pieces: &[&str]) -> Result<Vec<u8>, Fail> {
-    let mut bytes = Vec::new(rt.alloc());
+pub fn bytes_of(alloc: Global, pieces: &[&str]) -> Result<Vec<u8>, Fail> {
+    let mut bytes = Vec::new(alloc);
     for piece in pieces {
-        let part = hex::decode(rt.alloc(), *piece)?;
+        let part = hex::decode(alloc, *piece)?;
         bytes.extend_from_slice(&part)?;
     }
     Ok(bytes)
 }
 
 /// Runs the program on a row, over memory.
-pub fn run(rt: &HostRuntime, row: &Row) -> Result<(), Fail> {
-    let bytes = bytes_of(rt, row.input)?;
+pub fn run<T: AllocGlobal + Abort>(rt: &T, row: &Row) -> Result<(), Fail> {
+    let bytes = bytes_of(rt.alloc(), row.input)?;
     let mut input = Watched::new(bytes.as_slice());
     let mut output = Watched::new(Vec::new(rt.alloc()));
     let mut errors = Watched::new(Vec::new(rt.alloc()));

@@ -2,6 +2,7 @@
 //! each run has moments with which its events are an accepted record.
 #![tactic(auto)]
 
+mod build;
 mod fill;
 mod law;
 mod placer;
@@ -10,6 +11,7 @@ mod values;
 mod visit;
 mod walker;
 
+pub use build::{BuildError, build_run, run_of};
 pub use fill::Fill;
 pub use law::{accepted_events_run, accepted_records_run, runs_are_accepted, runs_are_records};
 pub use plan::plan_run;

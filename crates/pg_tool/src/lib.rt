@@ -5,7 +5,11 @@ mod lines;
 mod planner;
 mod program;
 mod request;
+mod stepping;
+mod steps;
 
 pub use planner::plan;
-pub use program::{check, pcid_audit};
+pub use program::{check, pcid_audit, run_of};
 pub use request::{Plan, Task, Usage};
+pub use stepping::replay;
+pub use steps::run_text;

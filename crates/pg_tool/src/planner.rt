@@ -3,14 +3,21 @@ use clap::error::ErrorKind;
 use clap::{Command, Error};
 use std::alloc::{AllocError, Global};
 
+const RUN_OF: &str = "run-of";
+
 fn program<'a>(alloc: Global) -> Result<Command<'a>, AllocError> {
-    let check = Command::new(alloc, "check")
-        .about("Reads a record from standard input, and writes its report");
+    let check = Command::new(alloc, "check").about(
+        "Reads a record from standard input, and writes its report",
+    );
+    let run_of = Command::new(alloc, RUN_OF).about(
+        "Reads a record from standard input, and writes a run that has its events",
+    );
     Command::new(alloc, "pcid-audit")
         .about("Audits records of multiprocessor runs under x86-64 four-level paging with PCIDs")
         .no_binary_name(true)
         .subcommand_required(true)
-        .subcommand(check)
+        .subcommand(check)?
+        .subcommand(run_of)
 }
 
 fn usage_of(alloc: Global, error: Error) -> Usage {
@@ -36,7 +43,13 @@ pub fn plan<'a>(alloc: Global, words: &'a [&'a str]) -> Result<Plan, Usage> {
         Err(_) => return Err(Usage::Memory),
     };
     match command.try_get_matches_from(words) {
-        Ok(_) => Ok(Plan { task: Task::Check }),
+        Ok(matches) => {
+            let task = match matches.subcommand_name() {
+                Some(RUN_OF) => Task::RunOf,
+                _ => Task::Check,
+            };
+            Ok(Plan { task })
+        }
         Err(error) => Err(usage_of(alloc, error)),
     }
 }
@@ -49,7 +62,14 @@ mod tests {
     #[test]
     fn plans(rt: HostRuntime) -> Result<(), Fail> {
         let alloc = rt.alloc();
-        assert_eq!(rt; plan(alloc, &["check"]).ok(), Some(Plan { task: Task::Check }));
+        assert_eq!(rt;
+            plan(alloc, &["check"]).ok(),
+            Some(Plan { task: Task::Check })
+        );
+        assert_eq!(rt;
+            plan(alloc, &["run-of"]).ok(),
+            Some(Plan { task: Task::RunOf })
+        );
         assert!(rt; matches!(plan(alloc, &["help"]), Err(Usage::Help(_))));
         assert!(rt; matches!(plan(alloc, &["--help"]), Err(Usage::Help(_))));
         assert!(rt; matches!(plan(alloc, &["check", "--help"]), Err(Usage::Help(_))));

@@ -1,17 +1,44 @@
 ghost use Rattle.std.specs.Prelude.{◌≡◌, IfSome};
+ghost use Rattle.pg_tool.specs.Status.{error_status, status_of, IsStatus};
 
 use crate::lines::{tell, tell_memory};
 use crate::planner::plan;
 use crate::request::{Plan, Task, Usage};
+use crate::stepping::replay;
+use crate::steps::run_text;
 use pg_codec::{Sink, Source, put_all};
-use pg_report::{AuditError, Verdict, audit_one};
+use pg_report::{AuditError, Verdict, audit_one, read_record, report_of, write_report};
+use pg_run_of::BuildError;
 use std::alloc::{AllocGlobal, Global};
 
 const YES: u8 = 0;
+
 const NO: u8 = 1;
+
 const REFUSED: u8 = 2;
+
 const MEMORY: u8 = 3;
+
 const USAGE: u8 = 64;
+
+fn error_status(error: AuditError) -> u8
+    ensures { result ≡ error_status error }
+{
+    match error {
+        AuditError::Refused(_) | AuditError::Device => REFUSED,
+        AuditError::Memory => MEMORY,
+    }
+}
+
+fn status_of(answer: Result<Verdict, AuditError>) -> u8
+    ensures { result ≡ status_of answer }
+{
+    match answer {
+        Ok(Verdict::Yes) => YES,
+        Ok(Verdict::No { .. }) => NO,
+        Err(error) => error_status(error),
+    }
+}
 
 /// Audits the record on `input`, and writes its report to `output`, or one line to `errors` that
 /// says why there is none. It gives the exit status: 0 yes, 1 no, 2 refused, 3 memory.
@@ -20,13 +47,55 @@ pub fn check<R: Source, O: Sink, E: Sink>(
     input: &mut R,
     output: &mut O,
     errors: &mut E,
+) -> u8
+    ensures { IfSome (R.left input.old) (λ bytes. IsStatus bytes (O.held output.old) (O.held output.new) result) }
+{
+    let answer = audit_one(alloc, input, output);
+    if let Err(error) = answer {
+        tell(errors, error);
+    }
+    status_of(answer)
+}
+
+/// Writes the run of an accepted record, or the report of one that is not; whether it is.
+fn write_run<R: Source, O: Sink>(
+    alloc: Global,
+    input: &mut R,
+    output: &mut O,
+) -> Result<bool, AuditError> {
+    let history = read_record(alloc, input)?;
+    match pg_run_of::run_of(alloc, &history) {
+        Ok(steps) => {
+            replay(alloc, history.header(), &steps)?;
+            let text = run_text(alloc, &steps)?;
+            match put_all(output, text.as_bytes()) {
+                Ok(()) => Ok(true),
+                Err(_) => Err(AuditError::Device),
+            }
+        }
+        Err(BuildError::NotAccepted { .. }) => {
+            write_report(alloc, output, report_of(&history))?;
+            Ok(false)
+        }
+        Err(BuildError::Memory) => Err(AuditError::Memory),
+    }
+}
+
+/// Writes a run of the manual's machine that has the events of the record on `input`, one step a
+/// line, after a machine took each of them; where the record is not accepted, its report. It gives
+/// the exit status: 0 a run, 1 no, 2 refused, 3 memory.
+pub fn run_of<R: Source, O: Sink, E: Sink>(
+    alloc: Global,
+    input: &mut R,
+    output: &mut O,
+    errors: &mut E,
 ) -> u8 {
-    match audit_one(alloc, input, output) {
-        Ok(Verdict::Yes) => YES,
-        Ok(Verdict::No { .. }) => NO,
+    match write_run(alloc, input, output) {
+        Ok(true) => YES,
+        Ok(false) => NO,
         Err(error) => {
             tell(errors, error);
-            if error == AuditError::Memory { MEMORY } else { REFUSED }
+            error_status(error)
         }
     }
 }
@@ -52,6 +121,7 @@ pub fn pcid_audit<'a, T: AllocGlobal, R: Source, O: Sink, E: Sink>(
 ) -> u8 {
     match plan(rt.alloc(), words) {
         Ok(Plan { task: Task::Check }) => check(rt.alloc(), input, output, errors),
+        Ok(Plan { task: Task::RunOf }) => run_of(rt.alloc(), input, output, errors),
         Err(Usage::Help(text)) => help(text.as_str(), output, errors),
         Err(Usage::Fault(text)) => {
             let _ = put_all(errors, text.as_bytes());

@@ -3,6 +3,8 @@
 pub enum Task {
     /// Read a record, and write its report.
     Check,
+    /// Read a record, and write a run of the manual's machine that has its events.
+    RunOf,
 }
 
 /// What the words of a command line ask for.

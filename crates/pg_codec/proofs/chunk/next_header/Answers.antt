@@ -23,14 +23,14 @@ returns-in_err-processors-clause-reads g c =
     let p = err_from_is_err_and c.from_residual-in_err-processors.result c.from_residual-in_err-processors.ensures.1 in
     let s = c.in_ok-settings.settings in
     rw (p.1, p.2) (reads_by _ header_at _ _ _ header_in_parts (reads_then settings_at behind s _ _ _ _ c.in_ok-settings.ensures.reads
-      (failed_then (starts_at s.cfg.m s.count) (λ starts. Ok (head_of s starts.0, starts.1)) c.in_err-processors.field-0.0 _ _ c.in_err-processors.ensures.reads)))
+    (failed_then (starts_at s.cfg.m s.count) (λ starts. Ok (head_of s starts.0, starts.1)) c.in_err-processors.field-0.0 _ _ c.in_err-processors.ensures.reads)))
 
 pub returns-clause-reads : goal.returns-clause-reads
 unfolding behind
 returns-clause-reads g c =
     let s = c.in_ok-settings.settings in
     reads_by _ header_at _ _ _ header_in_parts (reads_then settings_at behind s _ _ _ _ c.in_ok-settings.ensures.reads
-      (reads_made (starts_at s.cfg.m s.count) (λ starts. head_of s starts) c.in_ok-processors.processors.items _ _ c.in_ok-processors.ensures.reads))
+    (reads_made (starts_at s.cfg.m s.count) (λ starts. head_of s starts) c.in_ok-processors.processors.items _ _ c.in_ok-processors.ensures.reads))
 
 pub returns-clause-took : goal.returns-clause-took
 returns-clause-took g c = took_then _ _ _ c.in_ok-settings.ensures.took c.in_ok-processors.ensures.took

@@ -1,4 +1,4 @@
-use Rattle.std.proofs.Common.{◌≡◌, refl,  ◌∷◌, [], ◌++◌, ◌+◌, List, subst, sym, ◌∙◌}
+use Rattle.std.proofs.Common.{◌≡◌, refl, ◌∷◌, [], ◌++◌, ◌+◌, List, subst, sym, ◌∙◌}
 use Rattle.std.proofs.lemmas.Result.{err_from_is_err_and}
 use Rattle.std.proofs.lemmas.List.{length_push}
 use Rattle.pg_event.specs.declared.event.Event.{Event}

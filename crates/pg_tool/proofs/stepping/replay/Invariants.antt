@@ -1,0 +1,10 @@
+use Rattle.std.proofs.Common.{◌≡◌, drop}
+use Rattle.pg_machine.specs.Machine.{RunsFrom}
+use Rattle.pg_machine.specs.Listed.{state_of}
+use Rattle.pg_tool.proofs.stepping.replay.Given as goal
+
+abbrev pub invariant-loop-step : goal.invariant-loop-step
+invariant-loop-step l = record {
+  head : l.machine.head ≡ l.header;
+  rest : RunsFrom l.header (state_of l.machine) (drop l.step-index l.steps);
+}
