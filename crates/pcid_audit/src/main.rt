@@ -2,7 +2,7 @@
 #![tactic(auto)]
 
 use pg_codec::Watched;
-use pg_tool::pcid_audit;
+use pg_tool::{pcid_audit, tell_memory};
 use std::env;
 use std::io::{self, Lock, Read, Write};
 use std::process::ExitCode;
@@ -14,17 +14,20 @@ fn main(rt: HostRuntime) -> ExitCode {
     let mut output = Watched::new(rt.stdout());
     let mut errors = Watched::new(rt.stderr());
     let Ok(arguments) = env::args(&rt) else {
+        tell_memory(&mut errors);
         return ExitCode::from(MEMORY);
     };
     let mut all = Vec::new(rt.alloc());
     for argument in arguments {
         if all.push(argument).is_err() {
+            tell_memory(&mut errors);
             return ExitCode::from(MEMORY);
         }
     }
     let mut words: Vec<&str> = Vec::new(rt.alloc());
     for argument in all.iter().skip(1) {
         if words.push(argument.as_str()).is_err() {
+            tell_memory(&mut errors);
             return ExitCode::from(MEMORY);
         }
     }

@@ -8,10 +8,12 @@ use std::io::{Read, Write};
 #[derive(Debug, Drop)]
 pub struct Watched<T> {
     pub inner: T,
+    /// How often a call failed, up to the greatest u64.
     pub failures: u64,
 }
 
 impl<T> Watched<T> {
+    /// A reader or a writer that has not failed.
     pub fn new(inner: T) -> Watched<T>
         ensures inner { result.inner ≡ inner }
         ensures failures { result.failures ≡ 0 }

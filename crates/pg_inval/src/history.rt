@@ -42,8 +42,8 @@ impl Model for Drops {
     ghost invariant = { λ a. IsRisingFrom 0 a.drops.items };
 }
 
-/// Whether there are entries that an event would drop (Intel SDM, vol. 3, 4.10.4.1): a write to
-/// memory and an access that got its answer drop none.
+/// Whether an event is of a kind that may drop entries (Intel SDM, vol. 3, 4.10.4.1): a write to
+/// memory and an access that got its answer are not.
 pub fn may_drop(event: &Event) -> bool
     ensures { result ≡ may_drop event.now }
 {
@@ -98,7 +98,7 @@ impl Drops {
     }
 
     /// Notes the event with this number, where `before` are the control registers of its processor
-    /// just before it; one that drops no entry is not kept, and takes no memory. Fails where memory
+    /// just before it; one of a kind that drops nothing is not kept, and takes no memory. Fails where memory
     /// is refused, and then nothing is noted.
     pub fn note(&mut self, moment: u32, event: &Event, before: Control) -> Result<(), AllocError>
         requires { next_moment self.old.drops ≤ moment }

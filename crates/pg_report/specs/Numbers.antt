@@ -1,24 +1,25 @@
--- The numbers of refusals and of the rules that events keep.
-use Rattle.std.specs.Prelude.{ℕ}
+-- The numbers and names of refusals, and of the rules that events keep.
+use Rattle.std.specs.Prelude.{ℕ, List, codes}
 use Rattle.pg_event.specs.declared.event.Malformed.{Malformed}
 use Rattle.pg_event.specs.declared.event.Malformed.TheVariants.{Processor, WriteAddress, LinearAddress, Operand, Invpcid, Flags}
 use Rattle.pg_event.specs.declared.refusal.Refusal.{Refusal}
 use Rattle.pg_event.specs.declared.refusal.Refusal.TheVariants.{Magic, Version, HeaderField, SegmentNumber, SegmentCount, Tag, Truncated, Total, Trailing}
 use Rattle.pg_event.specs.declared.refusal.Refusal.TheVariants as refusals
+use Rattle.pg_codec.specs.Errors.{refusal_number}
 use Rattle.pg_report.specs.declared.error.AuditError.{AuditError}
 use Rattle.pg_report.specs.declared.error.AuditError.TheVariants as errors
 
-abbrev pub refusal_number : Refusal → ℕ
-refusal_number Magic = 1
-refusal_number Version = 2
-refusal_number HeaderField = 3
-refusal_number SegmentNumber = 4
-refusal_number SegmentCount = 5
-refusal_number Tag = 6
-refusal_number (refusals.Malformed event rule) = 7
-refusal_number Truncated = 8
-refusal_number Total = 9
-refusal_number Trailing = 10
+abbrev pub refusal_name : Refusal → List ℕ
+refusal_name Magic = codes "magic"
+refusal_name Version = codes "version"
+refusal_name HeaderField = codes "header field"
+refusal_name SegmentNumber = codes "segment number"
+refusal_name SegmentCount = codes "segment count"
+refusal_name Tag = codes "tag"
+refusal_name (refusals.Malformed event rule) = codes "malformed"
+refusal_name Truncated = codes "truncated"
+refusal_name Total = codes "total"
+refusal_name Trailing = codes "bytes after the end"
 
 abbrev pub rule_number : Malformed → ℕ
 rule_number Processor = 1
@@ -32,3 +33,8 @@ abbrev pub error_number : AuditError → ℕ
 error_number (errors.Refused refusal) = refusal_number refusal
 error_number errors.Device = 11
 error_number errors.Memory = 12
+
+abbrev pub error_name : AuditError → List ℕ
+error_name (errors.Refused refusal) = refusal_name refusal
+error_name errors.Device = codes "device"
+error_name errors.Memory = codes "memory"

@@ -1,10 +1,10 @@
 //! The audit of a record, from bytes to report.
 
-ghost use Rattle.std.specs.Prelude.{◌≡◌, IfSome, IfErr};
+ghost use Rattle.std.specs.Prelude.{◌≡◌, IfSome};
 ghost use Rattle.pg_event.specs.Witness.{first_bad};
 ghost use Rattle.pg_report.specs.Text.{verdict_of, report_of, report_text};
 ghost use Rattle.pg_report.specs.Intake.{CountsDevice};
-ghost use Rattle.pg_report.specs.Audits.{WritesReport, Audits, MeansRun, CountsFailures};
+ghost use Rattle.pg_report.specs.Audits.{WritesReport, Audits, MeansRun, Leaves, CountsFailures, counts_of};
 
 use crate::error::AuditError;
 use crate::intake::read_record;
@@ -60,9 +60,10 @@ pub fn audit_one<R: Source, W: Sink>(
     reader: &mut R,
     writer: &mut W,
 ) -> Result<Verdict, AuditError>
-    ensures report { IfSome (R.left reader.old) (λ bytes. Audits bytes (W.held writer.old) (W.held writer.new) result) }
+    ensures report { IfSome (R.left reader.old) (λ bytes. Audits bytes (W.held writer.old) (W.held writer.new) (counts_of (R.failed reader.old) (R.failed reader.new) (W.failed writer.old) (W.failed writer.new)) result) }
     ensures yes { IfSome (R.left reader.old) (λ bytes. MeansRun bytes result) }
-    ensures failures { CountsFailures (R.failed reader.old) (R.failed reader.new) (W.failed writer.old) (W.failed writer.new) result }
+    ensures written { Leaves (W.held writer.old) (W.held writer.new) result }
+    ensures failures { CountsFailures (counts_of (R.failed reader.old) (R.failed reader.new) (W.failed writer.old) (W.failed writer.new)) result }
 {
     let history = match read_record(alloc, reader) {
         Ok(history) => history,

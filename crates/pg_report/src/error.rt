@@ -1,7 +1,8 @@
 ghost use Rattle.std.specs.Prelude.{◌≡◌};
-ghost use Rattle.pg_report.specs.Numbers.{refusal_number, rule_number, error_number};
+ghost use Rattle.pg_report.specs.Numbers.{rule_number, error_number, refusal_name, error_name};
 ghost use Rattle.pg_report.specs.declared.error.AuditError.TheVariants.{Memory};
 
+use pg_codec::ReadError;
 use pg_event::{Malformed, Refusal};
 use std::alloc::AllocError;
 use thiserror::Error;
@@ -28,24 +29,6 @@ impl From<AllocError> for AuditError {
     }
 }
 
-/// The number of a refusal, 1 to 10.
-pub fn refusal_number(refusal: Refusal) -> u8
-    ensures { result ≡ refusal_number refusal }
-{
-    match refusal {
-        Refusal::Magic => 1,
-        Refusal::Version => 2,
-        Refusal::HeaderField => 3,
-        Refusal::SegmentNumber => 4,
-        Refusal::SegmentCount => 5,
-        Refusal::Tag => 6,
-        Refusal::Malformed { .. } => 7,
-        Refusal::Truncated => 8,
-        Refusal::Total => 9,
-        Refusal::Trailing => 10,
-    }
-}
-
 /// The number of the rule that a malformed event breaks, 1 to 6.
 pub fn rule_number(rule: Malformed) -> u8
     ensures { result ≡ rule_number rule }
@@ -66,14 +49,16 @@ impl AuditError {
         ensures { result ≡ error_number self.now }
     {
         match *self {
-            AuditError::Refused(refusal) => refusal_number(refusal),
+            AuditError::Refused(refusal) => ReadError::Refused(refusal).number(),
             AuditError::Device => 11,
             AuditError::Memory => 12,
         }
     }
 
     /// Its name, as a refusal line gives it after the number.
-    pub fn name(&self) -> &'static str {
+    pub fn name(&self) -> &'static str
+        ensures { result.now ≡ error_name self.now }
+    {
         match *self {
             AuditError::Refused(refusal) => refusal_name(refusal),
             AuditError::Device => "device",
@@ -82,7 +67,9 @@ impl AuditError {
     }
 }
 
-fn refusal_name(refusal: Refusal) -> &'static str {
+fn refusal_name(refusal: Refusal) -> &'static str
+    ensures { result.now ≡ refusal_name refusal }
+{
     match refusal {
         Refusal::Magic => "magic",
         Refusal::Version => "version",

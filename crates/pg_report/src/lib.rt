@@ -7,6 +7,6 @@ mod intake;
 mod report;
 
 pub use auditor::{audit_one, report_of, write_report};
-pub use error::{AuditError, refusal_number, rule_number};
+pub use error::{AuditError, rule_number};
 pub use intake::read_record;
 pub use report::{Report, Verdict, reason_name, reason_number};

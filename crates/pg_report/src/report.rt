@@ -7,6 +7,7 @@ use std::alloc::{AllocError, Global};
 /// Whether the moments of a record's accesses prove them all.
 #[derive(Clone, Copy, Debug, PartialEq, Eq)]
 pub enum Verdict {
+    /// They do.
     Yes,
     /// The least event that its moments do not prove, and the least reason that fails.
     No { event: u64, reason: Reason },
@@ -15,6 +16,7 @@ pub enum Verdict {
 /// What an audit says of a record.
 #[derive(Clone, Copy, Debug, PartialEq, Eq)]
 pub struct Report {
+    /// Yes, or the first bad event.
     pub verdict: Verdict,
     /// How many events the record has.
     pub events: u64,

@@ -6,12 +6,22 @@ mod headers;
 #[cfg(test)]
 mod invalidations;
 #[cfg(test)]
+mod long_run;
+#[cfg(test)]
+mod pieces;
+#[cfg(test)]
 mod refusals;
 #[cfg(test)]
 mod rights;
 #[cfg(test)]
 mod row;
 #[cfg(test)]
+mod runs;
+#[cfg(test)]
+mod streams;
+#[cfg(test)]
 mod tests;
 #[cfg(test)]
 mod walks;
+#[cfg(test)]
+mod words;

@@ -1,10 +1,11 @@
-use pg_codec::Watched;
+use pg_codec::{Source, Watched};
 use pg_tool::pcid_audit;
 use std::alloc::{AllocGlobal, Global};
 use std::process::Abort;
 use std::test::Fail;
 
 /// What the program is given, and what it must answer.
+#[derive(Clone, Copy)]
 pub struct Row {
     /// What the row shows.
     pub name: &'static str,
@@ -30,16 +31,34 @@ pub fn bytes_of(alloc: Global, pieces: &[&str]) -> Result<Vec<u8>, Fail> {
     Ok(bytes)
 }
 
+/// Runs the program on a source in the place of a row's input. The case is named where it fails.
+pub fn run_on<T: AllocGlobal + Abort, R: Source>(
+    rt: &T,
+    row: &Row,
+    case: usize,
+    input: &mut R,
+) -> Result<(), Fail> {
+    let mut output = Watched::new(Vec::new(rt.alloc()));
+    let mut errors = Watched::new(Vec::new(rt.alloc()));
+    let status = pcid_audit(rt, row.words, input, &mut output, &mut errors);
+    let name = row.name;
+    assert_eq!(rt;
+        errors.inner.as_slice(),
+        row.line.as_bytes(),
+        "{name}, {case}"
+    );
+    assert_eq!(rt;
+        output.inner.as_slice(),
+        row.output.as_bytes(),
+        "{name}, {case}"
+    );
+    assert_eq!(rt; status, row.status, "{name}, {case}");
+    Ok(())
+}
+
 /// Runs the program on a row, over memory.
 pub fn run<T: AllocGlobal + Abort>(rt: &T, row: &Row) -> Result<(), Fail> {
     let bytes = bytes_of(rt.alloc(), row.input)?;
     let mut input = Watched::new(bytes.as_slice());
-    let mut output = Watched::new(Vec::new(rt.alloc()));
-    let mut errors = Watched::new(Vec::new(rt.alloc()));
-    let status = pcid_audit(rt, row.words, &mut input, &mut output, &mut errors);
-    let name = row.name;
-    assert_eq!(rt; output.inner.as_slice(), row.output.as_bytes(), "{name}");
-    assert_eq!(rt; errors.inner.as_slice(), row.line.as_bytes(), "{name}");
-    assert_eq!(rt; status, row.status, "{name}");
-    Ok(())
+    run_on(rt, row, 0, &mut input)
 }

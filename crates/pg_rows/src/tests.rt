@@ -1,5 +1,5 @@
 use crate::row::run;
-use crate::{headers, invalidations, refusals, rights, walks};
+use crate::{headers, invalidations, refusals, rights, runs, walks};
 use std::test::Fail;
 
 #[test]
@@ -36,8 +36,18 @@ fn kinds_rights_and_codes(rt: HostRuntime) -> Result<(), Fail> {
 
 #[test]
 fn walks_moments_and_answers(rt: HostRuntime) -> Result<(), Fail> {
+    run(&rt, &walks::FRESH_WALK)?;
     for row in &walks::ROWS {
         run(&rt, row)?;
     }
     Ok(())
+}
+
+#[test]
+fn runs_step_by_step(rt: HostRuntime) -> Result<(), Fail> {
+    for row in &runs::ROWS {
+        run(&rt, row)?;
+    }
+    run(&rt, &runs::MIXED_CHECKED)?;
+    run(&rt, &runs::MIXED_RUN)
 }

@@ -4,6 +4,8 @@ use pg_machine::Step;
 /// number.
 #[derive(Clone, Copy, PartialEq, Eq, Debug)]
 pub struct Fill {
+    /// The number of the event that it comes just before.
     pub moment: u32,
+    /// One of the four kinds of fill.
     pub step: Step,
 }

@@ -8,6 +8,7 @@ mod request;
 mod stepping;
 mod steps;
 
+pub use lines::tell_memory;
 pub use planner::plan;
 pub use program::{check, pcid_audit, run_of};
 pub use request::{Plan, Task, Usage};

@@ -1,5 +1,5 @@
 ghost use Rattle.std.specs.Prelude.{◌≡◌, IfSome};
-ghost use Rattle.pg_tool.specs.Status.{error_status, status_of, IsStatus};
+ghost use Rattle.pg_tool.specs.Status.{error_status, status_of, run_status, GivesRun, IsStatus, IsRunStatus};
 
 use crate::lines::{tell, tell_memory};
 use crate::planner::plan;
@@ -40,6 +40,16 @@ fn status_of(answer: Result<Verdict, AuditError>) -> u8
     }
 }
 
+fn run_status(answer: Result<bool, AuditError>) -> u8
+    ensures { result ≡ run_status answer }
+{
+    match answer {
+        Ok(true) => YES,
+        Ok(false) => NO,
+        Err(error) => error_status(error),
+    }
+}
+
 /// Audits the record on `input`, and writes its report to `output`, or one line to `errors` that
 /// says why there is none. It gives the exit status: 0 yes, 1 no, 2 refused, 3 memory.
 pub fn check<R: Source, O: Sink, E: Sink>(
@@ -51,10 +61,11 @@ pub fn check<R: Source, O: Sink, E: Sink>(
     ensures { IfSome (R.left input.old) (λ bytes. IsStatus bytes (O.held output.old) (O.held output.new) result) }
 {
     let answer = audit_one(alloc, input, output);
+    let status = status_of(answer);
     if let Err(error) = answer {
         tell(errors, error);
     }
-    status_of(answer)
+    status
 }
 
 /// Writes the run of an accepted record, or the report of one that is not; whether it is.
@@ -62,8 +73,13 @@ fn write_run<R: Source, O: Sink>(
     alloc: Global,
     input: &mut R,
     output: &mut O,
-) -> Result<bool, AuditError> {
-    let history = read_record(alloc, input)?;
+) -> Result<bool, AuditError>
+    ensures { IfSome (R.left input.old) (λ bytes. GivesRun bytes (O.held output.old) (O.held output.new) result) }
+{
+    let history = match read_record(alloc, input) {
+        Ok(history) => history,
+        Err(error) => return Err(error),
+    };
     match pg_run_of::run_of(alloc, &history) {
         Ok(steps) => {
             replay(alloc, history.header(), &steps)?;
@@ -74,8 +90,10 @@ fn write_run<R: Source, O: Sink>(
             }
         }
         Err(BuildError::NotAccepted { .. }) => {
-            write_report(alloc, output, report_of(&history))?;
-            Ok(false)
+            match write_report(alloc, output, report_of(&history)) {
+                Ok(()) => Ok(false),
+                Err(error) => Err(error),
+            }
         }
         Err(BuildError::Memory) => Err(AuditError::Memory),
     }
@@ -89,15 +107,14 @@ pub fn run_of<R: Source, O: Sink, E: Sink>(
     input: &mut R,
     output: &mut O,
     errors: &mut E,
-) -> u8 {
-    match write_run(alloc, input, output) {
-        Ok(true) => YES,
-        Ok(false) => NO,
-        Err(error) => {
-            tell(errors, error);
-            error_status(error)
-        }
+) -> u8
+    ensures { IfSome (R.left input.old) (λ bytes. IsRunStatus bytes (O.held output.old) (O.held output.new) result) }
+{
+    let answer = write_run(alloc, input, output);
+    if let Err(error) = answer {
+        tell(errors, error);
     }
+    run_status(answer)
 }
 
 fn help<O: Sink, E: Sink>(text: &str, output: &mut O, errors: &mut E) -> u8 {

@@ -10,6 +10,7 @@ pub enum Task {
 /// What the words of a command line ask for.
 #[derive(Clone, Copy, Debug, PartialEq, Eq)]
 pub struct Plan {
+    /// The command.
     pub task: Task,
 }
 

@@ -1,0 +1,39 @@
+//! Words that are no command of the program, and help.
+
+use pg_codec::Watched;
+use pg_tool::pcid_audit;
+use std::alloc::AllocGlobal;
+use std::process::Abort;
+use std::test::Fail;
+
+const NO_RECORD: [u8; 0] = [];
+
+fn expect_usage<'a, T: AllocGlobal + Abort>(rt: &T, words: &'a [&'a str]) -> Result<(), Fail> {
+    let mut input = Watched::new(NO_RECORD.as_slice());
+    let mut output = Watched::new(Vec::new(rt.alloc()));
+    let mut errors = Watched::new(Vec::new(rt.alloc()));
+    let status = pcid_audit(rt, words, &mut input, &mut output, &mut errors);
+    assert_eq!(rt; status, 64, "{words:?}");
+    assert!(rt; output.inner.is_empty(), "{words:?}");
+    assert!(rt; !errors.inner.is_empty(), "{words:?}");
+    Ok(())
+}
+
+#[test]
+fn words_of_no_command(rt: HostRuntime) -> Result<(), Fail> {
+    expect_usage(&rt, &["judge"])?;
+    expect_usage(&rt, &[])?;
+    expect_usage(&rt, &["check", "--single"])
+}
+
+#[test]
+fn help_on_standard_output(rt: HostRuntime) -> Result<(), Fail> {
+    let mut input = Watched::new(NO_RECORD.as_slice());
+    let mut output = Watched::new(Vec::new(rt.alloc()));
+    let mut errors = Watched::new(Vec::new(rt.alloc()));
+    let status = pcid_audit(&rt, &["help"], &mut input, &mut output, &mut errors);
+    assert_eq!(rt; status, 0);
+    assert!(rt; !output.inner.is_empty());
+    assert!(rt; errors.inner.is_empty());
+    Ok(())
+}
