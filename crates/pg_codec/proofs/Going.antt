@@ -1,12 +1,10 @@
 -- Parts that a loop reads one after the other from what a reader has left.
-use Rattle.std.proofs.Common.{◌≡◌, ℕ, ◌-◌, ◌+◌, ◌≤◌, ◌<◌, List, [], ◌∷◌, ◌++◌, length, Option, Some, None, Result, Ok, Err, refl, sym, ap, ◌∙◌, subst, append_assoc, length-append, arith, inl, inr}
-use Rattle.std.proofs.lemmas.Bool.{cases_lt}
-use Rattle.std.proofs.lemmas.List.{get_or-append-add, get_or_append_left}
-use Rattle.std.specs.Prelude.{slice_index}
+use Rattle.std.proofs.Common.{◌≡◌, ℕ, ◌-◌, ◌+◌, ◌≤◌, ◌<◌, List, [], ◌∷◌, ◌++◌, Option, Some, None, Ok, Err, refl, sym, ap, ◌∙◌, append_assoc}
 use Rattle.pg_event.specs.Reading.{Part}
 use Rattle.pg_codec.specs.declared.error.ReadError.{ReadError}
 use Rattle.pg_codec.specs.declared.error.ReadError.TheVariants as errors
-use Rattle.pg_codec.specs.Reads.{Reads, Took, AreBytes}
+use Rattle.pg_event.proofs.Chunks.{all_append}
+use Rattle.pg_codec.specs.Reads.{Reads, Took}
 use Rattle.pg_codec.specs.Parts.{with_front}
 use Rattle.pg_codec.proofs.Many.{IsMany, begins, goes_on, ends, is_done}
 
@@ -57,19 +55,12 @@ pub device_reads : {A : Type 0} (read : List ℕ → Part A) (start after : Opti
 device_reads read None after = tt
 device_reads read (Some bytes) after = tt
 
-bytes_joined : (xs ys : List ℕ) → AreBytes xs → AreBytes ys → AreBytes (xs ++ ys)
-bytes_joined xs ys p q i =
-    elim (cases_lt i (length xs)) [
-      | inl lt ↦ rw (get_or_append_left xs ys 0 i lt) (p i)
-      | inr le ↦ let place : i ≡ length xs + (i - length xs) = omega arith in subst (λ j. slice_index (xs ++ ys) j < 256) (sym place) (rw (get_or-append-add xs ys (i - length xs) 0) (q (i - length xs)))
-    ]
-
 pub took_none : (left : Option (List ℕ)) → Took left left
 took_none None = tt
-took_none (Some bytes) = ([], λ i. omega arith, refl)
+took_none (Some bytes) = ([], tt, refl)
 
 pub took_then : (a b c : Option (List ℕ)) → Took a b → Took b c → Took a c
 took_then None b c p q = tt
 took_then (Some bytes) None c p q = absurd p
 took_then (Some bytes) (Some rest) None p q = absurd q
-took_then (Some bytes) (Some rest) (Some more) p q = (p.0 ++ q.0, bytes_joined p.0 q.0 p.1 q.1, p.2 ∙ ap (λ l. p.0 ++ l) q.2 ∙ sym (append_assoc p.0 q.0 more))
+took_then (Some bytes) (Some rest) (Some more) p q = (p.0 ++ q.0, all_append (λ (b : ℕ). b < 256) p.0 q.0 p.1 q.1, p.2 ∙ ap (λ l. p.0 ++ l) q.2 ∙ sym (append_assoc p.0 q.0 more))

@@ -1,9 +1,9 @@
 -- Reading functions that look no further than so many bytes: with that many at hand, what follows them is only left over.
-use Rattle.std.proofs.Common.{◌≡◌, ℕ, zero, suc, ◌-◌, ◌+◌, ◌*◌, ◌≤◌, ◌<◌, Bool, true, false, cond, ltb, List, [], ◌∷◌, ◌++◌, length, take, drop, Result, Ok, Err, refl, sym, ap, ◌∙◌, subst, append_assoc, arith, take-append-drop, length-append, length-take, inl, inr}
-use Rattle.std.proofs.lemmas.Bool.{ltb-false, le-ltb, cases_lt}
-use Rattle.std.proofs.lemmas.List.{take-append-le, append-nil, length-take-le}
+use Rattle.std.proofs.Common.{◌≡◌, ℕ, ◌+◌, ◌≤◌, ◌<◌, Bool, true, false, cond, ltb, List, [], ◌∷◌, ◌++◌, length, take, drop, Result, Ok, Err, refl, sym, ap, ◌∙◌, append_assoc, arith, take-append-drop, length-append, length-take, inl, inr}
+use Rattle.std.proofs.lemmas.Bool.{le-ltb, cases_lt}
+use Rattle.std.proofs.lemmas.List.{take-append-le, append-nil}
 use lib.Seq.{drop-append-le}
-use Rattle.std.specs.Int.{Width, byte_len, from_le_bytes, w16, w32, w64}
+use Rattle.std.specs.Int.{Width, byte_len, from_le_bytes}
 use Rattle.pg_event.specs.declared.refusal.Refusal.{Refusal}
 use Rattle.pg_event.specs.declared.refusal.Refusal.TheVariants as refusals
 use Rattle.pg_event.specs.Reading.{◌>>=◌, Part, byte_at, number_at, passing}

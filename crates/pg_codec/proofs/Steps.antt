@@ -7,7 +7,7 @@ use Rattle.pg_event.specs.declared.refusal.Refusal.{Refusal}
 use Rattle.pg_event.specs.Reading.{◌>>=◌, Part, header_at, starts_at}
 use Rattle.pg_codec.specs.declared.error.ReadError.{ReadError}
 use Rattle.pg_codec.specs.declared.error.ReadError.TheVariants as errors
-use Rattle.pg_codec.specs.Reads.{left_of, Reads, seen, Took}
+use Rattle.pg_codec.specs.Reads.{left_of, Reads, Took}
 use Rattle.pg_codec.specs.Parts.{settings_at, head_of}
 use Rattle.pg_codec.proofs.Going.{took_then}
 

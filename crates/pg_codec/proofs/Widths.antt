@@ -1,5 +1,5 @@
 -- How far each part of a record looks.
-use Rattle.std.proofs.Common.{◌≡◌, ℕ, zero, suc, ◌+◌, ◌*◌, ◌^◌, ◌≤◌, Bool, true, false, cond, eqb, ltb, leb, ◌&&◌, List, [], ◌∷◌, ◌++◌, length, take, drop, codes, Option, Some, None, Result, Ok, Err, arith, sym, ap, ◌∙◌, refl, take-append-drop, length-append, length-take}
+use Rattle.std.proofs.Common.{◌≡◌, ℕ, zero, suc, ◌+◌, ◌*◌, ◌^◌, ◌≤◌, Bool, true, false, cond, eqb, ltb, leb, ◌&&◌, List, [], ◌∷◌, ◌++◌, length, take, drop, codes, Option, Some, None, Ok, Err, arith, sym, ap, ◌∙◌, refl, take-append-drop, length-append, length-take}
 use Rattle.std.specs.Int.{w16, w32, w64}
 use Rattle.std.proofs.lemmas.Bool.{le-ltb}
 use Rattle.std.proofs.lemmas.Bool.Decides.{nat_tests}
@@ -9,11 +9,10 @@ use Rattle.pg_event.specs.declared.event.Event.{Event}
 use Rattle.pg_event.specs.declared.event.Event.TheVariants as events
 use Rattle.pg_event.specs.declared.event.Outcome.TheVariants as outcomes
 use Rattle.pg_event.specs.declared.event.Malformed.{Malformed}
-use Rattle.pg_event.specs.declared.refusal.Refusal.{Refusal}
 use Rattle.pg_event.specs.declared.refusal.Refusal.TheVariants as refusals
 use Rattle.pg_event.specs.Heads.{Head}
 use Rattle.pg_event.specs.Form.{broken_rule}
-use Rattle.pg_event.specs.Reading.{◌>>=◌, Part, byte_at, number_at, passing, same_bytes, magic_at, start_at, outcome_at, numbers_at, moments_at, write_at, access_at, mov_cr3_at, invlpg_at, invpcid_at, mov_cr4_pge_at, fields_at, well_formed_at, event_at}
+use Rattle.pg_event.specs.Reading.{◌>>=◌, byte_at, number_at, passing, same_bytes, magic_at, start_at, outcome_at, numbers_at, moments_at, write_at, access_at, mov_cr3_at, invlpg_at, invpcid_at, mov_cr4_pge_at, fields_at, well_formed_at, event_at}
 use Rattle.pg_codec.specs.Parts.{settings_at}
 use Rattle.pg_codec.proofs.Local.{IsLocal, extended, byte_local, number_local, done_local, refused_local, then_local, wider, cond_local, bounded_local, made_local, done, ok_is}
 

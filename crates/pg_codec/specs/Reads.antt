@@ -1,8 +1,9 @@
 -- What a call that reads answers, against the reading function on lists.
-use Rattle.std.specs.Prelude.{◌≡◌, ℕ, ◌<◌, List, ◌++◌, slice_index, Option, Some, None, Result, Ok, Err}
+use Rattle.std.specs.Prelude.{◌≡◌, ℕ, List, ◌++◌, Option, Some, None, Result, Ok, Err}
 use Rattle.std.specs.Io.KnownBytes.{prepend_known}
 use Rattle.pg_event.specs.declared.refusal.Refusal.{Refusal}
 use Rattle.pg_event.specs.Reading.{Part}
+use Rattle.pg_event.specs.Laws.{AreBytes}
 use Rattle.pg_codec.specs.declared.error.ReadError.{ReadError}
 use Rattle.pg_codec.specs.declared.error.ReadError.TheVariants as errors
 use Rattle.pg_codec.specs.Streams.{raised}
@@ -37,9 +38,6 @@ abbrev pub Reads : {A : Type 0} → Option (List ℕ) → Option (List ℕ) → 
 Reads None new result read = Unit {0}
 Reads (Some bytes) new (Ok x) read = GivesRest x new (read bytes)
 Reads (Some bytes) new (Err e) read = Fails e (read bytes)
-
-abbrev pub AreBytes : List ℕ → Type 0
-AreBytes text = (i : ℕ) → slice_index text i < 256
 
 -- what was read is bytes from the front
 abbrev pub Took : Option (List ℕ) → Option (List ℕ) → Type 0

@@ -3,8 +3,9 @@
 ghost use Rattle.std.specs.Prelude.{◌≡◌, ◌-◌, ◌<◌, ◌≤◌, [], length, take, drop, IfOk, OnOk};
 ghost use Rattle.std.specs.List.{slice_range};
 ghost use Rattle.std.specs.Io.KnownBytes.{Keeps, IsAtEnd};
+ghost use Rattle.pg_event.specs.Laws.{AreBytes};
 ghost use Rattle.pg_codec.specs.Streams.{CountsFailure};
-ghost use Rattle.pg_codec.specs.Reads.{left_of, AreBytes};
+ghost use Rattle.pg_codec.specs.Reads.{left_of};
 
 use crate::spelling::LONGEST_EVENT;
 use crate::stream::{Failed, Source, fill};

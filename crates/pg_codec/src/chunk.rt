@@ -1,6 +1,6 @@
 //! Headers and segments, from a buffer over a source.
 
-ghost use Rattle.std.specs.Prelude.{◌≡◌, ◌+◌, ◌^◌, ◌<◌, ◌≤◌, ◌==◌, None, length, IfOk, IfSome, OnOk, option_map};
+ghost use Rattle.std.specs.Prelude.{◌≡◌, ◌≢◌, ◌+◌, ◌^◌, ◌<◌, ◌≤◌, ◌==◌, None, length, IfOk, IfSome, OnOk, option_map, Err};
 ghost use Rattle.std.specs.Io.KnownBytes.{Keeps};
 ghost use Rattle.std.specs.List.{AllByRecursion};
 ghost use Rattle.pg_event.specs.Form.{broken_rule};
@@ -28,6 +28,7 @@ pub(crate) fn next_header<R: Source>(
     ensures took { OnOk result (Took (left_of buffer.old (R.left source.old)) (left_of buffer.new (R.left source.new))) }
     ensures head { IfOk result (λ h. IsHead h) }
     ensures device { CountsDevice (R.failed source.old) (R.failed source.new) result }
+    ensures live { result ≢ Err ReadError.Failed }
 {
     let settings = next_settings(buffer, source)?;
     let processors = next_starts(alloc, buffer, source, settings.cfg.m, settings.count)?;
@@ -53,6 +54,7 @@ fn next_segment<R: Source>(
     ensures well { IfOk result (λ v. AllByRecursion (λ e. broken_rule progress.now.header e ≡ None) v.items) }
     ensures limit { IfOk result (λ v. progress.now.before + length v.items < 2 ^ 32) }
     ensures device { CountsDevice (R.failed source.old) (R.failed source.new) result }
+    ensures live { result ≢ Err ReadError.Failed }
 {
     let found = next_u32(buffer, source)?;
     if found != progress.number {
@@ -83,6 +85,7 @@ fn next_end<R: Source>(
     ensures took { OnOk result (Took (left_of buffer.old (R.left source.old)) (left_of buffer.new (R.left source.new))) }
     ensures none { IfOk result (λ chunk. chunk ≡ None) }
     ensures device { CountsDevice (R.failed source.old) (R.failed source.new) result }
+    ensures live { result ≢ Err ReadError.Failed }
 {
     if next_u32(buffer, source)? != total {
         return Err(ReadError::Refused(Refusal::Total));
@@ -105,6 +108,7 @@ fn next_chunk<R: Source>(
     ensures well { IfOk result (λ chunk. IfSome chunk (λ v. AllByRecursion (λ e. broken_rule progress.now.header e ≡ None) v.items)) }
     ensures limit { IfOk result (λ chunk. IfSome chunk (λ v. progress.now.before + length v.items < 2 ^ 32)) }
     ensures device { CountsDevice (R.failed source.old) (R.failed source.new) result }
+    ensures live { result ≢ Err ReadError.Failed }
 {
     let tag = next_byte(buffer, source)?;
     if tag != 1 && tag != 2 {
@@ -143,6 +147,7 @@ pub(crate) fn next_closed_chunk<R: Source>(
     ensures well { IfOk result (λ chunk. IfSome chunk (λ v. AllByRecursion (λ e. broken_rule progress.now.header e ≡ None) v.items)) }
     ensures limit { IfOk result (λ chunk. IfSome chunk (λ v. progress.now.before + length v.items < 2 ^ 32)) }
     ensures device { CountsDevice (R.failed source.old) (R.failed source.new) result }
+    ensures live { result ≢ Err ReadError.Failed }
 {
     let chunk = next_chunk(alloc, buffer, source, progress)?;
     if chunk.is_none() && !is_at_end(buffer, source)? {

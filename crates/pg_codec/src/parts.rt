@@ -1,6 +1,6 @@
 //! The next part of a record, from a buffer over a source.
 
-ghost use Rattle.std.specs.Prelude.{◌≡◌, ◌≤◌, ◌<◌, ◌^◌, None, IfOk, OnOk};
+ghost use Rattle.std.specs.Prelude.{◌≡◌, ◌≢◌, ◌≤◌, ◌<◌, ◌^◌, None, IfOk, OnOk, Err};
 ghost use Rattle.pg_event.specs.Form.{broken_rule};
 ghost use Rattle.std.specs.Int.{w32};
 ghost use Rattle.pg_event.specs.Reading.{byte_at, number_at, start_at, event_at};
@@ -20,6 +20,7 @@ pub(crate) fn next_byte<R: Source>(buffer: &mut Buffer, source: &mut R) -> Resul
     ensures reads { Reads (left_of buffer.old (R.left source.old)) (left_of buffer.new (R.left source.new)) result byte_at }
     ensures took { OnOk result (Took (left_of buffer.old (R.left source.old)) (left_of buffer.new (R.left source.new))) }
     ensures device { CountsDevice (R.failed source.old) (R.failed source.new) result }
+    ensures live { result ≢ Err ReadError.Failed }
 {
     buffer.prepare(source)?;
     match byte_of(buffer.unread()) {
@@ -36,6 +37,7 @@ pub(crate) fn next_u32<R: Source>(buffer: &mut Buffer, source: &mut R) -> Result
     ensures reads { Reads (left_of buffer.old (R.left source.old)) (left_of buffer.new (R.left source.new)) result (number_at w32) }
     ensures took { OnOk result (Took (left_of buffer.old (R.left source.old)) (left_of buffer.new (R.left source.new))) }
     ensures device { CountsDevice (R.failed source.old) (R.failed source.new) result }
+    ensures live { result ≢ Err ReadError.Failed }
 {
     buffer.prepare(source)?;
     match u32_of(buffer.unread()) {
@@ -56,6 +58,7 @@ pub(crate) fn next_settings<R: Source>(
     ensures took { OnOk result (Took (left_of buffer.old (R.left source.old)) (left_of buffer.new (R.left source.new))) }
     ensures bounds { IfOk result (λ s. AreSettings s) }
     ensures device { CountsDevice (R.failed source.old) (R.failed source.new) result }
+    ensures live { result ≢ Err ReadError.Failed }
 {
     buffer.prepare(source)?;
     match settings_of(buffer.unread()) {
@@ -78,6 +81,7 @@ pub(crate) fn next_start<R: Source>(
     ensures cr3 { IfOk result (λ x. x.0 < 2 ^ m) }
     ensures took { OnOk result (Took (left_of buffer.old (R.left source.old)) (left_of buffer.new (R.left source.new))) }
     ensures device { CountsDevice (R.failed source.old) (R.failed source.new) result }
+    ensures live { result ≢ Err ReadError.Failed }
 {
     buffer.prepare(source)?;
     match start_of(m, buffer.unread()) {
@@ -102,6 +106,7 @@ pub(crate) fn next_event<R: Source>(
     ensures well { IfOk result (λ e. broken_rule header.now e ≡ None) }
     ensures took { OnOk result (Took (left_of buffer.old (R.left source.old)) (left_of buffer.new (R.left source.new))) }
     ensures device { CountsDevice (R.failed source.old) (R.failed source.new) result }
+    ensures live { result ≢ Err ReadError.Failed }
 {
     buffer.prepare(source)?;
     match event_of(header, i, buffer.unread()) {

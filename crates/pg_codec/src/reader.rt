@@ -80,6 +80,7 @@ impl RecordReader {
         ensures head { IfOk result (λ h. IsHead h) }
         ensures stage { self.new.stage ≡ stage_after_header result }
         ensures device { CountsDevice (R.failed source.old) (R.failed source.new) result }
+        ensures live { result ≡ Err ReadError.Failed → self.old.stage ≡ Refused }
         ensures refused { self.old.stage ≡ Refused → (result ≡ Err ReadError.Failed) × (self.new ≡ self.old) × (source.new ≡ source.old) }
     {
         match mem::replace(&mut self.stage, Stage::Refused) {
@@ -110,6 +111,7 @@ impl RecordReader {
         ensures segment { IfOk result (λ chunk. IsNext self.old.stage (option_map (λ v. v.items) chunk)) }
         ensures stage { self.new.stage ≡ stage_after_chunk self.old.stage (seen (option_map (λ v. v.items)) result) }
         ensures device { CountsDevice (R.failed source.old) (R.failed source.new) result }
+        ensures live { result ≡ Err ReadError.Failed → self.old.stage ≡ Refused }
         ensures refused { self.old.stage ≡ Refused → (result ≡ Err ReadError.Failed) × (self.new ≡ self.old) × (source.new ≡ source.old) }
     {
         let progress = match mem::replace(&mut self.stage, Stage::Refused) {

@@ -1,6 +1,6 @@
 //! Parts of a record that come one after the other.
 
-ghost use Rattle.std.specs.Prelude.{◌≡◌, ◌+◌, ◌^◌, ◌<◌, ◌≤◌, length, IfOk, OnOk, None};
+ghost use Rattle.std.specs.Prelude.{◌≡◌, ◌≢◌, ◌+◌, ◌^◌, ◌<◌, ◌≤◌, length, IfOk, OnOk, None, Err};
 ghost use Rattle.std.specs.List.{AllByRecursion};
 ghost use Rattle.pg_event.specs.Form.{broken_rule};
 ghost use Rattle.pg_event.specs.Reading.{starts_at, events_at};
@@ -26,6 +26,7 @@ pub(crate) fn next_starts<R: Source>(
     ensures count { IfOk result (λ v. length v.items ≡ count) }
     ensures took { OnOk result (Took (left_of buffer.old (R.left source.old)) (left_of buffer.new (R.left source.new))) }
     ensures device { CountsDevice (R.failed source.old) (R.failed source.new) result }
+    ensures live { result ≢ Err ReadError.Failed }
 {
     let mut starts = Vec::with_capacity(alloc, count as usize)?;
     for _ in 0..count {
@@ -50,8 +51,8 @@ pub(crate) fn next_events<R: Source>(
     ensures well { IfOk result (λ v. AllByRecursion (λ e. broken_rule header.now e ≡ None) v.items) }
     ensures count { IfOk result (λ v. length v.items ≡ count) }
     ensures took { OnOk result (Took (left_of buffer.old (R.left source.old)) (left_of buffer.new (R.left source.new))) }
-    ensures len { IfOk result (λ v. length v.items ≡ count) }
     ensures device { CountsDevice (R.failed source.old) (R.failed source.new) result }
+    ensures live { result ≢ Err ReadError.Failed }
 {
     let mut events = Vec::with_capacity(alloc, count as usize)?;
     for i in 0..count {

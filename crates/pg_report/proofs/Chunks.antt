@@ -1,12 +1,11 @@
 -- Reading a record chunk by chunk is reading it whole.
-use Rattle.std.proofs.Common.{◌≡◌, ℕ, zero, suc, pred, ◌+◌, ◌<◌, ◌≤◌, Bool, true, false, cond, ◌==◌, List, [], ◌∷◌, ◌++◌, length, length-append, Option, Some, None, Result, Ok, Err, refl, sym, ap, subst, ◌∙◌, append_assoc, arith}
-use Rattle.std.proofs.lemmas.List.{append-nil, nil_from_length}
+use Rattle.std.proofs.Common.{◌≡◌, ℕ, zero, suc, pred, ◌+◌, ◌<◌, ◌≤◌, Bool, true, cond, ◌==◌, List, [], ◌∷◌, ◌++◌, length, length-append, Option, Some, None, Ok, Err, refl, sym, ap, ◌∙◌, append_assoc, arith}
+use Rattle.std.proofs.lemmas.List.{append-nil}
 use Rattle.pg_event.specs.declared.event.Event.{Event}
 use Rattle.pg_event.specs.declared.refusal.Refusal.{Refusal}
 use Rattle.pg_event.specs.declared.refusal.Refusal.TheVariants as refusals
 use Rattle.pg_event.specs.Heads.{Head}
-use Rattle.pg_event.specs.Spelling.{Recorded}
-use Rattle.pg_event.specs.Reading.{◌>>=◌, Part, byte_at, passing, chunk_at, chunks_at, closed, header_at, record_at, reading}
+use Rattle.pg_event.specs.Reading.{◌>>=◌, Part, chunk_at, chunks_at, header_at, record_at, reading}
 
 -- the events that were read before, and those that are still read
 abbrev pub with_front : List Event → Part (List Event) → Part (List Event)

@@ -1,16 +1,17 @@
 -- How a record is read: the header, the segments, the end.
-use Rattle.std.proofs.Common.{◌≡◌, ℕ, ◌+◌, ◌^◌, ◌<◌, ◌≤◌, arith, length-append, Bool, true, false, ◌==◌, List, [], ◌∷◌, ◌++◌, length, Option, Some, None, Result, Ok, Err, refl, sym, ap, subst, ◌∙◌, append-nil}
+use Rattle.std.proofs.Common.{◌≡◌, ℕ, ◌+◌, ◌^◌, ◌<◌, ◌≤◌, arith, length-append, Bool, true, ◌==◌, List, [], ◌++◌, length, Option, Some, None, Ok, Err, refl, sym, ap, subst, ◌∙◌, append-nil}
 use Rattle.std.specs.Prelude.{IfSome}
 use Rattle.pg_event.specs.declared.event.Event.{Event}
 use Rattle.pg_event.specs.declared.refusal.Refusal.{Refusal}
 use Rattle.pg_event.specs.Heads.{Head}
 use Rattle.pg_event.specs.Spelling.{Recorded, Spells}
-use Rattle.pg_event.specs.Reading.{◌>>=◌, Part, header_at, reading, refusal, refusal_of}
-use Rattle.pg_event.proofs.Records.{reading_takes}
+use Rattle.pg_event.specs.Reading.{header_at, reading, refusal, refusal_of}
+use Rattle.pg_event.specs.Laws.{AreBytes}
+use Rattle.pg_event.proofs.Spellings.{spelling_of_reading}
 use Rattle.pg_codec.specs.declared.error.ReadError.{ReadError}
 use Rattle.pg_codec.specs.declared.error.ReadError.TheVariants as reads
 use Rattle.pg_codec.specs.Parts.{closed_chunk_at}
-use Rattle.pg_codec.specs.Reads.{left_of, Reads, Took, AreBytes}
+use Rattle.pg_codec.specs.Reads.{left_of, Reads, Took}
 use Rattle.pg_codec.specs.Reads as counts
 use Rattle.pg_codec.specs.declared.stage.Stage.{Stage}
 use Rattle.pg_codec.specs.declared.stage.Stage.TheVariants.{Segments, Start}
@@ -18,7 +19,6 @@ use Rattle.pg_codec.specs.Readers.{Reader, behind_header, stage_after_chunk, May
 use Rattle.pg_codec.proofs.Going.{took_then}
 use Rattle.std.specs.List.{AllByRecursion}
 use Rattle.pg_event.specs.Form.{broken_rule}
-use Rattle.pg_report.specs.declared.error.AuditError.{AuditError}
 use Rattle.pg_report.specs.Intake.{audit_error_of, ReadsRecord, CountsDevice}
 use Rattle.pg_report.proofs.Chunks.{reading_of_bad_header}
 use Rattle.pg_report.proofs.Whole.{IsReading, reading_at_start, reading_after_segment, reading_ends, reading_fails}
@@ -51,7 +51,7 @@ spells : (head : Head) (front : List Event) (number : ℕ) (full : Bool) (bytes 
 spells head front number full bytes left after text c h are parts =
     let e = reading_ends head front number full bytes left after c h in
     let whole : bytes ≡ text = parts ∙ ap (λ (l : List ℕ). text ++ l) e.0 ∙ append-nil text in
-    reading_takes bytes (record { head = head; events = front }) (subst AreBytes (sym whole) are) e.1
+    spelling_of_reading bytes (record { head = head; events = front }) (subst AreBytes (sym whole) are) e.1
 
 pub read_at_end : (head : Head) (front : List Event) (number : ℕ) (full : Bool) (start left after : Option (List ℕ)) → Continues head front number full start left
     → Reads left after (Ok None) (closed_chunk_at head number (length front) full) → Took start after → IfSome start (λ bytes. ReadsRecord bytes (Ok (record { head = head; events = front })))

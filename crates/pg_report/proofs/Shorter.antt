@@ -1,11 +1,8 @@
 -- Reading a part leaves no more bytes than there were, and reading a chunk leaves fewer.
-use Rattle.std.proofs.Common.{◌≡◌, ℕ, zero, suc, ◌+◌, ◌<◌, ◌≤◌, Bool, true, false, cond, List, [], ◌∷◌, ◌++◌, length, take, drop, length-drop, Option, Some, None, Result, Ok, Err, refl, sym, ap, subst, ◌∙◌, arith}
+use Rattle.std.proofs.Common.{◌≡◌, ℕ, zero, suc, ◌+◌, ◌<◌, ◌≤◌, Bool, true, false, cond, List, [], ◌∷◌, length, take, drop, length-drop, Option, Some, None, Ok, Err, subst, arith}
 use Rattle.std.specs.Int.{Width, w16, w32, w64, byte_len, from_le_bytes}
-use Rattle.std.specs.Prelude.{nat_lt, nat_le, ◌==◌, ◌||◌, ◌&&◌}
+use Rattle.std.specs.Prelude.{nat_lt, ◌==◌, ◌||◌}
 use Rattle.pg_event.specs.declared.event.Event.{Event}
-use Rattle.pg_event.specs.declared.event.Event.TheVariants as events
-use Rattle.pg_event.specs.declared.event.Outcome.{Outcome}
-use Rattle.pg_event.specs.declared.event.Outcome.TheVariants as outcomes
 use Rattle.pg_event.specs.declared.event.Malformed.{Malformed}
 use Rattle.pg_event.specs.declared.refusal.Refusal.{Refusal}
 use Rattle.pg_event.specs.declared.refusal.Refusal.TheVariants as refusals

@@ -1,12 +1,12 @@
 -- What a verdict means, and what an error leaves.
-use Rattle.std.proofs.Common.{◌≡◌, ℕ, List, Option, Some, None, Result, Ok, Err, refl, sym, ap, subst, ◌∙◌, inl, inr}
+use Rattle.std.proofs.Common.{◌≡◌, ℕ, List, Option, Some, None, Ok, Err, refl, sym, ap, subst, ◌∙◌, inl, inr}
 use Rattle.std.specs.Prelude.{IfSome}
 use Rattle.std.specs.Io.KnownBytes.{Appends, Keeps}
 use Rattle.pg_event.specs.declared.event.Reason.{Reason}
 use Rattle.pg_event.specs.declared.refusal.Refusal.{Refusal}
 use Rattle.pg_event.specs.Witness.{first_bad}
 use Rattle.pg_event.specs.Spelling.{Recorded, Spells}
-use Rattle.pg_event.specs.Reading.{reading, refusal, refusal_of}
+use Rattle.pg_event.specs.Reading.{refusal, refusal_of}
 use Rattle.pg_event.proofs.Records.{reading_again}
 use Rattle.pg_event.proofs.Spellings.{no_bytes_spell_two_records}
 use Rattle.pg_run_of.proofs.Whole.{accepted_records_run}

@@ -1,15 +1,14 @@
 -- A record that is read part by part from the bytes that were left at the start.
-use Rattle.std.proofs.Common.{◌≡◌, ℕ, ◌+◌, ◌<◌, ◌≤◌, Bool, true, false, cond, ◌==◌, List, [], ◌∷◌, ◌++◌, length, length-append, Option, Some, None, Result, Ok, Err, refl, sym, ap, subst, ◌∙◌, append_assoc, arith, inl, inr}
-use Rattle.std.specs.Prelude.{◌⊎◌}
+use Rattle.std.proofs.Common.{◌≡◌, ℕ, ◌+◌, ◌≤◌, Bool, true, false, cond, ◌==◌, List, [], ◌++◌, length, length-append, Option, Some, None, Result, Ok, Err, refl, sym, ap, ◌∙◌, arith}
 use Rattle.std.proofs.lemmas.List.{nil_from_length}
 use Rattle.std.proofs.lemmas.Bool.{eqb-true}
 use Rattle.pg_event.specs.declared.event.Event.{Event}
 use Rattle.pg_event.specs.declared.refusal.Refusal.{Refusal}
 use Rattle.pg_event.specs.declared.refusal.Refusal.TheVariants as refusals
 use Rattle.pg_event.specs.Heads.{Head}
-use Rattle.pg_event.specs.Spelling.{Recorded, Spells}
-use Rattle.pg_event.specs.Reading.{◌>>=◌, Part, chunk_at, chunks_at, closed, header_at, reading, refusal, refusal_of}
-use Rattle.pg_report.proofs.Chunks.{IsRest, rest_at_start, rest_after_segment, total_at_end, total_at_fault, reading_by_parts, reading_of_bad_header}
+use Rattle.pg_event.specs.Spelling.{Recorded}
+use Rattle.pg_event.specs.Reading.{◌>>=◌, Part, chunk_at, chunks_at, closed, header_at, reading}
+use Rattle.pg_report.proofs.Chunks.{IsRest, rest_at_start, rest_after_segment, total_at_end, total_at_fault, reading_by_parts}
 use Rattle.pg_report.proofs.Shorter.{chunk_shortens}
 
 -- so far the header and these events were read from the front of the bytes, and these are left

@@ -6,7 +6,7 @@ use Rattle.pg_event.specs.Reading.{refusal}
 use Rattle.pg_codec.specs.Streams.{raised, AppendsSome}
 use Rattle.pg_run_of.specs.Law.{HasRun}
 use Rattle.pg_report.specs.declared.report.Verdict.{Verdict}
-use Rattle.pg_report.specs.declared.report.Verdict.TheVariants.{Yes, No}
+use Rattle.pg_report.specs.declared.report.Verdict.TheVariants.{Yes}
 use Rattle.pg_report.specs.declared.report.Report.{Report}
 use Rattle.pg_report.specs.declared.error.AuditError.{AuditError}
 use Rattle.pg_report.specs.declared.error.AuditError.TheVariants as errors

@@ -1,6 +1,6 @@
 //! Whole records, from any source.
 
-ghost use Rattle.std.specs.Prelude.{◌≡◌, IfSome};
+ghost use Rattle.std.specs.Prelude.{◌≡◌, ◌≢◌, IfSome};
 ghost use Rattle.pg_report.specs.Intake.{audit_error_of, ReadsRecord, CountsDevice};
 
 use crate::error::AuditError;
@@ -12,6 +12,7 @@ use std::alloc::Global;
 const MOST_CHUNKS: u64 = 1 << 32;
 
 fn audit_error(error: ReadError) -> AuditError
+    requires { error ≢ ReadError.Failed }
     ensures { result ≡ audit_error_of error }
 {
     match error {
@@ -19,7 +20,7 @@ fn audit_error(error: ReadError) -> AuditError
         ReadError::Device => AuditError::Device,
         ReadError::Memory => AuditError::Memory,
         // A reader that has refused is not asked again.
-        ReadError::Failed => AuditError::Memory,
+        ReadError::Failed => unreachable!(),
     }
 }
 

@@ -1,4 +1,3 @@
-use Rattle.std.proofs.Common.{arith}
 use Rattle.pg_codec.proofs.Steps.{at_end}
 use Rattle.pg_codec.proofs.chunk.is_at_end.Goals as goal
 

@@ -1,4 +1,4 @@
-use Rattle.std.proofs.Common.{List, ℕ, Ok, Bool}
+use Rattle.std.proofs.Common.{List, ℕ, Ok}
 use Rattle.std.proofs.lemmas.Result.{err_from_is_err_and}
 use Rattle.pg_event.specs.Reading.{◌>>=◌, Part, header_at, starts_at}
 use Rattle.pg_event.specs.Heads.{Head}

@@ -1,9 +1,6 @@
-use Rattle.std.proofs.Common.{◌≡◌, ◌+◌, ◌-◌, ◌≤◌, ◌++◌, ◌∷◌, [], length, ap, arith}
+use Rattle.std.proofs.Common.{length, ap, arith}
 use Rattle.std.proofs.lemmas.List.{length_push}
 use Rattle.std.proofs.lemmas.Result.{err_from_is_err_and}
-use Rattle.std.specs.Int.{w32}
-use Rattle.pg_event.specs.Reading.{number_at, numbers_at}
-use Rattle.pg_codec.specs.Parts.{with_front}
 use Rattle.pg_codec.proofs.Many.{goes_on, ends, is_done, numbers_are_many}
 use Rattle.pg_codec.proofs.fields.more_moments.Goals as goal
 

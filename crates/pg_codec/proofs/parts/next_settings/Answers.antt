@@ -1,4 +1,4 @@
-use Rattle.std.proofs.Common.{◌≡◌, ℕ, List, length, ◌≤◌, subst, arith}
+use Rattle.std.proofs.Common.{arith}
 use Rattle.pg_codec.specs.Parts.{settings_at}
 use Rattle.pg_codec.proofs.Widths.{settings_local}
 use Rattle.pg_codec.proofs.Next.{next_read, next_refused, next_took, rest_fits}

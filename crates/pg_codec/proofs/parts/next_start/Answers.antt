@@ -1,4 +1,4 @@
-use Rattle.std.proofs.Common.{◌≡◌, ℕ, List, length, ◌≤◌, subst, arith}
+use Rattle.std.proofs.Common.{arith}
 use Rattle.pg_event.specs.Reading.{start_at}
 use Rattle.pg_codec.proofs.Widths.{start_local}
 use Rattle.pg_codec.proofs.Next.{next_read, next_refused, next_took, rest_fits}

@@ -1,4 +1,4 @@
-use Rattle.std.proofs.Common.{◌≡◌, ℕ, List, length, ◌≤◌, subst, arith}
+use Rattle.std.proofs.Common.{arith}
 use Rattle.std.specs.Int.{w32}
 use Rattle.pg_event.specs.Reading.{number_at}
 use Rattle.pg_codec.proofs.Local.{number_local}

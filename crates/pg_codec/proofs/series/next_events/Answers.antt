@@ -1,9 +1,7 @@
-use Rattle.std.proofs.Common.{◌≡◌, refl, ◌∷◌, [], ◌++◌, ◌+◌, List, subst, sym, ◌∙◌}
+use Rattle.std.proofs.Common.{◌≡◌, refl, ◌∙◌}
 use Rattle.std.proofs.lemmas.Result.{err_from_is_err_and}
 use Rattle.std.proofs.lemmas.List.{length_push}
-use Rattle.pg_event.specs.declared.event.Event.{Event}
-use Rattle.pg_event.specs.Reading.{event_at, events_at}
-use Rattle.pg_codec.proofs.Going.{Going, at_place, going_on, going_ends, going_done, took_then}
+use Rattle.pg_codec.proofs.Going.{going_on, going_ends, going_done, took_then}
 use Rattle.pg_codec.proofs.Many.{events_are_many}
 use Rattle.pg_event.specs.Form.{broken_rule}
 use Rattle.std.specs.Prelude.{None}

@@ -2,7 +2,7 @@ use Rattle.std.proofs.Common.{◌≡◌, length}
 use Rattle.std.specs.List.{AllByRecursion}
 use Rattle.std.specs.Prelude.{None}
 use Rattle.pg_event.specs.Form.{broken_rule}
-use Rattle.pg_event.specs.Reading.{event_at, events_at}
+use Rattle.pg_event.specs.Reading.{events_at}
 use Rattle.pg_codec.specs.Reads.{left_of, Took}
 use Rattle.pg_codec.proofs.Going.{Going, at_place}
 use Rattle.pg_codec.proofs.Many.{events_are_many}

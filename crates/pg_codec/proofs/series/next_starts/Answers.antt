@@ -1,4 +1,4 @@
-use Rattle.std.proofs.Common.{◌≡◌, ◌<◌, ◌^◌, refl, ◌∷◌, [], ◌++◌, ◌+◌, List, subst, sym, ◌∙◌}
+use Rattle.std.proofs.Common.{◌<◌, ◌^◌, refl, ◌∙◌}
 use Rattle.std.proofs.lemmas.Result.{err_from_is_err_and}
 use Rattle.pg_codec.proofs.Going.{going_on, going_ends, going_done, took_then}
 use Rattle.pg_codec.proofs.Many.{starts_are_many}

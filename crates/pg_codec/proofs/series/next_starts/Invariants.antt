@@ -1,6 +1,6 @@
 use Rattle.std.proofs.Common.{◌≡◌, ◌<◌, ◌^◌, length}
 use Rattle.std.specs.List.{AllByRecursion}
-use Rattle.pg_event.specs.Reading.{start_at, starts_at}
+use Rattle.pg_event.specs.Reading.{starts_at}
 use Rattle.pg_codec.specs.Reads.{left_of, Took}
 use Rattle.pg_codec.proofs.Going.{Going, at_place}
 use Rattle.pg_codec.proofs.Many.{starts_are_many}

@@ -1,7 +1,6 @@
-use Rattle.std.proofs.Common.{refl, ◌≡◌, ◌++◌, subst, append_assoc, ◌∙◌, ap, List, ℕ}
+use Rattle.std.proofs.Common.{refl, ◌≡◌, ◌++◌, append_assoc, ◌∙◌, ap, List, ℕ}
 use Rattle.std.specs.List.{flat_map}
-use Rattle.pg_event.specs.Heads.{Head}
-use Rattle.pg_event.specs.Spelling.{processor_bytes, header_bytes}
+use Rattle.pg_event.specs.Spelling.{processor_bytes}
 use Rattle.pg_codec.specs.Writing.{settings_bytes}
 use Rattle.pg_codec.proofs.spelling.push_header.Goals as goal
 

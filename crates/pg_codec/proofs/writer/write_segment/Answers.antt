@@ -1,11 +1,9 @@
-use Rattle.std.proofs.Common.{◌≡◌, ◌∷◌, [], ◌++◌, ◌+◌, ◌≤◌, List, ℕ, length, take, drop, ap, sym, subst, ◌∙◌, refl, arith, rules, append_assoc, take-append-drop}
+use Rattle.std.proofs.Common.{◌≡◌, ◌++◌, ◌+◌, List, ℕ, length, take, drop, ap, sym, subst, ◌∙◌, arith, append_assoc, take-append-drop}
 use Rattle.std.specs.List.{flat_map}
 use Rattle.std.proofs.lemmas.List.{take_all, take_more, append-nil}
 use Rattle.std.proofs.lemmas.List.Concat.{flat_map-append}
-use Rattle.std.proofs.lemmas.List.Elements.{All-from_recursion}
 use Rattle.std.proofs.lemmas.Result.{err_from_is_err_and}
 use Rattle.std.proofs.KnownBytes.{Appends-trans}
-use Rattle.std.specs.Io.KnownBytes.{Appends}
 use Rattle.pg_event.specs.Spelling.{event_bytes}
 use Rattle.pg_codec.specs.Streams.{Writes, AppendsSome}
 use Rattle.pg_codec.specs.Writing.{segment_head_bytes}

@@ -1,4 +1,3 @@
-use Rattle.std.proofs.Common.{◌≡◌, ◌∙◌, sym, ap}
 use Rattle.pg_report.proofs.Continuing.{fresh_header_fails, going_from_fresh, next_fits, going_on, going_ends, going_fails}
 use Rattle.pg_report.proofs.intake.read_record.Goals as goal
 

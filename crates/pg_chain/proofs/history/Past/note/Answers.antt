@@ -1,7 +1,4 @@
-use Rattle.std.proofs.Common.{◌≡◌, List, ◌++◌, OnOk, sym, ap, ◌∙◌}
-use Rattle.pg_moment.specs.declared.history.Version.{Version}
-use Rattle.pg_moment.specs.Writes.{write_of}
-use Rattle.pg_chain.specs.Standing.{IsPushed}
+use Rattle.std.proofs.Common.{sym, ◌∙◌}
 use Rattle.pg_chain.proofs.Notes.{on_ok, on_ok-both, next_version, IsPast-pushed, IsPushed-write, IsPushed-silent, no_write}
 use Rattle.pg_chain.proofs.history.Past.note.Goals as goal
 

@@ -1,4 +1,4 @@
-use Rattle.std.proofs.Common.{◌≡◌, ◌-◌, ◌≤◌, sym, List, ℕ, length, drop, subst, arith}
+use Rattle.std.proofs.Common.{◌≡◌, ◌-◌, ◌≤◌, sym, List, ℕ, length, drop, subst}
 use Rattle.std.specs.List.{slice_range}
 use Rattle.pg_codec.proofs.Pulled.{last_of_range}
 use Rattle.pg_codec.proofs.buffer.Buffer.keep_last.Goals as goal
