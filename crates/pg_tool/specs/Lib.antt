@@ -1,1 +1,5 @@
+pub mod Lines
 pub mod Status
+pub mod Refusals
+pub mod Commands
+pub mod Answers

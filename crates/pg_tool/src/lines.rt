@@ -1,41 +1,73 @@
 //! Refusal lines on standard error. Whether they could be written changes no status.
 
+ghost use Rattle.std.specs.Prelude.{◌++◌, decimal};
+ghost use Rattle.pg_codec.specs.Streams.{CountsFailure, Writes};
+ghost use Rattle.pg_tool.specs.Refusals.{refusal_text, place_text, refusal_line, memory_line, written_of, Tells};
+
 use itoa::Buffer;
 use pg_codec::{Failed, Sink, put_all};
 use pg_event::Refusal;
 use pg_report::{AuditError, rule_number};
 
-fn put_number<W: Sink>(errors: &mut W, number: u64) -> Result<(), Failed> {
+fn put_number<W: Sink>(errors: &mut W, before: &[u8], number: u64) -> Result<(), Failed>
+    ensures bytes { Writes (W.held errors.old) (W.held errors.new) result (before.now ++ decimal number) }
+    ensures failures { CountsFailure (W.failed errors.old) (W.failed errors.new) result }
+{
     let mut buffer = Buffer::new();
+    put_all(errors, before)?;
     put_all(errors, buffer.format(number).as_bytes())
 }
 
-fn put_refusal<W: Sink>(errors: &mut W, number: u8, name: &str) -> Result<(), Failed> {
-    put_all(errors, b"pcid-audit: refused ")?;
-    put_number(errors, number as u64)?;
+fn put_refusal<W: Sink>(errors: &mut W, number: u8, name: &str) -> Result<(), Failed>
+    ensures bytes { Writes (W.held errors.old) (W.held errors.new) result (refusal_text number name.now) }
+    ensures failures { CountsFailure (W.failed errors.old) (W.failed errors.new) result }
+{
+    put_number(errors, b"pcid-audit: refused ", number as u64)?;
     put_all(errors, b" ")?;
     put_all(errors, name.as_bytes())
 }
 
-fn put_error<W: Sink>(errors: &mut W, error: AuditError) -> Result<(), Failed> {
-    put_refusal(errors, error.number(), error.name())?;
-    if let AuditError::Refused(Refusal::Malformed { event, rule }) = error {
-        put_all(errors, b" event ")?;
-        put_number(errors, event)?;
-        put_all(errors, b" rule ")?;
-        put_number(errors, rule_number(rule) as u64)?;
+/// Where a malformed event is, and which rule it breaks.
+fn put_place<W: Sink>(errors: &mut W, error: AuditError) -> Result<(), Failed>
+    ensures bytes { Writes (W.held errors.old) (W.held errors.new) result (place_text error) }
+    ensures failures { CountsFailure (W.failed errors.old) (W.failed errors.new) result }
+{
+    match error {
+        AuditError::Refused(Refusal::Malformed { event, rule }) => {
+            put_number(errors, b" event ", event)?;
+            put_number(errors, b" rule ", rule_number(rule) as u64)
+        }
+        _ => Ok(()),
     }
+}
+
+fn put_error<W: Sink>(errors: &mut W, error: AuditError) -> Result<(), Failed>
+    ensures bytes { Writes (W.held errors.old) (W.held errors.new) result (refusal_line error) }
+    ensures failures { CountsFailure (W.failed errors.old) (W.failed errors.new) result }
+{
+    put_refusal(errors, error.number(), error.name())?;
+    put_place(errors, error)?;
+    put_all(errors, b"\n")
+}
+
+fn put_memory<W: Sink>(errors: &mut W) -> Result<(), Failed>
+    ensures bytes { Writes (W.held errors.old) (W.held errors.new) result memory_line }
+    ensures failures { CountsFailure (W.failed errors.old) (W.failed errors.new) result }
+{
+    put_refusal(errors, 1, "memory")?;
     put_all(errors, b"\n")
 }
 
 /// One line that says why there is no verdict.
-pub fn tell<W: Sink>(errors: &mut W, error: AuditError) {
+pub fn tell<W: Sink>(errors: &mut W, error: AuditError)
+    ensures { Tells (written_of (W.held errors.old) (W.held errors.new) (W.failed errors.old) (W.failed errors.new)) (refusal_line error) }
+{
     let _ = put_error(errors, error);
 }
 
 /// The line for want of memory before any input was read.
-pub fn tell_memory<W: Sink>(errors: &mut W) {
-    if put_refusal(errors, 1, "memory").is_ok() {
-        let _ = put_all(errors, b"\n");
-    }
+pub fn tell_memory<W: Sink>(errors: &mut W)
+    ensures { Tells (written_of (W.held errors.old) (W.held errors.new) (W.failed errors.old) (W.failed errors.new)) memory_line }
+{
+    let _ = put_memory(errors);
 }

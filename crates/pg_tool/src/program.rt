@@ -1,5 +1,11 @@
 ghost use Rattle.std.specs.Prelude.{◌≡◌, IfSome};
-ghost use Rattle.pg_tool.specs.Status.{error_status, status_of, run_status, GivesRun, IsStatus, IsRunStatus};
+ghost use Rattle.clap.specs.Walk.{texts};
+ghost use Rattle.pg_report.specs.Intake.{CountsDevice};
+ghost use Rattle.pg_report.specs.Audits.{counts_of};
+ghost use Rattle.pg_tool.specs.Status.{error_status, status_of, run_status, WritesSteps, GivesRun, IsStatus, IsRunStatus};
+ghost use Rattle.pg_tool.specs.Commands.{Asks, AsksNone};
+ghost use Rattle.pg_tool.specs.Refusals.{written_of};
+ghost use Rattle.pg_tool.specs.Answers.{GivesHelp, AnswersUsage};
 
 use crate::lines::{tell, tell_memory};
 use crate::planner::plan;
@@ -7,6 +13,7 @@ use crate::request::{Plan, Task, Usage};
 use crate::stepping::replay;
 use crate::steps::run_text;
 use pg_codec::{Sink, Source, put_all};
+use pg_machine::Step;
 use pg_report::{AuditError, Verdict, audit_one, read_record, report_of, write_report};
 use pg_run_of::BuildError;
 use std::alloc::{AllocGlobal, Global};
@@ -58,7 +65,7 @@ pub fn check<R: Source, O: Sink, E: Sink>(
     output: &mut O,
     errors: &mut E,
 ) -> u8
-    ensures { IfSome (R.left input.old) (λ bytes. IsStatus bytes (O.held output.old) (O.held output.new) result) }
+    ensures { IfSome (R.left input.old) (λ bytes. IsStatus bytes (O.held output.old) (O.held output.new) (counts_of (R.failed input.old) (R.failed input.new) (O.failed output.old) (O.failed output.new)) result) }
 {
     let answer = audit_one(alloc, input, output);
     let status = status_of(answer);
@@ -68,13 +75,26 @@ pub fn check<R: Source, O: Sink, E: Sink>(
     status
 }
 
+/// Writes the text of a run. Nothing is written where memory is refused, and a beginning of the text
+/// where the writer fails.
+fn write_steps<O: Sink>(alloc: Global, output: &mut O, steps: &[Step]) -> Result<(), AuditError>
+    ensures text { WritesSteps (O.held output.old) (O.held output.new) steps.now result }
+    ensures device { CountsDevice (O.failed output.old) (O.failed output.new) result }
+{
+    let text = run_text(alloc, steps)?;
+    match put_all(output, text.as_bytes()) {
+        Ok(()) => Ok(()),
+        Err(_) => Err(AuditError::Device),
+    }
+}
+
 /// Writes the run of an accepted record, or the report of one that is not; whether it is.
 fn write_run<R: Source, O: Sink>(
     alloc: Global,
     input: &mut R,
     output: &mut O,
 ) -> Result<bool, AuditError>
-    ensures { IfSome (R.left input.old) (λ bytes. GivesRun bytes (O.held output.old) (O.held output.new) result) }
+    ensures { IfSome (R.left input.old) (λ bytes. GivesRun bytes (O.held output.old) (O.held output.new) (counts_of (R.failed input.old) (R.failed input.new) (O.failed output.old) (O.failed output.new)) result) }
 {
     let history = match read_record(alloc, input) {
         Ok(history) => history,
@@ -83,10 +103,9 @@ fn write_run<R: Source, O: Sink>(
     match pg_run_of::run_of(alloc, &history) {
         Ok(steps) => {
             replay(alloc, history.header(), &steps)?;
-            let text = run_text(alloc, &steps)?;
-            match put_all(output, text.as_bytes()) {
+            match write_steps(alloc, output, &steps) {
                 Ok(()) => Ok(true),
-                Err(_) => Err(AuditError::Device),
+                Err(error) => Err(error),
             }
         }
         Err(BuildError::NotAccepted { .. }) => {
@@ -108,7 +127,7 @@ pub fn run_of<R: Source, O: Sink, E: Sink>(
     output: &mut O,
     errors: &mut E,
 ) -> u8
-    ensures { IfSome (R.left input.old) (λ bytes. IsRunStatus bytes (O.held output.old) (O.held output.new) result) }
+    ensures { IfSome (R.left input.old) (λ bytes. IsRunStatus bytes (O.held output.old) (O.held output.new) (counts_of (R.failed input.old) (R.failed input.new) (O.failed output.old) (O.failed output.new)) result) }
 {
     let answer = write_run(alloc, input, output);
     if let Err(error) = answer {
@@ -117,7 +136,9 @@ pub fn run_of<R: Source, O: Sink, E: Sink>(
     run_status(answer)
 }
 
-fn help<O: Sink, E: Sink>(text: &str, output: &mut O, errors: &mut E) -> u8 {
+fn help<O: Sink, E: Sink>(text: &str, output: &mut O, errors: &mut E) -> u8
+    ensures { GivesHelp text.now (written_of (O.held output.old) (O.held output.new) (O.failed output.old) (O.failed output.new)) (written_of (E.held errors.old) (E.held errors.new) (E.failed errors.old) (E.failed errors.new)) result }
+{
     match put_all(output, text.as_bytes()) {
         Ok(()) => YES,
         Err(_) => {
@@ -135,7 +156,12 @@ pub fn pcid_audit<'a, T: AllocGlobal, R: Source, O: Sink, E: Sink>(
     input: &mut R,
     output: &mut O,
     errors: &mut E,
-) -> u8 {
+) -> u8
+    ensures check { Asks (texts words.now) Task.Check → IfSome (R.left input.old) (λ bytes. IsStatus bytes (O.held output.old) (O.held output.new) (counts_of (R.failed input.old) (R.failed input.new) (O.failed output.old) (O.failed output.new)) result) }
+    ensures run_of { Asks (texts words.now) Task.RunOf → IfSome (R.left input.old) (λ bytes. IsRunStatus bytes (O.held output.old) (O.held output.new) (counts_of (R.failed input.old) (R.failed input.new) (O.failed output.old) (O.failed output.new)) result) }
+    ensures unread { AsksNone (texts words.now) → input.new ≡ input.old }
+    ensures usage { AsksNone (texts words.now) → AnswersUsage (texts words.now) (written_of (O.held output.old) (O.held output.new) (O.failed output.old) (O.failed output.new)) (written_of (E.held errors.old) (E.held errors.new) (E.failed errors.old) (E.failed errors.new)) result }
+{
     match plan(rt.alloc(), words) {
         Ok(Plan { task: Task::Check }) => check(rt.alloc(), input, output, errors),
         Ok(Plan { task: Task::RunOf }) => run_of(rt.alloc(), input, output, errors),

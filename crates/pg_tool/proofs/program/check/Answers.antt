@@ -6,9 +6,9 @@ use Rattle.pg_tool.specs.Status.{status_of, IsStatus}
 use Rattle.pg_tool.proofs.program.check.Goals as goal
 
 answered : (left old new : Option (List ℕ)) (counts : Counts) (answer : Result Verdict AuditError) (status : ℕ) → status ≡ status_of answer
-    → IfSome left (λ bytes. Audits bytes old new counts answer) → IfSome left (λ bytes. MeansRun bytes answer) → IfSome left (λ bytes. IsStatus bytes old new status)
+    → IfSome left (λ bytes. Audits bytes old new counts answer) → IfSome left (λ bytes. MeansRun bytes answer) → IfSome left (λ bytes. IsStatus bytes old new counts status)
 answered None old new counts answer status e audits means = tt
-answered (Some bytes) old new counts answer status e audits means = (answer, counts, e, audits, means)
+answered (Some bytes) old new counts answer status e audits means = (answer, e, audits, means)
 
 pub returns-in-Err : goal.returns-in-Err
 returns-in-Err g c =

@@ -1,0 +1,5 @@
+mod WrittenRuns
+mod Parts
+mod Turns
+mod Asked
+mod Helped
