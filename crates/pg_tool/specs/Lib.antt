@@ -1,4 +1,5 @@
 pub mod Lines
+pub mod Replay
 pub mod Status
 pub mod Refusals
 pub mod Commands

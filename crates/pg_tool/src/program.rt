@@ -102,7 +102,7 @@ fn write_run<R: Source, O: Sink>(
     };
     match pg_run_of::run_of(alloc, &history) {
         Ok(steps) => {
-            replay(alloc, history.header(), &steps)?;
+            let _machine = replay(alloc, history.header(), &steps)?;
             match write_steps(alloc, output, &steps) {
                 Ok(()) => Ok(true),
                 Err(error) => Err(error),
