@@ -65,6 +65,6 @@ Leaves old new (Err errors.Device) = Unit {0}
 Leaves old new (Err _) = Keeps old new
 
 -- a failed device is answered exactly where the failures of the reader or of the writer rose
-abbrev pub CountsFailures : Counts → Result Verdict AuditError → Type 0
+abbrev pub CountsFailures : {A : Type 0} → Counts → Result A AuditError → Type 0
 CountsFailures c (Err errors.Device) = ReaderFailed c ⊎ WriterFailed c
 CountsFailures c _ = NoneFailed c

@@ -8,7 +8,7 @@ use pg_check::History;
 use pg_codec::{ReadError, RecordReader, Source};
 use std::alloc::Global;
 
-/// A record has at most this many segments, and then its end mark.
+/// At most this many parts follow a header: up to 2^32 - 1 segments, and the end mark.
 const MOST_CHUNKS: u64 = 1 << 32;
 
 fn audit_error(error: ReadError) -> AuditError

@@ -20,3 +20,7 @@ GivesUsage Memory output errors status = StaysSame output × Tells errors memory
 -- The words ask for no command, and are told why there is no plan. Help is given for no words but those that name it, and those that are just a flag for it are not told that they are wrong.
 abbrev pub AnswersUsage : List (List ℕ) → Written → Written → ℕ → Type 0
 AnswersUsage words output errors status = (why : Usage) × (IsHelp why → NamesHelp words) × (AsksHelp words → ¬ IsFault why) × GivesUsage why output errors status
+
+-- memory was refused before any input was read
+abbrev pub RefusesMemory : Type 0 → Written → Written → ℕ → Type 0
+RefusesMemory Unread output errors status = Unread × GivesUsage Memory output errors status

@@ -1,5 +1,5 @@
 -- What the program says on standard error where it gives no answer.
-use Rattle.std.specs.Prelude.{◌≡◌, ◌⊎◌, ℕ, List, [], ◌++◌, Option, codes, decimal}
+use Rattle.std.specs.Prelude.{◌≡◌, ◌⊎◌, ℕ, List, [], ◌++◌, Option, Result, Ok, Err, codes, decimal}
 use Rattle.std.specs.Io.KnownBytes.{Appends, Keeps}
 use Rattle.pg_event.specs.declared.refusal.Refusal.TheVariants.{Malformed}
 use Rattle.pg_codec.specs.Streams.{raised, AppendsSome}
@@ -48,3 +48,8 @@ StaysSame w = Keeps w.old w.new × (w.failures_after ≡ w.failures_before)
 -- the text was added, as far as the device let it
 abbrev pub Tells : Written → List ℕ → Type 0
 Tells w text = Adds w text ⊎ FailsIn w text
+
+-- an error is told by its line, and nothing is said where there is none
+abbrev pub TellsError : {A : Type 0} → Written → Result A AuditError → Type 0
+TellsError errors (Ok x) = StaysSame errors
+TellsError errors (Err e) = Tells errors (refusal_line e)

@@ -1,5 +1,5 @@
 -- Exit statuses, and what they say.
-use Rattle.std.specs.Prelude.{◌≡◌, ℕ, Bool, true, false, List, Option, Some, None, Result, Ok, Err, ◌⊎◌}
+use Rattle.std.specs.Prelude.{◌≡◌, ℕ, Bool, true, false, List, Option, Some, None, Result, Ok, Err, ◌⊎◌, IfSome}
 use Rattle.std.specs.Io.KnownBytes.{Appends, Keeps}
 use Rattle.pg_event.specs.Witness.{first_bad}
 use Rattle.pg_event.specs.Spelling.{Recorded, Spells}
@@ -12,8 +12,10 @@ use Rattle.pg_report.specs.declared.report.Verdict.TheVariants.{Yes, No}
 use Rattle.pg_report.specs.declared.error.AuditError.{AuditError}
 use Rattle.pg_report.specs.declared.error.AuditError.TheVariants.{Refused, Device, Memory}
 use Rattle.pg_report.specs.Text.{report_of, report_text}
-use Rattle.pg_report.specs.Audits.{SpellsOne, Counts, ReaderFailed, WriterFailed, Audits, MeansRun}
+use Rattle.pg_report.specs.declared.report.Report.{Report}
+use Rattle.pg_report.specs.Audits.{SpellsOne, Counts, ReaderFailed, WriterFailed, CountsFailures, Audits, MeansRun, Leaves}
 use Rattle.pg_tool.specs.Lines.{run_text}
+use Rattle.pg_tool.specs.Refusals.{Written, TellsError}
 
 abbrev pub error_status : AuditError → ℕ
 error_status (Refused e) = 2
@@ -26,9 +28,11 @@ status_of (Ok Yes) = 0
 status_of (Ok (No event reason)) = 1
 status_of (Err e) = error_status e
 
--- the status is that of an audit of these bytes, which left the writer so
-abbrev pub IsStatus : List ℕ → Option (List ℕ) → Option (List ℕ) → Counts → ℕ → Type 0
-IsStatus bytes old new c status = (answer : Result Verdict AuditError) × (status ≡ status_of answer) × Audits bytes old new c answer × MeansRun bytes answer
+-- The status is that of an audit of what the reader had left, where it tells that, and the output, the counts of failures and the errors are those of the same answer.
+abbrev pub IsStatus : Option (List ℕ) → Option (List ℕ) → Option (List ℕ) → Counts → Written → ℕ → Type 0
+IsStatus left old new c errors status =
+    (answer : Result Verdict AuditError) × (status ≡ status_of answer) × IfSome left (λ bytes. Audits bytes old new c answer) × IfSome left (λ bytes. MeansRun bytes answer)
+    × Leaves old new answer × CountsFailures c answer × TellsError errors answer
 
 -- what writing the text of a run leaves: the text, a beginning of it where the device failed, and else nothing
 abbrev pub WritesSteps : Option (List ℕ) → Option (List ℕ) → List Step → Result (Unit {0}) AuditError → Type 0
@@ -54,11 +58,20 @@ GivesRun bytes old new c (Err (Refused e)) = (refusal bytes ≡ Some e) × ((r :
 GivesRun bytes old new c (Err Memory) = Keeps old new
 GivesRun bytes old new c (Err Device) = (ReaderFailed c × Keeps old new) ⊎ (WriterFailed c × (HasRunText bytes (AppendsSome old new) ⊎ HasReportText bytes (AppendsSome old new)))
 
+-- whatever the reader tells: the text of a run or of a report was written, and an error other than a failed device left nothing
+abbrev pub LeavesRun : Option (List ℕ) → Option (List ℕ) → Result Bool AuditError → Type 0
+LeavesRun old new (Ok true) = (steps : List Step) × Appends old new (run_text steps)
+LeavesRun old new (Ok false) = (report : Report) × Appends old new (report_text report)
+LeavesRun old new (Err Device) = Unit {0}
+LeavesRun old new (Err _) = Keeps old new
+
 abbrev pub run_status : Result Bool AuditError → ℕ
 run_status (Ok true) = 0
 run_status (Ok false) = 1
 run_status (Err e) = error_status e
 
--- the status is that of such an answer
-abbrev pub IsRunStatus : List ℕ → Option (List ℕ) → Option (List ℕ) → Counts → ℕ → Type 0
-IsRunStatus bytes old new c status = (answer : Result Bool AuditError) × (status ≡ run_status answer) × GivesRun bytes old new c answer
+-- The status is that of such an answer, and the output, the counts of failures and the errors are those of the same answer.
+abbrev pub IsRunStatus : Option (List ℕ) → Option (List ℕ) → Option (List ℕ) → Counts → Written → ℕ → Type 0
+IsRunStatus left old new c errors status =
+    (answer : Result Bool AuditError) × (status ≡ run_status answer) × IfSome left (λ bytes. GivesRun bytes old new c answer)
+    × LeavesRun old new answer × CountsFailures c answer × TellsError errors answer

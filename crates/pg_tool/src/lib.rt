@@ -12,5 +12,4 @@ pub use lines::tell_memory;
 pub use planner::plan;
 pub use program::{check, pcid_audit, run_of};
 pub use request::{Plan, Task, Usage};
-pub use stepping::replay;
 pub use steps::run_text;

@@ -2,7 +2,7 @@
 
 ghost use Rattle.std.specs.Prelude.{◌++◌, decimal};
 ghost use Rattle.pg_codec.specs.Streams.{CountsFailure, Writes};
-ghost use Rattle.pg_tool.specs.Refusals.{refusal_text, place_text, refusal_line, memory_line, written_of, Tells};
+ghost use Rattle.pg_tool.specs.Refusals.{refusal_text, place_text, refusal_line, memory_line, written_of, Tells, TellsError};
 
 use itoa::Buffer;
 use pg_codec::{Failed, Sink, put_all};
@@ -58,14 +58,23 @@ fn put_memory<W: Sink>(errors: &mut W) -> Result<(), Failed>
     put_all(errors, b"\n")
 }
 
-/// One line that says why there is no verdict.
+/// Writes the line that says why there is no answer.
 pub fn tell<W: Sink>(errors: &mut W, error: AuditError)
     ensures { Tells (written_of (W.held errors.old) (W.held errors.new) (W.failed errors.old) (W.failed errors.new)) (refusal_line error) }
 {
     let _ = put_error(errors, error);
 }
 
-/// The line for want of memory before any input was read.
+/// Writes that line where there is an error, and else nothing.
+pub fn tell_error<W: Sink, T>(errors: &mut W, answer: &Result<T, AuditError>)
+    ensures { TellsError (written_of (W.held errors.old) (W.held errors.new) (W.failed errors.old) (W.failed errors.new)) answer.now }
+{
+    if let Err(error) = answer {
+        tell(errors, *error);
+    }
+}
+
+/// Writes the line for want of memory before any input was read.
 pub fn tell_memory<W: Sink>(errors: &mut W)
     ensures { Tells (written_of (W.held errors.old) (W.held errors.new) (W.failed errors.old) (W.failed errors.new)) memory_line }
 {

@@ -1,13 +1,13 @@
-ghost use Rattle.std.specs.Prelude.{◌≡◌, IfSome};
+ghost use Rattle.std.specs.Prelude.{◌≡◌, ◌⊎◌, IfSome};
 ghost use Rattle.clap.specs.Walk.{texts};
 ghost use Rattle.pg_report.specs.Intake.{CountsDevice};
-ghost use Rattle.pg_report.specs.Audits.{counts_of};
-ghost use Rattle.pg_tool.specs.Status.{error_status, status_of, run_status, WritesSteps, GivesRun, IsStatus, IsRunStatus};
+ghost use Rattle.pg_report.specs.Audits.{CountsFailures, counts_of};
+ghost use Rattle.pg_tool.specs.Status.{error_status, status_of, run_status, WritesSteps, GivesRun, LeavesRun, IsStatus, IsRunStatus};
 ghost use Rattle.pg_tool.specs.Commands.{Asks, AsksNone};
 ghost use Rattle.pg_tool.specs.Refusals.{written_of};
-ghost use Rattle.pg_tool.specs.Answers.{GivesHelp, AnswersUsage};
+ghost use Rattle.pg_tool.specs.Answers.{GivesHelp, AnswersUsage, RefusesMemory};
 
-use crate::lines::{tell, tell_memory};
+use crate::lines::{tell, tell_error, tell_memory};
 use crate::planner::plan;
 use crate::request::{Plan, Task, Usage};
 use crate::stepping::replay;
@@ -65,14 +65,11 @@ pub fn check<R: Source, O: Sink, E: Sink>(
     output: &mut O,
     errors: &mut E,
 ) -> u8
-    ensures { IfSome (R.left input.old) (λ bytes. IsStatus bytes (O.held output.old) (O.held output.new) (counts_of (R.failed input.old) (R.failed input.new) (O.failed output.old) (O.failed output.new)) result) }
+    ensures { IsStatus (R.left input.old) (O.held output.old) (O.held output.new) (counts_of (R.failed input.old) (R.failed input.new) (O.failed output.old) (O.failed output.new)) (written_of (E.held errors.old) (E.held errors.new) (E.failed errors.old) (E.failed errors.new)) result }
 {
     let answer = audit_one(alloc, input, output);
-    let status = status_of(answer);
-    if let Err(error) = answer {
-        tell(errors, error);
-    }
-    status
+    tell_error(errors, &answer);
+    status_of(answer)
 }
 
 /// Writes the text of a run. Nothing is written where memory is refused, and a beginning of the text
@@ -94,7 +91,9 @@ fn write_run<R: Source, O: Sink>(
     input: &mut R,
     output: &mut O,
 ) -> Result<bool, AuditError>
-    ensures { IfSome (R.left input.old) (λ bytes. GivesRun bytes (O.held output.old) (O.held output.new) (counts_of (R.failed input.old) (R.failed input.new) (O.failed output.old) (O.failed output.new)) result) }
+    ensures gives { IfSome (R.left input.old) (λ bytes. GivesRun bytes (O.held output.old) (O.held output.new) (counts_of (R.failed input.old) (R.failed input.new) (O.failed output.old) (O.failed output.new)) result) }
+    ensures written { LeavesRun (O.held output.old) (O.held output.new) result }
+    ensures failures { CountsFailures (counts_of (R.failed input.old) (R.failed input.new) (O.failed output.old) (O.failed output.new)) result }
 {
     let history = match read_record(alloc, input) {
         Ok(history) => history,
@@ -127,12 +126,10 @@ pub fn run_of<R: Source, O: Sink, E: Sink>(
     output: &mut O,
     errors: &mut E,
 ) -> u8
-    ensures { IfSome (R.left input.old) (λ bytes. IsRunStatus bytes (O.held output.old) (O.held output.new) (counts_of (R.failed input.old) (R.failed input.new) (O.failed output.old) (O.failed output.new)) result) }
+    ensures { IsRunStatus (R.left input.old) (O.held output.old) (O.held output.new) (counts_of (R.failed input.old) (R.failed input.new) (O.failed output.old) (O.failed output.new)) (written_of (E.held errors.old) (E.held errors.new) (E.failed errors.old) (E.failed errors.new)) result }
 {
     let answer = write_run(alloc, input, output);
-    if let Err(error) = answer {
-        tell(errors, error);
-    }
+    tell_error(errors, &answer);
     run_status(answer)
 }
 
@@ -157,8 +154,8 @@ pub fn pcid_audit<'a, T: AllocGlobal, R: Source, O: Sink, E: Sink>(
     output: &mut O,
     errors: &mut E,
 ) -> u8
-    ensures check { Asks (texts words.now) Task.Check → IfSome (R.left input.old) (λ bytes. IsStatus bytes (O.held output.old) (O.held output.new) (counts_of (R.failed input.old) (R.failed input.new) (O.failed output.old) (O.failed output.new)) result) }
-    ensures run_of { Asks (texts words.now) Task.RunOf → IfSome (R.left input.old) (λ bytes. IsRunStatus bytes (O.held output.old) (O.held output.new) (counts_of (R.failed input.old) (R.failed input.new) (O.failed output.old) (O.failed output.new)) result) }
+    ensures check { Asks (texts words.now) Task.Check → IsStatus (R.left input.old) (O.held output.old) (O.held output.new) (counts_of (R.failed input.old) (R.failed input.new) (O.failed output.old) (O.failed output.new)) (written_of (E.held errors.old) (E.held errors.new) (E.failed errors.old) (E.failed errors.new)) result ⊎ RefusesMemory (input.new ≡ input.old) (written_of (O.held output.old) (O.held output.new) (O.failed output.old) (O.failed output.new)) (written_of (E.held errors.old) (E.held errors.new) (E.failed errors.old) (E.failed errors.new)) result }
+    ensures run_of { Asks (texts words.now) Task.RunOf → IsRunStatus (R.left input.old) (O.held output.old) (O.held output.new) (counts_of (R.failed input.old) (R.failed input.new) (O.failed output.old) (O.failed output.new)) (written_of (E.held errors.old) (E.held errors.new) (E.failed errors.old) (E.failed errors.new)) result ⊎ RefusesMemory (input.new ≡ input.old) (written_of (O.held output.old) (O.held output.new) (O.failed output.old) (O.failed output.new)) (written_of (E.held errors.old) (E.held errors.new) (E.failed errors.old) (E.failed errors.new)) result }
     ensures unread { AsksNone (texts words.now) → input.new ≡ input.old }
     ensures usage { AsksNone (texts words.now) → AnswersUsage (texts words.now) (written_of (O.held output.old) (O.held output.new) (O.failed output.old) (O.failed output.new)) (written_of (E.held errors.old) (E.held errors.new) (E.failed errors.old) (E.failed errors.new)) result }
 {

@@ -10,7 +10,7 @@ use std::alloc::{AllocError, Global};
 
 /// A machine that has taken the steps of a run, one after another. It takes each of them, unless
 /// memory runs out.
-pub fn replay(alloc: Global, header: &Header, steps: &[Step]) -> Result<Machine, AllocError>
+pub(crate) fn replay(alloc: Global, header: &Header, steps: &[Step]) -> Result<Machine, AllocError>
     requires head { IsHead header.now }
     requires run { IsRun header.now steps.now }
     ensures { IfOk result (λ machine. state_of machine ≡ end_of_run header.now steps.now) }
