@@ -1,157 +1,104 @@
--- What a past stands for as it grows.
-use Rattle.std.proofs.Common.{◌≡◌, ℕ, zero, suc, ◌+◌, ◌<◌, ◌≤◌, false, cond, List, [], ◌∷◌, ◌++◌, length, take, get_or, length-append, length-take, Some, Result, Ok, Err, OnOk, refl, sym, ap, ◌∙◌, subst, append_assoc, append-nil, arith}
+-- What a past stands for as it grows and is cut.
+use Rattle.std.proofs.Common.{◌≡◌, ℕ, zero, suc, ◌+◌, ◌<◌, ◌≤◌, Bool, true, false, List, [], ◌∷◌, ◌++◌, length, take, get_or, length-append, length-take, Some, refl, sym, ap, ◌∙◌, subst, append_assoc, arith}
 use Rattle.std.specs.List.{AllByRecursion, slice_get}
+use Rattle.std.proofs.lemmas.Bool.{false≢true}
 use Rattle.std.proofs.lemmas.List.{take_more}
 use Rattle.std.proofs.lemmas.Option.{slice_get_read}
-use Rattle.std.proofs.Math.Seq.{take-append_seam}
 use Rattle.pg_event.specs.declared.event.Event.{Event}
-use Rattle.pg_event.specs.declared.event.Event.TheVariants.{Write, Access, MovCr3, Invlpg, Invpcid, MovCr4Pge}
-use Rattle.pg_event.specs.declared.control.Control.{Control}
-use Rattle.pg_event.specs.Form.{processor_of}
+use Rattle.pg_event.specs.declared.event.Event.TheVariants.{Write, Access, Assist, MovCr3, Invlpg, Invpcid, MovCr4Pge}
 use Rattle.pg_event.specs.Heads.{Head}
-use Rattle.pg_event.specs.Values.{control_at}
-use Rattle.pg_moment.specs.declared.history.Version.{Version}
-use Rattle.pg_moment.specs.Writes as writes
-use Rattle.pg_moment.proofs.Kept.{writes_of-push, next_moment-writes_of}
-use Rattle.pg_state.specs.declared.history.Change.{Change}
-use Rattle.pg_state.specs.Changes as changes
-use Rattle.pg_state.proofs.Kept.{registers_of-push, control_in-registers_of, next_moment-registers_of}
-use Rattle.pg_inval.specs.declared.history.Invalidation.{Invalidation}
+use Rattle.pg_entry.specs.Kinds.{marked}
+use Rattle.pg_event.specs.declared.event.Outcome.{Outcome}
+use Rattle.pg_event.specs.declared.event.Outcome.TheVariants.{Page, Fault}
+use Rattle.pg_event.specs.Form.{says_dirty}
+use Rattle.pg_event.specs.Values.{written, mem_at}
+use Rattle.pg_moment.specs.Versions as versions
+use Rattle.pg_moment.specs.Versions.{Leaves, StandsFor as HasMemory}
+use Rattle.pg_moment.proofs.Known as memory
+use Rattle.pg_state.specs.Controls as controls
+use Rattle.pg_state.proofs.Known as registers
 use Rattle.pg_inval.specs.Drops as drops
-use Rattle.pg_inval.proofs.Kept.{drops_of-push, next_moment-drops_of}
+use Rattle.pg_inval.proofs.Kept as dropped
 use Rattle.pg_chain.specs.declared.history.Past.{Past}
-use Rattle.pg_chain.specs.Standing.{IsPast, IsNext, IsPushed, IsLonger, IsUnchanged, processor_count}
-
-pub on_ok : {T E : Type 0} (r : Result T E) {P Q : Type 0} → (P → Q) → OnOk r P → OnOk r Q
-on_ok (Ok x) f p = f p
-on_ok (Err e) f p = tt
-
-pub on_ok-both : {T E : Type 0} (r : Result T E) {P Q R : Type 0} → (P → Q → R) → OnOk r P → OnOk r Q → OnOk r R
-on_ok-both (Ok x) f p q = f p q
-on_ok-both (Err e) f p q = tt
+use Rattle.pg_chain.specs.Standing.{IsPast, IsNext, processor_count}
 
 -- the next event comes after all that was noted
-pub next_version : (past : Past) (n : ℕ) → IsNext past n → writes.next_moment past.versions ≤ n
-next_version past n h =
-    subst (λ (vs : List Version). writes.next_moment vs ≤ n) (sym h.stands.versions) (subst (λ (k : ℕ). writes.next_moment (writes.writes_of h.events) ≤ k) (sym h.count) (next_moment-writes_of h.events))
+pub next_version : (past : Past) (n : ℕ) → IsNext past n → versions.next_moment past.versions ≤ n
+next_version past n h = omega (arith, h.stands.versions.next, h.count)
 
-pub next_change : (past : Past) (n : ℕ) → IsNext past n → changes.next_moment past.controls ≤ n
-next_change past n h =
-    subst (λ (r : changes.Registers). changes.next_moment r ≤ n) (sym h.stands.controls) (subst (λ (k : ℕ). changes.next_moment (changes.registers_of h.head h.events) ≤ k) (sym h.count) (next_moment-registers_of h.head h.events))
+pub next_change : (past : Past) (n : ℕ) → IsNext past n → controls.next_moment past.controls ≤ n
+next_change past n h = omega (arith, h.stands.controls.next, h.count)
 
-pub next_drop : (past : Past) (n : ℕ) → IsNext past n → drops.next_moment past.drops.drops ≤ n
-next_drop past n h =
-    subst (λ (ds : List Invalidation). drops.next_moment ds ≤ n) (sym h.stands.drops) (subst (λ (k : ℕ). drops.next_moment (drops.drops_of h.head h.events) ≤ k) (sym h.count) (next_moment-drops_of h.head h.events))
+pub next_drop : (past : Past) (n : ℕ) → IsNext past n → drops.next_moment past.drops ≤ n
+next_drop past n h = omega (arith, h.stands.drops.next, h.count)
 
--- a past with one more event stands for the run with it
-pub IsPast-pushed : (old new : Past) (head : Head) (events : List Event) (n : ℕ) (e : Event) → IsPast old head events → n ≡ length events →
-    IsPushed old new n e → IsPast new head (events ++ e ∷ [])
-IsPast-pushed old new head events n e h count pushed = record {
-  versions =
-      pushed.versions
-      ∙ ap (λ (vs : List Version). vs ++ writes.write_of n e) h.versions
-      ∙ ap (λ k. writes.writes_of events ++ writes.write_of k e) count
-      ∙ sym (writes_of-push events e);
-  controls =
-      pushed.controls
-      ∙ ap (λ (r : changes.Registers). changes.with_event r n e) h.controls
-      ∙ ap (λ k. changes.with_event (changes.registers_of head events) k e) count
-      ∙ sym (registers_of-push head events e);
-  drops =
-      pushed.drops
-      ∙ ap (λ (ds : List Invalidation). ds ++ drops.drop_of n e (changes.control_in old.controls (processor_of e) n)) h.drops
-      ∙ ap (λ (r : changes.Registers). drops.drops_of head events ++ drops.drop_of n e (changes.control_in r (processor_of e) n)) h.controls
-      ∙ ap (λ (c : Control). drops.drops_of head events ++ drops.drop_of n e c) (control_in-registers_of head events (processor_of e) n)
-      ∙ ap (λ k. drops.drops_of head events ++ drops.drop_of k e (control_at head events (processor_of e) k)) count
-      ∙ sym (drops_of-push head events e);
-}
-
--- a write is noted in memory alone
-pub IsPushed-write : (old : Past) (versions : List Version) (n p addr value : ℕ) (e : Event) → e ≡ Write p addr value →
-    versions ≡ old.versions ++ writes.write_of n (Write p addr value) →
-    IsPushed old (record { versions = versions; controls = old.controls; drops = old.drops }) n e
-IsPushed-write old versions n p addr value e is v =
-    let new : Past = record { versions = versions; controls = old.controls; drops = old.drops } in
-    let made : IsPushed old new n (Write p addr value) = record {
-      versions = v;
-      controls = ap (λ (xs : List Change). let r : changes.Registers = record { head = old.controls.head; changes = xs } in r) (sym (append-nil old.controls.changes));
-      drops = sym (append-nil old.drops.drops);
-    } in
-    subst (λ (x : Event). IsPushed old new n x) (sym is) made
-
--- what is no write leaves memory as it was
-pub no_write : (n : ℕ) (e : Event) → ((p addr value : ℕ) → e ≡ Write p addr value → ⊥) → (vs : List Version) → vs ≡ vs ++ writes.write_of n e
-no_write n (Write p addr value) other vs = absurd (other p addr value refl)
-no_write n (Access p flags la outcome moments) other vs = sym (append-nil vs)
-no_write n (MovCr3 p operand) other vs = sym (append-nil vs)
-no_write n (Invlpg p la) other vs = sym (append-nil vs)
-no_write n (Invpcid p kind pcid la) other vs = sym (append-nil vs)
-no_write n (MovCr4Pge p on) other vs = sym (append-nil vs)
+-- what may drop something leaves memory as it is
+pub drops_no_write : (e : Event) → drops.may_drop e ≡ true → (a value : ℕ) → written a value e ≡ value
+drops_no_write (Write p addr new) h a value = absurd (false≢true h)
+drops_no_write (Access p flags la outcome moments) h a value = refl
+drops_no_write (Assist p flags la word moments) h a value = absurd (false≢true h)
+drops_no_write (MovCr3 p operand) h a value = refl
+drops_no_write (Invlpg p la) h a value = refl
+drops_no_write (Invpcid p kind pcid la) h a value = refl
+drops_no_write (MovCr4Pge p on) h a value = refl
 
 -- an event that drops nothing changes no control register
-no_change : (n : ℕ) (e : Event) → drops.may_drop e ≡ false → changes.change_of n e ≡ []
-no_change n (Write p addr value) silent = refl
-no_change n (Access p flags la outcome moments) silent = refl
-no_change n (MovCr3 p operand) silent = cc
-no_change n (Invlpg p la) silent = refl
-no_change n (Invpcid p kind pcid la) silent = refl
-no_change n (MovCr4Pge p on) silent = cc
+no_change : (e : Event) → drops.may_drop e ≡ false → controls.is_change e ≡ false
+no_change (Write p addr value) silent = refl
+no_change (Access p flags la outcome moments) silent = refl
+no_change (Assist p flags la word moments) silent = refl
+no_change (MovCr3 p operand) silent = cc
+no_change (Invlpg p la) silent = refl
+no_change (Invpcid p kind pcid la) silent = refl
+no_change (MovCr4Pge p on) silent = cc
 
-pub IsPushed-silent : (old : Past) (n : ℕ) (e : Event) → ((p addr value : ℕ) → e ≡ Write p addr value → ⊥) → drops.may_drop e ≡ false → IsPushed old old n e
-IsPushed-silent old n e other silent = record {
-  versions = no_write n e other old.versions;
-  controls = ap (λ (xs : List Change). let r : changes.Registers = record { head = old.controls.head; changes = xs } in r)
-      (sym (append-nil old.controls.changes) ∙ ap (λ (xs : List Change). old.controls.changes ++ xs) (sym (no_change n e silent)));
-  drops = sym (append-nil old.drops.drops)
-      ∙ ap (λ b. old.drops.drops ++ cond b (record { moment = n; event = e; before = changes.control_in old.controls (processor_of e) n } ∷ []) []) (sym silent);
+-- an event that drops nothing is noted in memory alone
+IsPast-stored : (old new : Past) (head : Head) (events : List Event) (e : Event) → drops.may_drop e ≡ false → new.controls ≡ old.controls → new.drops ≡ old.drops → IsPast old head events → HasMemory new.versions (events ++ e ∷ []) → IsPast new head (events ++ e ∷ [])
+IsPast-stored old new head events e silent c d h v = record {
+  versions = v;
+  controls = rw c (registers.StandsFor-other old.controls head events e h.controls (no_change e silent));
+  drops = rw d (dropped.StandsFor-other old.drops head events e h.drops silent);
 }
 
-pub IsLonger-none : (past : Past) → IsLonger past past
-IsLonger-none past = record {
-  written = [];
-  changed = [];
-  dropped = [];
-  versions = sym (append-nil past.versions);
-  controls = ap (λ (xs : List Change). let r : changes.Registers = record { head = past.controls.head; changes = xs } in r) (sym (append-nil past.controls.changes));
-  drops = sym (append-nil past.drops.drops);
-}
+pub IsPast-write : (old new : Past) (head : Head) (events : List Event) (p addr value : ℕ) (e : Event) → e ≡ Write p addr value → new.controls ≡ old.controls → new.drops ≡ old.drops → IsPast old head events → HasMemory new.versions (events ++ e ∷ []) → IsPast new head (events ++ e ∷ [])
+IsPast-write old new head events p addr value e is c d h v =
+    IsPast-stored old new head events e (ap drops.may_drop is) c d h v
 
-pub IsLonger-pushed : (oldest old new : Past) (n : ℕ) (e : Event) → IsLonger oldest old → IsPushed old new n e → IsLonger oldest new
-IsLonger-pushed oldest old new n e h pushed = record {
-  written = h.written ++ writes.write_of n e;
-  changed = h.changed ++ changes.change_of n e;
-  dropped = h.dropped ++ drops.drop_of n e (changes.control_in old.controls (processor_of e) n);
-  versions = pushed.versions ∙ ap (λ (vs : List Version). vs ++ writes.write_of n e) h.versions ∙ append_assoc oldest.versions h.written (writes.write_of n e);
-  controls =
-      pushed.controls
-      ∙ ap (λ (r : changes.Registers). changes.with_event r n e) h.controls
-      ∙ ap (λ (xs : List Change). let r : changes.Registers = record { head = oldest.controls.head; changes = xs } in r) (append_assoc oldest.controls.changes h.changed (changes.change_of n e));
-  drops =
-      pushed.drops
-      ∙ ap (λ (ds : List Invalidation). ds ++ drops.drop_of n e (changes.control_in old.controls (processor_of e) n)) h.drops
-      ∙ append_assoc oldest.drops.drops h.dropped (drops.drop_of n e (changes.control_in old.controls (processor_of e) n));
-}
+pub Leaves-write : (events : List Event) (p addr value : ℕ) (e : Event) → e ≡ Write p addr value → Leaves events e addr value
+Leaves-write events p addr value e is =
+    let P : Event → Type 0 = λ x. Leaves events x addr value in
+    subst P (sym is) (memory.Leaves-write events p addr value)
 
--- what was noted later is forgotten
-pub IsUnchanged-rewound : (oldest old refused new : Past) → IsLonger oldest old → IsUnchanged old refused →
-    new.versions ≡ take (length oldest.versions) refused.versions →
-    new.controls ≡ record { head = refused.controls.head; changes = take (length oldest.controls.changes) refused.controls.changes } →
-    new.drops.drops ≡ take (length oldest.drops.drops) refused.drops.drops → IsUnchanged oldest new
-IsUnchanged-rewound oldest old refused new h same v c d = record {
-  versions =
-      v ∙ ap (λ (vs : List Version). take (length oldest.versions) vs) (same.versions ∙ h.versions)
-      ∙ take-append_seam oldest.versions h.written;
-  controls =
-      c
-      ∙ ap (λ (r : changes.Registers). let s : changes.Registers = record { head = r.head; changes = take (length oldest.controls.changes) r.changes } in s) (same.controls ∙ h.controls)
-      ∙ ap (λ (xs : List Change). let r : changes.Registers = record { head = oldest.controls.head; changes = xs } in r) (take-append_seam oldest.controls.changes h.changed);
-  drops =
-      d ∙ ap (λ (ds : List Invalidation). take (length oldest.drops.drops) ds) (same.drops ∙ h.drops)
-      ∙ take-append_seam oldest.drops.drops h.dropped;
-}
+pub IsPast-assist : (old new : Past) (head : Head) (events : List Event) (p flags la word : ℕ) (moments : List ℕ) (e : Event) → e ≡ Assist p flags la word moments → new.controls ≡ old.controls → new.drops ≡ old.drops → IsPast old head events → HasMemory new.versions (events ++ e ∷ []) → IsPast new head (events ++ e ∷ [])
+IsPast-assist old new head events p flags la word moments e is c d h v =
+    IsPast-stored old new head events e (ap drops.may_drop is) c d h v
 
-pub processor_count-longer : (old new : Past) → IsLonger old new → processor_count new ≡ processor_count old
-processor_count-longer old new h = ap (λ (r : changes.Registers). length r.head.processors) h.controls
+-- what an assist leaves, by the value that its word has
+pub Leaves-assist : (events : List Event) (p flags la word n before after : ℕ) (moments : List ℕ) (e : Event) (dirty : Bool) → e ≡ Assist p flags la word moments → n ≡ length events → before ≡ mem_at events n word → dirty ≡ says_dirty flags → after ≡ marked dirty before → Leaves events e word after
+Leaves-assist events p flags la word n before after moments e dirty is count read says made =
+    let P : Event → Type 0 = λ x. Leaves events x word after in
+    let Q : ℕ → Type 0 = λ v. Leaves events (Assist p flags la word moments) word v in
+    let value : marked (says_dirty flags) (mem_at events (length events) word) ≡ after =
+    ap (λ k. marked (says_dirty flags) (mem_at events k word)) (sym count)
+    ∙ ap (marked (says_dirty flags)) (sym read)
+    ∙ ap (λ b. marked b before) (sym says)
+    ∙ sym made in
+    subst P (sym is) (subst Q value (memory.Leaves-assist events p flags la word moments))
+
+-- an access that got its answer is noted nowhere
+pub IsPast-answered : (past : Past) (head : Head) (events : List Event) (p flags la page : ℕ) (moments : List ℕ) (e : Event) (outcome : Outcome) → e ≡ Access p flags la outcome moments → outcome ≡ Page page → IsPast past head events → IsPast past head (events ++ e ∷ [])
+IsPast-answered past head events p flags la page moments e outcome is answer h =
+    let P : Event → Type 0 = λ x. IsPast past head (events ++ x ∷ []) in
+    let w : Event = Access p flags la (Page page) moments in
+    subst P (sym (is ∙ ap (λ (o : Outcome). Access p flags la o moments) answer)) (record {
+      versions = memory.StandsFor-other past.versions events w h.versions (λ a value. refl);
+      controls = registers.StandsFor-other past.controls head events w h.controls refl;
+      drops = dropped.StandsFor-other past.drops head events w h.drops refl;
+    })
+
+pub may_drop-fault : (p flags la code : ℕ) (moments : List ℕ) (e : Event) (outcome : Outcome) → e ≡ Access p flags la outcome moments → outcome ≡ Fault code → drops.may_drop e ≡ true
+may_drop-fault p flags la code moments e outcome is fault =
+    ap drops.may_drop (is ∙ ap (λ (o : Outcome). Access p flags la o moments) fault)
 
 -- what holds of each event holds of the one at a place
 pub AllByRecursion-at : (P : Event → Type 0) (es : List Event) (i : ℕ) (e : Event) → AllByRecursion P es → slice_get es i ≡ Some e → P e
@@ -173,4 +120,4 @@ pub run_count : (before es : List Event) (n i : ℕ) → n ≡ length before →
 run_count before es n i h le = simp (length-append, length-take) (omega (arith, h))
 
 pub processor_count-past : (past : Past) (head : Head) (events : List Event) → IsPast past head events → processor_count past ≡ length head.processors
-processor_count-past past head events h = ap (λ (r : changes.Registers). length r.head.processors) h.controls
+processor_count-past past head events h = ap (λ (d : Head). length d.processors) h.controls.settings

@@ -8,3 +8,4 @@ pub mod Next
 pub mod Going
 pub mod Steps
 pub mod Pushing
+pub mod Segments

@@ -1,5 +1,5 @@
 -- How far each part of a record looks.
-use Rattle.std.proofs.Common.{◌≡◌, ℕ, zero, suc, ◌+◌, ◌*◌, ◌^◌, ◌≤◌, Bool, true, false, cond, eqb, ltb, leb, ◌&&◌, List, [], ◌∷◌, ◌++◌, length, take, drop, codes, Option, Some, None, Ok, Err, arith, sym, ap, ◌∙◌, refl, take-append-drop, length-append, length-take}
+use Rattle.std.proofs.Common.{◌≡◌, ℕ, zero, suc, ◌+◌, ◌*◌, ◌^◌, ◌≤◌, Bool, true, false, cond, eqb, ltb, leb, ◌&&◌, ◌||◌, List, [], ◌∷◌, ◌++◌, length, take, drop, codes, Option, Some, None, Ok, Err, arith, sym, ap, ◌∙◌, refl, take-append-drop, length-append, length-take}
 use Rattle.std.specs.Int.{w16, w32, w64}
 use Rattle.std.proofs.lemmas.Bool.{le-ltb}
 use Rattle.std.proofs.lemmas.Bool.Decides.{nat_tests}
@@ -10,9 +10,11 @@ use Rattle.pg_event.specs.declared.event.Event.TheVariants as events
 use Rattle.pg_event.specs.declared.event.Outcome.TheVariants as outcomes
 use Rattle.pg_event.specs.declared.event.Malformed.{Malformed}
 use Rattle.pg_event.specs.declared.refusal.Refusal.TheVariants as refusals
-use Rattle.pg_event.specs.Heads.{Head}
+use Rattle.pg_event.specs.declared.version.Version.{Version}
+use Rattle.pg_event.specs.declared.version.Version.TheVariants as versions
+use Rattle.pg_event.specs.Heads.{Head, most_processors}
 use Rattle.pg_event.specs.Form.{broken_rule}
-use Rattle.pg_event.specs.Reading.{◌>>=◌, byte_at, number_at, passing, same_bytes, magic_at, start_at, outcome_at, numbers_at, moments_at, write_at, access_at, mov_cr3_at, invlpg_at, invpcid_at, mov_cr4_pge_at, fields_at, well_formed_at, event_at}
+use Rattle.pg_event.specs.Reading.{◌>>=◌, byte_at, number_at, passing, same_bytes, magic_at, start_at, outcome_at, numbers_at, moments_at, write_at, access_at, mov_cr3_at, invlpg_at, invpcid_at, mov_cr4_pge_at, assist_at, fields_at, last_tag, well_formed_at, event_at, is_between, version_at, version_of, processor_at}
 use Rattle.pg_codec.specs.Parts.{settings_at}
 use Rattle.pg_codec.proofs.Local.{IsLocal, extended, byte_local, number_local, done_local, refused_local, then_local, wider, cond_local, bounded_local, made_local, done, ok_is}
 
@@ -37,7 +39,7 @@ few n h = grind (arith, nat_tests)
 moments_local : IsLocal 17 moments_at
 unfolding moments_at
 moments_local =
-    bounded_local 1 16 (λ n. leb 1 n && leb n 4) refusals.Tag byte_at (λ n bytes. numbers_at n bytes) byte_local
+    bounded_local 1 16 (is_between 1 4) refusals.Tag byte_at (λ n bytes. numbers_at n bytes) byte_local
     (λ n h. let le = few n h in wider (4 * n) 16 (numbers_at n) (omega arith) (numbers_local n))
 
 write_local : (p : ℕ) → IsLocal 16 (write_at p)
@@ -71,6 +73,14 @@ mov_cr4_pge_local : (p : ℕ) → IsLocal 1 (mov_cr4_pge_at p)
 unfolding mov_cr4_pge_at
 mov_cr4_pge_local p = bounded_local 1 0 (λ n. ltb n 2) refusals.Tag byte_at (λ on bytes. Ok (events.MovCr4Pge p (eqb on 1), bytes)) byte_local (λ on _. done_local (events.MovCr4Pge p (eqb on 1)))
 
+assist_local : (p : ℕ) → IsLocal 34 (assist_at p)
+unfolding assist_at
+assist_local p =
+    then_local 1 33 byte_at (λ flags bytes. number_at w64 bytes >>= λ la. number_at w64 la.1 >>= λ word. moments_at word.1 >>= λ moments. Ok (events.Assist p flags la.0 word.0 moments.0, moments.1)) byte_local (λ flags.
+    then_local 8 25 (number_at w64) (λ la bytes. number_at w64 bytes >>= λ word. moments_at word.1 >>= λ moments. Ok (events.Assist p flags la word.0 moments.0, moments.1)) (number_local w64) (λ la.
+    then_local 8 17 (number_at w64) (λ word bytes. moments_at bytes >>= λ moments. Ok (events.Assist p flags la word moments.0, moments.1)) (number_local w64) (λ word.
+    made_local 17 moments_at (λ moments. events.Assist p flags la word moments) moments_local)))
+
 fields_local : (tag p : ℕ) → IsLocal 35 (fields_at tag p)
 unfolding fields_at
 fields_local tag p =
@@ -79,17 +89,23 @@ fields_local tag p =
     (cond_local 35 (eqb tag 0x12) _ _ (wider 8 35 _ (omega arith) (mov_cr3_local p))
     (cond_local 35 (eqb tag 0x13) _ _ (wider 8 35 _ (omega arith) (invlpg_local p))
     (cond_local 35 (eqb tag 0x14) _ _ (wider 11 35 _ (omega arith) (invpcid_local p))
-    (wider 1 35 _ (omega arith) (mov_cr4_pge_local p))))))
+    (cond_local 35 (eqb tag 0x15) _ _ (wider 1 35 _ (omega arith) (mov_cr4_pge_local p))
+    (wider 34 35 _ (omega arith) (assist_local p)))))))
+
+processor_local : (version : Version) → IsLocal 2 (processor_at version)
+unfolding processor_at
+processor_local versions.One = wider 1 2 byte_at (omega arith) byte_local
+processor_local versions.Two = number_local w16
 
 judged_local : (i : ℕ) (rule : Option Malformed) (e : Event) → IsLocal 0 (λ bytes. well_formed_at i rule (e, bytes))
 judged_local i None e = done_local e
 judged_local i (Some rule) e = refused_local (refusals.Malformed i rule)
 
-pub event_local : (head : Head) (i : ℕ) → IsLocal 37 (event_at head i)
+pub event_local : (head : Head) (i : ℕ) → IsLocal 38 (event_at head i)
 unfolding event_at
 event_local head i =
-    bounded_local 1 36 (λ n. leb 0x10 n && leb n 0x15) refusals.Tag byte_at (λ tag bytes. byte_at bytes >>= λ p. fields_at tag p.0 p.1 >>= λ e. well_formed_at i (broken_rule head e.0) e) byte_local (λ tag _.
-    then_local 1 35 byte_at (λ p bytes. fields_at tag p bytes >>= λ e. well_formed_at i (broken_rule head e.0) e) byte_local (λ p.
+    bounded_local 1 37 (is_between 0x10 (last_tag head.version)) refusals.Tag byte_at (λ tag bytes. processor_at head.version bytes >>= λ p. fields_at tag p.0 p.1 >>= λ e. well_formed_at i (broken_rule head e.0) e) byte_local (λ tag _.
+    then_local 2 35 (processor_at head.version) (λ p bytes. fields_at tag p bytes >>= λ e. well_formed_at i (broken_rule head e.0) e) (processor_local head.version) (λ p.
     then_local 35 0 (fields_at tag p) (λ e bytes. well_formed_at i (broken_rule head e) (e, bytes)) (fields_local tag p) (λ e. judged_local i (broken_rule head e) e)))
 
 pub start_local : (m : ℕ) → IsLocal 9 (start_at m)
@@ -118,15 +134,20 @@ magic_used : (bytes : List ℕ) (x : List ℕ × List ℕ) → magic_at bytes �
 unfolding magic_at
 magic_used bytes x e = (take 8 bytes, sym (take-append-drop 8 bytes) ∙ ap (λ l. take 8 bytes ++ l) (found (ltb (length bytes) 8) (same_bytes (take 8 bytes) (codes "PGRECORD")) (take 8 bytes, drop 8 bytes) x e), omega (arith, length-take 8 bytes))
 
-magic_local : IsLocal 8 magic_at
+pub magic_local : IsLocal 8 magic_at
 magic_local = record { same = magic_same; used = magic_used }
 
-pub settings_local : IsLocal 17 settings_at
+pub version_local : IsLocal 2 version_at
+unfolding version_at
+version_local =
+    bounded_local 2 0 (λ n. eqb n 1 || eqb n 2) refusals.Version (number_at w16) (λ n bytes. Ok (version_of n, bytes)) (number_local w16) (λ n _. done_local (version_of n))
+
+pub settings_local : IsLocal 18 settings_at
 unfolding settings_at
 settings_local =
-    then_local 8 9 magic_at _ magic_local (λ magic.
-    bounded_local 2 7 (λ n. eqb n 1) refusals.Version (number_at w16) _ (number_local w16) (λ version _.
-    bounded_local 1 6 (λ n. leb 36 n && leb n 52) refusals.HeaderField byte_at _ byte_local (λ m _.
-    bounded_local 1 5 (λ n. ltb n 16) refusals.HeaderField byte_at _ byte_local (λ flags _.
-    bounded_local 1 4 (λ n. leb 1 n && leb n 64) refusals.HeaderField byte_at _ byte_local (λ count _.
-    bounded_local 4 0 (λ n. leb 1 n && leb n 65536) refusals.HeaderField (number_at w32) _ (number_local w32) (λ size _. done_local _))))))
+    then_local 8 10 magic_at _ magic_local (λ magic.
+    then_local 2 8 version_at _ version_local (λ version.
+    bounded_local 1 7 (is_between 36 52) refusals.HeaderField byte_at _ byte_local (λ m _.
+    bounded_local 1 6 (λ n. ltb n 16) refusals.HeaderField byte_at _ byte_local (λ flags _.
+    bounded_local 2 4 (is_between 1 (most_processors version)) refusals.HeaderField (processor_at version) _ (processor_local version) (λ count _.
+    bounded_local 4 0 (is_between 1 65536) refusals.HeaderField (number_at w32) _ (number_local w32) (λ size _. done_local _))))))

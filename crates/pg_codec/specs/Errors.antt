@@ -1,7 +1,10 @@
 -- The numbers of refusals.
 use Rattle.std.specs.Prelude.{ℕ}
 use Rattle.pg_event.specs.declared.refusal.Refusal.{Refusal}
-use Rattle.pg_event.specs.declared.refusal.Refusal.TheVariants.{Magic, Version, HeaderField, SegmentNumber, SegmentCount, Tag, Malformed, Truncated, Total, Trailing}
+use Rattle.pg_event.specs.declared.refusal.Refusal.TheVariants.{Magic, Version, HeaderField}
+use Rattle.pg_event.specs.declared.refusal.Refusal.TheVariants.{SegmentNumber, SegmentCount, Tag}
+use Rattle.pg_event.specs.declared.refusal.Refusal.TheVariants.{Malformed, Truncated, Total}
+use Rattle.pg_event.specs.declared.refusal.Refusal.TheVariants.{Trailing}
 use Rattle.pg_codec.specs.declared.error.ReadError.{ReadError}
 use Rattle.pg_codec.specs.declared.error.ReadError.TheVariants as errors
 

@@ -1,10 +1,14 @@
 -- Parts of a record in the pieces in which they are read.
-use Rattle.std.specs.Prelude.{ℕ, ◌≤◌, ◌<◌, Bool, ◌&&◌, ◌==◌, nat_lt, nat_le, List, ◌++◌, Option, Ok}
-use Rattle.std.specs.Int.{w16, w32}
+use Rattle.std.specs.Prelude.{ℕ, ◌≤◌, ◌<◌, Bool, nat_lt, if◌then◌else◌, List, ◌++◌, Option, Ok, Err}
+use Rattle.std.specs.Prelude.{true, false}
+use Rattle.std.specs.Int.{w32}
 use Rattle.pg_event.specs.declared.refusal.Refusal.TheVariants as refusals
 use Rattle.pg_event.specs.declared.event.Event.{Event}
-use Rattle.pg_event.specs.Heads.{Head}
-use Rattle.pg_event.specs.Reading.{◌>>=◌, Part, byte_at, number_at, passing, magic_at, chunk_at, closed}
+use Rattle.pg_event.specs.declared.version.Version.{Version}
+use Rattle.pg_event.specs.declared.version.Version.TheVariants as versions
+use Rattle.pg_event.specs.Heads.{Head, most_processors}
+use Rattle.pg_event.specs.Reading.{◌>>=◌, Part, byte_at, number_at, passing, is_between}
+use Rattle.pg_event.specs.Reading.{magic_at, version_at, processor_at, header_at, chunk_at, closed}
 use Rattle.pg_codec.specs.declared.settings.Settings.{Settings}
 
 -- what was read before, and what is still read
@@ -15,21 +19,55 @@ with_front front part = part >>= λ x. Ok (front ++ x.0, x.1)
 unfoldable pub settings_at : List ℕ → Part Settings
 settings_at bytes = do
   magic ← magic_at bytes
-  version ← passing (λ n. n == 1) refusals.Version (number_at w16 magic.1)
-  m ← passing (λ n. nat_le 36 n && nat_le n 52) refusals.HeaderField (byte_at version.1)
+  version ← version_at magic.1
+  m ← passing (is_between 36 52) refusals.HeaderField (byte_at version.1)
   flags ← passing (λ n. nat_lt n 16) refusals.HeaderField (byte_at m.1)
-  count ← passing (λ n. nat_le 1 n && nat_le n 64) refusals.HeaderField (byte_at flags.1)
-  size ← passing (λ n. nat_le 1 n && nat_le n 65536) refusals.HeaderField (number_at w32 count.1)
-  Ok (record { cfg = record { flags = record { 0 = flags.0 }; m = m.0 }; count = count.0; segment = size.0 }, size.1)
+  count ←
+      passing (is_between 1 (most_processors version.0)) refusals.HeaderField
+      (processor_at version.0 flags.1)
+  size ← passing (is_between 1 65536) refusals.HeaderField (number_at w32 count.1)
+  Ok (
+    record {
+      version = version.0;
+      cfg = record { flags = record { 0 = flags.0 }; m = m.0 };
+      count = count.0;
+      segment = size.0;
+    },
+    size.1,
+  )
+
+-- the version that the bytes of a record say
+abbrev pub version_said : List ℕ → Part Version
+version_said bytes = magic_at bytes >>= λ magic. version_at magic.1
+
+abbrev pub is_two : Part Version → Bool
+is_two (Ok (versions.Two, rest)) = true
+is_two (Ok (versions.One, rest)) = false
+is_two (Err e) = false
+
+-- the header of a version 1 record: version 2 is refused at its field, whatever follows
+abbrev pub old_header_at : List ℕ → Part Head
+old_header_at bytes =
+    if is_two (version_said bytes) then Err refusals.Version else header_at bytes
 
 -- each field is within its range
-abbrev pub AreSettings : Settings → Type 0
-AreSettings s =
-    (36 ≤ s.cfg.m) × (s.cfg.m ≤ 52) × (s.cfg.flags.0 < 16) × (1 ≤ s.count) × (s.count ≤ 64) × (1 ≤ s.segment) × (s.segment ≤ 65536)
+pub record AreSettings (s : Settings) : Type 0 where
+  pub low : 36 ≤ s.cfg.m
+  pub high : s.cfg.m ≤ 52
+  pub flags : s.cfg.flags.0 < 16
+  pub some : 1 ≤ s.count
+  pub few : s.count ≤ most_processors s.version
+  pub size : 1 ≤ s.segment
+  pub limit : s.segment ≤ 65536
 
 -- the header that settings and the processors make
 abbrev pub head_of : Settings → List (ℕ × Bool) → Head
-head_of settings starts = record { cfg = settings.cfg; segment = settings.segment; processors = starts }
+head_of settings starts = record {
+  version = settings.version;
+  cfg = settings.cfg;
+  segment = settings.segment;
+  processors = starts;
+}
 
 -- a segment, or none at the end mark and the end of the bytes
 abbrev pub closed_chunk_at : Head → ℕ → ℕ → Bool → List ℕ → Part (Option (List Event))

@@ -1,15 +1,19 @@
 -- What a reader of records is seen as.
-use Rattle.std.specs.Prelude.{◌≡◌, ℕ, ◌+◌, ◌==◌, ◌≤◌, ◌<◌, ◌^◌, true, List, length, Option, Some, None, Result, Ok, Err}
+use Rattle.std.specs.Prelude.{◌≡◌, ℕ, ◌+◌, ◌==◌, ◌≤◌, ◌<◌, ◌^◌, true, List, length, Option, Some}
+use Rattle.std.specs.Prelude.{None}
+use Rattle.std.specs.Prelude.{Result, Ok, Err}
 use Rattle.std.specs.List.{AllByRecursion}
 use Rattle.pg_event.specs.Form.{broken_rule}
 use Rattle.pg_event.specs.declared.event.Event.{Event}
 use Rattle.pg_event.specs.Heads.{Head}
+use Rattle.pg_event.specs.Reading.{Part, header_at, segment_at, chunk_at}
 use Rattle.pg_codec.specs.declared.error.ReadError.{ReadError}
 use Rattle.pg_codec.specs.declared.stage.Progress.{Progress}
 use Rattle.pg_codec.specs.declared.stage.Stage.{Stage}
 use Rattle.pg_codec.specs.declared.stage.Stage.TheVariants.{Start, Segments, Ended, Refused}
-use Rattle.pg_codec.specs.Parts.{closed_chunk_at}
-use Rattle.pg_codec.specs.Reads.{Reads}
+use Rattle.pg_codec.specs.declared.stream.Source.{Ghosts}
+use Rattle.pg_codec.specs.Parts.{closed_chunk_at, old_header_at}
+use Rattle.pg_codec.specs.Reads.{Pulls}
 
 -- what it pulled and has not read, and where it stands
 pub record Reader : Type 0 where
@@ -27,8 +31,12 @@ stage_after_header (Err e) = Refused
 -- where a reader stands behind a segment, or the end
 abbrev pub behind_chunk : Progress → Option (List Event) → Stage
 behind_chunk p None = Ended
-behind_chunk p (Some events) =
-    Segments (record { header = p.header; number = p.number + 1; before = p.before + length events; full = length events == p.header.segment })
+behind_chunk p (Some events) = Segments (record {
+  header = p.header;
+  number = p.number + 1;
+  before = p.before + length events;
+  full = length events == p.header.segment;
+})
 
 abbrev pub stage_after_chunk : Stage → Result (Option (List Event)) ReadError → Stage
 stage_after_chunk (Segments p) (Ok chunk) = behind_chunk p chunk
@@ -46,14 +54,45 @@ MayReadSegment (Segments p) = Unit {0}
 MayReadSegment Refused = Unit {0}
 MayReadSegment _ = ⊥
 
--- where a reader stands before a segment, the call reads it, or the end
-abbrev pub ReadsSegment : Stage → Option (List ℕ) → Option (List ℕ) → Result (Option (List Event)) ReadError → Type 0
-ReadsSegment (Segments p) old new result = Reads old new result (closed_chunk_at p.header p.number p.before p.full)
-ReadsSegment _ old new result = Unit {0}
+-- the segment that comes next, after its tag
+abbrev pub next_segment_at : Progress → List ℕ → Part (List Event)
+next_segment_at p = segment_at p.header p.number p.before
 
--- a segment that may come where a reader stands: some well-formed events, and not too many
+-- the segment that comes next, or none at the end mark
+abbrev pub next_chunk_at : Progress → List ℕ → Part (Option (List Event))
+next_chunk_at p = chunk_at p.header p.number p.before p.full
+
+-- the segment that comes next, or none at the end mark and the end of the bytes
+abbrev pub next_closed_chunk_at : Progress → List ℕ → Part (Option (List Event))
+next_closed_chunk_at p = closed_chunk_at p.header p.number p.before p.full
+
+-- where a reader stands at the start, the call pulls the header
+abbrev pub PullsHeader : {R : Type 0} → Ghosts R → Stage → List ℕ × R → List ℕ × R →
+    Result Head ReadError → Type 0
+PullsHeader g Start old new result = Pulls g header_at old new result
+PullsHeader g _ old new result = Unit {0}
+
+-- where a reader stands at the start, the call pulls the header of a version 1 record
+abbrev pub PullsOldHeader : {R : Type 0} → Ghosts R → Stage → List ℕ × R → List ℕ × R →
+    Result Head ReadError → Type 0
+PullsOldHeader g Start old new result = Pulls g old_header_at old new result
+PullsOldHeader g _ old new result = Unit {0}
+
+-- where a reader stands before a segment, the call pulls it, or the end
+abbrev pub PullsSegment : {R : Type 0} → Ghosts R → Stage → List ℕ × R → List ℕ × R →
+    Result (Option (List Event)) ReadError → Type 0
+PullsSegment g (Segments p) old new result = Pulls g (next_closed_chunk_at p) old new result
+PullsSegment g _ old new result = Unit {0}
+
+-- a segment that may come next: some well-formed events, and not too many
+pub record IsSegment (p : Progress) (events : List Event) : Type 0 where
+  pub some : 1 ≤ length events
+  pub limit : p.before + length events < 2 ^ 32
+  pub well : AllByRecursion (λ e. broken_rule p.header e ≡ None) events
+
+-- a segment that may come where a reader stands
 abbrev pub IsNext : Stage → Option (List Event) → Type 0
-IsNext (Segments p) (Some events) = (1 ≤ length events) × (p.before + length events < 2 ^ 32) × AllByRecursion (λ e. broken_rule p.header e ≡ None) events
+IsNext (Segments p) (Some events) = IsSegment p events
 IsNext _ _ = Unit {0}
 
 -- what a reader keeps of where it stands

@@ -1,40 +1,41 @@
--- The spelling of records in parts, as they are written.
-use Rattle.std.specs.Prelude.{◌≡◌, ℕ, List, [], ◌∷◌, ◌++◌, length, codes, Option, Result, Ok, Err}
+-- What a call that writes leaves, and the spelling of records in parts, as they are written.
+use Rattle.std.specs.Prelude.{◌≡◌, ◌<◌, ℕ, List, ◌∷◌, [], ◌++◌, length, codes, Option, Result, Ok}
+use Rattle.std.specs.Prelude.{Err}
 use Rattle.std.specs.Io.KnownBytes.{Appends}
-use Rattle.std.specs.Int.{w16, w32, w64, to_le_bytes}
+use Rattle.std.specs.Int.{w16, w32, to_le_bytes}
+use Rattle.std.specs.List.{AllByRecursion}
 use Rattle.pg_event.specs.declared.event.Event.{Event}
-use Rattle.pg_event.specs.declared.event.Event.TheVariants.{Write, Access, MovCr3, Invlpg, Invpcid, MovCr4Pge}
-use Rattle.pg_event.specs.Heads.{Head}
-use Rattle.pg_event.specs.Spelling.{bit, outcome_bytes, moments_bytes}
-use Rattle.pg_codec.specs.Streams.{AppendsSome}
+use Rattle.pg_event.specs.declared.version.Version.{Version}
+use Rattle.pg_event.specs.Heads.{Head, most_processors}
+use Rattle.pg_event.specs.Form.{processor_of}
+use Rattle.pg_event.specs.Spelling.{version_number, processor_bytes}
+use Rattle.pg_codec.specs.declared.stream.Sink.{Ghosts}
+use Rattle.pg_codec.specs.Streams.{RaisesFailures, AppendsSome, Writes}
+
+-- a call puts these bytes into a sink, or where it fails a beginning of them
+pub record Puts {W X E : Type 0} (g : Ghosts W) (text : List ℕ) (old new : W) (result : Result X E)
+    : Type 0 where
+  pub bytes : Writes (g.held old) (g.held new) result text
+  pub failures : RaisesFailures (g.failed old) (g.failed new) result
+
+-- bytes that a block held went on to the sink, or stay in the block
+abbrev pub Passes : {X E : Type 0} → Option (List ℕ) → List ℕ → Option (List ℕ) → List ℕ →
+    Result X E → Type 0
+Passes old waiting new left (Ok x) =
+    (bytes : List ℕ) × Appends old new bytes × (waiting ≡ bytes ++ left)
+Passes old waiting new left (Err e) = AppendsSome old new waiting
+
+-- the numbers of the processors have a place in a record of this version
+abbrev pub FitVersion : Version → List Event → Type 0
+FitVersion version events = AllByRecursion (λ e. processor_of e < most_processors version) events
 
 -- a header without its processors
 abbrev pub settings_bytes : Head → List ℕ
 settings_bytes head =
-    codes "PGRECORD" ++ to_le_bytes w16 1 ++ (head.cfg.m ∷ head.cfg.flags.0 ∷ length head.processors ∷ []) ++ to_le_bytes w32 head.segment
-
-abbrev pub tag_of : Event → ℕ
-tag_of (Write p addr value) = 0x10
-tag_of (Access p flags la outcome moments) = 0x11
-tag_of (MovCr3 p operand) = 0x12
-tag_of (Invlpg p la) = 0x13
-tag_of (Invpcid p kind pcid la) = 0x14
-tag_of (MovCr4Pge p on) = 0x15
-
--- an event without its tag and processor
-abbrev pub fields_bytes : Event → List ℕ
-fields_bytes (Write p addr value) = to_le_bytes w64 addr ++ to_le_bytes w64 value
-fields_bytes (Access p flags la outcome moments) = flags ∷ (to_le_bytes w64 la ++ outcome_bytes outcome ++ moments_bytes moments)
-fields_bytes (MovCr3 p operand) = to_le_bytes w64 operand
-fields_bytes (Invlpg p la) = to_le_bytes w64 la
-fields_bytes (Invpcid p kind pcid la) = kind ∷ (to_le_bytes w16 pcid ++ to_le_bytes w64 la)
-fields_bytes (MovCr4Pge p on) = bit on ∷ []
+    codes "PGRECORD" ++ to_le_bytes w16 (version_number head.version)
+    ++ (head.cfg.m ∷ head.cfg.flags.0 ∷ [])
+    ++ processor_bytes head.version (length head.processors) ++ to_le_bytes w32 head.segment
 
 -- a segment without its events
 abbrev pub segment_head_bytes : ℕ → ℕ → List ℕ
 segment_head_bytes number count = 1 ∷ to_le_bytes w32 number ++ to_le_bytes w32 count
-
--- bytes that a block held went on to the sink, or stay in the block
-abbrev pub Passes : {X E : Type 0} → Option (List ℕ) → List ℕ → Option (List ℕ) → List ℕ → Result X E → Type 0
-Passes old waiting new left (Ok x) = (bytes : List ℕ) × Appends old new bytes × (waiting ≡ bytes ++ left)
-Passes old waiting new left (Err e) = AppendsSome old new waiting

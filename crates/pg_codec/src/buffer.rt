@@ -1,14 +1,15 @@
 //! Bytes that were pulled from a source in large blocks, and not yet read.
 
-ghost use Rattle.std.specs.Prelude.{◌≡◌, ◌-◌, ◌<◌, ◌≤◌, [], length, take, drop, IfOk, OnOk};
+ghost use Rattle.std.specs.Prelude.{◌≡◌, ◌-◌, ◌<◌, ◌≤◌, [], length, take, drop, IfOk};
 ghost use Rattle.std.specs.List.{slice_range};
 ghost use Rattle.std.specs.Io.KnownBytes.{Keeps, IsAtEnd};
 ghost use Rattle.pg_event.specs.Laws.{AreBytes};
-ghost use Rattle.pg_codec.specs.Streams.{CountsFailure};
-ghost use Rattle.pg_codec.specs.Reads.{left_of};
+ghost use Rattle.pg_codec.specs.Streams.{RaisesFailures};
+ghost use Rattle.pg_codec.specs.Reads.{left_of, Prepares};
 
-use crate::spelling::LONGEST_EVENT;
-use crate::stream::{Failed, Source, fill};
+use crate::spelling::LONGEST_PART;
+use crate::stream::{Failed, Source};
+use crate::transfer::fill;
 use std::alloc::{AllocError, Global};
 use std::marker::Model;
 
@@ -26,9 +27,11 @@ fn refill_slice<R: Source>(
     requires from { start ≤ end }
     requires to { end ≤ length bytes.old }
     ensures bound { IfOk result (λ n. n ≤ length bytes.new) }
-    ensures kept { IfOk result (λ n. Keeps (left_of (slice_range bytes.old start end) (R.left source.old)) (left_of (take n bytes.new) (R.left source.new))) }
+    ensures kept { IfOk result (λ n. Keeps
+        (left_of (slice_range bytes.old start end) (R.left source.old))
+        (left_of (take n bytes.new) (R.left source.new))) }
     ensures end { IfOk result (λ n. n < length bytes.new → IsAtEnd (R.left source.new)) }
-    ensures failures { CountsFailure (R.failed source.old) (R.failed source.new) result }
+    ensures failures { RaisesFailures (R.failed source.old) (R.failed source.new) result }
 {
     let len = end - start;
     bytes.copy_within(start..end, 0);
@@ -61,7 +64,8 @@ impl Model for Buffer {
 
     ghost view = { λ b. slice_range b.bytes.items b.start b.end };
 
-    ghost invariant = { λ b. (b.start ≤ b.end) × (b.end ≤ length b.bytes.items) × (37 ≤ length b.bytes.items) };
+    ghost invariant = { λ b.
+        (b.start ≤ b.end) × (b.end ≤ length b.bytes.items) × (38 ≤ length b.bytes.items) };
 }
 
 impl Buffer {
@@ -91,9 +95,7 @@ impl Buffer {
     }
 
     fn refill<R: Source>(&mut self, source: &mut R) -> Result<(), Failed>
-        ensures kept { OnOk result (Keeps (left_of self.old (R.left source.old)) (left_of self.new (R.left source.new))) }
-        ensures enough { OnOk result (length self.new < 37 → IsAtEnd (R.left source.new)) }
-        ensures failures { CountsFailure (R.failed source.old) (R.failed source.new) result }
+        ensures { Prepares R.Source (self.old, source.old) (self.new, source.new) result }
     {
         let end = refill_slice(source, &mut self.bytes, self.start, self.end)?;
         self.start = 0;
@@ -101,13 +103,11 @@ impl Buffer {
         Ok(())
     }
 
-    /// Has the bytes of the longest event at hand, or all that the source has left.
+    /// Has the bytes of the longest part at hand, or all that the source has left.
     pub(crate) fn prepare<R: Source>(&mut self, source: &mut R) -> Result<(), Failed>
-        ensures kept { OnOk result (Keeps (left_of self.old (R.left source.old)) (left_of self.new (R.left source.new))) }
-        ensures enough { OnOk result (length self.new < 37 → IsAtEnd (R.left source.new)) }
-        ensures failures { CountsFailure (R.failed source.old) (R.failed source.new) result }
+        ensures { Prepares R.Source (self.old, source.old) (self.new, source.new) result }
     {
-        if self.end - self.start >= LONGEST_EVENT {
+        if self.end - self.start >= LONGEST_PART {
             return Ok(());
         }
         self.refill(source)

@@ -1,17 +1,16 @@
 //! Headers and segments, from a buffer over a source.
 
-ghost use Rattle.std.specs.Prelude.{◌≡◌, ◌≢◌, ◌+◌, ◌^◌, ◌<◌, ◌≤◌, ◌==◌, None, length, IfOk, IfSome, OnOk, option_map, Err};
-ghost use Rattle.std.specs.Io.KnownBytes.{Keeps};
-ghost use Rattle.std.specs.List.{AllByRecursion};
-ghost use Rattle.pg_event.specs.Form.{broken_rule};
+ghost use Rattle.std.specs.Prelude.{◌≡◌, ◌≤◌, None, IfOk, IfSome, option_map};
 ghost use Rattle.pg_event.specs.Spelling.{IsHead};
-ghost use Rattle.pg_event.specs.Reading.{header_at, segment_at, end_at, chunk_at};
-ghost use Rattle.pg_codec.specs.Streams.{CountsFailure};
-ghost use Rattle.pg_codec.specs.Reads.{left_of, Reads, seen, Took, CountsDevice};
-ghost use Rattle.pg_codec.specs.Parts.{closed_chunk_at};
+ghost use Rattle.pg_event.specs.Reading.{header_at, end_at};
+ghost use Rattle.pg_codec.specs.Reads.{seen, Pulls, Finds, FindsEnd};
+ghost use Rattle.pg_codec.specs.Parts.{version_said, is_two, old_header_at};
+ghost use Rattle.pg_codec.specs.Readers.{next_segment_at, next_chunk_at, next_closed_chunk_at};
+ghost use Rattle.pg_codec.specs.Readers.{IsSegment};
 
 use crate::buffer::Buffer;
 use crate::error::ReadError;
+use crate::front::says_two;
 use crate::parts::{next_byte, next_settings, next_u32};
 use crate::series::{next_events, next_starts};
 use crate::stage::Progress;
@@ -24,19 +23,45 @@ pub(crate) fn next_header<R: Source>(
     buffer: &mut Buffer,
     source: &mut R,
 ) -> Result<Header, ReadError>
-    ensures reads { Reads (left_of buffer.old (R.left source.old)) (left_of buffer.new (R.left source.new)) result header_at }
-    ensures took { OnOk result (Took (left_of buffer.old (R.left source.old)) (left_of buffer.new (R.left source.new))) }
+    ensures pulls { Pulls R.Source header_at
+        (buffer.old, source.old) (buffer.new, source.new) result }
     ensures head { IfOk result (λ h. IsHead h) }
-    ensures device { CountsDevice (R.failed source.old) (R.failed source.new) result }
-    ensures live { result ≢ Err ReadError.Failed }
 {
     let settings = next_settings(buffer, source)?;
     let processors = next_starts(alloc, buffer, source, settings.cfg.m, settings.count)?;
     Ok(Header {
+        version: settings.version,
         cfg: settings.cfg,
         segment: settings.segment,
         processors,
     })
+}
+
+fn is_version_two<R: Source>(buffer: &mut Buffer, source: &mut R) -> Result<bool, Failed>
+    ensures { Finds R.Source (λ bytes. is_two (version_said bytes))
+        (buffer.old, source.old) (buffer.new, source.new) result }
+{
+    buffer.prepare(source)?;
+    Ok(says_two(buffer.unread()))
+}
+
+/// The header of a version 1 record.
+pub(crate) fn next_old_header<R: Source>(
+    alloc: Global,
+    buffer: &mut Buffer,
+    source: &mut R,
+) -> Result<Header, ReadError>
+    ensures pulls { Pulls R.Source old_header_at
+        (buffer.old, source.old) (buffer.new, source.new) result }
+    ensures head { IfOk result (λ h. IsHead h) }
+{
+    if is_version_two(buffer, source)? {
+        return Err(ReadError::Refused(Refusal::Version));
+    }
+    match next_header(alloc, buffer, source) {
+        Ok(header) => Ok(header),
+        Err(error) => Err(error),
+    }
 }
 
 /// A segment after its tag.
@@ -48,13 +73,9 @@ fn next_segment<R: Source>(
     progress: &Progress,
 ) -> Result<Vec<Event>, ReadError>
     requires { progress.now.header.cfg.m ≤ 52 }
-    ensures reads { Reads (left_of buffer.old (R.left source.old)) (left_of buffer.new (R.left source.new)) (seen (λ v. v.items) result) (segment_at progress.now.header progress.now.number progress.now.before) }
-    ensures took { OnOk result (Took (left_of buffer.old (R.left source.old)) (left_of buffer.new (R.left source.new))) }
-    ensures some { IfOk result (λ v. 1 ≤ length v.items) }
-    ensures well { IfOk result (λ v. AllByRecursion (λ e. broken_rule progress.now.header e ≡ None) v.items) }
-    ensures limit { IfOk result (λ v. progress.now.before + length v.items < 2 ^ 32) }
-    ensures device { CountsDevice (R.failed source.old) (R.failed source.new) result }
-    ensures live { result ≢ Err ReadError.Failed }
+    ensures pulls { Pulls R.Source (next_segment_at progress.now)
+        (buffer.old, source.old) (buffer.new, source.new) (seen (λ v. v.items) result) }
+    ensures next { IfOk result (λ v. IsSegment progress.now v.items) }
 {
     let found = next_u32(buffer, source)?;
     if found != progress.number {
@@ -81,11 +102,10 @@ fn next_end<R: Source>(
     source: &mut R,
     total: u32,
 ) -> Result<Option<Vec<Event>>, ReadError>
-    ensures reads { Reads (left_of buffer.old (R.left source.old)) (left_of buffer.new (R.left source.new)) (seen (option_map (λ v. v.items)) result) (end_at total) }
-    ensures took { OnOk result (Took (left_of buffer.old (R.left source.old)) (left_of buffer.new (R.left source.new))) }
+    ensures pulls { Pulls R.Source (end_at total)
+        (buffer.old, source.old) (buffer.new, source.new)
+        (seen (option_map (λ v. v.items)) result) }
     ensures none { IfOk result (λ chunk. chunk ≡ None) }
-    ensures device { CountsDevice (R.failed source.old) (R.failed source.new) result }
-    ensures live { result ≢ Err ReadError.Failed }
 {
     if next_u32(buffer, source)? != total {
         return Err(ReadError::Refused(Refusal::Total));
@@ -102,13 +122,11 @@ fn next_chunk<R: Source>(
     progress: &Progress,
 ) -> Result<Option<Vec<Event>>, ReadError>
     requires { progress.now.header.cfg.m ≤ 52 }
-    ensures reads { Reads (left_of buffer.old (R.left source.old)) (left_of buffer.new (R.left source.new)) (seen (option_map (λ v. v.items)) result) (chunk_at progress.now.header progress.now.number progress.now.before progress.now.full) }
-    ensures took { OnOk result (Took (left_of buffer.old (R.left source.old)) (left_of buffer.new (R.left source.new))) }
-    ensures some { IfOk result (λ chunk. IfSome chunk (λ v. 1 ≤ length v.items)) }
-    ensures well { IfOk result (λ chunk. IfSome chunk (λ v. AllByRecursion (λ e. broken_rule progress.now.header e ≡ None) v.items)) }
-    ensures limit { IfOk result (λ chunk. IfSome chunk (λ v. progress.now.before + length v.items < 2 ^ 32)) }
-    ensures device { CountsDevice (R.failed source.old) (R.failed source.new) result }
-    ensures live { result ≢ Err ReadError.Failed }
+    ensures pulls { Pulls R.Source (next_chunk_at progress.now)
+        (buffer.old, source.old) (buffer.new, source.new)
+        (seen (option_map (λ v. v.items)) result) }
+    ensures next { IfOk result (λ chunk.
+        IfSome chunk (λ v. IsSegment progress.now v.items)) }
 {
     let tag = next_byte(buffer, source)?;
     if tag != 1 && tag != 2 {
@@ -125,9 +143,7 @@ fn next_chunk<R: Source>(
 }
 
 fn is_at_end<R: Source>(buffer: &mut Buffer, source: &mut R) -> Result<bool, Failed>
-    ensures value { IfOk result (λ end. IfSome (left_of buffer.old (R.left source.old)) (λ bytes. end ≡ (length bytes == 0))) }
-    ensures kept { OnOk result (Keeps (left_of buffer.old (R.left source.old)) (left_of buffer.new (R.left source.new))) }
-    ensures failures { CountsFailure (R.failed source.old) (R.failed source.new) result }
+    ensures { FindsEnd R.Source (buffer.old, source.old) (buffer.new, source.new) result }
 {
     buffer.prepare(source)?;
     Ok(buffer.unread().is_empty())
@@ -141,13 +157,11 @@ pub(crate) fn next_closed_chunk<R: Source>(
     progress: &Progress,
 ) -> Result<Option<Vec<Event>>, ReadError>
     requires { progress.now.header.cfg.m ≤ 52 }
-    ensures reads { Reads (left_of buffer.old (R.left source.old)) (left_of buffer.new (R.left source.new)) (seen (option_map (λ v. v.items)) result) (closed_chunk_at progress.now.header progress.now.number progress.now.before progress.now.full) }
-    ensures took { OnOk result (Took (left_of buffer.old (R.left source.old)) (left_of buffer.new (R.left source.new))) }
-    ensures some { IfOk result (λ chunk. IfSome chunk (λ v. 1 ≤ length v.items)) }
-    ensures well { IfOk result (λ chunk. IfSome chunk (λ v. AllByRecursion (λ e. broken_rule progress.now.header e ≡ None) v.items)) }
-    ensures limit { IfOk result (λ chunk. IfSome chunk (λ v. progress.now.before + length v.items < 2 ^ 32)) }
-    ensures device { CountsDevice (R.failed source.old) (R.failed source.new) result }
-    ensures live { result ≢ Err ReadError.Failed }
+    ensures pulls { Pulls R.Source (next_closed_chunk_at progress.now)
+        (buffer.old, source.old) (buffer.new, source.new)
+        (seen (option_map (λ v. v.items)) result) }
+    ensures next { IfOk result (λ chunk.
+        IfSome chunk (λ v. IsSegment progress.now v.items)) }
 {
     let chunk = next_chunk(alloc, buffer, source, progress)?;
     if chunk.is_none() && !is_at_end(buffer, source)? {

@@ -2,11 +2,12 @@
 
 ghost use Rattle.std.specs.Prelude.{◌≡◌, ◌≤◌, None, IfOk};
 ghost use Rattle.pg_event.specs.Form.{broken_rule};
-ghost use Rattle.pg_event.specs.Reading.{write_at, access_at, mov_cr3_at, invlpg_at, invpcid_at, mov_cr4_pge_at, fields_at, event_at};
+ghost use Rattle.pg_event.specs.Reading.{write_at, access_at, mov_cr3_at, invlpg_at, invpcid_at};
+ghost use Rattle.pg_event.specs.Reading.{mov_cr4_pge_at, assist_at, fields_at, last_tag, event_at};
 ghost use Rattle.pg_codec.specs.Reads.{Gives};
 
-use crate::fields::{byte_of, moments_of, outcome_of, u16_of, u64_of};
-use pg_event::{Event, Header, Refusal, well_formed};
+use crate::fields::{byte_of, moments_of, outcome_of, processor_number, u16_of, u64_of};
+use pg_event::{Event, Header, Refusal, Version, well_formed};
 
 #[tactic(auto, unfolding(pg_event::specs::Reading::write_at))]
 fn write_of(p: u16, bytes: &[u8]) -> Result<(Event, &[u8]), Refusal>
@@ -76,6 +77,28 @@ fn mov_cr4_pge_of(p: u16, bytes: &[u8]) -> Result<(Event, &[u8]), Refusal>
     Ok((Event::MovCr4Pge { p, on: on == 1 }, rest))
 }
 
+#[tactic(auto, unfolding(pg_event::specs::Reading::assist_at))]
+fn assist_of(p: u16, bytes: &[u8]) -> Result<(Event, &[u8]), Refusal>
+    ensures { Gives (λ x. (x.0, x.1.now)) result (assist_at p bytes.now) }
+{
+    let (flags, rest) = byte_of(bytes)?;
+    let (la, rest) = u64_of(rest)?;
+    let (word, rest) = u64_of(rest)?;
+    match moments_of(rest) {
+        Err(refusal) => Err(refusal),
+        Ok((moments, rest)) => Ok((
+            Event::Assist {
+                p,
+                flags,
+                la,
+                word,
+                moments,
+            },
+            rest,
+        )),
+    }
+}
+
 /// The fields of an event after its tag and processor.
 #[tactic(auto, unfolding(pg_event::specs::Reading::fields_at))]
 fn fields_of(tag: u8, p: u16, bytes: &[u8]) -> Result<(Event, &[u8]), Refusal>
@@ -87,7 +110,18 @@ fn fields_of(tag: u8, p: u16, bytes: &[u8]) -> Result<(Event, &[u8]), Refusal>
         0x12 => mov_cr3_of(p, bytes),
         0x13 => invlpg_of(p, bytes),
         0x14 => invpcid_of(p, bytes),
-        _ => mov_cr4_pge_of(p, bytes),
+        0x15 => mov_cr4_pge_of(p, bytes),
+        _ => assist_of(p, bytes),
+    }
+}
+
+/// The greatest tag of an event: only version 2 has assists.
+fn last_tag(version: Version) -> u8
+    ensures { result ≡ last_tag version }
+{
+    match version {
+        Version::One => 0x15,
+        Version::Two => 0x16,
     }
 }
 
@@ -103,11 +137,11 @@ pub(crate) fn event_of<'a>(
     ensures well { IfOk result (λ x. broken_rule header.now x.0 ≡ None) }
 {
     let (tag, rest) = byte_of(bytes)?;
-    if tag < 0x10 || tag > 0x15 {
+    if tag < 0x10 || tag > last_tag(header.version) {
         return Err(Refusal::Tag);
     }
-    let (p, rest) = byte_of(rest)?;
-    match fields_of(tag, p as u16, rest) {
+    let (p, rest) = processor_number(header.version, rest)?;
+    match fields_of(tag, p, rest) {
         Err(refusal) => Err(refusal),
         Ok((event, rest)) => match well_formed(header, &event) {
             Ok(()) => Ok((event, rest)),

@@ -2,11 +2,12 @@
 
 ghost use Rattle.std.specs.Prelude.{◌≡◌, ◌+◌, ◌≤◌, length};
 ghost use Rattle.std.specs.Int.{w16, w32, w64};
-ghost use Rattle.pg_event.specs.Reading.{byte_at, number_at, outcome_at, moments_at, numbers_at};
+ghost use Rattle.pg_event.specs.Reading.{byte_at, number_at, processor_at, outcome_at, moments_at};
+ghost use Rattle.pg_event.specs.Reading.{numbers_at};
 ghost use Rattle.pg_codec.specs.Reads.{Gives};
 ghost use Rattle.pg_codec.specs.Parts.{with_front};
 
-use pg_event::{Moments, Outcome, Refusal};
+use pg_event::{Moments, Outcome, Refusal, Version};
 
 pub(crate) fn byte_of(bytes: &[u8]) -> Result<(u8, &[u8]), Refusal>
     ensures { Gives (λ x. (x.0, x.1.now)) result (byte_at bytes.now) }
@@ -49,6 +50,20 @@ pub(crate) fn u64_of(bytes: &[u8]) -> Result<(u64, &[u8]), Refusal>
         front[0], front[1], front[2], front[3], front[4], front[5], front[6], front[7],
     ]);
     Ok((number, rest))
+}
+
+/// The number of a processor, or how many there are.
+#[tactic(auto, unfolding(pg_event::specs::Reading::processor_at))]
+pub(crate) fn processor_number(version: Version, bytes: &[u8]) -> Result<(u16, &[u8]), Refusal>
+    ensures { Gives (λ x. (x.0, x.1.now)) result (processor_at version bytes.now) }
+{
+    match version {
+        Version::One => {
+            let (byte, rest) = byte_of(bytes)?;
+            Ok((byte as u16, rest))
+        }
+        Version::Two => u16_of(bytes),
+    }
 }
 
 /// A page or a code, by the tag.

@@ -1,14 +1,14 @@
 //! The parts of a header at the front of a slice.
 
 ghost use Rattle.std.specs.Prelude.{◌≡◌, ◌≤◌, ◌<◌, ◌^◌, length, IfOk};
-ghost use Rattle.pg_event.specs.Reading.{same_bytes, magic_at, start_at};
+ghost use Rattle.pg_event.specs.Reading.{same_bytes, magic_at, version_at, start_at};
 ghost use Rattle.pg_codec.specs.Reads.{Gives};
-ghost use Rattle.pg_codec.specs.Parts.{settings_at, AreSettings};
+ghost use Rattle.pg_codec.specs.Parts.{settings_at, AreSettings, version_said, is_two};
 
-use crate::fields::{byte_of, u16_of, u32_of, u64_of};
+use crate::fields::{byte_of, processor_number, u16_of, u32_of, u64_of};
 use crate::settings::Settings;
 use pg_entry::{Cfg, CfgFlags};
-use pg_event::Refusal;
+use pg_event::{Refusal, Version, most_processors};
 
 fn same_bytes(xs: &[u8], ys: &[u8]) -> bool
     ensures { result ≡ same_bytes xs.now ys.now }
@@ -30,6 +30,28 @@ fn magic_of(bytes: &[u8]) -> Result<(&[u8], &[u8]), Refusal>
     Ok((front, rest))
 }
 
+#[tactic(auto, unfolding(pg_event::specs::Reading::version_at))]
+fn version_of(bytes: &[u8]) -> Result<(Version, &[u8]), Refusal>
+    ensures { Gives (λ x. (x.0, x.1.now)) result (version_at bytes.now) }
+{
+    let (number, rest) = u16_of(bytes)?;
+    match number {
+        1 => Ok((Version::One, rest)),
+        2 => Ok((Version::Two, rest)),
+        _ => Err(Refusal::Version),
+    }
+}
+
+/// Whether the bytes are those of a version 2 record, as far as its version field.
+pub(crate) fn says_two(bytes: &[u8]) -> bool
+    ensures { result ≡ is_two (version_said bytes.now) }
+{
+    match magic_of(bytes) {
+        Ok((_, rest)) => matches!(version_of(rest), Ok((Version::Two, _))),
+        Err(_) => false,
+    }
+}
+
 /// A header up to its processors.
 #[tactic(auto, unfolding(crate::specs::Parts::settings_at))]
 pub(crate) fn settings_of(bytes: &[u8]) -> Result<(Settings, &[u8]), Refusal>
@@ -37,10 +59,7 @@ pub(crate) fn settings_of(bytes: &[u8]) -> Result<(Settings, &[u8]), Refusal>
     ensures bounds { IfOk result (λ x. AreSettings x.0) }
 {
     let (_, rest) = magic_of(bytes)?;
-    let (version, rest) = u16_of(rest)?;
-    if version != 1 {
-        return Err(Refusal::Version);
-    }
+    let (version, rest) = version_of(rest)?;
     let (m, rest) = byte_of(rest)?;
     if m < 36 || m > 52 {
         return Err(Refusal::HeaderField);
@@ -49,8 +68,8 @@ pub(crate) fn settings_of(bytes: &[u8]) -> Result<(Settings, &[u8]), Refusal>
     if flags >= 16 {
         return Err(Refusal::HeaderField);
     }
-    let (count, rest) = byte_of(rest)?;
-    if count < 1 || count > 64 {
+    let (count, rest) = processor_number(version, rest)?;
+    if count < 1 || count as usize > most_processors(version) {
         return Err(Refusal::HeaderField);
     }
     let (segment, rest) = u32_of(rest)?;
@@ -61,6 +80,7 @@ pub(crate) fn settings_of(bytes: &[u8]) -> Result<(Settings, &[u8]), Refusal>
     let cfg = Cfg { flags, m };
     Ok((
         Settings {
+            version,
             cfg,
             count,
             segment,

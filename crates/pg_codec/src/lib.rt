@@ -16,14 +16,16 @@ mod settings;
 mod spelling;
 mod stage;
 mod stream;
+mod transfer;
 mod watched;
 mod writer;
 
 pub use error::ReadError;
 pub use reader::RecordReader;
-pub use stream::{Failed, Sink, Source, put_all};
+pub use stream::{Failed, Sink, Source};
+pub use transfer::put_all;
 pub use watched::Watched;
-pub use writer::{write_end, write_header, write_segment};
+pub use writer::{write_end, write_header, write_record, write_segment};
 
 #[cfg(test)]
 mod tests;

@@ -1,10 +1,10 @@
 //! The next part of a record, from a buffer over a source.
 
-ghost use Rattle.std.specs.Prelude.{◌≡◌, ◌≢◌, ◌≤◌, ◌<◌, ◌^◌, None, IfOk, OnOk, Err};
-ghost use Rattle.pg_event.specs.Form.{broken_rule};
+ghost use Rattle.std.specs.Prelude.{◌≡◌, ◌≤◌, ◌<◌, ◌^◌, None, IfOk, length};
 ghost use Rattle.std.specs.Int.{w32};
+ghost use Rattle.pg_event.specs.Form.{broken_rule};
 ghost use Rattle.pg_event.specs.Reading.{byte_at, number_at, start_at, event_at};
-ghost use Rattle.pg_codec.specs.Reads.{left_of, Reads, Took, CountsDevice};
+ghost use Rattle.pg_codec.specs.Reads.{seen, Takes, Pulls};
 ghost use Rattle.pg_codec.specs.Parts.{settings_at, AreSettings};
 
 use crate::buffer::Buffer;
@@ -14,61 +14,60 @@ use crate::fields::{byte_of, u32_of};
 use crate::front::{settings_of, start_of};
 use crate::settings::Settings;
 use crate::stream::Source;
-use pg_event::{Event, Header};
+use pg_event::{Event, Header, Refusal};
 
-pub(crate) fn next_byte<R: Source>(buffer: &mut Buffer, source: &mut R) -> Result<u8, ReadError>
-    ensures reads { Reads (left_of buffer.old (R.left source.old)) (left_of buffer.new (R.left source.new)) result byte_at }
-    ensures took { OnOk result (Took (left_of buffer.old (R.left source.old)) (left_of buffer.new (R.left source.new))) }
-    ensures device { CountsDevice (R.failed source.old) (R.failed source.new) result }
-    ensures live { result ≢ Err ReadError.Failed }
+/// A part that was read, and how many bytes it leaves.
+fn counted<T: Copy>(part: &Result<(T, &[u8]), Refusal>) -> Result<(T, usize), Refusal>
+    ensures { result ≡ seen (λ x. (x.0, length x.1.now)) part.now }
 {
-    buffer.prepare(source)?;
-    match byte_of(buffer.unread()) {
-        Err(refusal) => Err(ReadError::Refused(refusal)),
-        Ok((byte, rest)) => {
-            let left = rest.len();
-            buffer.keep_last(left);
-            Ok(byte)
-        }
+    match *part {
+        Ok((value, rest)) => Ok((value, rest.len())),
+        Err(refusal) => Err(refusal),
     }
 }
 
-pub(crate) fn next_u32<R: Source>(buffer: &mut Buffer, source: &mut R) -> Result<u32, ReadError>
-    ensures reads { Reads (left_of buffer.old (R.left source.old)) (left_of buffer.new (R.left source.new)) result (number_at w32) }
-    ensures took { OnOk result (Took (left_of buffer.old (R.left source.old)) (left_of buffer.new (R.left source.new))) }
-    ensures device { CountsDevice (R.failed source.old) (R.failed source.new) result }
-    ensures live { result ≢ Err ReadError.Failed }
+/// The value of a part that was read, whose bytes are let go.
+fn taken<T: Copy>(buffer: &mut Buffer, part: Result<(T, usize), Refusal>) -> Result<T, ReadError>
+    requires { IfOk part (λ x. x.1 ≤ length buffer.old) }
+    ensures { Takes buffer.old buffer.new part result }
+{
+    match part {
+        Ok((value, left)) => {
+            buffer.keep_last(left);
+            Ok(value)
+        }
+        Err(refusal) => Err(ReadError::Refused(refusal)),
+    }
+}
+
+pub(crate) fn next_byte<R: Source>(buffer: &mut Buffer, source: &mut R) -> Result<u8, ReadError>
+    ensures { Pulls R.Source byte_at (buffer.old, source.old) (buffer.new, source.new) result }
 {
     buffer.prepare(source)?;
-    match u32_of(buffer.unread()) {
-        Err(refusal) => Err(ReadError::Refused(refusal)),
-        Ok((number, rest)) => {
-            let left = rest.len();
-            buffer.keep_last(left);
-            Ok(number)
-        }
-    }
+    let part = counted(&byte_of(buffer.unread()));
+    taken(buffer, part)
+}
+
+pub(crate) fn next_u32<R: Source>(buffer: &mut Buffer, source: &mut R) -> Result<u32, ReadError>
+    ensures { Pulls R.Source (number_at w32)
+        (buffer.old, source.old) (buffer.new, source.new) result }
+{
+    buffer.prepare(source)?;
+    let part = counted(&u32_of(buffer.unread()));
+    taken(buffer, part)
 }
 
 pub(crate) fn next_settings<R: Source>(
     buffer: &mut Buffer,
     source: &mut R,
 ) -> Result<Settings, ReadError>
-    ensures reads { Reads (left_of buffer.old (R.left source.old)) (left_of buffer.new (R.left source.new)) result settings_at }
-    ensures took { OnOk result (Took (left_of buffer.old (R.left source.old)) (left_of buffer.new (R.left source.new))) }
+    ensures pulls { Pulls R.Source settings_at
+        (buffer.old, source.old) (buffer.new, source.new) result }
     ensures bounds { IfOk result (λ s. AreSettings s) }
-    ensures device { CountsDevice (R.failed source.old) (R.failed source.new) result }
-    ensures live { result ≢ Err ReadError.Failed }
 {
     buffer.prepare(source)?;
-    match settings_of(buffer.unread()) {
-        Err(refusal) => Err(ReadError::Refused(refusal)),
-        Ok((settings, rest)) => {
-            let left = rest.len();
-            buffer.keep_last(left);
-            Ok(settings)
-        }
-    }
+    let part = counted(&settings_of(buffer.unread()));
+    taken(buffer, part)
 }
 
 pub(crate) fn next_start<R: Source>(
@@ -77,21 +76,13 @@ pub(crate) fn next_start<R: Source>(
     m: u8,
 ) -> Result<(u64, bool), ReadError>
     requires { m ≤ 52 }
-    ensures reads { Reads (left_of buffer.old (R.left source.old)) (left_of buffer.new (R.left source.new)) result (start_at m) }
+    ensures pulls { Pulls R.Source (start_at m)
+        (buffer.old, source.old) (buffer.new, source.new) result }
     ensures cr3 { IfOk result (λ x. x.0 < 2 ^ m) }
-    ensures took { OnOk result (Took (left_of buffer.old (R.left source.old)) (left_of buffer.new (R.left source.new))) }
-    ensures device { CountsDevice (R.failed source.old) (R.failed source.new) result }
-    ensures live { result ≢ Err ReadError.Failed }
 {
     buffer.prepare(source)?;
-    match start_of(m, buffer.unread()) {
-        Err(refusal) => Err(ReadError::Refused(refusal)),
-        Ok((start, rest)) => {
-            let left = rest.len();
-            buffer.keep_last(left);
-            Ok(start)
-        }
-    }
+    let part = counted(&start_of(m, buffer.unread()));
+    taken(buffer, part)
 }
 
 /// Event number `i`.
@@ -102,19 +93,11 @@ pub(crate) fn next_event<R: Source>(
     i: u64,
 ) -> Result<Event, ReadError>
     requires { header.now.cfg.m ≤ 52 }
-    ensures reads { Reads (left_of buffer.old (R.left source.old)) (left_of buffer.new (R.left source.new)) result (event_at header.now i) }
+    ensures pulls { Pulls R.Source (event_at header.now i)
+        (buffer.old, source.old) (buffer.new, source.new) result }
     ensures well { IfOk result (λ e. broken_rule header.now e ≡ None) }
-    ensures took { OnOk result (Took (left_of buffer.old (R.left source.old)) (left_of buffer.new (R.left source.new))) }
-    ensures device { CountsDevice (R.failed source.old) (R.failed source.new) result }
-    ensures live { result ≢ Err ReadError.Failed }
 {
     buffer.prepare(source)?;
-    match event_of(header, i, buffer.unread()) {
-        Err(refusal) => Err(ReadError::Refused(refusal)),
-        Ok((event, rest)) => {
-            let left = rest.len();
-            buffer.keep_last(left);
-            Ok(event)
-        }
-    }
+    let part = counted(&event_of(header, i, buffer.unread()));
+    taken(buffer, part)
 }

@@ -1,14 +1,17 @@
 //! Records from any source, segment by segment.
 
-ghost use Rattle.std.specs.Prelude.{◌≡◌, ◌+◌, ◌^◌, ◌<◌, ◌≤◌, [], length, IfOk, IfSome, OnOk, Err, option_map};
+ghost use Rattle.std.specs.Prelude.{◌≡◌, ◌+◌, ◌^◌, ◌<◌, ◌≤◌, [], length, IfOk, IfSome, Err};
+ghost use Rattle.std.specs.Prelude.{option_map};
 ghost use Rattle.pg_event.specs.Spelling.{IsHead};
-ghost use Rattle.pg_event.specs.Reading.{header_at};
 ghost use Rattle.pg_codec.specs.declared.stage.Stage.TheVariants.{Start, Refused};
-ghost use Rattle.pg_codec.specs.Reads.{left_of, Reads, seen, Took, CountsDevice};
-ghost use Rattle.pg_codec.specs.Readers.{MayReadHeader, MayReadSegment, ReadsSegment, IsNext, stage_after_header, stage_after_chunk, behind_chunk};
+ghost use Rattle.pg_codec.specs.Reads.{seen};
+ghost use Rattle.pg_codec.specs.Readers.{MayReadHeader, MayReadSegment, PullsHeader};
+ghost use Rattle.pg_codec.specs.Readers.{PullsOldHeader, PullsSegment};
+ghost use Rattle.pg_codec.specs.Readers.{IsNext, stage_after_header, stage_after_chunk};
+ghost use Rattle.pg_codec.specs.Readers.{behind_chunk, behind_header};
 
 use crate::buffer::Buffer;
-use crate::chunk::{next_closed_chunk, next_header};
+use crate::chunk::{next_closed_chunk, next_header, next_old_header};
 use crate::error::ReadError;
 use crate::stage::{Progress, Stage};
 use crate::stream::Source;
@@ -17,9 +20,9 @@ use std::alloc::{AllocError, Global};
 use std::marker::Model;
 use std::mem;
 
-/// Reads a record from a source, which each call is passed: the header, and then segment by segment.
-/// It pulls ahead in large blocks. What it has left is what it pulled and has not read, and then what
-/// the source has left.
+/// Reads a record from a source, which each call is passed: the header, and then segment by
+/// segment. It pulls ahead in large blocks. What it has left is what it pulled and has not read,
+/// and then what the source has left.
 #[derive(Drop)]
 pub struct RecordReader {
     buffer: Buffer,
@@ -34,6 +37,17 @@ impl Model for RecordReader {
     ghost view = { λ r. record { unread = r.buffer; stage = r.stage } };
 
     ghost invariant = { λ r. IsSound r.stage };
+}
+
+fn behind_header(header: &Header) -> Result<Stage, AllocError>
+    ensures { IfOk result (λ stage. stage ≡ behind_header header.now) }
+{
+    Ok(Stage::Segments(Progress {
+        header: header.clone()?,
+        number: 0,
+        before: 0,
+        full: true,
+    }))
 }
 
 fn behind_chunk(progress: Progress, chunk: &Option<Vec<Event>>) -> Stage
@@ -75,26 +89,43 @@ impl RecordReader {
         source: &mut R,
     ) -> Result<Header, ReadError>
         requires { MayReadHeader self.old.stage }
-        ensures reads { self.old.stage ≡ Start → Reads (left_of self.old.unread (R.left source.old)) (left_of self.new.unread (R.left source.new)) result header_at }
-        ensures took { OnOk result (Took (left_of self.old.unread (R.left source.old)) (left_of self.new.unread (R.left source.new))) }
+        ensures pulls { PullsHeader R.Source self.old.stage
+            (self.old.unread, source.old) (self.new.unread, source.new) result }
         ensures head { IfOk result (λ h. IsHead h) }
         ensures stage { self.new.stage ≡ stage_after_header result }
-        ensures device { CountsDevice (R.failed source.old) (R.failed source.new) result }
-        ensures live { result ≡ Err ReadError.Failed → self.old.stage ≡ Refused }
-        ensures refused { self.old.stage ≡ Refused → (result ≡ Err ReadError.Failed) × (self.new ≡ self.old) × (source.new ≡ source.old) }
+        ensures refused { self.old.stage ≡ Refused →
+            (result ≡ Err ReadError.Failed) × (self.new ≡ self.old) × (source.new ≡ source.old) }
     {
         match mem::replace(&mut self.stage, Stage::Refused) {
             Stage::Start => {}
             _ => return Err(ReadError::Failed),
         }
         let header = next_header(alloc, &mut self.buffer, source)?;
-        let kept = header.clone()?;
-        self.stage = Stage::Segments(Progress {
-            header: kept,
-            number: 0,
-            before: 0,
-            full: true,
-        });
+        self.stage = behind_header(&header)?;
+        Ok(header)
+    }
+
+    /// Reads the header of a version 1 record, first and once. A version 2 record is refused at its
+    /// version field, whatever follows.
+    pub fn read_old_header<R: Source>(
+        &mut self,
+        alloc: Global,
+        source: &mut R,
+    ) -> Result<Header, ReadError>
+        requires { MayReadHeader self.old.stage }
+        ensures pulls { PullsOldHeader R.Source self.old.stage
+            (self.old.unread, source.old) (self.new.unread, source.new) result }
+        ensures head { IfOk result (λ h. IsHead h) }
+        ensures stage { self.new.stage ≡ stage_after_header result }
+        ensures refused { self.old.stage ≡ Refused →
+            (result ≡ Err ReadError.Failed) × (self.new ≡ self.old) × (source.new ≡ source.old) }
+    {
+        match mem::replace(&mut self.stage, Stage::Refused) {
+            Stage::Start => {}
+            _ => return Err(ReadError::Failed),
+        }
+        let header = next_old_header(alloc, &mut self.buffer, source)?;
+        self.stage = behind_header(&header)?;
         Ok(header)
     }
 
@@ -106,13 +137,15 @@ impl RecordReader {
         source: &mut R,
     ) -> Result<Option<Vec<Event>>, ReadError>
         requires { MayReadSegment self.old.stage }
-        ensures reads { ReadsSegment self.old.stage (left_of self.old.unread (R.left source.old)) (left_of self.new.unread (R.left source.new)) (seen (option_map (λ v. v.items)) result) }
-        ensures took { OnOk result (Took (left_of self.old.unread (R.left source.old)) (left_of self.new.unread (R.left source.new))) }
-        ensures segment { IfOk result (λ chunk. IsNext self.old.stage (option_map (λ v. v.items) chunk)) }
-        ensures stage { self.new.stage ≡ stage_after_chunk self.old.stage (seen (option_map (λ v. v.items)) result) }
-        ensures device { CountsDevice (R.failed source.old) (R.failed source.new) result }
-        ensures live { result ≡ Err ReadError.Failed → self.old.stage ≡ Refused }
-        ensures refused { self.old.stage ≡ Refused → (result ≡ Err ReadError.Failed) × (self.new ≡ self.old) × (source.new ≡ source.old) }
+        ensures pulls { PullsSegment R.Source self.old.stage
+            (self.old.unread, source.old) (self.new.unread, source.new)
+            (seen (option_map (λ v. v.items)) result) }
+        ensures next { IfOk result (λ chunk.
+            IsNext self.old.stage (option_map (λ v. v.items) chunk)) }
+        ensures stage { self.new.stage ≡
+            stage_after_chunk self.old.stage (seen (option_map (λ v. v.items)) result) }
+        ensures refused { self.old.stage ≡ Refused →
+            (result ≡ Err ReadError.Failed) × (self.new ≡ self.old) × (source.new ≡ source.old) }
     {
         let progress = match mem::replace(&mut self.stage, Stage::Refused) {
             Stage::Segments(progress) => progress,

@@ -1,10 +1,10 @@
 //! Parts of a record that come one after the other.
 
-ghost use Rattle.std.specs.Prelude.{◌≡◌, ◌≢◌, ◌+◌, ◌^◌, ◌<◌, ◌≤◌, length, IfOk, OnOk, None, Err};
+ghost use Rattle.std.specs.Prelude.{◌≡◌, ◌+◌, ◌^◌, ◌<◌, ◌≤◌, length, IfOk, None};
 ghost use Rattle.std.specs.List.{AllByRecursion};
 ghost use Rattle.pg_event.specs.Form.{broken_rule};
 ghost use Rattle.pg_event.specs.Reading.{starts_at, events_at};
-ghost use Rattle.pg_codec.specs.Reads.{left_of, Reads, seen, Took, CountsDevice};
+ghost use Rattle.pg_codec.specs.Reads.{seen, Pulls};
 
 use crate::buffer::Buffer;
 use crate::error::ReadError;
@@ -18,15 +18,13 @@ pub(crate) fn next_starts<R: Source>(
     buffer: &mut Buffer,
     source: &mut R,
     m: u8,
-    count: u8,
+    count: u16,
 ) -> Result<Vec<(u64, bool)>, ReadError>
     requires { m ≤ 52 }
-    ensures reads { Reads (left_of buffer.old (R.left source.old)) (left_of buffer.new (R.left source.new)) (seen (λ v. v.items) result) (starts_at m count) }
+    ensures pulls { Pulls R.Source (starts_at m count)
+        (buffer.old, source.old) (buffer.new, source.new) (seen (λ v. v.items) result) }
     ensures starts { IfOk result (λ v. AllByRecursion (λ s. s.0 < 2 ^ m) v.items) }
     ensures count { IfOk result (λ v. length v.items ≡ count) }
-    ensures took { OnOk result (Took (left_of buffer.old (R.left source.old)) (left_of buffer.new (R.left source.new))) }
-    ensures device { CountsDevice (R.failed source.old) (R.failed source.new) result }
-    ensures live { result ≢ Err ReadError.Failed }
 {
     let mut starts = Vec::with_capacity(alloc, count as usize)?;
     for _ in 0..count {
@@ -47,12 +45,11 @@ pub(crate) fn next_events<R: Source>(
 ) -> Result<Vec<Event>, ReadError>
     requires address { header.now.cfg.m ≤ 52 }
     requires limit { before + count < 2 ^ 32 }
-    ensures reads { Reads (left_of buffer.old (R.left source.old)) (left_of buffer.new (R.left source.new)) (seen (λ v. v.items) result) (events_at header.now before count) }
-    ensures well { IfOk result (λ v. AllByRecursion (λ e. broken_rule header.now e ≡ None) v.items) }
+    ensures pulls { Pulls R.Source (events_at header.now before count)
+        (buffer.old, source.old) (buffer.new, source.new) (seen (λ v. v.items) result) }
+    ensures well { IfOk result (λ v.
+        AllByRecursion (λ e. broken_rule header.now e ≡ None) v.items) }
     ensures count { IfOk result (λ v. length v.items ≡ count) }
-    ensures took { OnOk result (Took (left_of buffer.old (R.left source.old)) (left_of buffer.new (R.left source.new))) }
-    ensures device { CountsDevice (R.failed source.old) (R.failed source.new) result }
-    ensures live { result ≢ Err ReadError.Failed }
 {
     let mut events = Vec::with_capacity(alloc, count as usize)?;
     for i in 0..count {

@@ -1,17 +1,19 @@
 //! The one spelling of a header and of an event, into a block.
 
 ghost use Rattle.std.specs.Prelude.{◌≡◌, ◌+◌, ◌<◌, ◌≤◌, [], ◌∷◌, ◌++◌, length, codes};
-ghost use Rattle.std.specs.List.{flat_map};
 ghost use Rattle.std.specs.Int.{w64, to_le_bytes};
 ghost use Rattle.pg_event.specs.Form.{processor_of};
-ghost use Rattle.pg_event.specs.Spelling.{IsHead, header_bytes, processor_bytes, outcome_bytes, moments_bytes, event_bytes};
-ghost use Rattle.pg_codec.specs.Writing.{settings_bytes, tag_of, fields_bytes};
+ghost use Rattle.pg_event.specs.Heads.{most_processors};
+ghost use Rattle.pg_event.specs.Spelling.{IsHead, start_bytes, processor_bytes, outcome_bytes};
+ghost use Rattle.pg_event.specs.Spelling.{moments_bytes, tag_of, field_bytes, event_bytes};
+ghost use Rattle.pg_event.specs.Spelling.{version_number};
+ghost use Rattle.pg_codec.specs.Writing.{settings_bytes, segment_head_bytes};
 
 use crate::block::Block;
-use pg_event::{Event, Header, Moments, Outcome, processor_of};
+use pg_event::{Event, Header, Moments, Outcome, Version, processor_of};
 
-/// The most bytes that an event takes.
-pub(crate) const LONGEST_EVENT: usize = 37;
+/// The most bytes of a part that is read or written at once: an access in a record of version 2.
+pub(crate) const LONGEST_PART: usize = 38;
 
 fn push_magic(block: &mut Block)
     requires { length block.old + 8 ≤ 4096 }
@@ -20,38 +22,57 @@ fn push_magic(block: &mut Block)
     block.push_u64(u64::from_le_bytes(*b"PGRECORD"));
 }
 
+fn version_number(version: Version) -> u16
+    ensures { result ≡ version_number version }
+{
+    match version {
+        Version::One => 1,
+        Version::Two => 2,
+    }
+}
+
+/// The number of a processor, or how many there are.
+fn push_processor(block: &mut Block, version: Version, number: u16)
+    requires room { length block.old + 2 ≤ 4096 }
+    requires fits { number ≤ most_processors version }
+    ensures { block.new ≡ block.old ++ processor_bytes version number }
+{
+    match version {
+        Version::One => block.push_u8(number as u8),
+        Version::Two => block.push_u16(number),
+    }
+}
+
 /// What stands before the processors.
-fn push_settings(block: &mut Block, header: &Header)
-    requires room { length block.old + 17 ≤ 4096 }
+pub(crate) fn push_settings(block: &mut Block, header: &Header)
+    requires room { length block.old + 18 ≤ 4096 }
     requires head { IsHead header.now }
     ensures { block.new ≡ block.old ++ settings_bytes header.now }
 {
     push_magic(block);
-    block.push_u16(1);
+    block.push_u16(version_number(header.version));
     block.push_u8(header.cfg.m);
     block.push_u8(header.cfg.flags.0);
-    block.push_u8(header.processors.len() as u8);
+    push_processor(block, header.version, header.processors.len() as u16);
     block.push_u32(header.segment);
 }
 
-fn push_processors(block: &mut Block, processors: &[(u64, bool)])
-    requires room { length block.old ≤ 1024 }
-    requires few { length processors.now ≤ 64 }
-    ensures { block.new ≡ block.old ++ flat_map processor_bytes processors.now }
+/// The CR3 of a processor at the start, and whether it has global pages.
+pub(crate) fn push_start(block: &mut Block, cr3: u64, pge: bool)
+    requires { length block.old + 9 ≤ 4096 }
+    ensures { block.new ≡ block.old ++ start_bytes (cr3, pge) }
 {
-    for (cr3, pge) in processors {
-        block.push_u64(*cr3);
-        block.push_bit(*pge);
-    }
+    block.push_u64(cr3);
+    block.push_bit(pge);
 }
 
-pub(crate) fn push_header(block: &mut Block, header: &Header)
-    requires room { length block.old + 17 ≤ 1024 }
-    requires head { IsHead header.now }
-    ensures { block.new ≡ block.old ++ header_bytes header.now }
+pub(crate) fn push_segment_head(block: &mut Block, number: u32, count: u32)
+    requires { length block.old + 9 ≤ 4096 }
+    ensures { block.new ≡ block.old ++ segment_head_bytes number count }
 {
-    push_settings(block, header);
-    push_processors(block, &header.processors);
+    block.push_u8(1);
+    block.push_u32(number);
+    block.push_u32(count);
 }
 
 fn push_outcome(block: &mut Block, outcome: Outcome)
@@ -84,11 +105,23 @@ fn push_moments(block: &mut Block, moments: &Moments)
 
 fn push_access(block: &mut Block, flags: u8, la: u64, outcome: Outcome, moments: &Moments)
     requires { length block.old + 35 ≤ 4096 }
-    ensures { block.new ≡ block.old ++ flags ∷ (to_le_bytes w64 la ++ outcome_bytes outcome ++ moments_bytes moments.now) }
+    ensures { block.new ≡ block.old
+        ++ flags ∷ (to_le_bytes w64 la ++ outcome_bytes outcome ++ moments_bytes moments.now) }
 {
     block.push_u8(flags);
     block.push_u64(la);
     push_outcome(block, outcome);
+    push_moments(block, moments);
+}
+
+fn push_assist(block: &mut Block, flags: u8, la: u64, word: u64, moments: &Moments)
+    requires { length block.old + 35 ≤ 4096 }
+    ensures { block.new ≡ block.old
+        ++ flags ∷ (to_le_bytes w64 la ++ to_le_bytes w64 word ++ moments_bytes moments.now) }
+{
+    block.push_u8(flags);
+    block.push_u64(la);
+    block.push_u64(word);
     push_moments(block, moments);
 }
 
@@ -102,12 +135,13 @@ fn tag_of(event: &Event) -> u8
         Event::Invlpg { .. } => 0x13,
         Event::Invpcid { .. } => 0x14,
         Event::MovCr4Pge { .. } => 0x15,
+        Event::Assist { .. } => 0x16,
     }
 }
 
 fn push_fields(block: &mut Block, event: &Event)
     requires { length block.old + 35 ≤ 4096 }
-    ensures { block.new ≡ block.old ++ fields_bytes event.now }
+    ensures { block.new ≡ block.old ++ field_bytes event.now }
 {
     match *event {
         Event::Write { addr, value, .. } => {
@@ -123,6 +157,15 @@ fn push_fields(block: &mut Block, event: &Event)
         } => {
             push_access(block, flags, la, outcome, &moments);
         }
+        Event::Assist {
+            flags,
+            la,
+            word,
+            moments,
+            ..
+        } => {
+            push_assist(block, flags, la, word, &moments);
+        }
         Event::MovCr3 { operand, .. } => block.push_u64(operand),
         Event::Invlpg { la, .. } => block.push_u64(la),
         Event::Invpcid { kind, pcid, la, .. } => {
@@ -134,12 +177,12 @@ fn push_fields(block: &mut Block, event: &Event)
     }
 }
 
-pub(crate) fn push_event(block: &mut Block, event: &Event)
-    requires room { length block.old + 37 ≤ 4096 }
-    requires processor { processor_of event.now < 256 }
-    ensures { block.new ≡ block.old ++ event_bytes event.now }
+pub(crate) fn push_event(block: &mut Block, version: Version, event: &Event)
+    requires room { length block.old + 38 ≤ 4096 }
+    requires processor { processor_of event.now < most_processors version }
+    ensures { block.new ≡ block.old ++ event_bytes version event.now }
 {
     block.push_u8(tag_of(event));
-    block.push_u8(processor_of(event) as u8);
+    push_processor(block, version, processor_of(event));
     push_fields(block, event);
 }

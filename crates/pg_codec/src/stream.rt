@@ -1,8 +1,9 @@
 //! Where bytes come from and go to.
 
-ghost use Rattle.std.specs.Prelude.{◌≡◌, ◌+◌, ◌-◌, ◌^◌, ◌<◌, ◌≤◌, ℕ, List, Option, length, IfOk, MatchResult, take};
+ghost use Rattle.std.specs.Prelude.{◌≡◌, ◌+◌, ◌-◌, ◌^◌, ◌<◌, ◌≤◌, ℕ, List, Option, length, IfOk};
+ghost use Rattle.std.specs.Prelude.{MatchResult, take};
 ghost use Rattle.std.specs.Io.KnownBytes.{ReadConsumes, WriteAppends, Consumes, IsAtEnd};
-ghost use Rattle.pg_codec.specs.Streams.{raised, CountsFailure, Writes};
+ghost use Rattle.pg_codec.specs.Streams.{RaisesFailures};
 
 /// The device failed in this call, or had failed as often as can be counted.
 #[derive(Clone, Copy, PartialEq, Eq, Debug)]
@@ -22,7 +23,7 @@ pub trait Source {
     fn pull(&mut self, out: &mut [u8]) -> Result<usize, Failed>
         ensures bound { IfOk result (λ n. n ≤ length out.new) }
         ensures bytes { ReadConsumes (left self.old) (left self.new) result out.new }
-        ensures failures { CountsFailure (failed self.old) (failed self.new) result }
+        ensures failures { RaisesFailures (failed self.old) (failed self.new) result }
         ensures greatest { IfOk result (λ _. failed self.old < 2 ^ 64 - 1) };
 
     /// How often the device has failed.
@@ -45,47 +46,10 @@ pub trait Sink {
         ensures bound { IfOk result (λ n. n ≤ length bytes.now) }
         ensures some { IfOk result (λ n. 0 < length bytes.now → 0 < n) }
         ensures bytes { WriteAppends (held self.old) (held self.new) result bytes.now }
-        ensures failures { CountsFailure (failed self.old) (failed self.new) result }
+        ensures failures { RaisesFailures (failed self.old) (failed self.new) result }
         ensures greatest { IfOk result (λ _. failed self.old < 2 ^ 64 - 1) };
 
     /// How often the device has failed.
     fn failures(&self) -> u64
         ensures { result ≡ failed self.now };
-}
-
-/// Fills the slice, as far as the source has bytes, and answers how many it pulled.
-pub(crate) fn fill<R: Source>(source: &mut R, out: &mut [u8]) -> Result<usize, Failed>
-    ensures bound { IfOk result (λ n. n ≤ length out.new) }
-    ensures bytes { IfOk result (λ n. Consumes (R.left source.old) (R.left source.new) (take n out.new)) }
-    ensures end { IfOk result (λ n. n < length out.new → IsAtEnd (R.left source.new)) }
-    ensures failures { CountsFailure (R.failed source.old) (R.failed source.new) result }
-{
-    let mut at = 0;
-    for _ in 0..out.len() {
-        if at >= out.len() {
-            return Ok(at);
-        }
-        let n = source.pull(&mut out[at..])?;
-        if n == 0 {
-            return Ok(at);
-        }
-        at += n;
-    }
-    Ok(at)
-}
-
-/// Puts all of the bytes. It fails only where the sink does, which then holds a beginning of them.
-pub fn put_all<W: Sink>(sink: &mut W, bytes: &[u8]) -> Result<(), Failed>
-    ensures bytes { Writes (W.held sink.old) (W.held sink.new) result bytes.now }
-    ensures failures { CountsFailure (W.failed sink.old) (W.failed sink.new) result }
-{
-    let mut at = 0;
-    for _ in 0..bytes.len() {
-        if at >= bytes.len() {
-            return Ok(());
-        }
-        let n = sink.put(&bytes[at..])?;
-        at += n;
-    }
-    Ok(())
 }

@@ -3,7 +3,7 @@ ghost use Rattle.pg_event.specs.Form.{processor_of};
 
 use super::*;
 use pg_entry::{Cfg, CfgFlags};
-use pg_event::{Event, Header, Moments, Outcome};
+use pg_event::{Event, Header, Moments, Outcome, Version};
 use std::io::{self, ErrorKind, Read};
 use std::test::Fail;
 
@@ -15,6 +15,14 @@ const RECORD: [u8; 149] = [
     0, 0, 0, 0, 0, 0, 0x07, 0x40, 0, 0, 0, 0, 0, 0, 0x10, 0, 0x28, 0x40, 0, 0, 0, 0, 0, 0, 0x07,
     0x90, 0, 0, 0, 0, 0, 0, 0x11, 0, 0x04, 0x23, 0x51, 0, 0, 0, 0, 0, 0, 0, 0x23, 0x91, 0, 0, 0, 0,
     0, 0, 4, 4, 0, 0, 0, 4, 0, 0, 0, 4, 0, 0, 0, 4, 0, 0, 0, 2, 5, 0, 0, 0,
+];
+
+/// A record of version 2: one segment of an assist by processor 1 of 2, and the end mark.
+const ASSIST_RECORD: [u8; 87] = [
+    0x50, 0x47, 0x52, 0x45, 0x43, 0x4f, 0x52, 0x44, 2, 0, 40, 3, 2, 0, 16, 0, 0, 0, 0x01, 0x10, 0,
+    0, 0, 0, 0, 0, 1, 0x01, 0x20, 0, 0, 0, 0, 0, 0, 0, 1, 0, 0, 0, 0, 1, 0, 0, 0, 0x16, 1, 0, 0x15,
+    0x23, 0x51, 0, 0, 0, 0, 0, 0, 0x28, 0x40, 0, 0, 0, 0, 0, 0, 4, 0, 0, 0, 0, 0, 0, 0, 0, 0, 0, 0,
+    0, 0, 0, 0, 0, 2, 1, 0, 0, 0,
 ];
 
 /// Hands out one byte a read, and fails from some read on.
@@ -66,6 +74,13 @@ fn one_byte_a_read(rt: HostRuntime) -> Result<(), Fail> {
     Ok(())
 }
 
+fn four_times(moment: u32) -> Option<Moments> {
+    Moments::first(moment)
+        .with(moment)
+        .and_then(|m| m.with(moment))
+        .and_then(|m| m.with(moment))
+}
+
 fn write(addr: u64, value: u64) -> Event
     ensures { processor_of result ≡ 0 }
 {
@@ -75,6 +90,7 @@ fn write(addr: u64, value: u64) -> Event
 #[test]
 fn writes_the_record(rt: HostRuntime) -> Result<(), Fail> {
     let header = Header {
+        version: Version::One,
         cfg: Cfg {
             flags: CfgFlags(3),
             m: 40,
@@ -82,10 +98,7 @@ fn writes_the_record(rt: HostRuntime) -> Result<(), Fail> {
         segment: 16,
         processors: vec![in rt.alloc(); (0x1001, true)]?,
     };
-    let moments = Moments::first(4)
-        .with(4)
-        .and_then(|m| m.with(4))
-        .and_then(|m| m.with(4));
+    let moments = four_times(4);
     let access = Event::Access {
         p: 0,
         flags: 4,
@@ -103,9 +116,60 @@ fn writes_the_record(rt: HostRuntime) -> Result<(), Fail> {
     let bytes: Vec<u8> = Vec::new(rt.alloc());
     let mut sink = Watched::new(bytes);
     assert!(rt; write_header(&mut sink, &header).is_ok());
-    assert!(rt; write_segment(&mut sink, 0, &events).is_ok());
+    assert!(rt; write_segment(&mut sink, Version::One, 0, &events).is_ok());
     assert!(rt; write_end(&mut sink, 5).is_ok());
     assert_eq!(rt; sink.inner.as_slice(), RECORD.as_slice());
+    Ok(())
+}
+
+fn assist(moments: Moments) -> Event
+    ensures { processor_of result ≡ 1 }
+{
+    Event::Assist {
+        p: 1,
+        flags: 0x15,
+        la: 0x5123,
+        word: 0x4028,
+        moments,
+    }
+}
+
+#[test]
+fn reads_an_assist(rt: HostRuntime) -> Result<(), Fail> {
+    let mut source = dripping(&ASSIST_RECORD, 1000);
+    let mut reader = RecordReader::new(rt.alloc())?;
+    let header = reader.read_header(rt.alloc(), &mut source)?;
+    assert_eq!(rt; header.version, Version::Two);
+    assert_eq!(rt; header.processors.len(), 2);
+    let Some(events) = reader.read_segment(rt.alloc(), &mut source)? else {
+        panic!(rt; "no segment");
+    };
+    assert_eq!(rt; events.len(), 1);
+    assert_eq!(rt;
+        events[0],
+        assist(four_times(0).expect(&rt, "four moments"))
+    );
+    assert!(rt; reader.read_segment(rt.alloc(), &mut source)?.is_none());
+    Ok(())
+}
+
+#[test]
+fn writes_an_assist(rt: HostRuntime) -> Result<(), Fail> {
+    let header = Header {
+        version: Version::Two,
+        cfg: Cfg {
+            flags: CfgFlags(3),
+            m: 40,
+        },
+        segment: 16,
+        processors: vec![in rt.alloc(); (0x1001, true), (0x2001, false)]?,
+    };
+    let events = [assist(four_times(0).expect(&rt, "four moments"))];
+    let mut sink = Watched::new(Vec::new(rt.alloc()));
+    assert!(rt; write_header(&mut sink, &header).is_ok());
+    assert!(rt; write_segment(&mut sink, Version::Two, 0, &events).is_ok());
+    assert!(rt; write_end(&mut sink, 1).is_ok());
+    assert_eq!(rt; sink.inner.as_slice(), ASSIST_RECORD.as_slice());
     Ok(())
 }
 

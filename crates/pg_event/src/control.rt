@@ -5,7 +5,7 @@ use crate::event::Event;
 use pg_entry::field;
 
 /// The control registers of a processor, as far as paging reads them.
-#[derive(Clone, Copy, PartialEq, Eq, Debug)]
+#[derive(Clone, Copy, PartialEq, Eq, Debug, Default)]
 pub struct Control {
     /// The physical address of the PML4 table.
     pub root: u64,
@@ -48,6 +48,10 @@ pub fn controlled(m: u8, p: u16, control: Control, event: &Event) -> Control
                 control
             }
         }
-        _ => control,
+        Event::Write { .. }
+        | Event::Access { .. }
+        | Event::Assist { .. }
+        | Event::Invlpg { .. }
+        | Event::Invpcid { .. } => control,
     }
 }

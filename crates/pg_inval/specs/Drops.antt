@@ -1,48 +1,102 @@
 -- The events of a run that may drop cached entries, and which entries they drop.
-use Rattle.std.specs.Prelude.{ℕ, ◌+◌, ◌≤◌, Bool, true, false, ◌&&◌, ◌==◌, nat_lt, nat_le, if◌then◌else◌, List, [], ◌∷◌, ◌++◌, fold}
+use Rattle.std.specs.Prelude.{◌≡◌, ℕ, ◌+◌, ◌≤◌, length, Bool, true, false, not, ◌&&◌, ◌||◌, ◌==◌}
+use Rattle.std.specs.Prelude.{◌⊎◌}
+use Rattle.std.specs.Prelude.{nat_lt, nat_le, min, if◌then◌else◌, List, [], ◌∷◌, fold}
 use Rattle.std.specs.List.{list_any}
+use Rattle.pg_entry.specs.declared.Level.{Level}
+use Rattle.pg_entry.specs.declared.Level.TheVariants.{Four, Three, Two, One}
 use Rattle.pg_event.specs.declared.event.Event.{Event}
-use Rattle.pg_event.specs.declared.event.Event.TheVariants.{Write, Access}
-use Rattle.pg_event.specs.declared.event.Outcome.TheVariants.{Page}
+use Rattle.pg_event.specs.declared.event.Event.TheVariants.{Write, Access, Assist, MovCr3, Invlpg}
+use Rattle.pg_event.specs.declared.event.Event.TheVariants.{Invpcid, MovCr4Pge}
+use Rattle.pg_event.specs.declared.event.Outcome.TheVariants.{Page, Fault}
 use Rattle.pg_event.specs.declared.control.Control.{Control}
+use Rattle.pg_event.specs.declared.keys.StructureKey.{StructureKey}
+use Rattle.pg_event.specs.declared.keys.TranslationKey.{TranslationKey}
 use Rattle.pg_event.specs.Heads.{Head}
 use Rattle.pg_event.specs.Form.{processor_of}
-use Rattle.pg_event.specs.Values.{control_at}
+use Rattle.pg_event.specs.Invalidation.{must_drop_structure, must_drop_translation}
+use Rattle.pg_event.specs.Witness.{survives}
 use Rattle.pg_inval.specs.declared.history.Invalidation.{Invalidation}
 
--- what was noted, and how many more are kept without asking for memory
-pub record Noted : Type 0 where
-  pub drops : List Invalidation
-  pub room : ℕ
-
--- whether there are entries that an event would drop
+-- whether an event is of a kind that may drop entries
 abbrev pub may_drop : Event → Bool
 may_drop (Write p addr value) = false
 may_drop (Access p flags la (Page page) moments) = false
-may_drop _ = true
+may_drop (Access p flags la (Fault code) moments) = true
+may_drop (Assist p flags la word moments) = false
+may_drop (MovCr3 p operand) = true
+may_drop (Invlpg p la) = true
+may_drop (Invpcid p kind pcid la) = true
+may_drop (MovCr4Pge p on) = true
 
--- what the event with this number may drop, with the control registers of its processor before it
-abbrev pub drop_of : ℕ → Event → Control → List Invalidation
-drop_of i e c = if may_drop e then record { moment = i; event = e; before = c } ∷ [] else []
+-- an entry of a cache, by its key
+pub data CacheEntry : Type 0 where
+  Structure : StructureKey → CacheEntry
+  Translation : TranslationKey → CacheEntry
 
--- what the last events of a run may drop, the first of which has this number
-abbrev pub drops_from : Head → List Event → ℕ → List Event → List Invalidation
-drops_from head events i [] = []
-drops_from head events i (e ∷ rest) = drop_of i e (control_at head events (processor_of e) i) ++ drops_from head events (i + 1) rest
+-- the levels whose entries refer to tables
+abbrev pub IsTableLevel : Level → Type 0
+IsTableLevel Four = Unit {0}
+IsTableLevel Three = Unit {0}
+IsTableLevel Two = Unit {0}
+IsTableLevel One = ⊥
 
-abbrev pub drops_of : Head → List Event → List Invalidation
-drops_of head events = drops_from head events 0 events
+-- the binary logarithm of the size of a page: 4 KB, 2 MB or 1 GB
+abbrev pub IsPageShift : ℕ → Type 0
+IsPageShift shift = (shift ≡ 12) ⊎ ((shift ≡ 21) ⊎ (shift ≡ 30))
 
--- one above the moment of the last, or 0
+-- entries that a processor may have
+abbrev pub MayBeCached : CacheEntry → Type 0
+MayBeCached (Structure key) = IsTableLevel key.level
+MayBeCached (Translation key) = IsPageShift key.shift
+
+-- whether an event must drop an entry of its processor, with these control registers before it
+abbrev pub must_drop : CacheEntry → Control → Event → Bool
+must_drop (Structure key) c e = must_drop_structure c e key
+must_drop (Translation key) c e = must_drop_translation c e key
+
+-- whether the event with this number, and with these control registers of its processor before it,
+-- is of p, from one moment up to, not with, another, and must drop an entry
+abbrev pub drops_between : ℕ → Event → Control → ℕ → CacheEntry → ℕ → ℕ → Bool
+drops_between moment e before p entry from to =
+    nat_le from moment && nat_lt moment to && processor_of e == p && must_drop entry before e
+
+-- whether p had to drop an entry from one moment up to, not with, another
+abbrev pub is_dropped : List Invalidation → ℕ → CacheEntry → ℕ → ℕ → Bool
+is_dropped drops p entry from to =
+    list_any (λ d. drops_between d.moment d.event d.before p entry from to) drops
+
+-- the least moment that a further event may have: one above that of the last, or 0
 abbrev pub next_moment : List Invalidation → ℕ
 next_moment drops = fold (λ n d. d.moment + 1) 0 drops
-
--- whether an event of p, from one moment up to, not with, another, drops what the test says
-abbrev pub is_dropped : List Invalidation → ℕ → (Control → Event → Bool) → ℕ → ℕ → Bool
-is_dropped drops p test from to =
-    list_any (λ d. nat_le from d.moment && nat_lt d.moment to && processor_of d.event == p && test d.before d.event) drops
 
 -- the moments rise, from one that is at least this
 abbrev pub IsRisingFrom : ℕ → List Invalidation → Type 0
 IsRisingFrom n [] = Unit {0}
 IsRisingFrom n (d ∷ ds) = (n ≤ d.moment) × IsRisingFrom (d.moment + 1) ds
+
+-- one more event is known, with the control registers of its processor before it
+pub record IsNoted (old new : List Invalidation) (moment : ℕ) (event : Event) (before : Control) :
+    Type 0 where
+  pub next : next_moment new ≡ (if may_drop event then moment + 1 else next_moment old)
+  pub drops : (p : ℕ) (entry : CacheEntry) (from to : ℕ) → MayBeCached entry →
+      is_dropped new p entry from to
+      ≡ (is_dropped old p entry from to || drops_between moment event before p entry from to)
+
+-- the same is known
+pub record IsSame (old new : List Invalidation) : Type 0 where
+  pub next : next_moment new ≡ next_moment old
+  pub drops : (p : ℕ) (entry : CacheEntry) (from to : ℕ) → MayBeCached entry →
+      is_dropped new p entry from to ≡ is_dropped old p entry from to
+
+-- what is known of the moments up to one
+pub record IsCutAt (old new : List Invalidation) (moment : ℕ) : Type 0 where
+  pub next : next_moment new ≤ min (next_moment old) moment
+  pub drops : (p : ℕ) (entry : CacheEntry) (from to : ℕ) → MayBeCached entry →
+      is_dropped new p entry from to ≡ is_dropped old p entry from (min to moment)
+
+-- what is dropped is what the events of a run drop
+pub record StandsFor (d : List Invalidation) (head : Head) (events : List Event) : Type 0 where
+  pub next : next_moment d ≤ length events
+  pub drops : (p : ℕ) (entry : CacheEntry) (from to : ℕ) → MayBeCached entry →
+      is_dropped d p entry from to ≡ not (survives head events p (must_drop entry) from to)

@@ -5,4 +5,4 @@ mod history;
 #[cfg(test)]
 mod tests;
 
-pub use history::{Drops, Invalidation, may_drop};
+pub use history::{Drops, Invalidation};

@@ -22,12 +22,44 @@ fn noted(alloc: Global, event: &Event) -> Result<Drops, AllocError> {
     Ok(drops)
 }
 
+/// Whether processor p had to drop a structure entry; level 1 gives none.
+fn drops_table(drops: &Drops, p: u16, key: (u16, Level, u64), from: u32, to: u32) -> bool {
+    let (pcid, level, la) = key;
+    match level {
+        Level::Four => drops.structure_dropped(p, pcid, Level::Four, la, from, to),
+        Level::Three => drops.structure_dropped(p, pcid, Level::Three, la, from, to),
+        Level::Two => drops.structure_dropped(p, pcid, Level::Two, la, from, to),
+        Level::One => false,
+    }
+}
+
+/// Whether processor p had to drop a translation; there are three sizes of pages.
+fn drops_page(drops: &Drops, p: u16, key: (u16, u8, u64, bool), from: u32, to: u32) -> bool {
+    let (pcid, shift, la, global) = key;
+    match shift {
+        12 => drops.translation_dropped(p, pcid, 12, la, global, from, to),
+        21 => drops.translation_dropped(p, pcid, 21, la, global, from, to),
+        30 => drops.translation_dropped(p, pcid, 30, la, global, from, to),
+        _ => false,
+    }
+}
+
 fn answer() -> Event {
     Event::Access {
         p: 0,
         flags: 4,
         la: LA,
         outcome: Outcome::Page(0x9123),
+        moments: Moments::first(5),
+    }
+}
+
+fn assist() -> Event {
+    Event::Assist {
+        p: 0,
+        flags: 0x15,
+        la: LA,
+        word: 0x1000,
         moments: Moments::first(5),
     }
 }
@@ -75,6 +107,7 @@ fn mov_cr4(on: bool) -> Event {
 fn structures(rt: HostRuntime) -> Result<(), Fail> {
     let rows = [
         (write(), 1, Level::Two, LA, false),
+        (assist(), 1, Level::Two, LA, false),
         (answer(), 1, Level::Two, LA, false),
         (mov_cr3(0x7002), 2, Level::Four, LA, true),
         (mov_cr3(0x7002), 1, Level::Four, LA, false),
@@ -97,14 +130,11 @@ fn structures(rt: HostRuntime) -> Result<(), Fail> {
     ];
     for (event, pcid, level, la, dropped) in rows {
         let drops = noted(rt.alloc(), &event)?;
-        assert_eq!(rt;
-            drops.structure_dropped(0, pcid, level, la, 5, 6),
-            dropped,
-            "{event:?}"
-        );
-        assert!(rt; !drops.structure_dropped(0, pcid, level, la, 0, 5));
-        assert!(rt; !drops.structure_dropped(0, pcid, level, la, 6, 9));
-        assert!(rt; !drops.structure_dropped(1, pcid, level, la, 5, 6));
+        let key = (pcid, level, la);
+        assert_eq!(rt; drops_table(&drops, 0, key, 5, 6), dropped, "{event:?}");
+        assert!(rt; !drops_table(&drops, 0, key, 0, 5));
+        assert!(rt; !drops_table(&drops, 0, key, 6, 9));
+        assert!(rt; !drops_table(&drops, 1, key, 5, 6));
     }
     Ok(())
 }
@@ -113,6 +143,7 @@ fn structures(rt: HostRuntime) -> Result<(), Fail> {
 fn translations(rt: HostRuntime) -> Result<(), Fail> {
     let rows = [
         (write(), 1, 12, LA, false, false),
+        (assist(), 1, 12, LA, false, false),
         (answer(), 1, 12, LA, false, false),
         (mov_cr3(0x7002), 2, 12, LA, false, true),
         (mov_cr3(0x7002), 2, 12, LA, true, false),
@@ -141,16 +172,12 @@ fn translations(rt: HostRuntime) -> Result<(), Fail> {
         (fault(), 1, 12, NEXT_PAGE, false, false),
     ];
     for (event, pcid, shift, la, global, dropped) in rows {
-        assert!(rt; shift < 64);
         let drops = noted(rt.alloc(), &event)?;
-        assert_eq!(rt;
-            drops.translation_dropped(0, pcid, shift, la, global, 5, 6),
-            dropped,
-            "{event:?}"
-        );
-        assert!(rt; !drops.translation_dropped(0, pcid, shift, la, global, 0, 5));
-        assert!(rt; !drops.translation_dropped(0, pcid, shift, la, global, 6, 9));
-        assert!(rt; !drops.translation_dropped(1, pcid, shift, la, global, 5, 6));
+        let key = (pcid, shift, la, global);
+        assert_eq!(rt; drops_page(&drops, 0, key, 5, 6), dropped, "{event:?}");
+        assert!(rt; !drops_page(&drops, 0, key, 0, 5));
+        assert!(rt; !drops_page(&drops, 0, key, 6, 9));
+        assert!(rt; !drops_page(&drops, 1, key, 5, 6));
     }
     Ok(())
 }

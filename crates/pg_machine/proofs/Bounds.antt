@@ -1,48 +1,33 @@
 -- Physical addresses in registers and entries are below 2 ^ 52, and a page has at most 2 ^ 30 bytes.
-use Rattle.std.proofs.Common.{◌≡◌, ℕ, ◌+◌, ◌-◌, ◌/◌, ◌%◌, ◌^◌, ◌<◌, ◌≤◌, Bool, true, false, if◌then◌else◌, ◌==◌, Option, Some, None, ap, subst, arith}
-use Rattle.std.proofs.lemmas.Nat.{shl_below, mod_below, pow_pos}
-use lib.Pow.{pow_mono}
+use Rattle.std.proofs.Common.{◌≡◌, ℕ, ◌^◌, ◌<◌, ◌≤◌, Bool, true, false, if◌then◌else◌, ◌==◌, Option, Some, None, ap, subst, arith}
 use Rattle.pg_entry.specs.declared.Cfg.{Cfg}
 use Rattle.pg_entry.specs.declared.Level.{Level}
 use Rattle.pg_entry.specs.declared.Level.TheVariants.{Four, Three, Two, One}
-use Rattle.pg_entry.specs.declared.Kind.TheVariants.{Absent, Reserved, Table, Leaf}
+use Rattle.pg_entry.specs.declared.Kind.TheVariants.{Absent, Reserved, Leaf}
 use Rattle.pg_entry.specs.Bits.{has_bit, field}
 use Rattle.pg_entry.specs.Kinds.{leaf_shift, target, kind_of}
+use Rattle.pg_entry.proofs.Bounds.{field-below}
 use Rattle.pg_event.specs.declared.event.Event.{Event}
-use Rattle.pg_event.specs.declared.event.Event.TheVariants.{MovCr3, MovCr4Pge}
+use Rattle.pg_event.specs.declared.event.Event.TheVariants.{Write, Access, Assist, MovCr3, Invlpg, Invpcid, MovCr4Pge}
 use Rattle.pg_event.specs.declared.control.Control.{Control}
 use Rattle.pg_event.specs.Values.{loaded, controlled}
 
-pub field-below : (word low high : ℕ) → low ≤ high → high ≤ 52 → field word low high < 2 ^ 52
-field-below word low high order within =
-    let sum : (high - low) + low ≡ high = omega arith in
-    let P : ℕ → Type 0 = λ n. field word low high < 2 ^ n in
-    let here : field word low high < 2 ^ high = subst P sum (shl_below (word / 2 ^ low % 2 ^ (high - low)) (high - low) low (mod_below (word / 2 ^ low) (2 ^ (high - low)) (pow_pos (high - low)))) in
-    let most : 2 ^ high ≤ 2 ^ 52 = pow_mono within in
-    omega (arith, here, most)
-
-root_at : (b : Bool) (m operand : ℕ) (c : Control) → 12 ≤ m → m ≤ 52 → c.root < 2 ^ 52 → (if b then loaded m operand c.pge else c).root < 2 ^ 52
-root_at true m operand c low high h = field-below operand 12 m low high
-root_at false m operand c low high h = h
+loaded_or : (b : Bool) (m operand : ℕ) (c : Control) → 12 ≤ m → m ≤ 52 → c.root < 2 ^ 52 → (if b then loaded m operand c.pge else c).root < 2 ^ 52
+loaded_or true m operand c low high h = field-below operand 12 m low high
+loaded_or false m operand c low high h = h
 
 root_kept : (b on : Bool) (c : Control) → c.root < 2 ^ 52 → (if b then record c { pge = on } else c).root < 2 ^ 52
 root_kept true on c h = h
 root_kept false on c h = h
 
 pub root-controlled : (m p : ℕ) (c : Control) (e : Event) → 12 ≤ m → m ≤ 52 → c.root < 2 ^ 52 → (controlled m p c e).root < 2 ^ 52
-root-controlled m p c (MovCr3 q operand) low high h = root_at (q == p) m operand c low high h
+root-controlled m p c (MovCr3 q operand) low high h = loaded_or (q == p) m operand c low high h
 root-controlled m p c (MovCr4Pge q on) low high h = root_kept (q == p) on c h
-root-controlled m p c _ low high h = h
-
--- the table that an entry refers to
-table_at : (absent reserved : Bool) (m e : ℕ) (shift : Option ℕ) (addr : ℕ) → (if absent then Absent else if reserved then Reserved else target m e shift) ≡ Table addr → addr ≡ field e 12 m
-table_at true reserved m e shift addr h = cc
-table_at false true m e shift addr h = cc
-table_at false false m e None addr h = cc
-table_at false false m e (Some shift) addr h = cc
-
-pub table_is : (cfg : Cfg) (level : Level) (e addr : ℕ) → kind_of cfg level e ≡ Table addr → addr ≡ field e 12 cfg.m
-table_is cfg level e addr h = table_at _ _ cfg.m e (leaf_shift level e) addr h
+root-controlled m p c (Write q addr value) low high h = h
+root-controlled m p c (Access q flags la outcome moments) low high h = h
+root-controlled m p c (Assist q flags la word moments) low high h = h
+root-controlled m p c (Invlpg q la) low high h = h
+root-controlled m p c (Invpcid q kind pcid la) low high h = h
 
 -- the page that an entry refers to
 leaf_at : (absent reserved : Bool) (m e : ℕ) (given : Option ℕ) (frame shift : ℕ) (global : Bool) → (if absent then Absent else if reserved then Reserved else target m e given) ≡ Leaf frame shift global → (given ≡ Some shift) × (frame ≡ field e shift m)

@@ -1,7 +1,7 @@
 -- The state of the definition after each change of the lists.
-use Rattle.std.proofs.Common.{◌≡◌, ℕ, ◌<◌, ◌≤◌, List, [], ◌∷◌, length, map, Option, Some, None, refl, ap, ◌∙◌, sym, subst, ◌==◌, Bool, true, not, ◌&&◌, if◌then◌else◌}
+use Rattle.std.proofs.Common.{◌≡◌, ℕ, ◌<◌, ◌≤◌, List, [], ◌∷◌, length, map, Option, Some, None, refl, ap, ◌∙◌, sym, subst, ◌==◌, Bool, true, not, ◌&&◌, if◌then◌else◌, ⊎_elim}
 use Rattle.std.specs.List.{slice_get, filter}
-use Rattle.std.proofs.lemmas.Bool.{eq-eqb, ne_eqb, cond-false}
+use Rattle.std.proofs.lemmas.Bool.{cases_eq, eq-eqb, ne_eqb, cond-false}
 use Rattle.std.proofs.lemmas.List.Elements.{filter_agree}
 use Rattle.std.proofs.lemmas.Option.{slice_get-map}
 use Rattle.std.proofs.lemmas.List.Sums.{fold_push}
@@ -10,7 +10,8 @@ use Rattle.pg_event.specs.Heads.{Head}
 use Rattle.pg_event.specs.declared.control.Control.{Control}
 use Rattle.pg_event.specs.declared.event.Event.{Event}
 use Rattle.pg_event.specs.declared.event.Event.TheVariants as events
-use Rattle.pg_event.specs.Form.{processor_of}
+use Rattle.pg_entry.specs.Kinds.{marked}
+use Rattle.pg_event.specs.Form.{processor_of, says_dirty}
 use Rattle.pg_event.specs.Values.{written, controlled, started}
 use Rattle.pg_event.specs.Invalidation.{must_drop_structure, must_drop_translation}
 use Rattle.pg_machine.specs.declared.step.Structure.{Structure}
@@ -59,9 +60,20 @@ member_dropped l p (members.Translation x) there =
     (part_kept (λ s. s.structures) l.processors p processor there refl)
     (part_changed (λ s. s.translations) l.processors p processor (filter (λ y. not (same_translation x y))) there refl)
 
+-- the word that an assist writes is the one that it read
+marked_at : (with_dirty : Bool) (writes : List (ℕ × ℕ)) (word a : ℕ) → (if word == a then marked with_dirty (value_at writes word) else value_at writes a) ≡ (if word == a then marked with_dirty (value_at writes a) else value_at writes a)
+marked_at with_dirty writes word a =
+    ⊎_elim
+    (λ same. ap (λ b. if word == a then marked with_dirty (value_at writes b) else value_at writes a) same)
+    (λ other. rw (ne_eqb word a other) refl)
+    (cases_eq word a)
+
 value_after : (writes : List (ℕ × ℕ)) (e : Event) (a : ℕ) → value_at (writes_after writes e) a ≡ written a (value_at writes a) e
 value_after writes (events.Write p addr value) a = fold_push (λ old write. if write.0 == a then write.1 else old) 0 writes (addr, value)
 value_after writes (events.Access p flags la outcome moments) a = refl
+value_after writes (events.Assist p flags la word moments) a =
+    fold_push (λ old write. if write.0 == a then write.1 else old) 0 writes (word, marked (says_dirty flags) (value_at writes word))
+    ∙ marked_at (says_dirty flags) writes word a
 value_after writes (events.MovCr3 p operand) a = refl
 value_after writes (events.Invlpg p la) a = refl
 value_after writes (events.Invpcid p kind pcid la) a = refl
@@ -70,6 +82,7 @@ value_after writes (events.MovCr4Pge p on) a = refl
 controlled_other : (m q : ℕ) (c : Control) (e : Event) → (q ≡ processor_of e → ⊥) → controlled m q c e ≡ c
 controlled_other m q c (events.Write p addr value) other = refl
 controlled_other m q c (events.Access p flags la outcome moments) other = refl
+controlled_other m q c (events.Assist p flags la word moments) other = refl
 controlled_other m q c (events.MovCr3 p operand) other = cond-false (p == q) _ _ (ne_eqb p q (λ e. other (sym e)))
 controlled_other m q c (events.Invlpg p la) other = refl
 controlled_other m q c (events.Invpcid p kind pcid la) other = refl

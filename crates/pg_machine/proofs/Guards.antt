@@ -3,8 +3,7 @@ use Rattle.std.proofs.Common.{◌≡◌, ℕ, Bool, true, false, not, if◌then�
 use Rattle.pg_entry.specs.declared.Kind.{Kind}
 use Rattle.pg_entry.specs.declared.Kind.TheVariants.{Absent, Reserved, Table, Leaf}
 use Rattle.pg_event.specs.declared.event.Malformed.{Malformed}
-use Rattle.pg_event.specs.declared.event.Want.TheVariants as wants
-use Rattle.pg_event.specs.Witness.{is_table, is_wanted}
+use Rattle.pg_event.specs.Wants.{is_table, is_leaf}
 use Rattle.pg_machine.specs.declared.stuck.Stuck.{Stuck}
 use Rattle.pg_machine.specs.declared.stuck.Stuck.TheVariants as stucks
 use Rattle.pg_machine.specs.Stepping.{unless_kind, unless_malformed}
@@ -56,13 +55,13 @@ no_table_kind Reserved h addr e = cc
 no_table_kind (Table at) h addr e = cc
 no_table_kind (Leaf frame shift global) h addr e = cc
 
-pub leaf_kind : (k : Kind) → is_wanted wants.Leaf k ≡ true → (frame shift : ℕ) × (global : Bool) × (k ≡ Leaf frame shift global)
+pub leaf_kind : (k : Kind) → is_leaf k ≡ true → (frame shift : ℕ) × (global : Bool) × (k ≡ Leaf frame shift global)
 leaf_kind Absent h = cc
 leaf_kind Reserved h = cc
 leaf_kind (Table addr) h = cc
 leaf_kind (Leaf frame shift global) h = (frame, shift, global, refl)
 
-pub no_leaf_kind : (k : Kind) → is_wanted wants.Leaf k ≡ false → (frame shift : ℕ) (global : Bool) → k ≡ Leaf frame shift global → ⊥
+pub no_leaf_kind : (k : Kind) → is_leaf k ≡ false → (frame shift : ℕ) (global : Bool) → k ≡ Leaf frame shift global → ⊥
 no_leaf_kind Absent h frame shift global e = cc
 no_leaf_kind Reserved h frame shift global e = cc
 no_leaf_kind (Table addr) h frame shift global e = cc

@@ -2,8 +2,10 @@ pub mod Bounds
 pub mod Changes
 pub mod Guards
 pub mod Members
+pub mod NoRun
 pub mod Outcomes
 pub mod Processors
 pub mod Refusals
+pub mod Rows
 pub mod Same
 pub mod Taken

@@ -1,19 +1,21 @@
 -- What the stepper's tests of its lists say of the state of the definition.
-use Rattle.std.proofs.Common.{◌≡◌, ℕ, List, [], ◌∷◌, Bool, true, false, ◌==◌, refl, ap, subst, ◌∙◌, sym, ⊎_elim, inl, inr}
+use Rattle.std.proofs.Common.{◌≡◌, ℕ, List, [], ◌∷◌, Bool, true, false, refl, ap, subst, ◌∙◌, sym, ⊎_elim, inl, inr}
 use Rattle.std.specs.List.{list_any}
-use Rattle.std.proofs.lemmas.Bool.{or_cases, or_left, or_right, and_parts, and_from, eqb-true, eq-eqb, not-true}
+use Rattle.std.proofs.lemmas.Bool.{or_cases, or_left, or_right, and_parts, and_from, eqb-true, eq-eqb}
 use Rattle.pg_entry.specs.declared.Level.{Level}
 use Rattle.pg_entry.specs.declared.Level.TheVariants.{Four, Three, Two, One}
 use Rattle.pg_entry.specs.Permission.{all_rights}
-use Rattle.pg_machine.specs.declared.step.Parent.{Parent}
+use Rattle.pg_event.specs.declared.walk.Parent.{Parent}
 use Rattle.pg_machine.specs.declared.step.Structure.{Structure}
 use Rattle.pg_machine.specs.declared.step.Translation.{Translation}
 use Rattle.pg_machine.specs.declared.step.Member.{Member}
 use Rattle.pg_machine.specs.declared.step.Member.TheVariants as members
-use Rattle.pg_machine.specs.Listed.{ProcessorState, Listed, processor_at, state_of}
+use Rattle.pg_event.specs.declared.control.Control.{Control}
+use Rattle.pg_event.specs.Walk.{root_of}
+use Rattle.pg_machine.specs.Listed.{Listed, processor_at, state_of}
 use Rattle.pg_machine.specs.Machine.{IsIn, MayRead, HasMember, same_structure, same_translation}
-use Rattle.pg_machine.specs.Stepping.{is_top, may_read, has_member}
-use Rattle.pg_machine.proofs.Same.{structure_same, same_structure-itself, translation_same, same_translation-itself}
+use Rattle.pg_machine.specs.Stepping.{is_root, may_read, has_member}
+use Rattle.pg_machine.proofs.Same.{same_bool, rights_itself, structure_same, same_structure-itself, translation_same, same_translation-itself}
 
 -- some member passes a test
 pub passes : {X : Type 0} (test : X → Bool) (xs : List X) → list_any test xs ≡ true → (x : X) × IsIn x xs × (test x ≡ true)
@@ -64,33 +66,33 @@ parent_of-parts : (a : Parent) → parent_of a.table a.rights.write a.rights.use
 unfolding parent_of
 parent_of-parts a = refl
 
-parent_of-top : (table : ℕ) → let r : Parent = record { table = table; rights = all_rights } in parent_of table true true false ≡ r
+parent_of-root : (c : Control) → parent_of c.root true true false ≡ root_of c
 unfolding parent_of
-parent_of-top table = refl
+parent_of-root c = refl
 
-pub is_top_from : (processor : ProcessorState) (from : Parent) → is_top processor from ≡ true → let r : Parent = record { table = processor.control.root; rights = all_rights } in from ≡ r
-is_top_from processor from h =
-    let xd = and_parts _ _ h in
+pub is_root_from : (c : Control) (from : Parent) → is_root c from ≡ true → from ≡ root_of c
+is_root_from c from h =
+    let parts = and_parts _ _ h in
+    let xd = and_parts _ _ parts.1 in
     let user = and_parts _ _ xd.0 in
-    let write = and_parts _ _ user.0 in
-    let at : from.table ≡ processor.control.root = eqb-true _ _ write.0 in
-    let no : from.rights.xd ≡ false = not-true from.rights.xd xd.1 in
-    cc (parent_of-parts from, parent_of-top processor.control.root, user.1, write.1)
+    let at : from.table ≡ c.root = eqb-true _ _ parts.0 in
+    let write : from.rights.write ≡ true = same_bool _ _ user.0 in
+    let mode : from.rights.user ≡ true = same_bool _ _ user.1 in
+    let no : from.rights.xd ≡ false = same_bool _ _ xd.1 in
+    cc (parent_of-parts from, parent_of-root c)
 
-top_test : (processor : ProcessorState) → is_top processor (record { table = processor.control.root; rights = all_rights }) ≡ true
-top_test processor = and_from _ true (and_from _ true (and_from (processor.control.root == processor.control.root) true (eq-eqb processor.control.root processor.control.root refl) refl) refl) refl
-
-pub is_top-at : (processor : ProcessorState) (from : Parent) → let r : Parent = record { table = processor.control.root; rights = all_rights } in from ≡ r → is_top processor from ≡ true
-is_top-at processor from h = ap (is_top processor) h ∙ top_test processor
+pub is_root-at : (c : Control) (from : Parent) → from ≡ root_of c → is_root c from ≡ true
+is_root-at c from h =
+    ap (is_root c) h ∙ and_from _ _ (eq-eqb c.root c.root refl) (rights_itself all_rights)
 
 pub reads : (l : Listed) (p la : ℕ) (level : Level) (from : Parent) → may_read (processor_at l.processors p) la level from ≡ true → MayRead (state_of l) p la level from
-reads l p la Four from h = is_top_from (processor_at l.processors p) from h
+reads l p la Four from h = is_root_from (processor_at l.processors p).control from h
 reads l p la Three from h = structure_in _ _ h
 reads l p la Two from h = structure_in _ _ h
 reads l p la One from h = structure_in _ _ h
 
 pub may_read-from : (l : Listed) (p la : ℕ) (level : Level) (from : Parent) → MayRead (state_of l) p la level from → may_read (processor_at l.processors p) la level from ≡ true
-may_read-from l p la Four from h = is_top-at (processor_at l.processors p) from h
+may_read-from l p la Four from h = is_root-at (processor_at l.processors p).control from h
 may_read-from l p la Three from h = in_structures _ _ h
 may_read-from l p la Two from h = in_structures _ _ h
 may_read-from l p la One from h = in_structures _ _ h

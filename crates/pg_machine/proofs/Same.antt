@@ -3,12 +3,13 @@ use Rattle.std.proofs.Common.{◌≡◌, ℕ, Bool, true, false, not, ◌==◌, 
 use Rattle.std.proofs.lemmas.Bool.{and_parts, and_from, eqb-true, eq-eqb}
 use Rattle.pg_entry.specs.declared.Level.{Level}
 use Rattle.pg_entry.specs.declared.Level.TheVariants.{Four, Three, Two, One}
+use Rattle.pg_entry.specs.declared.Rights.{Rights}
 use Rattle.pg_event.specs.Invalidation.{xor, level_shift}
 use Rattle.pg_machine.specs.declared.step.Structure.{Structure}
 use Rattle.pg_machine.specs.declared.step.Translation.{Translation}
-use Rattle.pg_machine.specs.Machine.{same_structure, same_translation}
+use Rattle.pg_machine.specs.Machine.{same_rights, same_structure, same_translation}
 
-same_bool : (a b : Bool) → not (xor a b) ≡ true → a ≡ b
+pub same_bool : (a b : Bool) → not (xor a b) ≡ true → a ≡ b
 same_bool true true h = refl
 same_bool true false h = cc
 same_bool false true h = cc
@@ -36,6 +37,11 @@ same_level One Three h = cc
 same_level One Two h = cc
 same_level One One h = refl
 
+-- rights
+pub rights_itself : (a : Rights) → same_rights a a ≡ true
+rights_itself a =
+    and_from _ _ (and_from _ _ (bool_same a.write) (bool_same a.user)) (bool_same a.xd)
+
 -- entries by their parts
 structure_of : ℕ → Level → ℕ → ℕ → Bool → Bool → Bool → Structure
 structure_of pcid level prefix table write user xd =
@@ -45,11 +51,11 @@ structure_of-parts : (a : Structure) → structure_of a.key.pcid a.key.level a.k
 unfolding structure_of
 structure_of-parts a = refl
 
-translation_of : ℕ → ℕ → ℕ → Bool → ℕ → Bool → Bool → Bool → Translation
-translation_of pcid shift number global frame write user xd =
-    record { key = record { pcid = pcid; shift = shift; number = number; global = global }; frame = frame; rights = record { write = write; user = user; xd = xd } }
+translation_of : ℕ → ℕ → ℕ → Bool → ℕ → Bool → Bool → Bool → Bool → Translation
+translation_of pcid shift number global frame write user xd dirty =
+    record { key = record { pcid = pcid; shift = shift; number = number; global = global }; frame = frame; rights = record { write = write; user = user; xd = xd }; dirty = dirty }
 
-translation_of-parts : (a : Translation) → translation_of a.key.pcid a.key.shift a.key.number a.key.global a.frame a.rights.write a.rights.user a.rights.xd ≡ a
+translation_of-parts : (a : Translation) → translation_of a.key.pcid a.key.shift a.key.number a.key.global a.frame a.rights.write a.rights.user a.rights.xd a.dirty ≡ a
 unfolding translation_of
 translation_of-parts a = refl
 
@@ -73,11 +79,12 @@ structure_same a b h =
 pub same_structure-itself : (a : Structure) → same_structure a a ≡ true
 same_structure-itself a =
     and_from _ _ (and_from _ _ (and_from _ _ (and_from _ _ (eq-eqb a.key.pcid a.key.pcid refl) (eq-eqb (level_shift a.key.level) (level_shift a.key.level) refl)) (eq-eqb a.key.prefix a.key.prefix refl)) (eq-eqb a.table a.table refl))
-    (and_from _ _ (and_from _ _ (bool_same a.rights.write) (bool_same a.rights.user)) (bool_same a.rights.xd))
+    (rights_itself a.rights)
 
 pub translation_same : (a b : Translation) → same_translation a b ≡ true → a ≡ b
 translation_same a b h =
-    let r = and_parts _ _ h in
+    let d = and_parts _ _ h in
+    let r = and_parts _ _ d.0 in
     let f = and_parts _ _ r.0 in
     let g = and_parts _ _ f.0 in
     let n = and_parts _ _ g.0 in
@@ -92,9 +99,11 @@ translation_same a b h =
     let write : a.rights.write ≡ b.rights.write = same_bool _ _ r2.0 in
     let user : a.rights.user ≡ b.rights.user = same_bool _ _ r2.1 in
     let xd : a.rights.xd ≡ b.rights.xd = same_bool _ _ r1.1 in
+    let dirty : a.dirty ≡ b.dirty = same_bool _ _ d.1 in
     cc (translation_of-parts a, translation_of-parts b)
 
 pub same_translation-itself : (a : Translation) → same_translation a a ≡ true
 same_translation-itself a =
-    and_from _ _ (and_from _ _ (and_from _ _ (and_from _ _ (and_from _ _ (eq-eqb a.key.pcid a.key.pcid refl) (eq-eqb a.key.shift a.key.shift refl)) (eq-eqb a.key.number a.key.number refl)) (bool_same a.key.global)) (eq-eqb a.frame a.frame refl))
-    (and_from _ _ (and_from _ _ (bool_same a.rights.write) (bool_same a.rights.user)) (bool_same a.rights.xd))
+    and_from _ _ (and_from _ _ (and_from _ _ (and_from _ _ (and_from _ _ (and_from _ _ (eq-eqb a.key.pcid a.key.pcid refl) (eq-eqb a.key.shift a.key.shift refl)) (eq-eqb a.key.number a.key.number refl)) (bool_same a.key.global)) (eq-eqb a.frame a.frame refl))
+    (rights_itself a.rights))
+    (bool_same a.dirty)

@@ -1,4 +1,5 @@
 pub mod Listed
 pub mod Machine
+pub mod NoRun
 pub mod Refused
 pub mod Stepping

@@ -1,7 +1,9 @@
 -- The state of a machine as lists, which stand for the functions of its definition.
-use Rattle.std.specs.Prelude.{◌≡◌, ◌≤◌, length, ℕ, ◌==◌, if◌then◌else◌, false, List, [], fold, Option, Some, None, slice_get}
+use Rattle.std.specs.Prelude.{◌≡◌, ◌≤◌, length, ℕ, ◌==◌, if◌then◌else◌, List, [], fold}
+use Rattle.std.specs.Prelude.{Option, Some, None, slice_get}
 use Rattle.pg_event.specs.Heads.{Head}
 use Rattle.pg_event.specs.declared.control.Control.{Control}
+use Rattle.pg_event.specs.Values.{no_control}
 use Rattle.pg_machine.specs.declared.step.Structure.{Structure}
 use Rattle.pg_machine.specs.declared.step.Translation.{Translation}
 use Rattle.pg_machine.specs.Machine.{State}
@@ -24,7 +26,7 @@ value_at writes a = fold (λ value write. if write.0 == a then write.1 else valu
 
 -- a processor that is not there has nothing
 abbrev pub processor_or_none : Option ProcessorState → ProcessorState
-processor_or_none None = record { control = record { root = 0; pcid = 0; pge = false }; structures = []; translations = [] }
+processor_or_none None = record { control = no_control; structures = []; translations = [] }
 processor_or_none (Some processor) = processor
 
 abbrev pub processor_at : List ProcessorState → ℕ → ProcessorState

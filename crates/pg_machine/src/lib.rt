@@ -2,14 +2,17 @@
 #![tactic(auto)]
 
 mod cached;
+mod law;
 mod machine;
 mod memory;
 mod processor;
+mod sought;
 mod step;
 mod stuck;
 #[cfg(test)]
 mod tests;
 
+pub use law::some_record_has_no_run;
 pub use machine::Machine;
-pub use step::{Member, Parent, Step, Structure, Translation};
+pub use step::{Member, Step, Structure, Translation};
 pub use stuck::Stuck;

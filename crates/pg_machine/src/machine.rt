@@ -1,21 +1,34 @@
-ghost use Rattle.std.specs.Prelude.{◌≡◌, ◌≢◌, ◌<◌, ◌≤◌, ◌^◌, length, IfOk, IfErr, OnOk, OnErr, MatchResult, IfSome, IfNone, is_some, map, None, Some, true, false};
+ghost use Rattle.std.specs.Prelude.{◌≡◌, ◌≢◌, ◌<◌, ◌≤◌, ◌^◌, length, IfOk, IfErr, OnOk, OnErr};
+ghost use Rattle.std.specs.Prelude.{MatchResult, IfSome, IfNone, is_some, map, None, Some, true};
+ghost use Rattle.std.specs.Prelude.{false};
 ghost use Rattle.pg_entry.specs.Kinds.{kind_of};
 ghost use Rattle.pg_entry.specs.Permission.{joined};
 ghost use Rattle.pg_event.specs.Form.{processor_of};
-ghost use Rattle.pg_event.specs.Witness.{is_table, is_wanted};
+ghost use Rattle.pg_event.specs.Wants.{is_table, is_leaf};
 ghost use Rattle.pg_machine.specs.Listed.{state_of, processor_at};
-ghost use Rattle.pg_machine.specs.Machine.{start, MayTake, after, translation_at};
+ghost use Rattle.pg_machine.specs.Machine.{start, MayTake, after, may_cache, translation_at};
 ghost use Rattle.pg_machine.specs.Refused.{Lacks, adds, adds_event};
-ghost use Rattle.pg_machine.specs.Stepping.{started_processor, top_of, entry_of, filled, unreadable, stuck_table, stuck_leaf, stuck_drop, stuck_access, stuck_event, stuck_step, next_table, next_leaf, next_drop, next_event, next_step, with_processor, with_structure_first, with_translation_first, processor_after, writes_after, IsStuckBy};
+ghost use Rattle.pg_machine.specs.Stepping.{started_processor, root_at, entry_of, filled, unusable};
+ghost use Rattle.pg_machine.specs.Stepping.{stuck_table, stuck_leaf, stuck_drop, stuck_access};
+ghost use Rattle.pg_machine.specs.Stepping.{stuck_assist, stuck_coming, stuck_event, stuck_step};
+ghost use Rattle.pg_machine.specs.Stepping.{lacking, next_table, next_leaf, next_drop, next_event};
+ghost use Rattle.pg_machine.specs.Stepping.{next_step, with_processor, with_structure_first};
+ghost use Rattle.pg_machine.specs.Stepping.{with_translation_first, processor_after, writes_after};
+ghost use Rattle.pg_machine.specs.Stepping.{IsStuckBy};
 
 use crate::memory::Memory;
 use crate::processor::Processor;
-use crate::step::{Member, Parent, Step, Structure, Translation};
+use crate::sought::Sought;
+use crate::step::{Member, Step, Structure, Translation};
 use crate::stuck::Stuck;
-use pg_entry::{Cfg, Entry, Kind, Level, Rights, classify, combine};
+use pg_entry::{
+    AccessKind, Cfg, Entry, Kind, Level, Rights, accessed, classify, combine, dirty, marked,
+    table_of,
+};
 use pg_event::{
-    Control, Event, Header, Want, access_kind, is_canonical, processor_of, structure_key,
-    translation_key, want_of, well_formed,
+    Control, Event, Header, Outcome, Parent, Version, Want, access_kind, entry_address,
+    is_canonical, processor_of, root_of, says_dirty, structure_key, translation_key, want_of,
+    well_formed,
 };
 use std::alloc::{AllocError, Global};
 use std::marker::Model;
@@ -34,9 +47,17 @@ impl Model for Machine {
 
     ghost Value = { Listed };
 
-    ghost view = { λ m. record { head = m.header; writes = m.memory; processors = m.processors.items } };
+    ghost view = { λ m. record {
+      head = m.header;
+      writes = m.memory;
+      processors = m.processors.items;
+    } };
 
-    ghost invariant = { λ m. IsWhole (record { head = m.header; writes = m.memory; processors = m.processors.items }) };
+    ghost invariant = { λ m. IsWhole (record {
+      head = m.header;
+      writes = m.memory;
+      processors = m.processors.items;
+    }) };
 }
 
 impl Machine {
@@ -60,10 +81,12 @@ impl Machine {
     /// changed. The moments of an event are not looked at.
     pub fn step(&mut self, step: &Step) -> Result<(), Stuck>
         ensures taken { OnOk result (MayTake self.old.head (state_of self.old) step.now) }
-        ensures after { OnOk result (state_of self.new ≡ after self.old.head (state_of self.old) step.now) }
+        ensures after { OnOk result
+            (state_of self.new ≡ after self.old.head (state_of self.old) step.now) }
         ensures head { self.new.head ≡ self.old.head }
 
-        ensures refused { IfErr result (λ e. e ≢ Stuck.Memory → ¬ MayTake self.old.head (state_of self.old) step.now) }
+        ensures refused { IfErr result
+            (λ e. e ≢ Stuck.Memory → ¬ MayTake self.old.head (state_of self.old) step.now) }
         ensures reason { IfErr result (Lacks self.old.head (state_of self.old) step.now) }
         ensures err { OnErr result (self.new ≡ self.old) }
     {
@@ -73,13 +96,15 @@ impl Machine {
     }
 
     fn apply(&mut self, step: &Step) -> Result<(), Stuck>
-        ensures ok { OnOk result ((stuck_step self.old step.now ≡ None) × (self.new ≡ next_step self.old step.now)) }
-        ensures err { IfErr result (λ e. IsStuckBy (adds step.now) (stuck_step self.old step.now) e × (self.new ≡ self.old)) }
+        ensures ok { OnOk result ((stuck_step self.old step.now ≡ None)
+            × (self.new ≡ next_step self.old step.now)) }
+        ensures err { IfErr result (λ e. IsStuckBy (adds step.now) (stuck_step self.old step.now) e
+            × (self.new ≡ self.old)) }
     {
         match *step {
             Step::Fill4 { p, la } => {
-                let top = self.top(p);
-                self.fill_table(p, la, Level::Four, top)
+                let root = self.root(p);
+                self.fill_table(p, la, Level::Four, root)
             }
             Step::Fill3 { p, la, from } => self.fill_table(p, la, Level::Three, from),
             Step::Fill2 { p, la, from } => self.fill_table(p, la, Level::Two, from),
@@ -96,27 +121,24 @@ impl Machine {
         self.header.cfg
     }
 
-    /// The root of a processor as a parent, and 0 where there is no such processor.
-    fn top(&self, p: u16) -> Parent
-        ensures { result ≡ top_of (processor_at self.now.processors p) }
+    /// The table that a walk of a processor starts in, and 0 where there is no such processor.
+    fn root(&self, p: u16) -> Parent
+        ensures { result ≡ root_at self.now p }
     {
-        let table = match self.processors.get(p as usize) {
-            Some(processor) => processor.control().root,
-            None => 0,
-        };
-        Parent {
-            table,
-            rights: Rights {
-                write: true,
-                user: true,
-                xd: false,
+        root_of(match self.processors.get(p as usize) {
+            Some(processor) => processor.control(),
+            None => Control {
+                root: 0,
+                pcid: 0,
+                pge: false,
             },
-        }
+        })
     }
 
-    /// The entry that a fill reads.
-    fn readable(&self, p: u16, la: u64, level: Level, from: Parent) -> Result<Entry, Stuck>
-        ensures source { MatchResult result (λ _. unreadable self.now p la level from ≡ None) (λ e. unreadable self.now p la level from ≡ Some e) }
+    /// The entry that a fill reads, where the walk may read it and may keep what it says.
+    fn usable(&self, p: u16, la: u64, level: Level, from: Parent) -> Result<Entry, Stuck>
+        ensures usable { MatchResult result (λ _. unusable self.now p la level from ≡ None)
+            (λ e. unusable self.now p la level from ≡ Some e) }
         ensures entry { IfOk result (λ entry. entry.0 ≡ entry_of self.now la level from) }
         ensures processor { OnOk result (p < length self.now.processors) }
     {
@@ -126,14 +148,20 @@ impl Machine {
         if !self.processor(p).may_read(la, level, from) {
             return Err(Stuck::Source);
         }
-        Ok(self.memory.entry(from.table, level, la))
+        let entry = self.memory.entry(entry_address(from.table, level, la));
+        if !may_cache(self.header.version, entry) {
+            return Err(Stuck::Kind);
+        }
+        Ok(entry)
     }
 
     fn fill_table(&mut self, p: u16, la: u64, level: Level, from: Parent) -> Result<(), Stuck>
-        ensures ok { OnOk result ((stuck_table self.old p la level from ≡ None) × (self.new ≡ next_table self.old p la level from)) }
-        ensures err { IfErr result (λ e. IsStuckBy true (stuck_table self.old p la level from) e × (self.new ≡ self.old)) }
+        ensures ok { OnOk result ((stuck_table self.old p la level from ≡ None)
+            × (self.new ≡ next_table self.old p la level from)) }
+        ensures err { IfErr result (λ e. IsStuckBy true (stuck_table self.old p la level from) e
+            × (self.new ≡ self.old)) }
     {
-        let entry = match self.readable(p, la, level, from) {
+        let entry = match self.usable(p, la, level, from) {
             Ok(entry) => entry,
             Err(stuck) => return Err(stuck),
         };
@@ -145,10 +173,12 @@ impl Machine {
     }
 
     fn fill_leaf(&mut self, p: u16, la: u64, level: Level, from: Parent) -> Result<(), Stuck>
-        ensures ok { OnOk result ((stuck_leaf self.old p la level from ≡ None) × (self.new ≡ next_leaf self.old p la level from)) }
-        ensures err { IfErr result (λ e. IsStuckBy true (stuck_leaf self.old p la level from) e × (self.new ≡ self.old)) }
+        ensures ok { OnOk result ((stuck_leaf self.old p la level from ≡ None)
+            × (self.new ≡ next_leaf self.old p la level from)) }
+        ensures err { IfErr result (λ e. IsStuckBy true (stuck_leaf self.old p la level from) e
+            × (self.new ≡ self.old)) }
     {
-        let entry = match self.readable(p, la, level, from) {
+        let entry = match self.usable(p, la, level, from) {
             Ok(entry) => entry,
             Err(stuck) => return Err(stuck),
         };
@@ -173,7 +203,8 @@ impl Machine {
     fn add_structure(&mut self, p: u16, structure: Structure) -> Result<(), AllocError>
         requires there { p < length self.old.processors }
         requires within { structure.table < 2 ^ 52 }
-        ensures ok { OnOk result (self.new ≡ with_processor self.old p (with_structure_first (processor_at self.old.processors p) structure)) }
+        ensures ok { OnOk result (self.new ≡ with_processor self.old p
+            (with_structure_first (processor_at self.old.processors p) structure)) }
         ensures err { OnErr result (self.new ≡ self.old) }
     {
         self.processors[p as usize].add_structure(structure)
@@ -184,7 +215,8 @@ impl Machine {
         requires there { p < length self.old.processors }
         requires size { translation.key.shift ≤ 30 }
         requires within { translation.frame < 2 ^ 52 }
-        ensures ok { OnOk result (self.new ≡ with_processor self.old p (with_translation_first (processor_at self.old.processors p) (Some translation))) }
+        ensures ok { OnOk result (self.new ≡ with_processor self.old p
+            (with_translation_first (processor_at self.old.processors p) (Some translation))) }
         ensures err { OnErr result (self.new ≡ self.old) }
     {
         self.processors[p as usize].add_translation(translation)
@@ -192,8 +224,10 @@ impl Machine {
 
     #[tactic(auto, using(crate::proofs::Processors::processor_at_read))]
     fn drop_member(&mut self, p: u16, member: &Member) -> Result<(), Stuck>
-        ensures ok { OnOk result ((stuck_drop self.old p member.now ≡ None) × (self.new ≡ next_drop self.old p member.now)) }
-        ensures err { IfErr result (λ e. IsStuckBy false (stuck_drop self.old p member.now) e × (self.new ≡ self.old)) }
+        ensures ok { OnOk result ((stuck_drop self.old p member.now ≡ None)
+            × (self.new ≡ next_drop self.old p member.now)) }
+        ensures err { IfErr result (λ e. IsStuckBy false (stuck_drop self.old p member.now) e
+            × (self.new ≡ self.old)) }
     {
         if p as usize >= self.processors.len() {
             return Err(Stuck::Processor);
@@ -206,13 +240,16 @@ impl Machine {
     }
 
     fn take(&mut self, event: &Event) -> Result<(), Stuck>
-        ensures ok { OnOk result ((stuck_event self.old event.now ≡ None) × (self.new ≡ next_event self.old event.now)) }
-        ensures err { IfErr result (λ e. IsStuckBy (adds_event event.now) (stuck_event self.old event.now) e × (self.new ≡ self.old)) }
+        ensures ok { OnOk result ((stuck_event self.old event.now ≡ None)
+            × (self.new ≡ next_event self.old event.now)) }
+        ensures err { IfErr result
+            (λ e. IsStuckBy (adds_event event.now) (stuck_event self.old event.now) e
+            × (self.new ≡ self.old)) }
     {
         if let Err(rule) = well_formed(&self.header, event) {
             return Err(Stuck::Malformed(rule));
         }
-        if let Some(stuck) = self.stuck_access(event) {
+        if let Some(stuck) = self.stuck_coming(event) {
             return Err(stuck);
         }
         if self.write(event).is_err() {
@@ -226,57 +263,119 @@ impl Machine {
     #[tactic(auto, using(crate::proofs::Processors::processor_at_read))]
     fn take_at(&mut self, p: u16, event: &Event)
         requires { p < length self.old.processors }
-        ensures { self.new ≡ with_processor self.old p (processor_after self.old.head.cfg.m event.now (processor_at self.old.processors p)) }
+        ensures { self.new ≡ with_processor self.old p
+            (processor_after self.old.head.cfg.m event.now (processor_at self.old.processors p)) }
     {
         let m = self.cfg().m;
         self.processors[p as usize].take(m, event);
     }
 
-    /// What an event does to memory.
+    /// What an event does to memory. An assist sets its bits in the word as it is now.
     fn write(&mut self, event: &Event) -> Result<(), AllocError>
-        ensures ok { OnOk result (self.new ≡ record self.old { writes = writes_after self.old.writes event.now }) }
+        ensures ok { OnOk result
+            (self.new ≡ record self.old { writes = writes_after self.old.writes event.now }) }
         ensures err { OnErr result (self.new ≡ self.old) }
         ensures adds { OnErr result (adds_event event.now ≡ true) }
     {
-        if let Event::Write { addr, value, .. } = *event {
-            self.memory.write(addr, value)?;
+        match *event {
+            Event::Write { addr, value, .. } => self.memory.write(addr, value),
+            Event::Assist { flags, word, .. } => {
+                let entry = marked(self.memory.entry(word), says_dirty(flags));
+                self.memory.write(word, entry.0)
+            }
+            Event::Access { .. }
+            | Event::MovCr3 { .. }
+            | Event::Invlpg { .. }
+            | Event::Invpcid { .. }
+            | Event::MovCr4Pge { .. } => Ok(()),
         }
-        Ok(())
     }
 
-    /// Why an access cannot come to its outcome.
-    fn stuck_access(&self, event: &Event) -> Option<Stuck>
+    /// Why an event cannot come: an access needs what gives its outcome, an assist its entry.
+    fn stuck_coming(&self, event: &Event) -> Option<Stuck>
         requires { processor_of event.now < length self.now.processors }
-        ensures { result ≡ stuck_access self.now event.now }
+        ensures { result ≡ stuck_coming self.now event.now }
     {
-        let Event::Access {
-            p,
-            flags,
-            la,
-            outcome,
-            ..
-        } = *event
-        else {
-            return None;
-        };
-        let access = access_kind(flags);
-        let cfg = self.cfg();
-        if self
-            .processor(p)
-            .has_outcome(cfg, &self.memory, access, la, outcome)
-        {
-            return None;
+        match *event {
+            Event::Access {
+                p,
+                flags,
+                la,
+                outcome,
+                ..
+            } => self.stuck_access(p, access_kind(flags), la, outcome),
+            Event::Assist {
+                p,
+                flags,
+                la,
+                word,
+                ..
+            } => {
+                let sought = Sought::Word {
+                    access: access_kind(flags),
+                    word,
+                    with_dirty: says_dirty(flags),
+                };
+                self.stuck_assist(p, la, sought)
+            }
+            Event::Write { .. }
+            | Event::MovCr3 { .. }
+            | Event::Invlpg { .. }
+            | Event::Invpcid { .. }
+            | Event::MovCr4Pge { .. } => None,
         }
-        Some(match want_of(outcome) {
-            Want::Leaf => Stuck::Translation,
-            Want::Absent | Want::Reserved => Stuck::Entry,
-        })
+    }
+
+    fn stuck_access(&self, p: u16, access: AccessKind, la: u64, outcome: Outcome) -> Option<Stuck>
+        requires { p < length self.now.processors }
+        ensures { result ≡ stuck_access self.now p access la outcome }
+    {
+        let processor = self.processor(p);
+        if processor.has_outcome(&self.header, &self.memory, access, la, outcome) {
+            None
+        } else {
+            Some(lacking(want_of(outcome)))
+        }
+    }
+
+    fn stuck_assist(&self, p: u16, la: u64, sought: Sought) -> Option<Stuck>
+        requires { p < length self.now.processors }
+        ensures { result ≡ stuck_assist self.now p la sought }
+    {
+        let processor = self.processor(p);
+        if processor.finds(self.cfg(), &self.memory, la, sought) {
+            None
+        } else {
+            Some(Stuck::Entry)
+        }
+    }
+}
+
+/// What lacks where an access cannot come to an outcome that wants this.
+fn lacking(want: Want) -> Stuck
+    ensures { result ≡ lacking want }
+{
+    match want {
+        Want::Leaf => Stuck::Translation,
+        Want::Absent | Want::Reserved | Want::Present => Stuck::Entry,
+    }
+}
+
+/// Whether an entry may be cached: where accessed flags are judged, it has A (Intel SDM, vol. 3,
+/// 4.8).
+fn may_cache(version: Version, entry: Entry) -> bool
+    ensures { result ≡ may_cache version entry.0 }
+{
+    match version {
+        Version::One => true,
+        Version::Two => accessed(entry),
     }
 }
 
 fn started_processors(alloc: Global, header: &Header) -> Result<Vec<Processor>, AllocError>
     requires width { (36 ≤ header.now.cfg.m) × (header.now.cfg.m ≤ 52) }
-    ensures { IfOk result (λ v. v.items ≡ map (started_processor header.now.cfg.m) header.now.processors) }
+    ensures { IfOk result
+        (λ v. v.items ≡ map (started_processor header.now.cfg.m) header.now.processors) }
 {
     let m = header.cfg.m;
     header
@@ -297,16 +396,17 @@ fn structure_of(
 ) -> Option<Structure>
     requires width { (36 ≤ cfg.m) × (cfg.m ≤ 52) }
     ensures none { IfNone result (is_table (kind_of cfg level entry.0) ≡ false) }
-    ensures some { IfSome result (λ x. (is_table (kind_of cfg level entry.0) ≡ true) × (x ≡ filled cfg.m pcid la level rights entry.0)) }
+    ensures some { IfSome result (λ x. (is_table (kind_of cfg level entry.0) ≡ true)
+        × (x ≡ filled cfg.m pcid la level rights entry.0)) }
     ensures within { IfSome result (λ x. x.table < 2 ^ 52) }
 {
     match classify(cfg, level, entry) {
-        Kind::Table { addr } => Some(Structure {
+        Kind::Table { .. } => Some(Structure {
             key: structure_key(pcid, level, la),
-            table: addr,
+            table: table_of(cfg.m, entry),
             rights: combine(rights, entry),
         }),
-        _ => None,
+        Kind::Leaf { .. } | Kind::Absent | Kind::Reserved => None,
     }
 }
 
@@ -320,8 +420,9 @@ fn translation_of(
     entry: Entry,
 ) -> Option<Translation>
     requires width { (36 ≤ cfg.m) × (cfg.m ≤ 52) }
-    ensures value { result ≡ translation_at control la (joined rights entry.0) (kind_of cfg level entry.0) }
-    ensures wanted { is_some result ≡ is_wanted Want.Leaf (kind_of cfg level entry.0) }
+    ensures value { result
+        ≡ translation_at control la (joined rights entry.0) entry.0 (kind_of cfg level entry.0) }
+    ensures wanted { is_some result ≡ is_leaf (kind_of cfg level entry.0) }
     ensures within { IfSome result (λ x. (x.key.shift ≤ 30) × (x.frame < 2 ^ 52)) }
 {
     match classify(cfg, level, entry) {
@@ -333,7 +434,8 @@ fn translation_of(
             key: translation_key(control.pcid, shift, global_bit && control.pge, la),
             frame,
             rights: combine(rights, entry),
+            dirty: dirty(entry),
         }),
-        _ => None,
+        Kind::Table { .. } | Kind::Absent | Kind::Reserved => None,
     }
 }

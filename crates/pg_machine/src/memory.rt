@@ -1,9 +1,7 @@
-ghost use Rattle.std.specs.Prelude.{◌≡◌, ◌<◌, ◌^◌, [], ◌∷◌, ◌++◌, OnOk, OnErr};
-ghost use Rattle.pg_event.specs.Walk.{entry_address};
+ghost use Rattle.std.specs.Prelude.{◌≡◌, [], ◌∷◌, ◌++◌, OnOk, OnErr};
 ghost use Rattle.pg_machine.specs.Listed.{value_at};
 
-use pg_entry::{Entry, Level};
-use pg_event::entry_address;
+use pg_entry::Entry;
 use std::alloc::{AllocError, Global};
 use std::marker::Model;
 
@@ -39,12 +37,11 @@ impl Memory {
         )
     }
 
-    /// The entry that a level has for a linear address in a table.
-    pub fn entry(&self, table: u64, level: Level, la: u64) -> Entry
-        requires { table < 2 ^ 52 }
-        ensures { result.0 ≡ value_at self.now (entry_address table level la) }
+    /// The paging entry at an address.
+    pub fn entry(&self, address: u64) -> Entry
+        ensures { result.0 ≡ value_at self.now address }
     {
-        Entry(self.read(entry_address(table, level, la)))
+        Entry(self.read(address))
     }
 
     pub fn write(&mut self, address: u64, value: u64) -> Result<(), AllocError>

@@ -1,17 +1,21 @@
 ghost use Rattle.std.specs.Prelude.{◌≡◌, ◌<◌, ◌≤◌, ◌^◌, [], ◌∷◌, IsTrue, OnOk, OnErr};
 ghost use Rattle.std.specs.List.{list_any};
-ghost use Rattle.pg_machine.specs.Machine.{same_structure, same_translation, is_usable};
-ghost use Rattle.pg_event.specs.Witness.{want_of, is_wanted};
-ghost use Rattle.pg_machine.specs.Stepping.{started_processor, leading_entry, has_structure, has_translation, is_top, may_read, has_member, without_member, has_wanted, is_leading, leads_to_wanted, any_leads_to_wanted, finds_wanted, answers, has_answer, faults_by, has_outcome, processor_after};
+ghost use Rattle.pg_event.specs.Wants.{want_of};
+ghost use Rattle.pg_machine.specs.Machine.{same_structure, same_translation, is_usable, may_serve};
+ghost use Rattle.pg_machine.specs.Stepping.{started_processor, leading_entry, has_structure};
+ghost use Rattle.pg_machine.specs.Stepping.{has_translation, is_root, leads, may_read, has_member};
+ghost use Rattle.pg_machine.specs.Stepping.{without_member, finds, leads_to_sought, answers};
+ghost use Rattle.pg_machine.specs.Stepping.{has_answer, faults_by, has_outcome, processor_after};
 
 use crate::cached::{CachedStructure, CachedTranslation};
 use crate::memory::Memory;
-use crate::step::{Member, Parent, Structure, Translation};
-use pg_entry::{AccessKind, Cause, Cfg, Kind, Level, allowed, classify, error_code};
+use crate::sought::{Sought, is_sought, leads_to_sought};
+use crate::step::{Member, Structure, Translation};
+use pg_entry::{AccessKind, Cause, Cfg, Level, Op, allowed, error_code};
 use pg_event::{
-    Control, Event, Outcome, Want, below, controlled, loaded, must_drop_structure,
-    must_drop_translation, processor_of, structure_key, structure_matches, translation_matches,
-    want_of,
+    Control, Event, Header, Outcome, Parent, Version, Want, controlled, loaded,
+    must_drop_structure, must_drop_translation, processor_of, root_of, structure_key,
+    translation_matches, want_of,
 };
 use std::alloc::{AllocError, Global};
 use std::marker::Model;
@@ -30,7 +34,11 @@ impl Model for Processor {
 
     ghost Value = { ProcessorState };
 
-    ghost view = { λ p. record { control = p.control; structures = p.structures.items; translations = p.translations.items } };
+    ghost view = { λ p. record {
+      control = p.control;
+      structures = p.structures.items;
+      translations = p.translations.items;
+    } };
 
     ghost invariant = { λ p. p.control.root < 2 ^ 52 };
 }
@@ -83,18 +91,25 @@ impl Processor {
         ensures within { IsTrue result → from.table < 2 ^ 52 }
     {
         match level {
-            Level::Four => self.is_top(from),
-            Level::Three => self.has_structure(&self.leading_entry(la, Level::Four, from)),
-            Level::Two => self.has_structure(&self.leading_entry(la, Level::Three, from)),
-            Level::One => self.has_structure(&self.leading_entry(la, Level::Two, from)),
+            Level::Four => self.is_root(from),
+            Level::Three => self.leads(la, Level::Four, from),
+            Level::Two => self.leads(la, Level::Three, from),
+            Level::One => self.leads(la, Level::Two, from),
         }
     }
 
-    fn is_top(&self, from: Parent) -> bool
-        ensures value { result ≡ is_top self.now from }
+    fn is_root(&self, from: Parent) -> bool
+        ensures value { result ≡ is_root self.now.control from }
         ensures within { IsTrue result → from.table < 2 ^ 52 }
     {
-        from.table == self.control.root && from.rights.write && from.rights.user && !from.rights.xd
+        from == root_of(self.control)
+    }
+
+    fn leads(&self, la: u64, level: Level, from: Parent) -> bool
+        ensures value { result ≡ leads self.now la level from }
+        ensures within { IsTrue result → from.table < 2 ^ 52 }
+    {
+        self.has_structure(&self.leading_entry(la, level, from))
     }
 
     fn leading_entry(&self, la: u64, level: Level, from: Parent) -> Structure
@@ -109,7 +124,8 @@ impl Processor {
 
     pub fn add_structure(&mut self, structure: Structure) -> Result<(), AllocError>
         requires { structure.table < 2 ^ 52 }
-        ensures ok { OnOk result (self.new ≡ record self.old { structures = structure ∷ self.old.structures }) }
+        ensures ok { OnOk result
+            (self.new ≡ record self.old { structures = structure ∷ self.old.structures }) }
         ensures err { OnErr result (self.new ≡ self.old) }
     {
         self.structures.insert(0, CachedStructure::new(structure))?;
@@ -119,7 +135,8 @@ impl Processor {
     pub fn add_translation(&mut self, translation: Translation) -> Result<(), AllocError>
         requires size { translation.key.shift ≤ 30 }
         requires within { translation.frame < 2 ^ 52 }
-        ensures ok { OnOk result (self.new ≡ record self.old { translations = translation ∷ self.old.translations }) }
+        ensures ok { OnOk result
+            (self.new ≡ record self.old { translations = translation ∷ self.old.translations }) }
         ensures err { OnErr result (self.new ≡ self.old) }
     {
         self.translations
@@ -155,54 +172,60 @@ impl Processor {
     /// gives an answer or a fault by rights, an entry that the walk may read the other faults.
     pub fn has_outcome(
         &self,
-        cfg: Cfg,
+        header: &Header,
         memory: &Memory,
         access: AccessKind,
         la: u64,
         outcome: Outcome,
     ) -> bool
-        requires width { (36 ≤ cfg.m) × (cfg.m ≤ 52) }
-        ensures { result ≡ has_outcome cfg memory.now self.now access la outcome (want_of outcome) }
+        requires width { (36 ≤ header.now.cfg.m) × (header.now.cfg.m ≤ 52) }
+        ensures { result
+            ≡ has_outcome header.now memory.now self.now access la outcome (want_of outcome) }
     {
+        let cfg = header.cfg;
         match want_of(outcome) {
-            Want::Leaf => self.has_answer(cfg, access, la, outcome),
+            Want::Leaf => self.has_answer(header, access, la, outcome),
             Want::Absent => {
                 faults_by(cfg, access, Cause::Absent, outcome)
-                    && self.finds_wanted(cfg, memory, la, Want::Absent)
+                    && self.finds(cfg, memory, la, Sought::Entry(Want::Absent))
             }
             Want::Reserved => {
                 faults_by(cfg, access, Cause::Reserved, outcome)
-                    && self.finds_wanted(cfg, memory, la, Want::Reserved)
+                    && self.finds(cfg, memory, la, Sought::Entry(Want::Reserved))
             }
+            Want::Present => false,
         }
     }
 
-    fn has_answer(&self, cfg: Cfg, access: AccessKind, la: u64, outcome: Outcome) -> bool
-        ensures { result ≡ has_answer cfg self.now access la outcome }
+    fn has_answer(&self, header: &Header, access: AccessKind, la: u64, outcome: Outcome) -> bool
+        ensures { result ≡ has_answer header.now self.now access la outcome }
     {
         let control = self.control;
         self.translations.iter().any(|x| {
             let translation = x.get();
-            is_usable(control, la, &translation) && answers(cfg, access, la, outcome, &translation)
+            is_usable(control, la, &translation)
+                && answers(header, access, la, outcome, &translation)
         })
     }
 
-    fn finds_wanted(&self, cfg: Cfg, memory: &Memory, la: u64, want: Want) -> bool
+    /// Whether some entry that a walk of this processor for a linear address may read now is what
+    /// is sought.
+    pub fn finds(&self, cfg: Cfg, memory: &Memory, la: u64, sought: Sought) -> bool
         requires width { (36 ≤ cfg.m) × (cfg.m ≤ 52) }
-        ensures { result ≡ finds_wanted cfg memory.now self.now la want }
+        ensures { result ≡ finds cfg memory.now self.now la sought }
     {
-        has_wanted(cfg, memory, la, want, self.control.root, Level::Four)
-            || self.leads_to_wanted(cfg, memory, la, want)
+        is_sought(cfg, memory, la, sought, Level::Four, root_of(self.control))
+            || self.leads_to_sought(cfg, memory, la, sought)
     }
 
-    fn leads_to_wanted(&self, cfg: Cfg, memory: &Memory, la: u64, want: Want) -> bool
+    fn leads_to_sought(&self, cfg: Cfg, memory: &Memory, la: u64, sought: Sought) -> bool
         requires width { (36 ≤ cfg.m) × (cfg.m ≤ 52) }
-        ensures { result ≡ any_leads_to_wanted cfg memory.now self.now la want }
+        ensures { result
+            ≡ list_any (leads_to_sought cfg memory.now la sought self.now.control.pcid)
+            self.now.structures }
     {
         let pcid = self.control.pcid;
-        self.structures
-            .iter()
-            .any(|x| leads_to_wanted(cfg, memory, la, want, pcid, &x.get()))
+        self.structures.iter().any(|x| leads_to_sought(cfg, memory, la, sought, pcid, &x.get()))
     }
 
     /// The processor after an event of its own.
@@ -241,8 +264,9 @@ fn is_usable(control: Control, la: u64, translation: &Translation) -> bool
     translation_matches(key, la) && (control.pcid == key.pcid || key.global)
 }
 
+/// Whether a translation answers an access, or denies it, so.
 fn answers(
-    cfg: Cfg,
+    header: &Header,
     access: AccessKind,
     la: u64,
     outcome: Outcome,
@@ -250,14 +274,28 @@ fn answers(
 ) -> bool
     requires size { translation.now.key.shift ≤ 30 }
     requires within { translation.now.frame < 2 ^ 52 }
-    ensures { result ≡ answers cfg access la outcome translation.now }
+    ensures { result ≡ answers header.now access la outcome translation.now }
 {
+    let cfg = header.cfg;
     let is_allowed = allowed(cfg, translation.rights, access);
     match outcome {
         Outcome::Page(page) => {
-            is_allowed && page == translation.frame + la % (1 << translation.key.shift)
+            is_allowed
+                && may_serve(header.version, access, translation)
+                && page == translation.frame + la % (1 << translation.key.shift)
         }
         Outcome::Fault(code) => !is_allowed && code == error_code(cfg, access, Cause::Denied),
+    }
+}
+
+/// Whether a translation may be used for a write: where dirty flags are judged, its page's entry
+/// had D (Intel SDM, vol. 3, 4.8).
+fn may_serve(version: Version, access: AccessKind, translation: &Translation) -> bool
+    ensures { result ≡ may_serve version access translation.now }
+{
+    match version {
+        Version::One => true,
+        Version::Two => !matches!(access.op, Op::Write) || translation.dirty,
     }
 }
 
@@ -267,52 +305,5 @@ fn faults_by(cfg: Cfg, access: AccessKind, cause: Cause, outcome: Outcome) -> bo
     match outcome {
         Outcome::Page(_) => false,
         Outcome::Fault(code) => code == error_code(cfg, access, cause),
-    }
-}
-
-/// Whether the entry that a level has for a linear address in a table is what is wanted.
-fn has_wanted(cfg: Cfg, memory: &Memory, la: u64, want: Want, table: u64, level: Level) -> bool
-    requires width { (36 ≤ cfg.m) × (cfg.m ≤ 52) }
-    requires within { table < 2 ^ 52 }
-    ensures { result ≡ has_wanted cfg memory.now la want table level }
-{
-    is_wanted(want, classify(cfg, level, memory.entry(table, level, la)))
-}
-
-fn is_wanted(want: Want, kind: Kind) -> bool
-    ensures { result ≡ is_wanted want kind }
-{
-    match want {
-        Want::Leaf => matches!(kind, Kind::Leaf { .. }),
-        Want::Absent => matches!(kind, Kind::Absent),
-        Want::Reserved => matches!(kind, Kind::Reserved),
-    }
-}
-
-fn leads_to_wanted(
-    cfg: Cfg,
-    memory: &Memory,
-    la: u64,
-    want: Want,
-    pcid: u16,
-    structure: &Structure,
-) -> bool
-    requires width { (36 ≤ cfg.m) × (cfg.m ≤ 52) }
-    requires within { structure.now.table < 2 ^ 52 }
-    ensures { result ≡ leads_to_wanted cfg memory.now la want pcid structure.now }
-{
-    let key = structure.key;
-    is_leading(key.level)
-        && key.pcid == pcid
-        && structure_matches(key, la)
-        && has_wanted(cfg, memory, la, want, structure.table, below(key.level))
-}
-
-fn is_leading(level: Level) -> bool
-    ensures { result ≡ is_leading level }
-{
-    match level {
-        Level::Four | Level::Three | Level::Two => true,
-        Level::One => false,
     }
 }

@@ -1,14 +1,5 @@
 use pg_entry::{Level, Rights};
-use pg_event::{Event, StructureKey, TranslationKey};
-
-/// The table that a walk goes on in, and the rights down to it.
-#[derive(Clone, Copy, PartialEq, Eq, Debug)]
-pub struct Parent {
-    /// The physical address of the table.
-    pub table: u64,
-    /// The rights of the entries above it.
-    pub rights: Rights,
-}
+use pg_event::{Event, Parent, StructureKey, TranslationKey};
 
 /// An entry of a paging-structure cache (Intel SDM, vol. 3, 4.10.3).
 #[derive(Clone, Copy, PartialEq, Eq, Debug)]
@@ -30,6 +21,8 @@ pub struct Translation {
     pub frame: u64,
     /// The combined rights of the entries used.
     pub rights: Rights,
+    /// Whether the page's entry had D, bit 6, when it was read (4.8).
+    pub dirty: bool,
 }
 
 /// What a cache holds.

@@ -1,6 +1,6 @@
-use crate::{Machine, Member, Parent, Step, Structure, Stuck};
+use crate::{Machine, Member, Step, Structure, Stuck};
 use pg_entry::{Cfg, CfgFlags, Level, Rights};
-use pg_event::{Event, Header, Malformed, Moments, Outcome, structure_key};
+use pg_event::{Event, Header, Malformed, Moments, Outcome, Parent, Version, structure_key};
 use std::alloc::{AllocError, Global};
 use std::process::Abort;
 use std::test::Fail;
@@ -8,8 +8,9 @@ use std::test::Fail;
 const ADDRESS: u64 = 0x5123;
 
 /// MAXPHYADDR 40, write protection and execute disable on, one processor with global pages on.
-fn one_processor(alloc: Global) -> Result<Machine, AllocError> {
+fn one_processor(alloc: Global, version: Version) -> Result<Machine, AllocError> {
     let header = Header {
+        version,
         cfg: Cfg {
             flags: CfgFlags(3),
             m: 40,
@@ -34,21 +35,35 @@ fn write(addr: u64, value: u64) -> Step {
 fn parent(table: u64) -> Parent {
     Parent {
         table,
-        rights: Rights {
-            write: true,
-            user: true,
-            xd: false,
-        },
+        rights: Rights::ALL,
     }
+}
+
+fn access(flags: u8, outcome: Outcome) -> Step {
+    Step::Do(Event::Access {
+        p: 0,
+        flags,
+        la: ADDRESS,
+        outcome,
+        moments: Moments::first(4),
+    })
 }
 
 /// A read by user code.
 fn read(outcome: Outcome) -> Step {
-    Step::Do(Event::Access {
+    access(4, outcome)
+}
+
+fn user_write() -> Step {
+    access(5, Outcome::Page(0x9123))
+}
+
+fn assist(flags: u8, word: u64) -> Step {
+    Step::Do(Event::Assist {
         p: 0,
-        flags: 4,
+        flags,
         la: ADDRESS,
-        outcome,
+        word,
         moments: Moments::first(4),
     })
 }
@@ -107,7 +122,7 @@ fn fill_leaf() -> Step {
 
 #[test]
 fn fresh_walk(rt: HostRuntime) -> Result<(), Fail> {
-    let mut machine = one_processor(rt.alloc())?;
+    let mut machine = one_processor(rt.alloc(), Version::One)?;
     take_all(&rt, &mut machine, &writes());
     let steps = [
         (fill_4(), Ok(())),
@@ -122,7 +137,7 @@ fn fresh_walk(rt: HostRuntime) -> Result<(), Fail> {
 
 #[test]
 fn no_translation(rt: HostRuntime) -> Result<(), Fail> {
-    let mut machine = one_processor(rt.alloc())?;
+    let mut machine = one_processor(rt.alloc(), Version::One)?;
     take_all(&rt, &mut machine, &writes());
     let walk = [(fill_4(), Ok(())), (fill_3(), Ok(())), (fill_2(), Ok(()))];
     take_all(&rt, &mut machine, &walk);
@@ -139,7 +154,7 @@ fn no_translation(rt: HostRuntime) -> Result<(), Fail> {
 
 #[test]
 fn each_reason(rt: HostRuntime) -> Result<(), Fail> {
-    let mut machine = one_processor(rt.alloc())?;
+    let mut machine = one_processor(rt.alloc(), Version::One)?;
     let foreign = Step::Fill4 { p: 1, la: ADDRESS };
     let steps = [
         (foreign, Err(Stuck::Processor)),
@@ -151,12 +166,41 @@ fn each_reason(rt: HostRuntime) -> Result<(), Fail> {
         (read(Outcome::Fault(4)), Ok(())),
         (
             write(0x1001, 0),
-            Err(Stuck::Malformed(Malformed::WriteAddress)),
+            Err(Stuck::Malformed(Malformed::WordAddress)),
         ),
         (write(0x1000, 0x2007), Ok(())),
         (fill_4(), Ok(())),
         (drop_level_4(), Ok(())),
         (drop_level_4(), Err(Stuck::Member)),
+    ];
+    take_all(&rt, &mut machine, &steps);
+    Ok(())
+}
+
+/// A write by user code, for which the walk has to set A at level 4 and D in the page's entry.
+#[test]
+fn assisted_write(rt: HostRuntime) -> Result<(), Fail> {
+    let mut machine = one_processor(rt.alloc(), Version::Two)?;
+    let steps = [
+        (write(0x1000, 0x2007), Ok(())),
+        (write(0x2000, 0x3027), Ok(())),
+        (write(0x3000, 0x4027), Ok(())),
+        (write(0x4028, 0x9027), Ok(())),
+        (fill_4(), Err(Stuck::Kind)),
+        // A table has no D, and level 3 is not yet read.
+        (assist(0x15, 0x1000), Err(Stuck::Entry)),
+        (assist(4, 0x2000), Err(Stuck::Entry)),
+        (assist(4, 0x1000), Ok(())),
+        (fill_4(), Ok(())),
+        (fill_3(), Ok(())),
+        (fill_2(), Ok(())),
+        (fill_leaf(), Ok(())),
+        (answered(), Ok(())),
+        (user_write(), Err(Stuck::Translation)),
+        (assist(0x15, 0x4028), Ok(())),
+        (user_write(), Err(Stuck::Translation)),
+        (fill_leaf(), Ok(())),
+        (user_write(), Ok(())),
     ];
     take_all(&rt, &mut machine, &steps);
     Ok(())

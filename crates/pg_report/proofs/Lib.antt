@@ -3,3 +3,4 @@ pub mod Shorter
 pub mod Whole
 pub mod Continuing
 pub mod Verdicts
+pub mod Rows

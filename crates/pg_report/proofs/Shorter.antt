@@ -6,9 +6,11 @@ use Rattle.pg_event.specs.declared.event.Event.{Event}
 use Rattle.pg_event.specs.declared.event.Malformed.{Malformed}
 use Rattle.pg_event.specs.declared.refusal.Refusal.{Refusal}
 use Rattle.pg_event.specs.declared.refusal.Refusal.TheVariants as refusals
+use Rattle.pg_event.specs.declared.version.Version.{Version}
+use Rattle.pg_event.specs.declared.version.Version.TheVariants.{One, Two}
 use Rattle.pg_event.specs.Heads.{Head}
 use Rattle.pg_event.specs.Form.{broken_rule}
-use Rattle.pg_event.specs.Reading.{◌>>=◌, Part, byte_at, number_at, passing, outcome_at, numbers_at, moments_at, write_at, access_at, mov_cr3_at, invlpg_at, invpcid_at, mov_cr4_pge_at, fields_at, well_formed_at, event_at, events_at, segment_at, end_at, chunk_at}
+use Rattle.pg_event.specs.Reading.{◌>>=◌, Part, byte_at, number_at, passing, outcome_at, numbers_at, moments_at, write_at, access_at, mov_cr3_at, invlpg_at, invpcid_at, mov_cr4_pge_at, fields_at, well_formed_at, event_at, events_at, segment_at, end_at, chunk_at, assist_at, processor_at}
 
 -- what is left is no longer
 abbrev pub Shrinks : {A : Type 0} → ℕ → Part A → Type 0
@@ -87,12 +89,23 @@ mov_cr4_pge_shrinks : (p : ℕ) (bytes : List ℕ) → Shrinks (length bytes) (m
 unfolding mov_cr4_pge_at
 mov_cr4_pge_shrinks p bytes = then (length bytes) (passing _ _ (byte_at bytes)) _ (passing_shrinks (length bytes) _ _ (byte_at bytes) (byte_shrinks bytes)) (λ on. omega arith)
 
+assist_shrinks : (p : ℕ) (bytes : List ℕ) → Shrinks (length bytes) (assist_at p bytes)
+unfolding assist_at
+assist_shrinks p bytes = then (length bytes) (byte_at bytes) _ (byte_shrinks bytes) (λ flags. then (length flags.1) (number_at w64 flags.1) _ (number_shrinks w64 flags.1) (λ la.
+    then (length la.1) (number_at w64 la.1) _ (number_shrinks w64 la.1) (λ word. then (length word.1) (moments_at word.1) _ (moments_shrink word.1) (λ moments. omega arith))))
+
+processor_shrinks : (version : Version) (bytes : List ℕ) → Shrinks (length bytes) (processor_at version bytes)
+unfolding processor_at
+processor_shrinks One bytes = byte_shrinks bytes
+processor_shrinks Two bytes = number_shrinks w16 bytes
+
 fields_shrink : (tag p : ℕ) (bytes : List ℕ) → Shrinks (length bytes) (fields_at tag p bytes)
 unfolding fields_at
 fields_shrink tag p bytes =
     let n = length bytes in
     either n (tag == 0x10) _ _ (write_shrinks p bytes) (either n (tag == 0x11) _ _ (access_shrinks p bytes) (either n (tag == 0x12) _ _ (mov_cr3_shrinks p bytes)
-    (either n (tag == 0x13) _ _ (invlpg_shrinks p bytes) (either n (tag == 0x14) _ _ (invpcid_shrinks p bytes) (mov_cr4_pge_shrinks p bytes)))))
+    (either n (tag == 0x13) _ _ (invlpg_shrinks p bytes) (either n (tag == 0x14) _ _ (invpcid_shrinks p bytes)
+    (either n (tag == 0x15) _ _ (mov_cr4_pge_shrinks p bytes) (assist_shrinks p bytes))))))
 
 well_formed_shrinks : (n i : ℕ) (rule : Option Malformed) (x : Event × List ℕ) → length x.1 ≤ n → Shrinks n (well_formed_at i rule x)
 well_formed_shrinks n i None x h = h
@@ -100,7 +113,7 @@ well_formed_shrinks n i (Some rule) x h = tt
 
 event_shrinks : (head : Head) (i : ℕ) (bytes : List ℕ) → Shrinks (length bytes) (event_at head i bytes)
 unfolding event_at
-event_shrinks head i bytes = then (length bytes) (passing _ _ (byte_at bytes)) _ (passing_shrinks (length bytes) _ _ (byte_at bytes) (byte_shrinks bytes)) (λ tag. then (length tag.1) (byte_at tag.1) _ (byte_shrinks tag.1) (λ p.
+event_shrinks head i bytes = then (length bytes) (passing _ _ (byte_at bytes)) _ (passing_shrinks (length bytes) _ _ (byte_at bytes) (byte_shrinks bytes)) (λ tag. then (length tag.1) (processor_at head.version tag.1) _ (processor_shrinks head.version tag.1) (λ p.
     then (length p.1) (fields_at tag.0 p.0 p.1) _ (fields_shrink tag.0 p.0 p.1) (λ e. well_formed_shrinks (length e.1) i (broken_rule head e.0) e (omega arith))))
 
 events_shrink : (head : Head) (i n : ℕ) (bytes : List ℕ) → Shrinks (length bytes) (events_at head i n bytes)

@@ -1,7 +1,8 @@
 -- What a verdict means, and what an error leaves.
 use Rattle.std.proofs.Common.{◌≡◌, ℕ, List, Option, Some, None, Ok, Err, refl, sym, ap, subst, ◌∙◌, inl, inr}
 use Rattle.std.specs.Prelude.{IfSome}
-use Rattle.std.specs.Io.KnownBytes.{Appends, Keeps}
+use Rattle.std.specs.Io.KnownBytes.{Keeps}
+use Rattle.std.proofs.KnownBytes.{Keeps-refl}
 use Rattle.pg_event.specs.declared.event.Reason.{Reason}
 use Rattle.pg_event.specs.declared.refusal.Refusal.{Refusal}
 use Rattle.pg_event.specs.Witness.{first_bad}
@@ -15,70 +16,113 @@ use Rattle.pg_report.specs.declared.report.Verdict.TheVariants.{Yes, No}
 use Rattle.pg_report.specs.declared.report.Report.{Report}
 use Rattle.pg_report.specs.declared.error.AuditError.{AuditError}
 use Rattle.pg_report.specs.declared.error.AuditError.TheVariants as errors
-use Rattle.pg_report.specs.Intake.{ReadsRecord, CountsDevice}
+use Rattle.pg_report.specs.Changes.{Change, Works, AddsNothing}
+use Rattle.pg_event.specs.declared.version.Version.TheVariants.{Two}
+use Rattle.pg_report.specs.Intake.{ReadsRecord, TellsDevice}
 use Rattle.pg_report.specs.Text.{verdict_of, report_of, report_text}
-use Rattle.pg_report.specs.Audits.{WritesReport, SpellsOne, Counts, counts_of, Audits, MeansRun}
+use Rattle.pg_report.specs.Audits.{WritesText, SpellsOne, SpellsNone, Audits, MeansRun, HasWritten, TellsFailures, IsAudit}
 
-none_bad : (bad : Option (ℕ × Reason)) → verdict_of bad ≡ Yes → bad ≡ None
+pub none_bad : (bad : Option (ℕ × Reason)) → verdict_of bad ≡ Yes → bad ≡ None
 none_bad None e = refl
 none_bad (Some b) e = absurd cc
 
 -- no other record has these bytes
-one : (bytes : List ℕ) (r : Recorded) → Spells bytes r → SpellsOne bytes r
+pub one : (bytes : List ℕ) (r : Recorded) → Spells bytes r → SpellsOne bytes r
 one bytes r spells = (spells, λ s other. no_bytes_spell_two_records bytes s r other spells)
 
 none_is_no_refusal : (e : Refusal) → None ≡ Some e → ⊥
 none_is_no_refusal e h = cc
 
 -- bytes that are refused spell no record
-none : (bytes : List ℕ) (e : Refusal) → refusal bytes ≡ Some e → (r : Recorded) → Spells bytes r → ⊥
+pub none : (bytes : List ℕ) (e : Refusal) → refusal bytes ≡ Some e → SpellsNone bytes
 none bytes e h r spells = none_is_no_refusal e (sym (ap refusal_of (reading_again bytes r spells)) ∙ h)
 
 runs : (verdict : Verdict) (bytes : List ℕ) (r : Recorded) → Spells bytes r → (report_of r).verdict ≡ verdict → MeansRun bytes (Ok verdict)
 runs Yes bytes r spells e = (r, one bytes r spells, accepted_records_run r spells.0 (none_bad (first_bad r.head r.events) e))
 runs (No event reason) bytes r spells e = tt
 
--- a verdict that was reached from what was read means a run
-pub verdict_means : (left : Option (List ℕ)) (r : Recorded) (report : Report) → IfSome left (λ bytes. ReadsRecord bytes (Ok r)) → report ≡ report_of r → IfSome left (λ bytes. MeansRun bytes (Ok report.verdict))
-verdict_means None r report spells e = tt
-verdict_means (Some bytes) r report spells e = runs report.verdict bytes r spells (ap (λ (x : Report). x.verdict) (sym e))
+told_means : (left : Option (List ℕ)) (r : Recorded) → IfSome left (λ bytes. ReadsRecord Two bytes (Ok r)) → IfSome left (λ bytes. MeansRun bytes (Ok (report_of r).verdict))
+told_means None r reads = tt
+told_means (Some bytes) r reads = runs (report_of r).verdict bytes r reads.0 refl
+
+told_written : (left : Option (List ℕ)) (r : Recorded) (input output : Change) → IfSome left (λ bytes. ReadsRecord Two bytes (Ok r)) → WritesText output (report_text (report_of r)) {A = Verdict} (Ok (report_of r).verdict)
+    → IfSome left (λ bytes. Audits bytes input output (Ok (report_of r).verdict))
+told_written None r input output reads wrote = tt
+told_written (Some bytes) r input output reads wrote =
+    (r, one bytes r reads.0, refl, wrote, λ yes. accepted_records_run r reads.0.0 (none_bad (first_bad r.head r.events) yes))
 
 -- a verdict whose report was written
-pub verdict_written : (left : Option (List ℕ)) (r : Recorded) (report : Report) (old new : Option (List ℕ)) (c : Counts) → IfSome left (λ bytes. ReadsRecord bytes (Ok r)) → report ≡ report_of r
-    → Appends old new (report_text report) → IfSome left (λ bytes. Audits bytes old new c (Ok report.verdict))
-verdict_written None r report old new c spells is w = tt
-verdict_written (Some bytes) r report old new c spells is w =
-    let W : Report → Type 0 = λ x. Appends old new (report_text x) in
-    let same : report.verdict ≡ (report_of r).verdict = ap (λ (x : Report). x.verdict) is in
-    (r, one bytes r spells, same, subst W is w, λ yes. accepted_records_run r spells.0 (none_bad (first_bad r.head r.events) (sym same ∙ yes)))
+pub is_verdict : (r : Recorded) (report : Report) (input output : Change) → IfSome input.old.bytes (λ bytes. ReadsRecord Two bytes (Ok r)) → report ≡ report_of r
+    → TellsDevice {A = Recorded} input (Ok r) → WritesText output (report_text report) {A = Verdict} (Ok report.verdict) → TellsDevice {A = Verdict} output (Ok report.verdict)
+    → IsAudit input output (Ok report.verdict)
+is_verdict r report input output reads is read wrote written =
+    let P : Report → Type 0 = λ x. WritesText output (report_text x) {A = Verdict} (Ok x.verdict) → IsAudit input output (Ok x.verdict) in
+    subst P (sym is) (λ wrote. record {
+      report = told_written input.old.bytes r input output reads wrote;
+      yes = told_means input.old.bytes r reads;
+      written = (report_of r, refl, wrote);
+      failures = (read, written);
+    }) wrote
 
-reading_refused : (bytes : List ℕ) (e : AuditError) (old : Option (List ℕ)) (r0 r1 w : ℕ) → ReadsRecord bytes (Err e) → Keeps old old → CountsDevice {A = Recorded} r0 r1 (Err e)
-    → Audits bytes old old (counts_of r0 r1 w w) (Err e)
-reading_refused bytes (errors.Refused d) old r0 r1 w h kept count = (h, none bytes d h, kept)
-reading_refused bytes errors.Memory old r0 r1 w h kept count = kept
-reading_refused bytes errors.Device old r0 r1 w h kept count = inl ((count, refl), kept)
+refused : (left : Option (List ℕ)) (e : AuditError) (input output : Change) → IfSome left (λ bytes. ReadsRecord Two bytes (Err e)) → TellsDevice {A = Recorded} input (Err e) → AddsNothing output → Works output
+    → IfSome left (λ bytes. Audits bytes input output (Err e))
+refused None e input output reads read kept worked = tt
+refused (Some bytes) (errors.Refused d) input output reads read kept worked = (reads, none bytes d reads, kept)
+refused (Some bytes) errors.Device input output reads read kept worked = inl ((read, worked), kept)
+refused (Some bytes) errors.Memory input output reads read kept worked = kept
 
-kept_same : (old : Option (List ℕ)) → Keeps old old
-kept_same None = tt
-kept_same (Some x) = refl
+-- whatever the error is, the bytes mean nothing by it
+no_run : (left : Option (List ℕ)) (e : AuditError) → IfSome left (λ bytes. MeansRun bytes (Err e))
+no_run None e = tt
+no_run (Some bytes) e = tt
 
--- an error of reading
-pub reading_fails : (left : Option (List ℕ)) (e : AuditError) (old : Option (List ℕ)) (r0 r1 w : ℕ) → IfSome left (λ bytes. ReadsRecord bytes (Err e)) → CountsDevice {A = Recorded} r0 r1 (Err e)
-    → IfSome left (λ bytes. Audits bytes old old (counts_of r0 r1 w w) (Err e))
-reading_fails None e old r0 r1 w h count = tt
-reading_fails (Some bytes) e old r0 r1 w h count = reading_refused bytes e old r0 r1 w h (kept_same old) count
+-- an error of reading, with the writer left alone
+pub reading_fails : (e : AuditError) (input output : Change) → IfSome input.old.bytes (λ bytes. ReadsRecord Two bytes (Err e)) → TellsDevice {A = Recorded} input (Err e) → AddsNothing output → Works output
+    → IsAudit input output (Err e)
+reading_fails e input output reads read kept worked = record {
+  report = refused input.old.bytes e input output reads read kept worked;
+  yes = no_run input.old.bytes e;
+  written = nothing e read;
+  failures = tells e read;
+}
+  where
+    nothing : (e : AuditError) → TellsDevice {A = Recorded} input (Err e) → HasWritten input output (Err e)
+    nothing (errors.Refused d) read = kept
+    nothing errors.Device read = inl ((read, worked), kept)
+    nothing errors.Memory read = kept
 
-fails : (e : AuditError) (bytes : List ℕ) (r : Recorded) (old new : Option (List ℕ)) (r0 r1 w0 w1 : ℕ) → Spells bytes r → WritesReport old new (report_of r) {A = Verdict} (Err e) → r1 ≡ r0
-    → CountsDevice {A = Verdict} w0 w1 (Err e) → Audits bytes old new (counts_of r0 r1 w0 w1) (Err e)
-fails (errors.Refused d) bytes r old new r0 r1 w0 w1 spells w same count = absurd w
-fails errors.Device bytes r old new r0 r1 w0 w1 spells w same count = inr ((same, count), r, one bytes r spells, w)
-fails errors.Memory bytes r old new r0 r1 w0 w1 spells w same count = w
+    tells : (e : AuditError) → TellsDevice {A = Recorded} input (Err e) → TellsFailures {A = Verdict} input output (Err e)
+    tells (errors.Refused d) read = (read, worked)
+    tells errors.Device read = inl (read, worked)
+    tells errors.Memory read = (read, worked)
 
 -- an error of writing the report
-pub writing_fails : (left : Option (List ℕ)) (r : Recorded) (report : Report) (e : AuditError) (old new : Option (List ℕ)) (r0 r1 w0 w1 : ℕ) → IfSome left (λ bytes. ReadsRecord bytes (Ok r))
-    → report ≡ report_of r → WritesReport old new report {A = Verdict} (Err e) → r1 ≡ r0 → CountsDevice {A = Verdict} w0 w1 (Err e)
-    → IfSome left (λ bytes. Audits bytes old new (counts_of r0 r1 w0 w1) (Err e))
-writing_fails None r report e old new r0 r1 w0 w1 spells is w same count = tt
-writing_fails (Some bytes) r report e old new r0 r1 w0 w1 spells is w same count =
-    let W : Report → Type 0 = λ x. WritesReport old new x {A = Verdict} (Err e) in
-    fails e bytes r old new r0 r1 w0 w1 spells (subst W is w) same count
+pub writing_fails : (r : Recorded) (report : Report) (e : AuditError) (input output : Change) → IfSome input.old.bytes (λ bytes. ReadsRecord Two bytes (Ok r)) → report ≡ report_of r
+    → TellsDevice {A = Recorded} input (Ok r) → WritesText output (report_text report) {A = Verdict} (Err e) → TellsDevice {A = Verdict} output (Err e)
+    → IsAudit input output (Err e)
+writing_fails r report e input output reads is read wrote written = record {
+  report = told input.old.bytes e reads (subst P is wrote) written;
+  yes = no_run input.old.bytes e;
+  written = nothing e wrote written;
+  failures = tells e wrote written;
+}
+  where
+    P : Report → Type 0
+    P x = WritesText output (report_text x) {A = Verdict} (Err e)
+
+    told : (left : Option (List ℕ)) (e : AuditError) → IfSome left (λ bytes. ReadsRecord Two bytes (Ok r)) → WritesText output (report_text (report_of r)) {A = Verdict} (Err e) → TellsDevice {A = Verdict} output (Err e)
+        → IfSome left (λ bytes. Audits bytes input output (Err e))
+    told None e reads wrote written = tt
+    told (Some bytes) (errors.Refused d) reads wrote written = absurd wrote
+    told (Some bytes) errors.Device reads wrote written = inr ((read, written), r, one bytes r reads.0, wrote)
+    told (Some bytes) errors.Memory reads wrote written = wrote
+
+    nothing : (e : AuditError) → WritesText output (report_text report) {A = Verdict} (Err e) → TellsDevice {A = Verdict} output (Err e) → HasWritten input output (Err e)
+    nothing (errors.Refused d) wrote written = absurd wrote
+    nothing errors.Device wrote written = inr ((read, written), report, wrote)
+    nothing errors.Memory wrote written = wrote
+
+    tells : (e : AuditError) → WritesText output (report_text report) {A = Verdict} (Err e) → TellsDevice {A = Verdict} output (Err e) → TellsFailures {A = Verdict} input output (Err e)
+    tells (errors.Refused d) wrote written = absurd wrote
+    tells errors.Device wrote written = inr (read, written)
+    tells errors.Memory wrote written = (read, written)

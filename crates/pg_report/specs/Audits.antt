@@ -1,70 +1,86 @@
 -- What an audit answers of the bytes that a reader had left, and what it leaves.
-use Rattle.std.specs.Prelude.{◌≡◌, ℕ, List, Option, Result, Ok, Err, Some, ◌⊎◌}
-use Rattle.std.specs.Io.KnownBytes.{Appends, Keeps}
+use Rattle.std.specs.Prelude.{◌≡◌, ℕ, List, Result, Ok, Err, Some, IfSome, ◌⊎◌}
 use Rattle.pg_event.specs.Spelling.{Recorded, Spells}
 use Rattle.pg_event.specs.Reading.{refusal}
-use Rattle.pg_codec.specs.Streams.{raised, AppendsSome}
 use Rattle.pg_run_of.specs.Law.{HasRun}
 use Rattle.pg_report.specs.declared.report.Verdict.{Verdict}
-use Rattle.pg_report.specs.declared.report.Verdict.TheVariants.{Yes}
+use Rattle.pg_report.specs.declared.report.Verdict.TheVariants.{Yes, No}
 use Rattle.pg_report.specs.declared.report.Report.{Report}
 use Rattle.pg_report.specs.declared.error.AuditError.{AuditError}
 use Rattle.pg_report.specs.declared.error.AuditError.TheVariants as errors
+use Rattle.pg_report.specs.Changes.{Change, Fails, Works, Adds, AddsSome, AddsNothing}
 use Rattle.pg_report.specs.Text.{report_of, report_text}
-
--- what writing a report leaves: its text, a beginning of it where the device failed, and else nothing
-abbrev pub WritesReport : Option (List ℕ) → Option (List ℕ) → Report → {A : Type 0} → Result A AuditError → Type 0
-WritesReport old new report (Ok x) = Appends old new (report_text report)
-WritesReport old new report (Err errors.Device) = AppendsSome old new (report_text report)
-WritesReport old new report (Err errors.Memory) = Keeps old new
-WritesReport old new report (Err (errors.Refused e)) = ⊥
 
 -- the bytes spell this record, and no other
 abbrev pub SpellsOne : List ℕ → Recorded → Type 0
 SpellsOne bytes r = Spells bytes r × ((s : Recorded) → Spells bytes s → s ≡ r)
 
--- how often a reader and a writer had failed before, and have now
-pub record Counts : Type 0 where
-  pub reader_before : ℕ
-  pub reader_after : ℕ
-  pub writer_before : ℕ
-  pub writer_after : ℕ
-
-abbrev pub counts_of : ℕ → ℕ → ℕ → ℕ → Counts
-counts_of r0 r1 w0 w1 = record { reader_before = r0; reader_after = r1; writer_before = w0; writer_after = w1 }
+abbrev pub SpellsNone : List ℕ → Type 0
+SpellsNone bytes = (r : Recorded) → Spells bytes r → ⊥
 
 -- the reader failed in the call, and the writer did not
-abbrev pub ReaderFailed : Counts → Type 0
-ReaderFailed c = (c.reader_after ≡ raised c.reader_before) × (c.writer_after ≡ c.writer_before)
+abbrev pub ReaderFails : Change → Change → Type 0
+ReaderFails input output = Fails input × Works output
 
-abbrev pub WriterFailed : Counts → Type 0
-WriterFailed c = (c.reader_after ≡ c.reader_before) × (c.writer_after ≡ raised c.writer_before)
+abbrev pub WriterFails : Change → Change → Type 0
+WriterFails input output = Works input × Fails output
 
-abbrev pub NoneFailed : Counts → Type 0
-NoneFailed c = (c.reader_after ≡ c.reader_before) × (c.writer_after ≡ c.writer_before)
+abbrev pub NoneFails : Change → Change → Type 0
+NoneFails input output = Works input × Works output
 
--- Of these bytes the audit answers so, and leaves the writer so: a verdict is that of the one record that the bytes spell, the text of its report was written and nothing else, and where the verdict is yes
--- some run of the manual's machine has exactly its events in that order; a refusal is the first of the bytes, which spell no record, and nothing was written; nor was it for want of memory, nor where
--- the reader failed; where the writer failed a beginning of the report was.
-abbrev pub Audits : List ℕ → Option (List ℕ) → Option (List ℕ) → Counts → Result Verdict AuditError → Type 0
-Audits bytes old new c (Ok verdict) =
-    (r : Recorded) × SpellsOne bytes r × (verdict ≡ (report_of r).verdict) × Appends old new (report_text (report_of r)) × (verdict ≡ Yes → HasRun r.head r.events)
-Audits bytes old new c (Err (errors.Refused e)) = (refusal bytes ≡ Some e) × ((r : Recorded) → Spells bytes r → ⊥) × Keeps old new
-Audits bytes old new c (Err errors.Memory) = Keeps old new
-Audits bytes old new c (Err errors.Device) = (ReaderFailed c × Keeps old new) ⊎ (WriterFailed c × (r : Recorded) × SpellsOne bytes r × AppendsSome old new (report_text (report_of r)))
+-- what writing a text leaves: the text, a beginning of it where the device failed, and else nothing
+abbrev pub WritesText : Change → List ℕ → {A : Type 0} → Result A AuditError → Type 0
+WritesText output text (Ok x) = Adds output text
+WritesText output text (Err errors.Device) = AddsSome output text
+WritesText output text (Err errors.Memory) = AddsNothing output
+WritesText output text (Err (errors.Refused e)) = ⊥
 
--- Where the answer is yes, the bytes spell one record, and some run of the manual's machine has exactly its events in that order.
+-- Of these bytes the audit answers so, and leaves the writer so: a verdict is that of the one
+-- record that the bytes spell, the text of its report was written and nothing else, and where the
+-- verdict is yes some run of the manual's machine has exactly its events in that order; a refusal
+-- is the first of the bytes, which spell no record, and nothing was written; nor was it for want of
+-- memory, nor where the reader failed; where the writer failed a beginning of the report was.
+abbrev pub Audits : List ℕ → Change → Change → Result Verdict AuditError → Type 0
+Audits bytes input output (Ok verdict) =
+    (r : Recorded) × SpellsOne bytes r × (verdict ≡ (report_of r).verdict)
+    × Adds output (report_text (report_of r)) × (verdict ≡ Yes → HasRun r.head r.events)
+Audits bytes input output (Err (errors.Refused e)) =
+    (refusal bytes ≡ Some e) × SpellsNone bytes × AddsNothing output
+Audits bytes input output (Err errors.Memory) = AddsNothing output
+Audits bytes input output (Err errors.Device) =
+    (ReaderFails input output × AddsNothing output)
+    ⊎ (WriterFails input output
+    × (r : Recorded) × SpellsOne bytes r × AddsSome output (report_text (report_of r)))
+
+-- Where the answer is yes, the bytes spell one record, and some run of the manual's machine has
+-- exactly its events in that order.
 abbrev pub MeansRun : List ℕ → Result Verdict AuditError → Type 0
 MeansRun bytes (Ok Yes) = (r : Recorded) × SpellsOne bytes r × HasRun r.head r.events
-MeansRun bytes _ = Unit {0}
+MeansRun bytes (Ok (No event reason)) = Unit {0}
+MeansRun bytes (Err e) = Unit {0}
 
--- whatever the reader tells: a verdict was written in a report's text, and an error other than a failed device left nothing
-abbrev pub Leaves : Option (List ℕ) → Option (List ℕ) → Result Verdict AuditError → Type 0
-Leaves old new (Ok verdict) = (report : Report) × (report.verdict ≡ verdict) × Appends old new (report_text report)
-Leaves old new (Err errors.Device) = Unit {0}
-Leaves old new (Err _) = Keeps old new
+-- What was written, whatever the reader tells: with a verdict the text of a report that has it;
+-- where the writer failed a beginning of such a text; and with any other error nothing.
+abbrev pub HasWritten : Change → Change → Result Verdict AuditError → Type 0
+HasWritten input output (Ok verdict) =
+    (report : Report) × (report.verdict ≡ verdict) × Adds output (report_text report)
+HasWritten input output (Err (errors.Refused e)) = AddsNothing output
+HasWritten input output (Err errors.Memory) = AddsNothing output
+HasWritten input output (Err errors.Device) =
+    (ReaderFails input output × AddsNothing output)
+    ⊎ (WriterFails input output × (report : Report) × AddsSome output (report_text report))
 
 -- a failed device is answered exactly where the failures of the reader or of the writer rose
-abbrev pub CountsFailures : {A : Type 0} → Counts → Result A AuditError → Type 0
-CountsFailures c (Err errors.Device) = ReaderFailed c ⊎ WriterFailed c
-CountsFailures c _ = NoneFailed c
+abbrev pub TellsFailures : {A : Type 0} → Change → Change → Result A AuditError → Type 0
+TellsFailures input output (Ok x) = NoneFails input output
+TellsFailures input output (Err errors.Device) =
+    ReaderFails input output ⊎ WriterFails input output
+TellsFailures input output (Err errors.Memory) = NoneFails input output
+TellsFailures input output (Err (errors.Refused e)) = NoneFails input output
+
+-- all that an audit promises of its answer and its streams
+pub record IsAudit (input output : Change) (result : Result Verdict AuditError) : Type 0 where
+  pub report : IfSome input.old.bytes (λ bytes. Audits bytes input output result)
+  pub yes : IfSome input.old.bytes (λ bytes. MeansRun bytes result)
+  pub written : HasWritten input output result
+  pub failures : TellsFailures input output result

@@ -1,3 +1,4 @@
+pub mod Changes
 pub mod Text
 pub mod Numbers
 pub mod Intake

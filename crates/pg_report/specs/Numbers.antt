@@ -1,9 +1,13 @@
 -- The numbers and names of refusals, and of the rules that events keep.
 use Rattle.std.specs.Prelude.{ℕ, List, codes}
 use Rattle.pg_event.specs.declared.event.Malformed.{Malformed}
-use Rattle.pg_event.specs.declared.event.Malformed.TheVariants.{Processor, WriteAddress, LinearAddress, Operand, Invpcid, Flags}
+use Rattle.pg_event.specs.declared.event.Malformed.TheVariants.{Processor, WordAddress}
+use Rattle.pg_event.specs.declared.event.Malformed.TheVariants.{LinearAddress, Operand, Invpcid}
+use Rattle.pg_event.specs.declared.event.Malformed.TheVariants.{Flags}
 use Rattle.pg_event.specs.declared.refusal.Refusal.{Refusal}
-use Rattle.pg_event.specs.declared.refusal.Refusal.TheVariants.{Magic, Version, HeaderField, SegmentNumber, SegmentCount, Tag, Truncated, Total, Trailing}
+use Rattle.pg_event.specs.declared.refusal.Refusal.TheVariants.{Magic, Version, HeaderField}
+use Rattle.pg_event.specs.declared.refusal.Refusal.TheVariants.{SegmentNumber, SegmentCount, Tag}
+use Rattle.pg_event.specs.declared.refusal.Refusal.TheVariants.{Truncated, Total, Trailing}
 use Rattle.pg_event.specs.declared.refusal.Refusal.TheVariants as refusals
 use Rattle.pg_codec.specs.Errors.{refusal_number}
 use Rattle.pg_report.specs.declared.error.AuditError.{AuditError}
@@ -23,7 +27,7 @@ refusal_name Trailing = codes "bytes after the end"
 
 abbrev pub rule_number : Malformed → ℕ
 rule_number Processor = 1
-rule_number WriteAddress = 2
+rule_number WordAddress = 2
 rule_number LinearAddress = 3
 rule_number Operand = 4
 rule_number Invpcid = 5

@@ -1,10 +1,10 @@
 //! The audit of a record, from bytes to report.
 
-ghost use Rattle.std.specs.Prelude.{◌≡◌, IfSome};
-ghost use Rattle.pg_event.specs.Witness.{first_bad};
+ghost use Rattle.std.specs.Prelude.{◌≡◌, string_bytes};
+ghost use Rattle.pg_report.specs.Changes.{drawn, filled};
 ghost use Rattle.pg_report.specs.Text.{verdict_of, report_of, report_text};
-ghost use Rattle.pg_report.specs.Intake.{CountsDevice};
-ghost use Rattle.pg_report.specs.Audits.{WritesReport, Audits, MeansRun, Leaves, CountsFailures, counts_of};
+ghost use Rattle.pg_report.specs.Intake.{TellsDevice};
+ghost use Rattle.pg_report.specs.Audits.{WritesText, IsAudit};
 
 use crate::error::AuditError;
 use crate::intake::read_record;
@@ -34,6 +34,17 @@ pub fn report_of(history: &History) -> Report
     }
 }
 
+/// Writes a text. A beginning of it is written where the writer fails.
+pub fn write_text<W: Sink>(writer: &mut W, text: &str) -> Result<(), AuditError>
+    ensures text { WritesText (filled W.Sink writer.old writer.new) text.now result }
+    ensures device { TellsDevice (filled W.Sink writer.old writer.new) result }
+{
+    match put_all(writer, text.as_bytes()) {
+        Ok(()) => Ok(()),
+        Err(_) => Err(AuditError::Device),
+    }
+}
+
 /// Writes the text of a report. Nothing is written where memory is refused, and a beginning of the
 /// text where the writer fails.
 pub fn write_report<W: Sink>(
@@ -41,14 +52,11 @@ pub fn write_report<W: Sink>(
     writer: &mut W,
     report: Report,
 ) -> Result<(), AuditError>
-    ensures text { WritesReport (W.held writer.old) (W.held writer.new) report result }
-    ensures device { CountsDevice (W.failed writer.old) (W.failed writer.new) result }
+    ensures text { WritesText (filled W.Sink writer.old writer.new) (report_text report) result }
+    ensures device { TellsDevice (filled W.Sink writer.old writer.new) result }
 {
     let text = report.text(alloc)?;
-    match put_all(writer, text.as_bytes()) {
-        Ok(()) => Ok(()),
-        Err(_) => Err(AuditError::Device),
-    }
+    write_text(writer, text.as_str())
 }
 
 /// Reads the record that `reader` has left, all of it, judges it, and then writes its report to
@@ -60,10 +68,8 @@ pub fn audit_one<R: Source, W: Sink>(
     reader: &mut R,
     writer: &mut W,
 ) -> Result<Verdict, AuditError>
-    ensures report { IfSome (R.left reader.old) (λ bytes. Audits bytes (W.held writer.old) (W.held writer.new) (counts_of (R.failed reader.old) (R.failed reader.new) (W.failed writer.old) (W.failed writer.new)) result) }
-    ensures yes { IfSome (R.left reader.old) (λ bytes. MeansRun bytes result) }
-    ensures written { Leaves (W.held writer.old) (W.held writer.new) result }
-    ensures failures { CountsFailures (counts_of (R.failed reader.old) (R.failed reader.new) (W.failed writer.old) (W.failed writer.new)) result }
+    ensures { IsAudit
+        (drawn R.Source reader.old reader.new) (filled W.Sink writer.old writer.new) result }
 {
     let history = match read_record(alloc, reader) {
         Ok(history) => history,

@@ -35,7 +35,7 @@ pub fn rule_number(rule: Malformed) -> u8
 {
     match rule {
         Malformed::Processor => 1,
-        Malformed::WriteAddress => 2,
+        Malformed::WordAddress => 2,
         Malformed::LinearAddress => 3,
         Malformed::Operand => 4,
         Malformed::Invpcid => 5,

@@ -1,11 +1,17 @@
 //! Whole records, from any source.
 
-ghost use Rattle.std.specs.Prelude.{◌≡◌, ◌≢◌, IfSome};
-ghost use Rattle.pg_report.specs.Intake.{audit_error_of, ReadsRecord, CountsDevice};
+ghost use Rattle.std.specs.Prelude.{◌≡◌, ◌≢◌, IfSome, IfOk};
+ghost use Rattle.pg_event.specs.Spelling.{IsHead};
+ghost use Rattle.pg_codec.specs.declared.stage.Stage.TheVariants.{Start};
+ghost use Rattle.pg_codec.specs.Reads.{Pulls};
+ghost use Rattle.pg_codec.specs.Readers.{stage_after_header};
+ghost use Rattle.pg_report.specs.Changes.{drawn};
+ghost use Rattle.pg_report.specs.Intake.{IsErrorOf, header_up_to, ReadsRecord, TellsDevice};
 
 use crate::error::AuditError;
 use pg_check::History;
 use pg_codec::{ReadError, RecordReader, Source};
+use pg_event::{Header, Version};
 use std::alloc::Global;
 
 /// At most this many parts follow a header: up to 2^32 - 1 segments, and the end mark.
@@ -13,7 +19,7 @@ const MOST_CHUNKS: u64 = 1 << 32;
 
 fn audit_error(error: ReadError) -> AuditError
     requires { error ≢ ReadError.Failed }
-    ensures { result ≡ audit_error_of error }
+    ensures { IsErrorOf error result }
 {
     match error {
         ReadError::Refused(refusal) => AuditError::Refused(refusal),
@@ -24,13 +30,36 @@ fn audit_error(error: ReadError) -> AuditError
     }
 }
 
-/// Reads the record that a source has left, all of it.
-pub fn read_record<R: Source>(alloc: Global, source: &mut R) -> Result<History, AuditError>
-    ensures reads { IfSome (R.left source.old) (λ bytes. ReadsRecord bytes result) }
-    ensures device { CountsDevice (R.failed source.old) (R.failed source.new) result }
+/// The header of a record of a version up to this.
+fn read_header_up_to<R: Source>(
+    alloc: Global,
+    reader: &mut RecordReader,
+    source: &mut R,
+    newest: Version,
+) -> Result<Header, ReadError>
+    requires { reader.old.stage ≡ Start }
+    ensures pulls { Pulls R.Source (header_up_to newest)
+        (reader.old.unread, source.old) (reader.new.unread, source.new) result }
+    ensures head { IfOk result (λ h. IsHead h) }
+    ensures stage { reader.new.stage ≡ stage_after_header result }
+{
+    match newest {
+        Version::One => reader.read_old_header(alloc, source),
+        Version::Two => reader.read_header(alloc, source),
+    }
+}
+
+/// Reads the record of a version up to this that a source has left, all of it.
+fn read_up_to<R: Source>(
+    alloc: Global,
+    source: &mut R,
+    newest: Version,
+) -> Result<History, AuditError>
+    ensures reads { IfSome (R.left source.old) (λ bytes. ReadsRecord newest bytes result) }
+    ensures device { TellsDevice (drawn R.Source source.old source.new) result }
 {
     let mut reader = RecordReader::new(alloc)?;
-    let header = match reader.read_header(alloc, source) {
+    let header = match read_header_up_to(alloc, &mut reader, source, newest) {
         Ok(header) => header,
         Err(error) => return Err(audit_error(error)),
     };
@@ -43,4 +72,21 @@ pub fn read_record<R: Source>(alloc: Global, source: &mut R) -> Result<History, 
         }
     }
     unreachable!()
+}
+
+/// Reads the record that a source has left, all of it.
+pub fn read_record<R: Source>(alloc: Global, source: &mut R) -> Result<History, AuditError>
+    ensures reads { IfSome (R.left source.old) (λ bytes. ReadsRecord Version.Two bytes result) }
+    ensures device { TellsDevice (drawn R.Source source.old source.new) result }
+{
+    read_up_to(alloc, source, Version::Two)
+}
+
+/// Reads the version 1 record that a source has left, all of it. A version 2 record is refused at
+/// its version field, whatever follows.
+pub fn read_old_record<R: Source>(alloc: Global, source: &mut R) -> Result<History, AuditError>
+    ensures reads { IfSome (R.left source.old) (λ bytes. ReadsRecord Version.One bytes result) }
+    ensures device { TellsDevice (drawn R.Source source.old source.new) result }
+{
+    read_up_to(alloc, source, Version::One)
 }

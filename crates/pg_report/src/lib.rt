@@ -6,7 +6,7 @@ mod error;
 mod intake;
 mod report;
 
-pub use auditor::{audit_one, report_of, write_report};
+pub use auditor::{audit_one, report_of, write_report, write_text};
 pub use error::{AuditError, rule_number};
-pub use intake::read_record;
+pub use intake::{read_old_record, read_record};
 pub use report::{Report, Verdict, reason_name, reason_number};

@@ -1,5 +1,6 @@
 ghost use Rattle.std.specs.Prelude.{◌≡◌, IfOk, string_bytes};
-ghost use Rattle.pg_report.specs.Text.{reason_number, reason_name, counts_text, verdict_text, report_text};
+ghost use Rattle.pg_report.specs.Text.{reason_number, reason_name, counts_text, verdict_text};
+ghost use Rattle.pg_report.specs.Text.{report_text};
 
 use pg_event::Reason;
 use std::alloc::{AllocError, Global};
@@ -24,7 +25,7 @@ pub struct Report {
     pub segments: u64,
 }
 
-/// The number of a reason, 1 to 10.
+/// The number of a reason, 1 to 13.
 pub fn reason_number(reason: Reason) -> u8
     ensures { result ≡ reason_number reason }
 {
@@ -39,6 +40,9 @@ pub fn reason_number(reason: Reason) -> u8
         Reason::Rights => 8,
         Reason::Answer => 9,
         Reason::Code => 10,
+        Reason::Accessed => 11,
+        Reason::Dirty => 12,
+        Reason::Assist => 13,
     }
 }
 
@@ -57,6 +61,9 @@ pub fn reason_name(reason: Reason) -> &'static str
         Reason::Rights => "rights",
         Reason::Answer => "answer",
         Reason::Code => "code",
+        Reason::Accessed => "accessed",
+        Reason::Dirty => "dirty",
+        Reason::Assist => "assist",
     }
 }
 

@@ -36,7 +36,8 @@ const SUPERVISOR_READ_ONLY: u64 = 0x9001;
 
 const XD: u64 = 0x8000_0000_0000_0000;
 
-/// Settings, the entry, access flags, and the code of the page fault where the access is not allowed.
+/// Settings, the entry, access flags, and the code of the page fault where the access is not
+/// allowed.
 type Cell = (u8, u64, u8, Option<u16>);
 
 const USER_CELLS: [Cell; 10] = [

@@ -37,7 +37,8 @@ pub const ROWS: [Row; 35] = [
             "11000423510000000000000104000403000000030000000300000003000000",
             "0207000000",
         ],
-        output: "verdict: no\nevent: 6\nreason: 7 absent read not at event\nevents: 7\nsegments: 1\n",
+        output: "verdict: no\nevent: 6\nreason: 7 absent read not at event\nevents: 7\n\
+            segments: 1\n",
         line: "",
         status: 1,
     },

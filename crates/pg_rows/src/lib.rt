@@ -24,6 +24,10 @@ mod streams;
 #[cfg(test)]
 mod tests;
 #[cfg(test)]
+mod upgrades;
+#[cfg(test)]
+mod versions;
+#[cfg(test)]
 mod walks;
 #[cfg(test)]
 mod words;

@@ -16,7 +16,8 @@ pub const ROWS: [Row; 5] = [
             "11000423510000000000000023910000000000000404000000040000000400000004000000",
             "0205000000",
         ],
-        output: "do 0\ndo 1\ndo 2\ndo 3\nfill4 0 0x5123\nfill3 0 0x5123 0x2000 wu-\nfill2 0 0x5123 0x3000 wu-\nleaf 0 0x5123 1 0x4000 wu-\ndo 4\n",
+        output: "do 0\ndo 1\ndo 2\ndo 3\nfill4 0 0x5123\nfill3 0 0x5123 0x2000 wu-\n\
+            fill2 0 0x5123 0x3000 wu-\nleaf 0 0x5123 1 0x4000 wu-\ndo 4\n",
         line: "",
         status: 0,
     },
@@ -70,7 +71,10 @@ pub const ROWS: [Row; 5] = [
             "11000423510000000000000023910000000000000404000000040000000400000004000000",
             "0206000000",
         ],
-        output: "do 0\ndo 1\ndo 2\ndo 3\nfill4 0 0x5123\nfill3 0 0x5123 0x2000 wu-\nfill2 0 0x5123 0x3000 wu-\nleaf 0 0x5123 1 0x4000 wu-\nfill4 0 0x5123\nfill3 0 0x5123 0x2000 wu-\nfill2 0 0x5123 0x3000 wu-\nleaf 0 0x5123 1 0x4000 wu-\ndo 4\ndo 5\n",
+        output: "do 0\ndo 1\ndo 2\ndo 3\nfill4 0 0x5123\nfill3 0 0x5123 0x2000 wu-\n\
+            fill2 0 0x5123 0x3000 wu-\nleaf 0 0x5123 1 0x4000 wu-\nfill4 0 0x5123\n\
+            fill3 0 0x5123 0x2000 wu-\nfill2 0 0x5123 0x3000 wu-\n\
+            leaf 0 0x5123 1 0x4000 wu-\ndo 4\ndo 5\n",
         line: "",
         status: 0,
     },
@@ -88,7 +92,8 @@ pub const ROWS: [Row; 5] = [
             "11000423510000000000000023910000000000000404000000040000000400000004000000",
             "0206000000",
         ],
-        output: "do 0\ndo 1\ndo 2\ndo 3\nfill4 0 0x5123\nfill3 0 0x5123 0x2000 wu-\nfill2 0 0x5123 0x3000 wu-\nleaf 0 0x5123 1 0x4000 wu-\ndo 4\ndo 5\n",
+        output: "do 0\ndo 1\ndo 2\ndo 3\nfill4 0 0x5123\nfill3 0 0x5123 0x2000 wu-\n\
+            fill2 0 0x5123 0x3000 wu-\nleaf 0 0x5123 1 0x4000 wu-\ndo 4\ndo 5\n",
         line: "",
         status: 0,
     },
@@ -128,7 +133,14 @@ pub const MIXED_RUN: Row = Row {
     name: "run_of_pages_of_three_sizes_on_two_processors",
     words: &["run-of"],
     input: MIXED,
-    output: "do 0\ndo 1\ndo 2\ndo 3\ndo 4\ndo 5\nfill4 0 0x5123\nfill3 0 0x5123 0x2000 wu-\nfill2 0 0x5123 0x3000 wu-\nleaf 0 0x5123 1 0x4000 wu-\nfill4 0 0x5123\nfill3 0 0x5123 0x2000 wu-\nfill2 0 0x5123 0x3000 wu-\nleaf 0 0x5123 1 0x4000 wu-\nfill4 0 0x5123\nfill3 0 0x5123 0x2000 wu-\nfill2 0 0x5123 0x3000 wu-\nleaf 0 0x5123 1 0x4000 wu-\ndo 6\nfill4 1 0x205123\nfill3 1 0x205123 0x2000 wu-\nleaf 1 0x205123 2 0x3000 wu-\ndo 7\nfill4 0 0x40005123\nleaf 0 0x40005123 3 0x2000 wu-\ndo 8\ndo 9\ndo 10\ndo 11\ndo 12\nfill4 1 0x5123\nfill3 1 0x5123 0x2000 wu-\nfill2 1 0x5123 0x3000 wu-\ndo 13\n",
+    output: "do 0\ndo 1\ndo 2\ndo 3\ndo 4\ndo 5\nfill4 0 0x5123\nfill3 0 0x5123 0x2000 wu-\n\
+        fill2 0 0x5123 0x3000 wu-\nleaf 0 0x5123 1 0x4000 wu-\nfill4 0 0x5123\n\
+        fill3 0 0x5123 0x2000 wu-\nfill2 0 0x5123 0x3000 wu-\nleaf 0 0x5123 1 0x4000 wu-\n\
+        fill4 0 0x5123\nfill3 0 0x5123 0x2000 wu-\nfill2 0 0x5123 0x3000 wu-\n\
+        leaf 0 0x5123 1 0x4000 wu-\ndo 6\nfill4 1 0x205123\nfill3 1 0x205123 0x2000 wu-\n\
+        leaf 1 0x205123 2 0x3000 wu-\ndo 7\nfill4 0 0x40005123\n\
+        leaf 0 0x40005123 3 0x2000 wu-\ndo 8\ndo 9\ndo 10\ndo 11\ndo 12\nfill4 1 0x5123\n\
+        fill3 1 0x5123 0x2000 wu-\nfill2 1 0x5123 0x3000 wu-\ndo 13\n",
     line: "",
     status: 0,
 };

@@ -1,5 +1,5 @@
 use crate::row::run;
-use crate::{headers, invalidations, refusals, rights, runs, walks};
+use crate::{headers, invalidations, refusals, rights, runs, versions, walks};
 use std::test::Fail;
 
 #[test]
@@ -50,4 +50,12 @@ fn runs_step_by_step(rt: HostRuntime) -> Result<(), Fail> {
     }
     run(&rt, &runs::MIXED_CHECKED)?;
     run(&rt, &runs::MIXED_RUN)
+}
+
+#[test]
+fn records_of_version_2(rt: HostRuntime) -> Result<(), Fail> {
+    for row in &versions::ROWS {
+        run(&rt, row)?;
+    }
+    Ok(())
 }

@@ -26,14 +26,21 @@ fn words_of_no_command(rt: HostRuntime) -> Result<(), Fail> {
     expect_usage(&rt, &["check", "--single"])
 }
 
-#[test]
-fn help_on_standard_output(rt: HostRuntime) -> Result<(), Fail> {
+/// Words that ask for a text, which goes to standard output.
+fn expect_text<'a, T: AllocGlobal + Abort>(rt: &T, words: &'a [&'a str]) -> Result<(), Fail> {
     let mut input = Watched::new(NO_RECORD.as_slice());
     let mut output = Watched::new(Vec::new(rt.alloc()));
     let mut errors = Watched::new(Vec::new(rt.alloc()));
-    let status = pcid_audit(&rt, &["help"], &mut input, &mut output, &mut errors);
-    assert_eq!(rt; status, 0);
-    assert!(rt; !output.inner.is_empty());
-    assert!(rt; errors.inner.is_empty());
+    let status = pcid_audit(rt, words, &mut input, &mut output, &mut errors);
+    assert_eq!(rt; status, 0, "{words:?}");
+    assert!(rt; !output.inner.is_empty(), "{words:?}");
+    assert!(rt; errors.inner.is_empty(), "{words:?}");
     Ok(())
+}
+
+#[test]
+fn help_and_version_on_standard_output(rt: HostRuntime) -> Result<(), Fail> {
+    expect_text(&rt, &["help"])?;
+    expect_text(&rt, &["--help"])?;
+    expect_text(&rt, &["--version"])
 }

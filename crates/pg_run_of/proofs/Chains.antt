@@ -1,23 +1,32 @@
 -- Walks by moments, and what they witness.
-use Rattle.std.proofs.Common.{◌≡◌, ℕ, ◌+◌, ◌<◌, ◌≤◌, ◌==◌, ◌^◌, Bool, List, [], ◌∷◌, ◌++◌, refl, ap, sym, ◌∙◌, subst, true, false, not, arith, length, Option, Some, None, cond}
-use Rattle.std.proofs.lemmas.Bool.{and_from, eq-eqb, eqb-true, le-leb, and_parts}
+use Rattle.std.proofs.Common.{◌≡◌, ℕ, ◌+◌, ◌<◌, ◌≤◌, ◌==◌, ◌^◌, Bool, List, [], ◌∷◌, ◌++◌, refl, ap, sym, ◌∙◌, subst, true, false, not, ◌&&◌, ◌||◌, arith, length, Option, Some, None, cond}
+use Rattle.std.specs.Option.{option_or}
+use Rattle.std.proofs.lemmas.Bool.{or_right, and_from, eq-eqb, eqb-true, le-leb, and_parts}
 use Rattle.std.proofs.lemmas.List.{length_push}
 use Rattle.std.specs.List.{list_all, AllByRecursion}
 use Rattle.pg_entry.specs.declared.Level.{Level}
 use Rattle.pg_entry.specs.declared.Level.TheVariants.{Four, Three, Two, One}
-use Rattle.pg_entry.specs.Kinds.{kind_of}
-use Rattle.pg_entry.specs.Permission.{all_rights, joined}
+use Rattle.pg_entry.specs.Kinds.{accessed, dirty, kind_of}
+use Rattle.pg_entry.specs.Permission.{joined}
+use Rattle.pg_event.specs.declared.control.Control.{Control}
+use Rattle.pg_event.specs.declared.version.Version.{Version}
+use Rattle.pg_event.specs.declared.claim.Claim.{Claim}
+use Rattle.pg_event.specs.declared.claim.Update.{Update}
+use Rattle.pg_event.specs.declared.event.Reason.TheVariants as reasons
+use Rattle.pg_event.specs.declared.event.Want.TheVariants as wants
+use Rattle.pg_event.specs.Spelling.{AreMoments}
 use Rattle.pg_event.specs.declared.event.Event.{Event}
-use Rattle.pg_event.specs.declared.event.Outcome.{Outcome}
 use Rattle.pg_event.specs.declared.event.Want.{Want}
-use Rattle.pg_event.specs.Heads.{Head}
-use Rattle.pg_event.specs.Form.{access_kind}
+use Rattle.pg_event.specs.Heads.{Head, judges_accessed}
 use Rattle.pg_event.specs.Values.{mem_at, control_at}
 use Rattle.pg_event.specs.Invalidation.{structure_key, must_drop_structure}
-use Rattle.pg_event.specs.Walk.{Reading, readings, below}
-use Rattle.pg_event.specs.Witness.{is_table, is_wanted, leads_to, is_in_order, last_or, want_of, survives, structures_survive, failing_end, failing_walk, failing_access}
-use Rattle.pg_machine.specs.declared.step.Parent.{Parent}
+use Rattle.pg_event.specs.Walk.{Reading, readings, below, entry_address}
+use Rattle.pg_event.specs.Wants.{is_table, is_wanted, uses_last, want_of}
+use Rattle.pg_event.specs.Witness.{Asked, asked_by, asked_of, leads_to, is_in_order, last_or, survives, structures_survive, tables_accessed, failing_end, is_done_write, failing_flags, failing_walk, failing_claim, is_updated, failing_update, walked, failing_access, failing_assist}
+use Rattle.pg_machine.specs.Machine.{may_cache}
+use Rattle.pg_event.specs.declared.walk.Parent.{Parent}
 use Rattle.pg_run_of.specs.Plan.{root_at}
+use Rattle.pg_run_of.proofs.Accesses.{AreCached}
 use Rattle.pg_run_of.proofs.Standing.{seen, given}
 use Rattle.pg_run_of.proofs.Walks.{no_table_below}
 
@@ -31,6 +40,7 @@ pub record IsHop (head : Head) (all : List Event) (p la pcid y : ℕ) (level : L
   pub low : x ≤ y
   pub alike : (control_at head all p x).pcid ≡ pcid
   pub table : is_table (kind_of head.cfg level (seen (mem_at all) la level from x)) ≡ true
+  pub cached : may_cache head.version (seen (mem_at all) la level from x) ≡ true
   pub kept : survives head all p (λ c e. must_drop_structure c e (structure_key pcid level la)) x y ≡ true
 
 -- reading by these moments, and last at w, one comes from a table at a level to another
@@ -62,6 +72,11 @@ pub record Holds (head : Head) (all : List Event) (p la pcid : ℕ) (want : Want
   pub kinds : leads_to head.cfg want (readings head.cfg.m (mem_at all) la level from.table from.rights ws) ≡ true
   pub alike : list_all (λ w. (control_at head all p w).pcid == pcid) ws ≡ true
   pub kept : structures_survive head all p pcid la (readings head.cfg.m (mem_at all) la level from.table from.rights ws) ≡ true
+  pub cached : AreCached head.version (readings head.cfg.m (mem_at all) la level from.table from.rights ws)
+
+or_both : (a b c : Bool) → (a || b) ≡ true → (a || c) ≡ true → (a || (b && c)) ≡ true
+or_both true b c h k = refl
+or_both false b c h k = and_from b c h k
 
 holds_more : (head : Head) (all : List Event) (p la pcid : ℕ) (want : Want) (i : ℕ) (level : Level) (from : Parent) (x y : ℕ) (ys : List ℕ) →
     IsHop head all p la pcid y level from x → Holds head all p la pcid want i (below level) (given head.cfg.m (mem_at all) la level from x) (y ∷ ys) →
@@ -71,6 +86,7 @@ holds_more head all p la pcid want i level from x y ys hop h = record {
   kinds = and_from _ _ hop.table h.kinds;
   alike = and_from _ _ (eq-eqb _ _ hop.alike) h.alike;
   kept = and_from _ _ hop.kept h.kept;
+  cached = or_both (not (judges_accessed head.version)) (accessed (seen (mem_at all) la level from x)) _ hop.cached h.cached;
 }
 
 -- what the last reading needs
@@ -88,6 +104,7 @@ holds head all p la pcid want i w level from [] at to h end =
       kinds = end.wanted;
       alike = and_from _ _ (eq-eqb _ _ end.alike) refl;
       kept = refl;
+      cached = or_right (not (judges_accessed head.version)) true refl;
     }))
 holds head all p la pcid want i w level from (x ∷ []) at to h end =
     holds_more head all p la pcid want i level from x w [] h.0 (holds head all p la pcid want i w (below level) (given head.cfg.m (mem_at all) la level from x) [] at to h.1 end)
@@ -96,7 +113,7 @@ holds head all p la pcid want i w level from (x ∷ y ∷ ys) at to h end =
 
 -- the last reading
 abbrev pub reading_at : List Event → ℕ → Level → Parent → ℕ → Reading
-reading_at all la at to w = record { level = at; value = seen (mem_at all) la at to w; moment = w; rights = joined to.rights (seen (mem_at all) la at to w) }
+reading_at all la at to w = record { level = at; address = entry_address to.table at la; value = seen (mem_at all) la at to w; moment = w; rights = joined to.rights (seen (mem_at all) la at to w) }
 
 pub ends_there : (head : Head) (all : List Event) (p la pcid w : ℕ) (level : Level) (from : Parent) (ws : List ℕ) (at : Level) (to : Parent) (r : Reading) →
     Comes head all p la pcid w level from ws at to →
@@ -110,30 +127,91 @@ pub pass : {X : Type 0} (b : Bool) (x : X) (o : Option X) → b ≡ true → o �
 pass true x o h k = k
 pass false x o h k = absurd (cc)
 
--- an access by such moments is witnessed
-access_holds : (head : Head) (all : List Event) (i p flags la pcid : ℕ) (outcome : Outcome) (r : Reading) (w : ℕ) (ws : List ℕ) →
-    Holds head all p la pcid (want_of outcome) i Four (record { table = (control_at head all p w).root; rights = all_rights }) (w ∷ ws) →
-    last_or r (readings head.cfg.m (mem_at all) la Four (control_at head all p w).root all_rights (w ∷ ws)) ≡ r →
-    failing_end head all i p (access_kind flags) la pcid outcome r (kind_of head.cfg r.level r.value) ≡ None →
-    failing_access head all i p flags la outcome (w ∷ ws) ≡ None
-access_holds head all i p flags la pcid outcome r w ws h last ends =
-    let own : (control_at head all p w).pcid ≡ pcid = eqb-true _ _ (and_parts _ _ h.alike).0 in
-    subst (λ c. failing_walk head all i p (access_kind flags) la outcome c (w ∷ ws) (readings head.cfg.m (mem_at all) la Four (control_at head all p w).root all_rights (w ∷ ws)) ≡ None) (sym own)
-    (pass _ _ _ h.order (pass _ _ _ h.kinds (pass _ _ _ h.alike (pass _ _ _ h.kept
-    (ap (λ (q : Reading). failing_end head all i p (access_kind flags) la pcid outcome q (kind_of head.cfg q.level q.value)) last ∙ ends)))))
+pub none_or : {X : Type 0} (a b : Option X) → a ≡ None → b ≡ None → option_or a b ≡ None
+none_or None b h k = k
+none_or (Some x) b h k = absurd (cc)
 
-pub access_none : (head : Head) (all : List Event) (i p flags la pcid : ℕ) (outcome : Outcome) (w : ℕ) (ws : List ℕ) (at : Level) (to : Parent) →
-    Comes head all p la pcid w Four (root_at head all p (next_or w ws)) ws at to → Ends head all p la pcid (want_of outcome) i at to w →
-    failing_end head all i p (access_kind flags) la pcid outcome (reading_at all la at to w) (kind_of head.cfg at (seen (mem_at all) la at to w)) ≡ None →
-    failing_access head all i p flags la outcome (ws ++ w ∷ []) ≡ None
-access_none head all i p flags la pcid outcome w [] at to come end ends =
-    access_holds head all i p flags la pcid outcome (reading_at all la at to w) w []
-    (holds head all p la pcid (want_of outcome) i w Four (root_at head all p w) [] at to come end)
-    (ends_there head all p la pcid w Four (root_at head all p w) [] at to (reading_at all la at to w) come) ends
-access_none head all i p flags la pcid outcome w (x ∷ xs) at to come end ends =
-    access_holds head all i p flags la pcid outcome (reading_at all la at to w) x (xs ++ w ∷ [])
-    (holds head all p la pcid (want_of outcome) i w Four (root_at head all p x) (x ∷ xs) at to come end)
-    (ends_there head all p la pcid w Four (root_at head all p x) (x ∷ xs) at to (reading_at all la at to w) come) ends
+-- no reason of the walk fails
+walk_none : (head : Head) (all : List Event) (a : Asked) (pcid w : ℕ) (ws : List ℕ) → Holds head all a.p a.la pcid a.want a.number Four (root_at head all a.p w) (w ∷ ws) →
+    failing_walk head all a pcid (w ∷ ws) (walked head all a.la (control_at head all a.p w) (w ∷ ws)) ≡ None
+walk_none head all a pcid w ws h = pass _ _ _ h.order (pass _ _ _ h.kinds (pass _ _ _ h.alike (pass _ _ _ h.kept refl)))
+
+-- nor one of the flags
+flags_pass : (judged tables used write is_dirty : Bool) → (not judged || tables) ≡ true → (not judged || used) ≡ true → (not (judged && write) || is_dirty) ≡ true →
+    cond (not judged) None (cond (not (tables && used)) (Some reasons.Accessed) (cond (write && not is_dirty) (Some reasons.Dirty) None)) ≡ None
+flags_pass false tables used write is_dirty h k l = refl
+flags_pass true false used write is_dirty h k l = absurd (cc)
+flags_pass true true false write is_dirty h k l = absurd (cc)
+flags_pass true true true true true h k l = refl
+flags_pass true true true true false h k l = absurd (cc)
+flags_pass true true true false is_dirty h k l = refl
+
+-- the last value of an access has the flags that it needs
+pub record IsFlagged (version : Version) (c : Claim) (value : ℕ) : Type 0 where
+  pub leaf : (not (judges_accessed version) || (not (uses_last (want_of c.outcome)) || accessed value)) ≡ true
+  pub write : (not (judges_accessed version && is_done_write c.kind c.outcome) || dirty value) ≡ true
+
+flags_none : (version : Version) (c : Claim) (above : Bool) (value : ℕ) → (not (judges_accessed version) || above) ≡ true → IsFlagged version c value → failing_flags version c above value ≡ None
+flags_none version c above value tables h =
+    flags_pass (judges_accessed version) above (not (uses_last (want_of c.outcome)) || accessed value) (is_done_write c.kind c.outcome) (dirty value) tables h.leaf h.write
+
+-- an access by such moments is witnessed
+access_holds : (head : Head) (all : List Event) (c : Claim) (pcid : ℕ) (r : Reading) (w : ℕ) (ws : List ℕ) →
+    Holds head all c.p c.la pcid (want_of c.outcome) c.number Four (root_at head all c.p w) (w ∷ ws) →
+    last_or r (walked head all c.la (control_at head all c.p w) (w ∷ ws)) ≡ r →
+    failing_end head all c pcid r (kind_of head.cfg r.level r.value) ≡ None → IsFlagged head.version c r.value → failing_access head all c (w ∷ ws) ≡ None
+access_holds head all c pcid r w ws h last ends flags =
+    let start : Control = control_at head all c.p w in
+    let read : List Reading = walked head all c.la start (w ∷ ws) in
+    let own : start.pcid ≡ pcid = eqb-true _ _ (and_parts _ _ h.alike).0 in
+    let end : failing_end head all c pcid (last_or r read) (kind_of head.cfg (last_or r read).level (last_or r read).value) ≡ None =
+    ap (λ (q : Reading). failing_end head all c pcid q (kind_of head.cfg q.level q.value)) last ∙ ends in
+    let flagged : failing_flags head.version c (tables_accessed read) (last_or r read).value ≡ None =
+    ap (λ (q : Reading). failing_flags head.version c (tables_accessed read) q.value) last ∙ flags_none head.version c (tables_accessed read) r.value h.cached flags in
+    ap (λ v. failing_claim head all c v (w ∷ ws) read) own
+    ∙ none_or _ _ (walk_none head all (asked_by c) pcid w ws h) (none_or _ _ end flagged)
+
+pub access_none : (head : Head) (all : List Event) (c : Claim) (pcid w : ℕ) (ws : List ℕ) (at : Level) (to : Parent) →
+    Comes head all c.p c.la pcid w Four (root_at head all c.p (next_or w ws)) ws at to → Ends head all c.p c.la pcid (want_of c.outcome) c.number at to w →
+    failing_end head all c pcid (reading_at all c.la at to w) (kind_of head.cfg at (seen (mem_at all) c.la at to w)) ≡ None → IsFlagged head.version c (seen (mem_at all) c.la at to w) →
+    failing_access head all c (ws ++ w ∷ []) ≡ None
+access_none head all c pcid w [] at to come end ends flags =
+    access_holds head all c pcid (reading_at all c.la at to w) w []
+    (holds head all c.p c.la pcid (want_of c.outcome) c.number w Four (root_at head all c.p w) [] at to come end)
+    (ends_there head all c.p c.la pcid w Four (root_at head all c.p w) [] at to (reading_at all c.la at to w) come) ends flags
+access_none head all c pcid w (x ∷ xs) at to come end ends flags =
+    access_holds head all c pcid (reading_at all c.la at to w) x (xs ++ w ∷ [])
+    (holds head all c.p c.la pcid (want_of c.outcome) c.number w Four (root_at head all c.p x) (x ∷ xs) at to come end)
+    (ends_there head all c.p c.la pcid w Four (root_at head all c.p x) (x ∷ xs) at to (reading_at all c.la at to w) come) ends flags
+
+-- an assist by such moments is witnessed, where accessed flags are judged
+judged_so : (judged b : Bool) → judged ≡ true → (not judged || b) ≡ true → b ≡ true
+judged_so true b h k = k
+judged_so false b h k = absurd (cc)
+
+assist_holds : (head : Head) (all : List Event) (u : Update) (pcid : ℕ) (r : Reading) (w : ℕ) (ws : List ℕ) → judges_accessed head.version ≡ true →
+    Holds head all u.p u.la pcid wants.Present u.number Four (root_at head all u.p w) (w ∷ ws) →
+    last_or r (walked head all u.la (control_at head all u.p w) (w ∷ ws)) ≡ r →
+    is_updated head.cfg u r ≡ true → failing_assist head all u (w ∷ ws) ≡ None
+assist_holds head all u pcid r w ws judged h last updated =
+    let start : Control = control_at head all u.p w in
+    let read : List Reading = walked head all u.la start (w ∷ ws) in
+    let own : start.pcid ≡ pcid = eqb-true _ _ (and_parts _ _ h.alike).0 in
+    let tables : tables_accessed read ≡ true = judged_so (judges_accessed head.version) (tables_accessed read) judged h.cached in
+    ap (λ v. failing_update head all u v (w ∷ ws) read) own
+    ∙ none_or _ _ (walk_none head all (asked_of u) pcid w ws h) (pass _ _ _ tables (ap (λ b. cond b None (Some reasons.Assist)) (ap (is_updated head.cfg u) last ∙ updated)))
+
+pub assist_none : (head : Head) (all : List Event) (u : Update) (pcid w : ℕ) (ws : List ℕ) (at : Level) (to : Parent) → judges_accessed head.version ≡ true →
+    Comes head all u.p u.la pcid w Four (root_at head all u.p (next_or w ws)) ws at to → Ends head all u.p u.la pcid wants.Present u.number at to w →
+    is_updated head.cfg u (reading_at all u.la at to w) ≡ true → failing_assist head all u (ws ++ w ∷ []) ≡ None
+assist_none head all u pcid w [] at to judged come end updated =
+    assist_holds head all u pcid (reading_at all u.la at to w) w [] judged
+    (holds head all u.p u.la pcid wants.Present u.number w Four (root_at head all u.p w) [] at to come end)
+    (ends_there head all u.p u.la pcid w Four (root_at head all u.p w) [] at to (reading_at all u.la at to w) come) updated
+assist_none head all u pcid w (x ∷ xs) at to judged come end updated =
+    assist_holds head all u pcid (reading_at all u.la at to w) x (xs ++ w ∷ []) judged
+    (holds head all u.p u.la pcid wants.Present u.number w Four (root_at head all u.p x) (x ∷ xs) at to come end)
+    (ends_there head all u.p u.la pcid w Four (root_at head all u.p x) (x ∷ xs) at to (reading_at all u.la at to w) come) updated
 
 -- how many moments
 abbrev depth : Level → ℕ
@@ -171,9 +249,8 @@ all_low head all p la pcid w n lt level from (x ∷ xs) at to h =
 
 -- the moments of a walk fit their fields
 pub moments_fit : (head : Head) (all : List Event) (p la pcid w : ℕ) → w < 2 ^ 32 → (from : Parent) (ws : List ℕ) (at : Level) (to : Parent) →
-    Comes head all p la pcid w Four from ws at to →
-    (1 ≤ length (ws ++ w ∷ [])) × (length (ws ++ w ∷ []) ≤ 4) × AllByRecursion (λ x. x < 2 ^ 32) (ws ++ w ∷ [])
+    Comes head all p la pcid w Four from ws at to → AreMoments (ws ++ w ∷ [])
 moments_fit head all p la pcid w lt from ws at to h =
     let few : length ws ≤ 3 = short head all p la pcid w Four from ws at to h in
     let count : length (ws ++ w ∷ []) ≡ length ws + 1 = length_push ws w in
-    (omega (arith, count), omega (arith, count, few), all_low head all p la pcid w (2 ^ 32) lt Four from ws at to h)
+    record { some = omega (arith, count); few = omega (arith, count, few); fit = all_low head all p la pcid w (2 ^ 32) lt Four from ws at to h }

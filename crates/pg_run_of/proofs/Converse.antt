@@ -10,20 +10,20 @@ use Rattle.pg_event.specs.declared.event.Event.{Event}
 use Rattle.pg_event.specs.declared.event.Reason.{Reason}
 use Rattle.pg_event.specs.Heads.{Head}
 use Rattle.pg_event.specs.Form.{broken_rule}
+use Rattle.pg_event.specs.Walk.{root_of}
 use Rattle.pg_event.specs.Values.{written, controlled, started}
 use Rattle.pg_event.specs.Spelling.{FitsEvent}
-use Rattle.pg_event.specs.declared.event.Event.TheVariants as events
-use Rattle.pg_event.specs.declared.event.Outcome.TheVariants as outcomes
-use Rattle.pg_event.specs.Witness.{first_bad_from, first_some}
+use Rattle.pg_event.specs.declared.event.Event.TheVariants.{Write, Access, Assist, MovCr3, Invlpg, Invpcid, MovCr4Pge}
+use Rattle.pg_event.specs.Witness.{failing_event, first_bad_from, first_some}
 use Rattle.pg_entry.specs.declared.Level.TheVariants.{Four, Three, Two}
 use Rattle.pg_machine.specs.declared.step.Step.{Step}
 use Rattle.pg_machine.specs.declared.step.Member.{Member}
 use Rattle.pg_machine.specs.declared.step.Member.TheVariants as members
 use Rattle.pg_machine.specs.declared.step.Step.TheVariants.{Fill4, Fill3, Fill2, FillLeaf, Drop, Do}
-use Rattle.pg_machine.specs.Machine.{State, start, top, after, after_event, with_leaf, without, RunsFrom, visible}
+use Rattle.pg_machine.specs.Machine.{State, start, after, after_event, with_leaf, without, RunsFrom, visible}
 use Rattle.pg_run_of.specs.Converse.{without_moments, AreSameButMoments, HasMoments, FitsButMoments, RunsAreAccepted, RunsAreRecords}
 use Rattle.pg_run_of.proofs.Standing.{At}
-use Rattle.pg_run_of.proofs.Moments.{judged_alike, broken_same}
+use Rattle.pg_run_of.proofs.Moments.{judged_alike, well_same}
 use Rattle.pg_run_of.proofs.Kept.{Sound, sound_start, table_sound, leaf_sound, drop_sound, event_sound}
 use Rattle.pg_run_of.proofs.Certified.{certified}
 
@@ -48,12 +48,19 @@ drop_now : (head : Head) (all : List Event) (s : State) (w : ℕ) → At head al
 drop_now head all s w now p (members.Structure x) = record { memory = now.memory; control = now.control }
 drop_now head all s w now p (members.Translation x) = record { memory = now.memory; control = now.control }
 
+same_more : (x y : Event) (xs ys : List Event) → without_moments x ≡ without_moments y → AreSameButMoments xs ys → AreSameButMoments (x ∷ xs) (y ∷ ys)
+same_more x y xs ys h k = ap (λ z. z ∷ map without_moments xs) h ∙ ap (λ zs. without_moments y ∷ zs) k
+
+none_first : (w : ℕ) (o : Option Reason) (rest : Option (ℕ × Reason)) → o ≡ None → rest ≡ None → first_some w o rest ≡ None
+none_first w None rest h k = k
+none_first w (Some reason) rest h k = absurd (cc)
+
 certify : (head : Head) (all : List Event) → length all ≤ 2 ^ 32 - 1 → (steps : List Step) (done : List Event) (w : ℕ) (s : State) → all ≡ done ++ visible steps → w ≡ length done →
     At head all s w → Sound head all s w → RunsFrom head s steps → Certified head all w (visible steps)
 certify head all few [] done w s whole count now sound run = record { events = []; same = refl; well = tt; fits = tt; good = refl }
 certify head all few (Fill4 p la ∷ steps) done w s whole count now sound run =
     certify head all few steps done w (after head s (Fill4 p la)) whole count (record { memory = now.memory; control = now.control })
-    (table_sound head all s w now sound p la Four (top s p) run.0) run.1
+    (table_sound head all s w now sound p la Four (root_of (s.control p)) run.0) run.1
 certify head all few (Fill3 p la from ∷ steps) done w s whole count now sound run =
     certify head all few steps done w (after head s (Fill3 p la from)) whole count (record { memory = now.memory; control = now.control })
     (table_sound head all s w now sound p la Three from run.0) run.1
@@ -82,14 +89,14 @@ certify head all few (Do e ∷ steps) done w s whole count now sound run =
     } in
     let size : length all ≡ length done + length (e ∷ rest) = ap length whole ∙ length-append done (e ∷ rest) in
     let low : w < 2 ^ 32 = omega (arith, size, few, count) in
-    let one = certified head all s w low now sound e run.0.1 in
+    let one = certified head all s w low now sound e run.0.0 run.0.1 in
     let more = certify head all few steps (done ++ e ∷ []) (w + 1) (after_event head s e) whole' count' now' (event_sound head all s w e now here sound) run.1 in
     record {
       events = one.event ∷ more.events;
-      same = ap (λ x. x ∷ map without_moments more.events) one.same ∙ ap (λ xs. without_moments e ∷ xs) more.same;
-      well = (sym (broken_same head one.event) ∙ ap (broken_rule head) one.same ∙ broken_same head e ∙ run.0.0, more.well);
+      same = same_more one.event e more.events (visible steps) one.same more.same;
+      well = (well_same head one.event e one.same run.0.0, more.well);
       fits = (one.fits, more.fits);
-      good = ap (λ (o : Option Reason). first_some w o (first_bad_from head all (w + 1) more.events)) one.good ∙ more.good;
+      good = none_first w (failing_event head all w one.event) (first_bad_from head all (w + 1) more.events) one.good more.good;
     }
 
 pub runs_are_accepted : RunsAreAccepted
@@ -100,22 +107,22 @@ runs_are_accepted head steps run few =
 
 -- the fields of an event, without its moments and with them
 fits_without : (e : Event) → FitsButMoments e → FitsButMoments (without_moments e)
-fits_without (events.Access p flags la (outcomes.Page page) moments) h = h
-fits_without (events.Access p flags la (outcomes.Fault code) moments) h = h
-fits_without (events.Write p addr value) h = h
-fits_without (events.MovCr3 p operand) h = h
-fits_without (events.Invlpg p la) h = h
-fits_without (events.Invpcid p kind pcid la) h = h
-fits_without (events.MovCr4Pge p on) h = h
+fits_without (Access p flags la outcome moments) h = h
+fits_without (Assist p flags la word moments) h = h
+fits_without (Write p addr value) h = h
+fits_without (MovCr3 p operand) h = h
+fits_without (Invlpg p la) h = h
+fits_without (Invpcid p kind pcid la) h = h
+fits_without (MovCr4Pge p on) h = h
 
 fits_with : (e : Event) → FitsButMoments (without_moments e) → HasMoments e → FitsEvent e
-fits_with (events.Access p flags la (outcomes.Page page) moments) h k = (h.0, h.1, h.2, k.0, k.1, k.2)
-fits_with (events.Access p flags la (outcomes.Fault code) moments) h k = (h.0, h.1, h.2, k.0, k.1, k.2)
-fits_with (events.Write p addr value) h k = h
-fits_with (events.MovCr3 p operand) h k = h
-fits_with (events.Invlpg p la) h k = h
-fits_with (events.Invpcid p kind pcid la) h k = h
-fits_with (events.MovCr4Pge p on) h k = h
+fits_with (Access p flags la outcome moments) h k = (h.0, h.1, h.2, k)
+fits_with (Assist p flags la word moments) h k = (h.0, h.1, h.2, k)
+fits_with (Write p addr value) h k = h
+fits_with (MovCr3 p operand) h k = h
+fits_with (Invlpg p la) h k = h
+fits_with (Invpcid p kind pcid la) h k = h
+fits_with (MovCr4Pge p on) h k = h
 
 all_fit : (xs ys : List Event) → AreSameButMoments xs ys → AllByRecursion FitsButMoments ys → AllByRecursion HasMoments xs → AllByRecursion FitsEvent xs
 all_fit [] ys same fits moments = tt

@@ -10,21 +10,22 @@ use Rattle.pg_entry.specs.declared.Level.TheVariants.{Four, Three, Two, One}
 use Rattle.pg_entry.specs.declared.Kind.{Kind}
 use Rattle.pg_entry.specs.declared.Kind.TheVariants as kinds
 use Rattle.pg_entry.specs.declared.Cfg.{Cfg}
-use Rattle.pg_entry.specs.Bits.{has_bit, field}
-use Rattle.pg_entry.specs.Kinds.{kind_of, is_reserved, target, leaf_shift}
-use Rattle.pg_entry.specs.Permission.{all_rights, joined}
+use Rattle.pg_entry.specs.Bits.{has_bit}
+use Rattle.pg_entry.specs.Kinds.{dirty, kind_of, is_reserved, table_of, target, leaf_shift}
+use Rattle.pg_entry.specs.Permission.{joined}
 use Rattle.pg_event.specs.declared.event.Event.{Event}
 use Rattle.pg_event.specs.Heads.{Head}
 use Rattle.pg_event.specs.Form.{processor_of}
 use Rattle.pg_event.specs.Values.{mem_at, control_at}
 use Rattle.pg_event.specs.Invalidation.{bits_from, level_shift, structure_key, must_drop_structure, must_drop_translation}
 use Rattle.pg_event.specs.declared.keys.StructureKey.{StructureKey}
-use Rattle.pg_event.specs.Walk.{below, entry_address}
-use Rattle.pg_event.specs.Witness.{is_table, any_from, takes_out, survives}
-use Rattle.pg_machine.specs.declared.step.Parent.{Parent}
+use Rattle.pg_event.specs.Walk.{below, entry_address, root_of}
+use Rattle.pg_event.specs.Wants.{is_table}
+use Rattle.pg_event.specs.Witness.{any_from, takes_out, survives}
+use Rattle.pg_event.specs.declared.walk.Parent.{Parent}
 use Rattle.pg_machine.specs.declared.step.Member.{Member}
 use Rattle.pg_machine.specs.declared.step.Member.TheVariants as members
-use Rattle.pg_machine.specs.Machine.{State, IsIn, MayRead, FindsTable, FindsLeaf, start, entry_now, structure_at, translation_at, with_structure, with_translation, with_table, with_leaf, without, same_structure, same_translation, changed_at, after_event}
+use Rattle.pg_machine.specs.Machine.{State, IsIn, MayRead, FindsTable, FindsLeaf, start, entry_now, may_cache, structure_at, translation_at, with_structure, with_translation, with_table, with_leaf, without, same_structure, same_translation, changed_at, after_event}
 use Rattle.pg_run_of.proofs.Standing.{At, seen, given, translation_of}
 use Rattle.pg_run_of.proofs.Walks.{next}
 use Rattle.pg_run_of.proofs.Prefixes.{Agree, agree_above, same_address}
@@ -35,6 +36,7 @@ use Rattle.pg_run_of.specs.Plan.{root_at}
 pub record StructureRead (head : Head) (all : List Event) (p : ℕ) (x : Structure) (ws : List ℕ) (last : ℕ) (from : Parent) (la : ℕ) : Type 0 where
   pub walk : Comes head all p la x.key.pcid last Four (root_at head all p (next_or last ws)) ws x.key.level from
   pub table : is_table (kind_of head.cfg x.key.level (seen (mem_at all) la x.key.level from last)) ≡ true
+  pub cached : may_cache head.version (seen (mem_at all) la x.key.level from last) ≡ true
   pub same : given head.cfg.m (mem_at all) la x.key.level from last ≡ record { table = x.table; rights = x.rights }
 
 -- the moments of a structure entry that p has at moment w
@@ -50,7 +52,9 @@ pub record StructureKept (head : Head) (all : List Event) (p w : ℕ) (x : Struc
 pub record TranslationRead (head : Head) (all : List Event) (p : ℕ) (t : Translation) (ws : List ℕ) (last : ℕ) (level : Level) (from : Parent) (g : Bool) (la : ℕ) : Type 0 where
   pub walk : Comes head all p la t.key.pcid last Four (root_at head all p (next_or last ws)) ws level from
   pub leaf : kind_of head.cfg level (seen (mem_at all) la level from last) ≡ kinds.Leaf t.frame t.key.shift g
+  pub cached : may_cache head.version (seen (mem_at all) la level from last) ≡ true
   pub rights : joined from.rights (seen (mem_at all) la level from last) ≡ t.rights
+  pub dirty : dirty (seen (mem_at all) la level from last) ≡ t.dirty
 
 pub record TranslationKept (head : Head) (all : List Event) (p w : ℕ) (t : Translation) : Type 0 where
   pub ws : List ℕ
@@ -93,6 +97,7 @@ chain_below head all s w sound p la level from i =
             low = k.low;
             alike = k.alike;
             table = r.table;
+            cached = r.cached;
             kept = ap (λ (y : StructureKey). survives head all p (λ c e. must_drop_structure c e y) k.last w) whole ∙ k.kept;
           } in
           let on = come_on head all p b x.key.pcid k.last w Four (root_at head all p (next_or k.last k.ws)) k.ws level k.from r.walk hop in
@@ -103,7 +108,7 @@ chain_below head all s w sound p la level from i =
 pub chain : (head : Head) (all : List Event) (s : State) (w : ℕ) → At head all s w → Sound head all s w → (p la : ℕ) (level : Level) (from : Parent) →
     MayRead s p la level from → Chain head all p (s.control p).pcid la w level from
 chain head all s w now sound p la Four from may =
-    record { ws = []; walk = λ b h. (refl, ap (λ (c : Control). let f : Parent = record { table = c.root; rights = all_rights } in f) (now.control p) ∙ sym may) }
+    record { ws = []; walk = λ b h. (refl, ap (λ (c : Control). root_of c) (now.control p) ∙ sym may) }
 chain head all s w now sound p la Three from may = chain_below head all s w sound p la Four from may
 chain head all s w now sound p la Two from may = chain_below head all s w sound p la Three from may
 chain head all s w now sound p la One from may = chain_below head all s w sound p la Two from may
@@ -166,7 +171,7 @@ value_now head all s w now la b level from h = now.memory (entry_address from.ta
 pub table_sound : (head : Head) (all : List Event) (s : State) (w : ℕ) → At head all s w → Sound head all s w → (p la : ℕ) (level : Level) (from : Parent) →
     FindsTable head s p la level from → Sound head all (with_table head s p la level from) w
 table_sound head all s w now sound p la level from found =
-    let c = chain head all s w now sound p la level from found.1 in
+    let c = chain head all s w now sound p la level from found.1.1 in
     let y : Structure = structure_at s p la level (next head s la level from) in
     sound_structure head all s w sound p y (record {
       ws = c.ws;
@@ -179,8 +184,9 @@ table_sound head all s w now sound p la level from found =
           let value = value_now head all s w now la b level from h in
           record {
             walk = c.walk b h;
-            table = ap (λ v. is_table (kind_of head.cfg level v)) value ∙ ap is_table found.3;
-            same = ap (λ v. let f : Parent = record { table = field v 12 head.cfg.m; rights = joined from.rights v } in f) value;
+            table = ap (λ v. is_table (kind_of head.cfg level v)) value ∙ ap is_table found.1.3;
+            cached = ap (may_cache head.version) value ∙ found.1.2;
+            same = ap (λ v. let f : Parent = record { table = table_of head.cfg.m v; rights = joined from.rights v } in f) value;
           };
     })
 
@@ -202,16 +208,17 @@ shift_is cfg One e frame shift g h = targeted cfg.m e 12 true frame shift g (cho
 
 pub leaf_sound : (head : Head) (all : List Event) (s : State) (w : ℕ) → At head all s w → Sound head all s w → (p la : ℕ) (level : Level) (from : Parent) →
     FindsLeaf head s p la level from →
-    Sound head all (with_leaf s p (translation_at (s.control p) la (joined from.rights (entry_now s la level from)) (kind_of head.cfg level (entry_now s la level from)))) w
+    Sound head all (with_leaf s p (translation_at (s.control p) la (joined from.rights (entry_now s la level from)) (entry_now s la level from) (kind_of head.cfg level (entry_now s la level from)))) w
 leaf_sound head all s w now sound p la level from found =
-    let c = chain head all s w now sound p la level from found.1 in
+    let frame : ℕ = found.0 in
+    let shift : ℕ = found.1 in
+    let g : Bool = found.2 in
+    let finds = found.3 in
+    let c = chain head all s w now sound p la level from finds.1 in
     let entry : ℕ = entry_now s la level from in
-    let frame : ℕ = found.2 in
-    let shift : ℕ = found.3 in
-    let g : Bool = found.4 in
-    let size : shift ≡ level_shift level = shift_is head.cfg level entry frame shift g found.5 in
-    let t : Translation = translation_of (s.control p).pcid shift (g && (s.control p).pge) la frame (joined from.rights entry) in
-    subst (λ k. Sound head all (with_leaf s p (translation_at (s.control p) la (joined from.rights entry) k)) w) (sym found.5)
+    let size : shift ≡ level_shift level = shift_is head.cfg level entry frame shift g finds.3 in
+    let t : Translation = translation_of (s.control p).pcid shift (g && (s.control p).pge) la frame (joined from.rights entry) entry in
+    subst (λ k. Sound head all (with_leaf s p (translation_at (s.control p) la (joined from.rights entry) entry k)) w) (sym finds.3)
     (sound_translation head all s w sound p t (record {
       ws = c.ws;
       last = w;
@@ -227,8 +234,10 @@ leaf_sound head all s w now sound p la level from found =
           let value = value_now head all s w now la b level from agree in
           record {
             walk = c.walk b agree;
-            leaf = ap (kind_of head.cfg level) value ∙ found.5;
+            leaf = ap (kind_of head.cfg level) value ∙ finds.3;
+            cached = ap (may_cache head.version) value ∙ finds.2;
             rights = ap (joined from.rights) value;
+            dirty = ap dirty value;
           };
     }))
 

@@ -1,7 +1,7 @@
 mod Paths
 mod Walks
 mod Fills
-mod Roots
+mod Built
 mod Hops
 mod Places
 mod Accesses

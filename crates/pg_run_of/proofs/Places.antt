@@ -7,9 +7,11 @@ use Rattle.std.specs.List.Sorted.{ties, IsStableByKey, IsNonDecreasingBy}
 use Rattle.std.proofs.lemmas.Bool.{cases_eq, cases_order, eq-eqb, ne_eqb, and_from, and_left, and_right, not_from_true, not_from_false, lt-ltb, le-ltb}
 use Rattle.std.proofs.lemmas.List.{take_more}
 use Rattle.std.proofs.lemmas.Option.{slice_get-get_or, slice_get_within, get_or_from_slice_get}
-use Rattle.pg_machine.specs.declared.step.Step.TheVariants.{Fill4}
+use Rattle.pg_entry.specs.declared.Level.TheVariants.{Four}
+use Rattle.pg_event.specs.Values.{no_control}
+use Rattle.pg_event.specs.Walk.{root_of}
 use Rattle.pg_run_of.specs.declared.fill.Fill.{Fill}
-use Rattle.pg_run_of.specs.Plan.{fills_at}
+use Rattle.pg_run_of.specs.Plan.{fill_by, step_of, fills_at}
 use Rattle.pg_run_of.specs.Places.{IsPlace}
 use Rattle.pg_run_of.proofs.Fills.{fills_here, fills_away, fills-append}
 
@@ -35,13 +37,13 @@ filter_alike p q h (x ∷ xs) = ap (λ b. cond b (x ∷ filter p xs) (filter p x
 -- a stable sort by moment keeps the fills of each
 pub same_fills : (xs ys : List Fill) → IsStableByKey (λ (f : Fill). f.moment) nat_cmp xs ys → (w : ℕ) → fills_at w ys ≡ fills_at w xs
 same_fills xs ys h w =
-    let f : Fill = record { moment = w; step = Fill4 0 0 } in
+    let f : Fill = fill_by true 0 0 Four (root_of no_control) w in
     let tied : Fill → Bool = ties (λ (a b : Fill). is_lt (nat_cmp a.moment b.moment)) f in
     let at : Fill → Bool = λ g. g.moment == w in
-    ap (map (λ (g : Fill). g.step)) (filter_alike at tied (λ g. sym (one_moment g.moment w)) ys ∙ h f ∙ filter_alike tied at (λ g. one_moment g.moment w) xs)
+    ap (map step_of) (filter_alike at tied (λ g. sym (one_moment g.moment w)) ys ∙ h f ∙ filter_alike tied at (λ g. one_moment g.moment w) xs)
 
 -- one more fill of the moment
-pub due_more : (fills : List Fill) (k w : ℕ) (f : Fill) → slice_get fills k ≡ Some f → f.moment ≡ w → fills_at w (take (k + 1) fills) ≡ fills_at w (take k fills) ++ f.step ∷ []
+pub due_more : (fills : List Fill) (k w : ℕ) (f : Fill) → slice_get fills k ≡ Some f → f.moment ≡ w → fills_at w (take (k + 1) fills) ≡ fills_at w (take k fills) ++ step_of f ∷ []
 due_more fills k w f h e =
     ap (fills_at w) (take_more fills k f (slice_get_within fills k f h) ∙ ap (λ (g : Fill). take k fills ++ g ∷ []) (get_or_from_slice_get fills k f f h))
     ∙ fills-append w (take k fills) (f ∷ []) ∙ ap (λ xs. fills_at w (take k fills) ++ xs) (fills_here w f [] e)
@@ -61,7 +63,7 @@ none_past w (f ∷ fs) zero all =
 none_past w (f ∷ fs) (suc k) all =
     let more : fills_at w fs ≡ fills_at w (take k fs) = none_past w fs k (λ j g low h. all (suc j) g (omega (arith, low)) h) in
     elim (cases_eq f.moment w) [
-      | inl here ↦ fills_here w f fs here ∙ ap (λ xs. f.step ∷ xs) more ∙ sym (fills_here w f (take k fs) here)
+      | inl here ↦ fills_here w f fs here ∙ ap (λ xs. step_of f ∷ xs) more ∙ sym (fills_here w f (take k fs) here)
       | inr away ↦ fills_away w f fs away ∙ more ∙ sym (fills_away w f (take k fs) away)
     ]
 

@@ -6,14 +6,14 @@ use Rattle.pg_entry.specs.declared.Level.TheVariants.{Four, Three, Two, One}
 use Rattle.pg_entry.specs.declared.Kind.{Kind}
 use Rattle.pg_entry.specs.declared.Kind.TheVariants as kinds
 use Rattle.pg_entry.specs.declared.Cfg.{Cfg}
-use Rattle.pg_entry.specs.Bits.{has_bit, field}
-use Rattle.pg_entry.specs.Kinds.{kind_of, is_reserved}
+use Rattle.pg_entry.specs.Bits.{has_bit}
+use Rattle.pg_entry.specs.Kinds.{kind_of, is_reserved, table_of}
 use Rattle.pg_entry.specs.Permission.{joined}
 use Rattle.pg_event.specs.Heads.{Head}
-use Rattle.pg_event.specs.Walk.{Reading, below}
-use Rattle.pg_event.specs.Witness.{is_table}
-use Rattle.pg_machine.specs.declared.step.Parent.{Parent}
-use Rattle.pg_machine.specs.Machine.{State, MayRead, IsAddress, entry_now, top, with_table}
+use Rattle.pg_event.specs.Walk.{Reading, below, entry_address, root_of}
+use Rattle.pg_event.specs.Wants.{is_table}
+use Rattle.pg_event.specs.declared.walk.Parent.{Parent}
+use Rattle.pg_machine.specs.Machine.{State, MayRead, IsWalkable, entry_now, may_cache, with_table}
 use Rattle.pg_run_of.specs.Plan.{table_fill}
 use Rattle.pg_run_of.proofs.Paths.{Leads}
 
@@ -30,25 +30,25 @@ chosen_leaf false true frame shift g h = cc
 chosen_leaf false false frame shift g h = cc
 
 pub no_table_below : (cfg : Cfg) (e : ℕ) → is_table (kind_of cfg One e) ≡ true → ⊥
-no_table_below cfg e h = chosen_leaf (not (has_bit e 0)) (is_reserved cfg One e) (field e 12 cfg.m) 12 (has_bit e 8) h
+no_table_below cfg e h = chosen_leaf (not (has_bit e 0)) (is_reserved cfg One e) (table_of cfg.m e) 12 (has_bit e 8) h
 
 -- one fill of a table
-pub fill : (head : Head) (s : State) (p la : ℕ) → IsAddress head p la → (level : Level) (from : Parent) → MayRead s p la level from →
-    is_table (kind_of head.cfg level (entry_now s la level from)) ≡ true →
+pub fill : (head : Head) (s : State) (p la : ℕ) → IsWalkable head p la → (level : Level) (from : Parent) → MayRead s p la level from →
+    may_cache head.version (entry_now s la level from) ≡ true → is_table (kind_of head.cfg level (entry_now s la level from)) ≡ true →
     Leads head s (table_fill p la level from ∷ []) (with_table head s p la level from)
-fill head s p la inside Four from may h =
-    let back : with_table head s p la Four (top s p) ≡ with_table head s p la Four from = ap (with_table head s p la Four) (sym may) in
+fill head s p la inside Four from may cached h =
+    let back : with_table head s p la Four (root_of (s.control p)) ≡ with_table head s p la Four from = ap (with_table head s p la Four) (sym may) in
     let found = a_table _ (rw may at h) in
-    ((inside, refl, found.0, found.1), back)
-fill head s p la inside Three from may h =
-    let found = a_table _ h in ((inside, may, found.0, found.1), refl)
-fill head s p la inside Two from may h =
-    let found = a_table _ h in ((inside, may, found.0, found.1), refl)
-fill head s p la inside One from may h = absurd (no_table_below head.cfg _ h)
+    ((found.0, (inside, refl, rw may at cached, found.1)), back)
+fill head s p la inside Three from may cached h =
+    let found = a_table _ h in ((found.0, (inside, may, cached, found.1)), refl)
+fill head s p la inside Two from may cached h =
+    let found = a_table _ h in ((found.0, (inside, may, cached, found.1)), refl)
+fill head s p la inside One from may cached h = absurd (no_table_below head.cfg _ h)
 
 -- the table's parent at the next level
 abbrev pub next : Head → State → ℕ → Level → Parent → Parent
-next head s la level from = record { table = field (entry_now s la level from) 12 head.cfg.m; rights = joined from.rights (entry_now s la level from) }
+next head s la level from = record { table = table_of head.cfg.m (entry_now s la level from); rights = joined from.rights (entry_now s la level from) }
 
 -- after the fill the walk may go on one level below
 pub may_go_on : (head : Head) (s : State) (p la : ℕ) (level : Level) (from : Parent) → is_table (kind_of head.cfg level (entry_now s la level from)) ≡ true →
@@ -61,5 +61,6 @@ may_go_on head s p la One from h = absurd (no_table_below head.cfg _ h)
 -- the state can read r now in this table, as the end of a walk
 pub record Reads (s : State) (p la : ℕ) (from : Parent) (r : Reading) : Type 0 where
   pub may : MayRead s p la r.level from
+  pub address : r.address ≡ entry_address from.table r.level la
   pub value : entry_now s la r.level from ≡ r.value
   pub rights : joined from.rights r.value ≡ r.rights

@@ -4,30 +4,33 @@ use Rattle.pg_event.specs.declared.control.Control.{Control}
 use Rattle.pg_machine.specs.declared.step.Structure.{Structure}
 use Rattle.pg_machine.specs.declared.step.Translation.{Translation}
 use Rattle.std.specs.List.{AllByRecursion}
-use Rattle.pg_event.specs.Witness.{is_table}
+use Rattle.pg_event.specs.Wants.{is_table}
 use Rattle.pg_event.specs.Walk.{entry_address}
 use Rattle.pg_entry.specs.declared.Level.TheVariants.{Two, One}
-use Rattle.std.proofs.Common.{Bool, List, None, Option, Some, [], ap, arith, nat_le, refl, subst, sym, true, ℕ, ◌++◌, ◌+◌, ◌==◌, ◌∙◌, ◌∷◌, ◌≡◌, ◌≤◌, length, take}
+use Rattle.std.proofs.Common.{Bool, List, None, Option, Some, [], ap, arith, nat_le, not, ◌||◌, refl, subst, sym, true, ℕ, ◌++◌, ◌+◌, ◌==◌, ◌∙◌, ◌∷◌, ◌≡◌, ◌≤◌, length, take}
 use Rattle.std.proofs.lemmas.Bool.{and_parts, eqb-true, leb-true}
 use Rattle.std.specs.List.{list_all}
 use Rattle.pg_entry.specs.declared.Rights.{Rights}
 use Rattle.pg_entry.specs.declared.Level.TheVariants.{Four, Three}
 use Rattle.pg_entry.specs.declared.Kind.{Kind}
 use Rattle.pg_entry.specs.declared.AccessKind.{AccessKind}
-use Rattle.pg_entry.specs.Kinds.{kind_of}
-use Rattle.pg_entry.specs.Permission.{all_rights, joined}
+use Rattle.pg_entry.specs.Kinds.{kind_of, table_of}
+use Rattle.pg_entry.specs.Permission.{joined}
 use Rattle.pg_event.specs.declared.event.Event.{Event}
 use Rattle.pg_event.specs.declared.event.Outcome.{Outcome}
 use Rattle.pg_event.specs.declared.event.Want.{Want}
 use Rattle.pg_event.specs.Heads.{Head}
-use Rattle.pg_event.specs.Form.{access_kind, broken_rule}
+use Rattle.pg_event.specs.Form.{access_kind, says_dirty, broken_rule}
+use Rattle.pg_event.specs.declared.claim.Claim.{Claim}
+use Rattle.pg_event.specs.declared.claim.Update.{Update}
 use Rattle.pg_event.specs.Values.{control_at, mem_at, written, controlled, started}
 use Rattle.pg_event.specs.Invalidation.{must_drop_structure, must_drop_translation}
-use Rattle.pg_event.specs.Walk.{Reading, readings, below}
-use Rattle.pg_event.specs.Witness.{failing_access, failing_end, is_in_order, is_wanted, last_or, leads_to, structures_survive, survives, want_of, failing_event, first_bad_from, first_some}
-use Rattle.pg_machine.specs.declared.step.Parent.{Parent}
+use Rattle.pg_event.specs.Walk.{Reading, readings, below, root_of}
+use Rattle.pg_event.specs.Wants.{is_wanted, may_dirty, want_of}
+use Rattle.pg_event.specs.Witness.{Asked, asked_by, asked_of, claim_of, update_of, failing_access, failing_assist, failing_end, is_in_order, last_or, leads_to, structures_survive, survives, failing_event, first_bad_from, first_some}
+use Rattle.pg_event.specs.declared.walk.Parent.{Parent}
 use Rattle.pg_machine.specs.declared.step.Step.TheVariants.{Do}
-use Rattle.pg_machine.specs.Machine.{IsIn, HasOutcome, IsAddress, State, after_event, is_usable, top, start, MayCome, MayRead}
+use Rattle.pg_machine.specs.Machine.{IsIn, HasOutcome, IsWalkable, MayAssist, State, after_event, is_usable, start, MayCome, MayRead}
 use Rattle.pg_run_of.proofs.Paths.{Leads, leads_on, leads_runs}
 use Rattle.pg_run_of.proofs.Walks.{Reads}
 use Rattle.pg_run_of.specs.declared.fill.Fill.{Fill}
@@ -39,15 +42,14 @@ use Rattle.std.proofs.lemmas.Grind.{flat_map-append}
 use Rattle.pg_machine.specs.Machine.{IsRun}
 use Rattle.pg_event.specs.Witness.{Accepted}
 use Rattle.std.specs.Prelude.{slice_get, fold}
-use Rattle.pg_run_of.proofs.Accesses.{guard_none, WalkHolds, walk_holds, access_inside}
-use Rattle.pg_run_of.proofs.Standing.{read_at, At, Grows, Stands, Stood, entry_of, given, grows_refl, grows_on, stands_grow, stood_grow, tables, at_grown}
-use Rattle.pg_entry.specs.Bits.{field}
+use Rattle.pg_run_of.proofs.Accesses.{guard_none, WalkHolds, AreCached, ClaimHolds, claim_holds, UpdateHolds, update_holds, access_inside, assist_inside}
+use Rattle.pg_run_of.proofs.Standing.{read_at, At, Grows, Stands, Stood, Tables, entry_of, given, grows_refl, grows_on, stands_grow, stood_grow, tables, at_grown}
 use Rattle.std.proofs.lemmas.List.{append_assoc, length_push}
 use Rattle.std.proofs.lemmas.List.Sums.{fold-append}
 use Rattle.std.proofs.Math.Seq.{take-append_seam}
 use Rattle.pg_event.specs.declared.event.Reason.{Reason}
 use Rattle.pg_run_of.specs.Law.{AcceptedEventsRun, AcceptedRecordsRun}
-use Rattle.pg_run_of.proofs.Ends.{leaf_of, LeafStands, LeafStood, leaves, comes, structure_stays, translation_stays}
+use Rattle.pg_run_of.proofs.Ends.{leaf_of, LeafStands, LeafStood, leaves, comes, assists, structure_stays, translation_stays}
 use Rattle.pg_entry.specs.declared.Kind.TheVariants as kinds
 use Rattle.pg_event.specs.declared.event.Event.TheVariants as events
 use Rattle.pg_event.specs.declared.event.Reason.TheVariants as reasons
@@ -83,10 +85,12 @@ pub record AccessStood (head : Head) (all : List Event) (s : State) (w i p la x 
 
 abbrev pub EventStands : Head → List Event → State → ℕ → ℕ → Event → Type 0
 EventStands head all s w i (events.Access p flags la outcome (x ∷ ws)) = AccessStands head all s w i p la x ws
+EventStands head all s w i (events.Assist p flags la word (x ∷ ws)) = Stands head.cfg.m (mem_at all) s p la (control_at head all p x).pcid w Four (root_at head all p x) x ws
 EventStands head all s w i _ = Unit {0}
 
 abbrev pub EventStood : Head → List Event → State → ℕ → ℕ → Event → Type 0
 EventStood head all s w i (events.Access p flags la outcome (x ∷ ws)) = AccessStood head all s w i p la x ws
+EventStood head all s w i (events.Assist p flags la word (x ∷ ws)) = Stood head.cfg.m (mem_at all) s p la (control_at head all p x).pcid w Four (root_at head all p x) x ws
 EventStood head all s w i _ = Unit {0}
 
 leaf_stands_grow : (head : Head) (all : List Event) (s t : State) → Grows s t → (p la pcid w i : ℕ) (r : Reading) (k : Kind) →
@@ -109,6 +113,8 @@ event_stands_grow head all s t g w i (events.Access p flags la outcome (x ∷ ws
   leaf = leaf_stands_grow head all s t g p la (control_at head all p x).pcid w i (final head all p la x ws) (final_kind head all p la x ws) h.leaf;
 }
 event_stands_grow head all s t g w i (events.Access p flags la outcome []) h = tt
+event_stands_grow head all s t g w i (events.Assist p flags la word (x ∷ ws)) h = stands_grow head.cfg.m (mem_at all) s t g p la (control_at head all p x).pcid w Four (root_at head all p x) x ws h
+event_stands_grow head all s t g w i (events.Assist p flags la word []) h = tt
 event_stands_grow head all s t g w i (events.Write p addr value) h = tt
 event_stands_grow head all s t g w i (events.MovCr3 p operand) h = tt
 event_stands_grow head all s t g w i (events.Invlpg p la) h = tt
@@ -121,6 +127,8 @@ event_stood_grow head all s t g w i (events.Access p flags la outcome (x ∷ ws)
   leaf = leaf_stood_grow head all s t g p la (control_at head all p x).pcid w i (final head all p la x ws) (final_kind head all p la x ws) h.leaf;
 }
 event_stood_grow head all s t g w i (events.Access p flags la outcome []) h = tt
+event_stood_grow head all s t g w i (events.Assist p flags la word (x ∷ ws)) h = stood_grow head.cfg.m (mem_at all) s t g p la (control_at head all p x).pcid w Four (root_at head all p x) x ws h
+event_stood_grow head all s t g w i (events.Assist p flags la word []) h = tt
 event_stood_grow head all s t g w i (events.Write p addr value) h = tt
 event_stood_grow head all s t g w i (events.MovCr3 p operand) h = tt
 event_stood_grow head all s t g w i (events.Invlpg p la) h = tt
@@ -132,16 +140,16 @@ final_low : (m : ℕ) (look : ℕ → ℕ → ℕ) (la i : ℕ) (level : Level) 
     (last_or r (readings m look la level table rights ws)).moment ≤ i
 final_low m look la i level table rights r [] h = leb-true _ _ h
 final_low m look la i level table rights r (y ∷ ys) h =
-    final_low m look la i (below level) (field (look y (entry_address table level la)) 12 m) (joined rights (look y (entry_address table level la)))
-    (record { level = level; value = look y (entry_address table level la); moment = y; rights = joined rights (look y (entry_address table level la)) }) ys
+    final_low m look la i (below level) (table_of m (look y (entry_address table level la))) (joined rights (look y (entry_address table level la)))
+    (record { level = level; address = entry_address table level la; value = look y (entry_address table level la); moment = y; rights = joined rights (look y (entry_address table level la)) }) ys
     (and_parts (nat_le r.moment y) (is_in_order (y ∷ ys) i) h).1
 
 final_alike : (test : ℕ → Bool) (m : ℕ) (look : ℕ → ℕ → ℕ) (la : ℕ) (level : Level) (table : ℕ) (rights : Rights) (r : Reading) (ws : List ℕ) → list_all test (r.moment ∷ ws) ≡ true →
     test (last_or r (readings m look la level table rights ws)).moment ≡ true
 final_alike test m look la level table rights r [] h = (and_parts (test r.moment) true h).0
 final_alike test m look la level table rights r (y ∷ ys) h =
-    final_alike test m look la (below level) (field (look y (entry_address table level la)) 12 m) (joined rights (look y (entry_address table level la)))
-    (record { level = level; value = look y (entry_address table level la); moment = y; rights = joined rights (look y (entry_address table level la)) }) ys
+    final_alike test m look la (below level) (table_of m (look y (entry_address table level la))) (joined rights (look y (entry_address table level la)))
+    (record { level = level; address = entry_address table level la; value = look y (entry_address table level la); moment = y; rights = joined rights (look y (entry_address table level la)) }) ys
     (and_parts (test r.moment) (list_all test (y ∷ ys)) h).1
 
 leads_end : (head : Head) (want : Want) (r : Reading) (rs : List Reading) → leads_to head.cfg want (r ∷ rs) ≡ true →
@@ -150,7 +158,7 @@ leads_end head want r [] h = h
 leads_end head want r (q ∷ rs) h = leads_end head want q rs (and_parts (is_table (kind_of head.cfg r.level r.value)) (leads_to head.cfg want (q ∷ rs)) h).1
 
 may_grow : (s t : State) → Grows s t → (p la : ℕ) (level : Level) (from : Parent) → MayRead s p la level from → MayRead t p la level from
-may_grow s t g p la Four from h = h ∙ ap (λ (f : ℕ → Control). record { table = (f p).root; rights = all_rights }) (sym g.control)
+may_grow s t g p la Four from h = h ∙ ap (λ (f : ℕ → Control). root_of (f p)) (sym g.control)
 may_grow s t g p la Three from h = subst (λ (f : ℕ → Control). IsIn (entry_of (f p).pcid la Four from) (t.structures p)) (sym g.control) (g.structures p _ h)
 may_grow s t g p la Two from h = subst (λ (f : ℕ → Control). IsIn (entry_of (f p).pcid la Three from) (t.structures p)) (sym g.control) (g.structures p _ h)
 may_grow s t g p la One from h = subst (λ (f : ℕ → Control). IsIn (entry_of (f p).pcid la Two from) (t.structures p)) (sym g.control) (g.structures p _ h)
@@ -158,14 +166,33 @@ may_grow s t g p la One from h = subst (λ (f : ℕ → Control). IsIn (entry_of
 reads_grow : (s t : State) → Grows s t → (p la : ℕ) (from : Parent) (r : Reading) → Reads s p la from r → Reads t p la from r
 reads_grow s t g p la from r h = record {
   may = may_grow s t g p la r.level from h.may;
+  address = h.address;
   value = ap (λ (f : ℕ → ℕ). f (entry_address from.table r.level la)) g.memory ∙ h.value;
   rights = h.rights;
 }
 
-facts : (head : Head) (all : List Event) (i p flags la : ℕ) (outcome : Outcome) (x : ℕ) (ws : List ℕ) → failing_access head all i p flags la outcome (x ∷ ws) ≡ None →
-    WalkHolds head all i p (access_kind flags) la outcome (control_at head all p x).pcid (x ∷ ws) (first head all p la x) (others head all p la x ws)
-facts head all i p flags la outcome x ws h =
-    walk_holds head all i p (access_kind flags) la outcome (control_at head all p x).pcid (x ∷ ws) (first head all p la x) (others head all p la x ws) h
+facts : (head : Head) (all : List Event) (c : Claim) (x : ℕ) (ws : List ℕ) → failing_access head all c (x ∷ ws) ≡ None →
+    ClaimHolds head all c (control_at head all c.p x).pcid (x ∷ ws) (first head all c.p c.la x) (others head all c.p c.la x ws)
+facts head all c x ws h =
+    claim_holds head all c (control_at head all c.p x).pcid (x ∷ ws) (first head all c.p c.la x) (others head all c.p c.la x ws) h
+
+assist_facts : (head : Head) (all : List Event) (u : Update) (x : ℕ) (ws : List ℕ) → failing_assist head all u (x ∷ ws) ≡ None →
+    UpdateHolds head all u (control_at head all u.p x).pcid (x ∷ ws) (first head all u.p u.la x) (others head all u.p u.la x ws)
+assist_facts head all u x ws h =
+    update_holds head all u (control_at head all u.p x).pcid (x ∷ ws) (first head all u.p u.la x) (others head all u.p u.la x ws) h
+
+-- the walk of an event at the moment w: its tables are filled
+abbrev pub Walk : Head → List Event → State → ℕ → ℕ → ℕ → ℕ → List ℕ → Type 0
+Walk head all s w p la x ws =
+    Tables head.cfg.m (mem_at all) head s p la (control_at head all p x).pcid w Four (root_at head all p x) x ws (final_parent head all p la x ws) (final head all p la x ws)
+
+walk_of : (head : Head) (all : List Event) (s : State) (w : ℕ) → At head all s w → (a : Asked) (x : ℕ) (ws : List ℕ) → IsWalkable head a.p a.la →
+    WalkHolds head all a (control_at head all a.p x).pcid (x ∷ ws) (first head all a.p a.la x ∷ others head all a.p a.la x ws) →
+    AreCached head.version (first head all a.p a.la x ∷ others head all a.p a.la x ws) →
+    Stands head.cfg.m (mem_at all) s a.p a.la (control_at head all a.p x).pcid w Four (root_at head all a.p x) x ws → Walk head all s w a.p a.la x ws
+walk_of head all s w now a x ws inside holds cached stands =
+    let may : x ≡ w → root_at head all a.p x ≡ root_of (s.control a.p) = λ e. ap (λ (c : Control). root_of c) (ap (control_at head all a.p) e ∙ now.control a.p) in
+    tables head all a.p a.la inside a.want a.number (control_at head all a.p x).pcid w s now Four (root_at head all a.p x) x ws holds.order holds.kinds holds.alike cached stands may
 
 -- the fills of an event at the moment w were taken, and it may come where it is event w
 pub record Block (head : Head) (all : List Event) (s : State) (w i : ℕ) (e : Event) : Type 0 where
@@ -179,27 +206,29 @@ idle : (head : Head) (all : List Event) (s : State) (w i : ℕ) (e : Event) → 
 idle head all s w i e none stood may =
     record { to = s; leads = subst (λ fills. Leads head s (fills_at w fills) s) (sym none) refl; grows = grows_refl s; stood = stood; may = λ _. may }
 
-access_block : (head : Head) (all : List Event) (s : State) (w i : ℕ) → At head all s w → (p flags la : ℕ) (outcome : Outcome) (x : ℕ) (ws : List ℕ) → IsAddress head p la →
-    failing_access head all i p flags la outcome (x ∷ ws) ≡ None → AccessStands head all s w i p la x ws → Block head all s w i (events.Access p flags la outcome (x ∷ ws))
+access_block : (head : Head) (all : List Event) (s : State) (w i : ℕ) → At head all s w → (p flags la : ℕ) (outcome : Outcome) (x : ℕ) (ws : List ℕ) → IsWalkable head p la →
+    failing_access head all (claim_of i p flags la outcome) (x ∷ ws) ≡ None → AccessStands head all s w i p la x ws → Block head all s w i (events.Access p flags la outcome (x ∷ ws))
 access_block head all s w i now p flags la outcome x ws inside h stands =
     let pcid : ℕ = (control_at head all p x).pcid in
-    let holds = facts head all i p flags la outcome x ws h in
+    let c : Claim = claim_of i p flags la outcome in
+    let want : Want = want_of outcome in
+    let holds = facts head all c x ws h in
+    let walk = holds.walk in
     let end : Reading = final head all p la x ws in
     let kind : Kind = final_kind head all p la x ws in
-    let wanted : is_wanted (want_of outcome) kind ≡ true = leads_end head (want_of outcome) (first head all p la x) (others head all p la x ws) holds.kinds in
-    let low : end.moment ≤ i = final_low head.cfg.m (mem_at all) la i Three (second head all p la x).table (second head all p la x).rights (first head all p la x) ws holds.order in
+    let wanted : is_wanted want kind ≡ true = leads_end head want (first head all p la x) (others head all p la x ws) walk.kinds in
+    let low : end.moment ≤ i = final_low head.cfg.m (mem_at all) la i Three (second head all p la x).table (second head all p la x).rights (first head all p la x) ws walk.order in
     let alike : (control_at head all p end.moment).pcid ≡ pcid =
-    eqb-true _ _ (final_alike (λ v. (control_at head all p v).pcid == pcid) head.cfg.m (mem_at all) la Three (second head all p la x).table (second head all p la x).rights (first head all p la x) ws holds.alike) in
-    let may : x ≡ w → root_at head all p x ≡ top s p = λ e. ap (λ (c : Control). record { table = c.root; rights = all_rights }) (ap (control_at head all p) e ∙ now.control p) in
-    let made = tables head all p la inside (want_of outcome) i pcid w s now Four (root_at head all p x) x ws holds.order holds.kinds holds.alike stands.tables may in
+    eqb-true _ _ (final_alike (λ v. (control_at head all p v).pcid == pcid) head.cfg.m (mem_at all) la Three (second head all p la x).table (second head all p la x).rights (first head all p la x) ws walk.alike) in
+    let made = walk_of head all s w now (asked_by c) x ws inside walk holds.flags.tables stands.tables in
     let after_tables : At head all made.to w = at_grown head all s made.to w now made.grows in
     let last : Parent = final_parent head all p la x ws in
-    let filled = leaves head all made.to p la pcid w i inside after_tables last end alike made.reads kind refl
+    let filled = leaves head all made.to outcome p la pcid w i inside after_tables last end alike made.reads kind refl wanted holds.flags.leaf
     (leaf_stands_grow head all s made.to made.grows p la pcid w i end kind stands.leaf) in
     let tables_of : List Fill = table_fills head.cfg.m p la (root_at head all p x) (first head all p la x ∷ others head all p la x ws) in
-    let leaf : List Fill = leaf_fills p la end.level last end.moment kind in
+    let leaf : List Fill = leaf_fills want p la end.level last end.moment in
     let parts : fills_at w (event_fills head all (events.Access p flags la outcome (x ∷ ws))) ≡ fills_at w tables_of ++ fills_at w leaf =
-    ap (fills_at w) (walk_parts head.cfg p la (root_at head all p x) (first head all p la x) (others head all p la x ws)) ∙ fills-append w tables_of leaf in
+    ap (fills_at w) (walk_parts head.cfg.m want p la (root_at head all p x) (first head all p la x) (others head all p la x ws)) ∙ fills-append w tables_of leaf in
     let whole : Grows s filled.to = grows_on s made.to filled.to made.grows filled.grows in
     record {
       to = filled.to;
@@ -207,9 +236,30 @@ access_block head all s w i now p flags la outcome x ws inside h stands =
           (leads_on head s (fills_at w tables_of) made.to (fills_at w leaf) filled.to made.leads filled.leads);
       grows = whole;
       stood = record { tables = stood_grow head.cfg.m (mem_at all) made.to filled.to filled.grows p la pcid w Four (root_at head all p x) x ws made.stood; leaf = filled.stood };
-      may = λ e. comes head all i filled.to p la pcid (access_kind flags) outcome (subst (At head all filled.to) (sym e) (at_grown head all s filled.to w now whole)) last end low
+      may = λ e. comes head all filled.to c pcid (subst (At head all filled.to) (sym e) (at_grown head all s filled.to w now whole)) last end low
           (λ e2. reads_grow made.to filled.to filled.grows p la last end (made.reads (e2 ∙ e))) kind refl wanted
-          (subst (λ v. LeafStood head all filled.to p la pcid v i end kind) (sym e) filled.stood) holds.ends;
+          (subst (λ v. LeafStood head all filled.to p la pcid v i end kind) (sym e) filled.stood) holds.ends holds.flags.write;
+    }
+
+assist_block : (head : Head) (all : List Event) (s : State) (w i : ℕ) → At head all s w → (p flags la word x : ℕ) (ws : List ℕ) → IsWalkable head p la →
+    failing_assist head all (update_of i p flags la word) (x ∷ ws) ≡ None →
+    Stands head.cfg.m (mem_at all) s p la (control_at head all p x).pcid w Four (root_at head all p x) x ws → Block head all s w i (events.Assist p flags la word (x ∷ ws))
+assist_block head all s w i now p flags la word x ws inside h stands =
+    let u : Update = update_of i p flags la word in
+    let holds = assist_facts head all u x ws h in
+    let end : Reading = final head all p la x ws in
+    let last : Parent = final_parent head all p la x ws in
+    let wanted : is_wanted wants.Present (final_kind head all p la x ws) ≡ true = leads_end head wants.Present (first head all p la x) (others head all p la x ws) holds.walk.kinds in
+    let made = walk_of head all s w now (asked_of u) x ws inside holds.walk holds.tables stands in
+    let tables_of : List Fill = table_fills head.cfg.m p la (root_at head all p x) (first head all p la x ∷ others head all p la x ws) in
+    let parts : fills_at w (event_fills head all (events.Assist p flags la word (x ∷ ws))) ≡ fills_at w tables_of ++ [] =
+    ap (fills_at w) (walk_parts head.cfg.m wants.Present p la (root_at head all p x) (first head all p la x) (others head all p la x ws)) ∙ fills-append w tables_of [] in
+    record {
+      to = made.to;
+      leads = subst (λ steps. Leads head s steps made.to) (sym parts) (leads_on head s (fills_at w tables_of) made.to [] made.to made.leads refl);
+      grows = made.grows;
+      stood = made.stood;
+      may = λ e. assists head made.to u last end (λ e2. made.reads (e2 ∙ e)) wanted holds.updated;
     }
 
 block : (head : Head) (all : List Event) (s : State) (w i : ℕ) → At head all s w → (e : Event) → broken_rule head e ≡ None → failing_event head all i e ≡ None →
@@ -217,6 +267,9 @@ block : (head : Head) (all : List Event) (s : State) (w i : ℕ) → At head all
 block head all s w i now (events.Access p flags la outcome (x ∷ ws)) well h stands =
     access_block head all s w i now p flags la outcome x ws (access_inside head p flags la outcome (x ∷ ws) well) h stands
 block head all s w i now (events.Access p flags la outcome []) well h stands = absurd (cc)
+block head all s w i now (events.Assist p flags la word (x ∷ ws)) well h stands =
+    assist_block head all s w i now p flags la word x ws (assist_inside head p flags la word (x ∷ ws) well) h stands
+block head all s w i now (events.Assist p flags la word []) well h stands = absurd (cc)
 block head all s w i now (events.Write p addr value) well h stands = idle head all s w i _ refl tt tt
 block head all s w i now (events.MovCr3 p operand) well h stands = idle head all s w i _ refl tt tt
 block head all s w i now (events.Invlpg p la) well h stands = idle head all s w i _ refl tt tt
@@ -251,9 +304,24 @@ outcome_grow head s t g p la access outcome wants.Absent h =
     (h.0, h.1, may_grow s t g p la h.0 h.1 h.2, ap (λ (f : ℕ → ℕ). kind_of head.cfg h.0 (f (entry_address h.1.table h.0 la))) g.memory ∙ h.3, h.4)
 outcome_grow head s t g p la access outcome wants.Reserved h =
     (h.0, h.1, may_grow s t g p la h.0 h.1 h.2, ap (λ (f : ℕ → ℕ). kind_of head.cfg h.0 (f (entry_address h.1.table h.0 la))) g.memory ∙ h.3, h.4)
+outcome_grow head s t g p la access outcome wants.Present h = absurd h
+
+assist_grow : (head : Head) (s t : State) → Grows s t → (p la : ℕ) (access : AccessKind) (word : ℕ) (dirty : Bool) → MayAssist head s p la access word dirty → MayAssist head t p la access word dirty
+assist_grow head s t g p la access word dirty h =
+    let level : Level = h.0 in
+    let from : Parent = h.1 in
+    let now : (ℕ → ℕ) → ℕ = λ f. f (entry_address from.table level la) in (
+      level,
+      from,
+      may_grow s t g p la level from h.2,
+      h.3,
+      ap (λ (f : ℕ → ℕ). is_wanted wants.Present (kind_of head.cfg level (now f))) g.memory ∙ h.4,
+      ap (λ (f : ℕ → ℕ). not dirty || may_dirty head.cfg access (joined from.rights (now f)) (kind_of head.cfg level (now f))) g.memory ∙ h.5,
+    )
 
 may_come_grow : (head : Head) (s t : State) → Grows s t → (e : Event) → MayCome head s e → MayCome head t e
 may_come_grow head s t g (events.Access p flags la outcome ws) h = outcome_grow head s t g p la (access_kind flags) outcome (want_of outcome) h
+may_come_grow head s t g (events.Assist p flags la word ws) h = assist_grow head s t g p la (access_kind flags) word (says_dirty flags) h
 may_come_grow head s t g (events.Write p addr value) h = tt
 may_come_grow head s t g (events.MovCr3 p operand) h = tt
 may_come_grow head s t g (events.Invlpg p la) h = tt
@@ -302,27 +370,31 @@ stood_stays head all s w p la pcid e now at level from x (y ∷ ys) kept h =
       stood_stays head all s w p la pcid e now at (below level) gave y ys parts.1 h.1,
     )
 
-leaf_stays : (head : Head) (all : List Event) (s : State) (w i p la pcid : ℕ) (access : AccessKind) (outcome : Outcome) (e : Event) → At head all s w → slice_get all w ≡ Some e →
-    (r : Reading) (k : Kind) → failing_end head all i p access la pcid outcome r k ≡ None →
-    LeafStood head all s p la pcid w i r k → LeafStands head all (after_event head s e) p la pcid (w + 1) i r k
-leaf_stays head all s w i p la pcid access outcome e now at r (kinds.Leaf frame shift g) h stood =
-    let t : Translation = leaf_of head all p la pcid r frame shift g in
-    let kept = guard_none (survives head all p (λ c v. must_drop_translation c v t.key) r.moment i) reasons.TranslationDropped _ h in
-    λ low high. translation_stays head all s p w t r.moment i e now kept.0 (omega (arith, low)) (omega (arith, high)) at (stood (omega (arith, low)) (omega (arith, high)))
-leaf_stays head all s w i p la pcid access outcome e now at r kinds.Absent h stood = tt
-leaf_stays head all s w i p la pcid access outcome e now at r kinds.Reserved h stood = tt
-leaf_stays head all s w i p la pcid access outcome e now at r (kinds.Table addr) h stood = tt
+leaf_stays : (head : Head) (all : List Event) (s : State) (w : ℕ) (c : Claim) (pcid : ℕ) (e : Event) → At head all s w → slice_get all w ≡ Some e →
+    (r : Reading) (k : Kind) → failing_end head all c pcid r k ≡ None →
+    LeafStood head all s c.p c.la pcid w c.number r k → LeafStands head all (after_event head s e) c.p c.la pcid (w + 1) c.number r k
+leaf_stays head all s w c pcid e now at r (kinds.Leaf frame shift g) h stood =
+    let t : Translation = leaf_of head all c.p c.la pcid r frame shift g in
+    let kept = guard_none (survives head all c.p (λ d v. must_drop_translation d v t.key) r.moment c.number) reasons.TranslationDropped _ h in
+    λ low high. translation_stays head all s c.p w t r.moment c.number e now kept.0 (omega (arith, low)) (omega (arith, high)) at (stood (omega (arith, low)) (omega (arith, high)))
+leaf_stays head all s w c pcid e now at r kinds.Absent h stood = tt
+leaf_stays head all s w c pcid e now at r kinds.Reserved h stood = tt
+leaf_stays head all s w c pcid e now at r (kinds.Table addr) h stood = tt
 
 event_stays : (head : Head) (all : List Event) (s : State) (w i : ℕ) (e : Event) → At head all s w → slice_get all w ≡ Some e → (f : Event) → failing_event head all i f ≡ None →
     EventStood head all s w i f → EventStands head all (after_event head s e) (w + 1) i f
 event_stays head all s w i e now at (events.Access p flags la outcome (x ∷ ws)) h stood =
     let pcid : ℕ = (control_at head all p x).pcid in
-    let holds = facts head all i p flags la outcome x ws h in
+    let c : Claim = claim_of i p flags la outcome in
+    let holds = facts head all c x ws h in
     record {
-      tables = stood_stays head all s w p la pcid e now at Four (root_at head all p x) x ws holds.kept stood.tables;
-      leaf = leaf_stays head all s w i p la pcid (access_kind flags) outcome e now at (final head all p la x ws) (final_kind head all p la x ws) holds.ends stood.leaf;
+      tables = stood_stays head all s w p la pcid e now at Four (root_at head all p x) x ws holds.walk.kept stood.tables;
+      leaf = leaf_stays head all s w c pcid e now at (final head all p la x ws) (final_kind head all p la x ws) holds.ends stood.leaf;
     }
 event_stays head all s w i e now at (events.Access p flags la outcome []) h stood = tt
+event_stays head all s w i e now at (events.Assist p flags la word (x ∷ ws)) h stood =
+    stood_stays head all s w p la (control_at head all p x).pcid e now at Four (root_at head all p x) x ws (assist_facts head all (update_of i p flags la word) x ws h).walk.kept stood
+event_stays head all s w i e now at (events.Assist p flags la word []) h stood = tt
 event_stays head all s w i e now at (events.Write p addr value) h stood = tt
 event_stays head all s w i e now at (events.MovCr3 p operand) h stood = tt
 event_stays head all s w i e now at (events.Invlpg p la) h stood = tt
@@ -353,6 +425,8 @@ none_stands head all s i (events.Access p flags la outcome (x ∷ ws)) = record 
   leaf = no_leaf_stands head all s p la (control_at head all p x).pcid i (final head all p la x ws) (final_kind head all p la x ws);
 }
 none_stands head all s i (events.Access p flags la outcome []) = tt
+none_stands head all s i (events.Assist p flags la word (x ∷ ws)) = none_stand head.cfg.m (mem_at all) s p la (control_at head all p x).pcid Four (root_at head all p x) x ws
+none_stands head all s i (events.Assist p flags la word []) = tt
 none_stands head all s i (events.Write p addr value) = tt
 none_stands head all s i (events.MovCr3 p operand) = tt
 none_stands head all s i (events.Invlpg p la) = tt
@@ -370,8 +444,11 @@ get-seam (d ∷ done) e rest = get-seam done e rest
 -- no fill of an event stands after it
 none_after : (head : Head) (all : List Event) (i v : ℕ) (e : Event) → failing_event head all i e ≡ None → i < v → fills_at v (event_fills head all e) ≡ []
 none_after head all i v (events.Access p flags la outcome (x ∷ ws)) h lt =
-    no_fills_after head.cfg (mem_at all) p la i v lt Four (root_at head all p x) x ws (facts head all i p flags la outcome x ws h).order
+    no_fills_after head.cfg.m (want_of outcome) (mem_at all) p la i v lt Four (root_at head all p x) x ws (facts head all (claim_of i p flags la outcome) x ws h).walk.order
 none_after head all i v (events.Access p flags la outcome []) h lt = refl
+none_after head all i v (events.Assist p flags la word (x ∷ ws)) h lt =
+    no_fills_after head.cfg.m wants.Present (mem_at all) p la i v lt Four (root_at head all p x) x ws (assist_facts head all (update_of i p flags la word) x ws h).walk.order
+none_after head all i v (events.Assist p flags la word []) h lt = refl
 none_after head all i v (events.Write p addr value) h lt = refl
 none_after head all i v (events.MovCr3 p operand) h lt = refl
 none_after head all i v (events.Invlpg p la) h lt = refl

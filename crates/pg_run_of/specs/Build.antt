@@ -9,7 +9,8 @@ use Rattle.pg_run_of.specs.declared.build.BuildError.{BuildError}
 use Rattle.pg_run_of.specs.declared.build.BuildError.TheVariants.{NotAccepted, Memory}
 use Rattle.pg_run_of.specs.Plan.{steps_of, DropsNothing}
 
--- the steps are the planned run of accepted events: a run of the machine that has exactly these events, forgets nothing, and takes at most five steps an event
+-- the steps are the planned run of accepted events: a run of the machine that has exactly these
+-- events, forgets nothing, and takes at most five steps an event
 pub record BuildsRun (head : Head) (events : List Event) (steps : List Step) : Type 0 where
   pub accepted : Accepted head events
   pub planned : steps ≡ steps_of head events

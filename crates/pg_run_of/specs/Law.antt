@@ -1,5 +1,5 @@
 -- An accepted record is the record of a run.
-use Rattle.std.specs.Prelude.{◌≡◌, List, None}
+use Rattle.std.specs.Prelude.{◌≡◌, List, [], ◌∷◌, None}
 use Rattle.std.specs.List.{AllByRecursion}
 use Rattle.pg_event.specs.declared.event.Event.{Event}
 use Rattle.pg_event.specs.Heads.{Head}
@@ -8,6 +8,7 @@ use Rattle.pg_event.specs.Spelling.{Recorded, IsRecord}
 use Rattle.pg_event.specs.Witness.{Accepted}
 use Rattle.pg_machine.specs.declared.step.Step.{Step}
 use Rattle.pg_machine.specs.Machine.{IsRun, visible}
+use Rattle.pg_machine.specs.NoRun.{one_processor, answered_read}
 
 -- a run of the machine has exactly these events
 abbrev pub HasRun : Head → List Event → Type 0
@@ -15,8 +16,14 @@ HasRun head events = (steps : List Step) × IsRun head steps × (visible steps �
 
 -- well-formed events that are all witnessed have a run
 abbrev pub AcceptedEventsRun : Type 0
-AcceptedEventsRun = (head : Head) (events : List Event) → AllByRecursion (λ e. broken_rule head e ≡ None) events → Accepted head events → HasRun head events
+AcceptedEventsRun =
+    (head : Head) (events : List Event) → AllByRecursion (λ e. broken_rule head e ≡ None) events →
+    Accepted head events → HasRun head events
 
 -- an accepted record has a run
 abbrev pub AcceptedRecordsRun : Type 0
 AcceptedRecordsRun = (r : Recorded) → IsRecord r → Accepted r.head r.events → HasRun r.head r.events
+
+-- not every record has a run: a read that is answered before anything was written has none
+abbrev pub AnsweredReadHasNoRun : Type 0
+AnsweredReadHasNoRun = HasRun one_processor (answered_read ∷ []) → ⊥

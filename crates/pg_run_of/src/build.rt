@@ -1,7 +1,6 @@
-ghost use Rattle.std.specs.Prelude.{◌≡◌, ◌<◌, ◌≤◌, ◌^◌, None, length, IfOk, IfErr};
-ghost use Rattle.std.specs.List.{AllByRecursion};
-ghost use Rattle.pg_event.specs.Form.{broken_rule};
+ghost use Rattle.std.specs.Prelude.{◌≡◌, ◌<◌, ◌^◌, None, length, IfOk, IfErr};
 ghost use Rattle.pg_event.specs.Spelling.{IsHead};
+ghost use Rattle.pg_check.specs.Kept.{AreWellFormed};
 ghost use Rattle.pg_run_of.specs.Build.{BuildsRun, IsNotAccepted};
 ghost use Rattle.pg_run_of.specs.declared.build.BuildError.TheVariants.{Memory};
 
@@ -39,16 +38,17 @@ pub fn run_of(alloc: Global, history: &History) -> Result<Vec<Step>, BuildError>
 {
     match first_bad(history) {
         Some((event, reason)) => Err(BuildError::NotAccepted { event, reason }),
-        None => Ok(plan_run(alloc, history.header(), history.events())?),
+        None => Ok(plan_run(alloc, history)?),
     }
 }
 
 /// The run of a record, if it is accepted; see `run_of`.
 pub fn build_run(alloc: Global, trace: &Record) -> Result<Vec<Step>, BuildError>
     requires head { IsHead trace.now.header }
-    requires form { AllByRecursion (λ e. broken_rule trace.now.header e ≡ None) trace.now.events.items }
+    requires form { AreWellFormed trace.now.header trace.now.events.items }
     requires count { length trace.now.events.items < 2 ^ 32 }
-    ensures run { IfOk result (λ steps. BuildsRun trace.now.header trace.now.events.items steps.items) }
+    ensures run { IfOk result
+        (λ steps. BuildsRun trace.now.header trace.now.events.items steps.items) }
     ensures refused { IfErr result (λ e. IsNotAccepted trace.now.header trace.now.events.items e) }
 {
     let mut history = History::new(alloc, trace.header.clone()?)?;

@@ -1,5 +1,7 @@
-ghost use Rattle.pg_run_of.specs.Law.{AcceptedEventsRun, AcceptedRecordsRun};
+ghost use Rattle.pg_run_of.specs.Law.{AcceptedEventsRun, AcceptedRecordsRun, AnsweredReadHasNoRun};
 ghost use Rattle.pg_run_of.specs.Converse.{RunsAreAccepted, RunsAreRecords};
+
+use pg_machine::some_record_has_no_run;
 
 /// Well-formed events of which each is witnessed are those of a run.
 pub fn accepted_events_run()
@@ -21,3 +23,10 @@ pub fn runs_are_accepted()
 pub fn runs_are_records()
     ensures { RunsAreRecords }
 {}
+
+/// Not every record has a run: one that begins with a read that is answered has none.
+pub fn answered_read_has_no_run()
+    ensures { AnsweredReadHasNoRun }
+{
+    some_record_has_no_run();
+}

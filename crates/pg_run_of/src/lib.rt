@@ -7,12 +7,13 @@ mod fill;
 mod law;
 mod placer;
 mod plan;
-mod values;
+#[cfg(test)]
+mod tests;
 mod visit;
 mod walker;
 
 pub use build::{BuildError, build_run, run_of};
-pub use fill::Fill;
-pub use law::{accepted_events_run, accepted_records_run, runs_are_accepted, runs_are_records};
-pub use plan::plan_run;
-pub use values::{control_at, memory_at};
+pub use law::{
+    accepted_events_run, accepted_records_run, answered_read_has_no_run, runs_are_accepted,
+    runs_are_records,
+};

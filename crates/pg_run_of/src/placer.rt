@@ -1,10 +1,11 @@
 ghost use Rattle.std.specs.Prelude.{◌≡◌, ◌≤◌, ◌<◌, ◌+◌, ◌^◌, ℕ, [], ◌∷◌, ◌++◌, length, IfOk, OnOk};
 ghost use Rattle.std.specs.List.Sorted.{IsNonDecreasingBy};
+ghost use Rattle.pg_machine.specs.declared.step.Step.TheVariants.{Do};
 ghost use Rattle.pg_run_of.specs.declared.fill.Fill.{Fill};
 ghost use Rattle.pg_run_of.specs.Plan.{fills_at, steps_from};
 ghost use Rattle.pg_run_of.specs.Places.{IsPlace};
 
-use crate::fill::Fill;
+use crate::fill::{Fill, step_of};
 use pg_event::Event;
 use pg_machine::Step;
 use std::alloc::{AllocError, Global};
@@ -17,23 +18,27 @@ pub fn sort_fills(fills: &mut Vec<Fill>) -> Result<(), AllocError>
     fills.sort_by_key(|fill| fill.moment)
 }
 
-/// Appends the fills of a moment, which stand from `from` on, and gives where the later ones stand.
-fn push_due(
+/// Appends the fills of a moment, which stand from `from` on, and then its event, and gives where
+/// the later fills stand.
+fn push_moment(
     steps: &mut Vec<Step>,
     fills: &[Fill],
     from: usize,
     moment: u32,
+    event: &Event,
 ) -> Result<usize, AllocError>
     requires order { IsNonDecreasingBy (λ (f : Fill). f.moment) fills.now }
     requires place { IsPlace fills.now moment from }
-    ensures steps { OnOk result (steps.new.items ≡ steps.old.items ++ fills_at moment fills.now) }
+    ensures steps { OnOk result
+        (steps.new.items ≡ steps.old.items ++ (fills_at moment fills.now ++ Do event.now ∷ [])) }
     ensures place { IfOk result (λ next. IsPlace fills.now (moment + 1) next) }
 {
     let mut next = from;
     while next < fills.len() && fills[next].moment == moment {
-        steps.push(fills[next].step)?;
+        steps.push(step_of(&fills[next]))?;
         next += 1;
     }
+    steps.push(Step::Do(*event))?;
     Ok(next)
 }
 
@@ -46,8 +51,7 @@ pub fn place(alloc: Global, fills: &[Fill], events: &[Event]) -> Result<Vec<Step
     let mut steps = Vec::new(alloc);
     let mut next = 0;
     for (moment, event) in events.iter().enumerate() {
-        next = push_due(&mut steps, fills, next, moment as u32)?;
-        steps.push(Step::Do(*event))?;
+        next = push_moment(&mut steps, fills, next, moment as u32, event)?;
     }
     Ok(steps)
 }

@@ -1,12 +1,12 @@
 ghost use Rattle.std.specs.Prelude.{◌≡◌, ◌≤◌, ◌<◌, ◌^◌};
-ghost use Rattle.pg_entry.specs.Bits.{field};
+ghost use Rattle.pg_entry.specs.Kinds.{table_of};
 ghost use Rattle.pg_entry.specs.Permission.{joined};
 ghost use Rattle.pg_event.specs.Walk.{below, entry_address};
 ghost use Rattle.pg_run_of.specs.Plan.{table_fill};
 
-use pg_entry::{Entry, Level, combine, field};
-use pg_event::{below, entry_address};
-use pg_machine::{Parent, Step};
+use pg_entry::{Entry, Level, combine, table_of};
+use pg_event::{Parent, below, entry_address};
+use pg_machine::Step;
 
 /// A walk of processor `p` for a linear address, as far as it has come: the level that it reads
 /// next, and the table that it reads it in.
@@ -44,13 +44,16 @@ pub fn descend(m: u8, visit: Visit, value: u64) -> Visit
     requires width { (12 ≤ m) × (m ≤ 52) }
     ensures address { (result.p ≡ visit.p) × (result.la ≡ visit.la) }
     ensures level { result.level ≡ below visit.level }
-    ensures from { result.from ≡ record { table = field value 12 m; rights = joined visit.from.rights value } }
+    ensures from { result.from
+        ≡ record { table = table_of m value; rights = joined visit.from.rights value } }
+    ensures within { result.from.table < 2 ^ 52 }
 {
+    let entry = Entry(value);
     Visit {
         level: below(visit.level),
         from: Parent {
-            table: field(value, 12, m as u32),
-            rights: combine(visit.from.rights, Entry(value)),
+            table: table_of(m, entry),
+            rights: combine(visit.from.rights, entry),
         },
         ..visit
     }

@@ -1,8 +1,8 @@
 //! The control registers of each processor at a moment.
 #![tactic(auto)]
 
-mod history;
+mod controls;
 #[cfg(test)]
 mod tests;
 
-pub use history::{Change, Controls};
+pub use controls::Controls;

@@ -3,7 +3,7 @@ ghost use Rattle.pg_event.specs.Spelling.{IsHead};
 
 use crate::Controls;
 use pg_entry::{Cfg, CfgFlags};
-use pg_event::{Event, Header};
+use pg_event::{Event, Header, Version};
 use std::alloc::{AllocError, Global};
 use std::test::Fail;
 
@@ -14,6 +14,7 @@ fn one_processor(alloc: Global) -> Result<Header, AllocError>
     let mut processors = Vec::new(alloc);
     processors.push((0x1001, true))?;
     Ok(Header {
+        version: Version::One,
         cfg: Cfg {
             flags: CfgFlags(3),
             m: 40,

@@ -1,5 +1,4 @@
-mod WrittenRuns
-mod Parts
-mod Turns
-mod Asked
-mod Helped
+pub mod WrittenRuns
+pub mod Rows
+pub mod Upgraded
+pub mod Asked

@@ -1,92 +1,126 @@
 -- What is written for a record of which a run is asked, and what an error leaves.
-use Rattle.std.proofs.Common.{◌≡◌, ℕ, List, Option, Some, None, Ok, Err, IfSome, refl, ap, subst, true, false, inl, inr}
-use Rattle.std.specs.Io.KnownBytes.{Appends, Keeps}
+use Rattle.std.proofs.Common.{◌≡◌, ℕ, List, Option, Some, None, Ok, Err, IfSome, refl, subst, inl, inr}
 use Rattle.pg_event.specs.declared.event.Reason.{Reason}
-use Rattle.pg_event.specs.declared.refusal.Refusal.{Refusal}
+use Rattle.pg_event.specs.declared.version.Version.TheVariants.{Two}
 use Rattle.pg_event.specs.Witness.{first_bad}
-use Rattle.pg_event.specs.Spelling.{Recorded, Spells}
-use Rattle.pg_event.specs.Reading.{refusal, refusal_of}
-use Rattle.pg_event.proofs.Records.{reading_again}
-use Rattle.pg_event.proofs.Spellings.{no_bytes_spell_two_records}
+use Rattle.pg_event.specs.Spelling.{Recorded}
 use Rattle.pg_machine.specs.declared.step.Step.{Step}
 use Rattle.pg_run_of.specs.declared.build.BuildError.TheVariants.{NotAccepted}
 use Rattle.pg_run_of.specs.Build.{BuildsRun, IsNotAccepted}
 use Rattle.pg_report.specs.declared.report.Report.{Report}
 use Rattle.pg_report.specs.declared.error.AuditError.{AuditError}
 use Rattle.pg_report.specs.declared.error.AuditError.TheVariants as errors
-use Rattle.pg_report.specs.Intake.{ReadsRecord, CountsDevice}
+use Rattle.pg_report.specs.Changes.{Change, Works, AddsNothing}
+use Rattle.pg_report.specs.Intake.{ReadsRecord, TellsDevice}
 use Rattle.pg_report.specs.Text.{report_of, report_text}
-use Rattle.pg_report.specs.Audits.{WritesReport, SpellsOne, Counts, counts_of}
-use Rattle.pg_tool.specs.Status.{WritesSteps, GivesRun}
-
--- no other record has these bytes
-one : (bytes : List ℕ) (r : Recorded) → Spells bytes r → SpellsOne bytes r
-one bytes r spells = (spells, λ s other. no_bytes_spell_two_records bytes s r other spells)
-
--- bytes that are refused spell no record
-none : (bytes : List ℕ) (e : Refusal) → refusal bytes ≡ Some e → (r : Recorded) → Spells bytes r → ⊥
-none bytes e h r spells = let spelled : refusal bytes ≡ None = ap refusal_of (reading_again bytes r spells) in cc
-
--- the text of the record's run was written
-pub run_written : (left : Option (List ℕ)) (r : Recorded) (steps given : List Step) (old new : Option (List ℕ)) (c : Counts) → IfSome left (λ bytes. ReadsRecord bytes (Ok r)) → BuildsRun r.head r.events steps
-    → given ≡ steps → WritesSteps old new given (Ok tt) → IfSome left (λ bytes. GivesRun bytes old new c (Ok true))
-run_written None r steps given old new c spells builds is w = tt
-run_written (Some bytes) r steps given old new c spells builds is w =
-    let W : List Step → Type 0 = λ x. WritesSteps old new x (Ok tt) in
-    (r, one bytes r spells, steps, builds, subst W is w)
-
-fails_in_run : (e : AuditError) (bytes : List ℕ) (r : Recorded) (steps : List Step) (old new : Option (List ℕ)) (r0 r1 w0 w1 : ℕ) → Spells bytes r → BuildsRun r.head r.events steps
-    → WritesSteps old new steps (Err e) → r1 ≡ r0 → CountsDevice {A = Unit {0}} w0 w1 (Err e) → GivesRun bytes old new (counts_of r0 r1 w0 w1) (Err e)
-fails_in_run (errors.Refused d) bytes r steps old new r0 r1 w0 w1 spells builds w same count = absurd w
-fails_in_run errors.Device bytes r steps old new r0 r1 w0 w1 spells builds w same count = inr ((same, count), inl (r, one bytes r spells, steps, builds, w))
-fails_in_run errors.Memory bytes r steps old new r0 r1 w0 w1 spells builds w same count = w
-
--- an error of writing it
-pub run_fails : (left : Option (List ℕ)) (r : Recorded) (steps given : List Step) (e : AuditError) (old new : Option (List ℕ)) (r0 r1 w0 w1 : ℕ) → IfSome left (λ bytes. ReadsRecord bytes (Ok r))
-    → BuildsRun r.head r.events steps → given ≡ steps → WritesSteps old new given (Err e) → r1 ≡ r0 → CountsDevice {A = Unit {0}} w0 w1 (Err e)
-    → IfSome left (λ bytes. GivesRun bytes old new (counts_of r0 r1 w0 w1) (Err e))
-run_fails None r steps given e old new r0 r1 w0 w1 spells builds is w same count = tt
-run_fails (Some bytes) r steps given e old new r0 r1 w0 w1 spells builds is w same count =
-    let W : List Step → Type 0 = λ x. WritesSteps old new x (Err e) in
-    fails_in_run e bytes r steps old new r0 r1 w0 w1 spells builds (subst W is w) same count
+use Rattle.pg_report.specs.Audits.{WritesText, TellsFailures}
+use Rattle.pg_report.proofs.Verdicts.{one, none}
+use Rattle.pg_tool.specs.declared.shown.Shown.{Shown}
+use Rattle.pg_tool.specs.declared.shown.Shown.TheVariants as shown
+use Rattle.pg_tool.specs.Runs.{run_text}
+use Rattle.pg_tool.specs.Status.{GivesRun, HasWrittenRun, IsRunOf}
 
 is_bad : (r : Recorded) (event : ℕ) (reason : Reason) → IsNotAccepted r.head r.events (NotAccepted event reason) → first_bad r.head r.events ≡ None → ⊥
 is_bad r event reason some none = cc
 
--- the report of a record that is not accepted was written
-pub report_written : (left : Option (List ℕ)) (r : Recorded) (event : ℕ) (reason : Reason) (report : Report) (old new : Option (List ℕ)) (c : Counts) → IfSome left (λ bytes. ReadsRecord bytes (Ok r))
-    → IsNotAccepted r.head r.events (NotAccepted event reason) → report ≡ report_of r → Appends old new (report_text report) → IfSome left (λ bytes. GivesRun bytes old new c (Ok false))
-report_written None r event reason report old new c spells bad is w = tt
-report_written (Some bytes) r event reason report old new c spells bad is w =
-    let W : Report → Type 0 = λ x. Appends old new (report_text x) in
-    (r, one bytes r spells, is_bad r event reason bad, subst W is w)
+module _ (input output : Change) where
+  -- ---- an error of reading, with the writer left alone
 
-fails_in_report : (e : AuditError) (bytes : List ℕ) (r : Recorded) (old new : Option (List ℕ)) (r0 r1 w0 w1 : ℕ) → Spells bytes r → (first_bad r.head r.events ≡ None → ⊥)
-    → WritesReport old new (report_of r) {A = Unit {0}} (Err e) → r1 ≡ r0 → CountsDevice {A = Unit {0}} w0 w1 (Err e) → GivesRun bytes old new (counts_of r0 r1 w0 w1) (Err e)
-fails_in_report (errors.Refused d) bytes r old new r0 r1 w0 w1 spells bad w same count = absurd w
-fails_in_report errors.Device bytes r old new r0 r1 w0 w1 spells bad w same count = inr ((same, count), inr (r, one bytes r spells, bad, w))
-fails_in_report errors.Memory bytes r old new r0 r1 w0 w1 spells bad w same count = w
+  reading_gives : (left : Option (List ℕ)) (e : AuditError) → IfSome left (λ bytes. ReadsRecord Two bytes (Err e)) → TellsDevice {A = Recorded} input (Err e) → AddsNothing output → Works output
+      → IfSome left (λ bytes. GivesRun bytes input output (Err e))
+  reading_gives None e reads read kept worked = tt
+  reading_gives (Some bytes) (errors.Refused d) reads read kept worked = (reads, none bytes d reads, kept)
+  reading_gives (Some bytes) errors.Device reads read kept worked = inl ((read, worked), kept)
+  reading_gives (Some bytes) errors.Memory reads read kept worked = kept
 
--- an error of writing it
-pub report_fails : (left : Option (List ℕ)) (r : Recorded) (event : ℕ) (reason : Reason) (report : Report) (e : AuditError) (old new : Option (List ℕ)) (r0 r1 w0 w1 : ℕ) → IfSome left (λ bytes. ReadsRecord bytes (Ok r))
-    → IsNotAccepted r.head r.events (NotAccepted event reason) → report ≡ report_of r → WritesReport old new report {A = Unit {0}} (Err e) → r1 ≡ r0 → CountsDevice {A = Unit {0}} w0 w1 (Err e)
-    → IfSome left (λ bytes. GivesRun bytes old new (counts_of r0 r1 w0 w1) (Err e))
-report_fails None r event reason report e old new r0 r1 w0 w1 spells bad is w same count = tt
-report_fails (Some bytes) r event reason report e old new r0 r1 w0 w1 spells bad is w same count =
-    let W : Report → Type 0 = λ x. WritesReport old new x {A = Unit {0}} (Err e) in
-    fails_in_report e bytes r old new r0 r1 w0 w1 spells (is_bad r event reason bad) (subst W is w) same count
+  pub reading_fails : (e : AuditError) → IfSome input.old.bytes (λ bytes. ReadsRecord Two bytes (Err e)) → TellsDevice {A = Recorded} input (Err e) → AddsNothing output → Works output → IsRunOf input output (Err e)
+  reading_fails e reads read kept worked = record { gives = reading_gives input.old.bytes e reads read kept worked; written = nothing e read; failures = tells e read }
+    where
+      nothing : (e : AuditError) → TellsDevice {A = Recorded} input (Err e) → HasWrittenRun input output (Err e)
+      nothing (errors.Refused d) read = kept
+      nothing errors.Device read = inl ((read, worked), kept)
+      nothing errors.Memory read = kept
 
-kept_same : (old : Option (List ℕ)) → Keeps old old
-kept_same None = tt
-kept_same (Some x) = refl
+      tells : (e : AuditError) → TellsDevice {A = Recorded} input (Err e) → TellsFailures {A = Shown} input output (Err e)
+      tells (errors.Refused d) read = (read, worked)
+      tells errors.Device read = inl (read, worked)
+      tells errors.Memory read = (read, worked)
 
-refused : (e : AuditError) (bytes : List ℕ) (old : Option (List ℕ)) (r0 r1 w : ℕ) → ReadsRecord bytes (Err e) → CountsDevice {A = Recorded} r0 r1 (Err e) → GivesRun bytes old old (counts_of r0 r1 w w) (Err e)
-refused (errors.Refused d) bytes old r0 r1 w h count = (h, none bytes d h, kept_same old)
-refused errors.Memory bytes old r0 r1 w h count = kept_same old
-refused errors.Device bytes old r0 r1 w h count = inl ((count, refl), kept_same old)
+  -- want of memory before anything is written
+  pub memory_fails : (r : Recorded) → TellsDevice {A = Recorded} input (Ok r) → AddsNothing output → Works output → IsRunOf input output (Err errors.Memory)
+  memory_fails r read kept worked = record { gives = gives input.old.bytes; written = kept; failures = (read, worked) }
+    where
+      gives : (left : Option (List ℕ)) → IfSome left (λ bytes. GivesRun bytes input output (Err errors.Memory))
+      gives None = tt
+      gives (Some bytes) = kept
 
--- an error of reading
-pub reading_fails : (left : Option (List ℕ)) (e : AuditError) (old : Option (List ℕ)) (r0 r1 w : ℕ) → IfSome left (λ bytes. ReadsRecord bytes (Err e)) → CountsDevice {A = Recorded} r0 r1 (Err e)
-    → IfSome left (λ bytes. GivesRun bytes old old (counts_of r0 r1 w w) (Err e))
-reading_fails None e old r0 r1 w h count = tt
-reading_fails (Some bytes) e old r0 r1 w h count = refused e bytes old r0 r1 w h count
+  module _ (r : Recorded) (reads : IfSome input.old.bytes (λ bytes. ReadsRecord Two bytes (Ok r))) (read : TellsDevice {A = Recorded} input (Ok r)) where
+    -- ---- a record with a run
+
+    module _ (steps given : List Step) (builds : BuildsRun r.head r.events steps) (is : given ≡ steps) where
+      pub run_written : WritesText output (run_text given) {A = Unit {0}} (Ok tt) → Works output → IsRunOf input output (Ok shown.Run)
+      run_written wrote worked = record { gives = gives input.old.bytes reads; written = (given, wrote); failures = (read, worked) }
+        where
+          gives : (left : Option (List ℕ)) → IfSome left (λ bytes. ReadsRecord Two bytes (Ok r)) → IfSome left (λ bytes. GivesRun bytes input output (Ok shown.Run))
+          gives None reads = tt
+          gives (Some bytes) reads =
+              let W : List Step → Type 0 = λ x. WritesText output (run_text x) {A = Unit {0}} (Ok tt) in
+              (r, one bytes r reads.0, steps, builds, subst W is wrote)
+
+      pub run_fails : (e : AuditError) → WritesText output (run_text given) {A = Unit {0}} (Err e) → TellsDevice {A = Unit {0}} output (Err e) → IsRunOf input output (Err e)
+      run_fails e wrote written = record { gives = gives input.old.bytes e reads (subst W is wrote) written; written = some e wrote written; failures = tells e wrote written }
+        where
+          W : List Step → Type 0
+          W x = WritesText output (run_text x) {A = Unit {0}} (Err e)
+
+          gives : (left : Option (List ℕ)) (e : AuditError) → IfSome left (λ bytes. ReadsRecord Two bytes (Ok r)) → WritesText output (run_text steps) {A = Unit {0}} (Err e) → TellsDevice {A = Unit {0}} output (Err e)
+              → IfSome left (λ bytes. GivesRun bytes input output (Err e))
+          gives None e reads wrote written = tt
+          gives (Some bytes) (errors.Refused d) reads wrote written = absurd wrote
+          gives (Some bytes) errors.Device reads wrote written = inr ((read, written), inl (r, one bytes r reads.0, steps, builds, wrote))
+          gives (Some bytes) errors.Memory reads wrote written = wrote
+
+          some : (e : AuditError) → WritesText output (run_text given) {A = Unit {0}} (Err e) → TellsDevice {A = Unit {0}} output (Err e) → HasWrittenRun input output (Err e)
+          some (errors.Refused d) wrote written = absurd wrote
+          some errors.Device wrote written = inr ((read, written), inl (given, wrote))
+          some errors.Memory wrote written = wrote
+
+          tells : (e : AuditError) → WritesText output (run_text given) {A = Unit {0}} (Err e) → TellsDevice {A = Unit {0}} output (Err e) → TellsFailures {A = Shown} input output (Err e)
+          tells (errors.Refused d) wrote written = absurd wrote
+          tells errors.Device wrote written = inr (read, written)
+          tells errors.Memory wrote written = (read, written)
+
+    -- ---- a record that is not accepted
+
+    module _ (event : ℕ) (reason : Reason) (report : Report) (bad : IsNotAccepted r.head r.events (NotAccepted event reason)) (is : report ≡ report_of r) where
+      pub report_written : WritesText output (report_text report) {A = Unit {0}} (Ok tt) → Works output → IsRunOf input output (Ok shown.Report)
+      report_written wrote worked = record { gives = gives input.old.bytes reads; written = (report, wrote); failures = (read, worked) }
+        where
+          gives : (left : Option (List ℕ)) → IfSome left (λ bytes. ReadsRecord Two bytes (Ok r)) → IfSome left (λ bytes. GivesRun bytes input output (Ok shown.Report))
+          gives None reads = tt
+          gives (Some bytes) reads =
+              let W : Report → Type 0 = λ x. WritesText output (report_text x) {A = Unit {0}} (Ok tt) in
+              (r, one bytes r reads.0, is_bad r event reason bad, subst W is wrote)
+
+      pub report_fails : (e : AuditError) → WritesText output (report_text report) {A = Unit {0}} (Err e) → TellsDevice {A = Unit {0}} output (Err e) → IsRunOf input output (Err e)
+      report_fails e wrote written = record { gives = gives input.old.bytes e reads (subst W is wrote) written; written = some e wrote written; failures = tells e wrote written }
+        where
+          W : Report → Type 0
+          W x = WritesText output (report_text x) {A = Unit {0}} (Err e)
+
+          gives : (left : Option (List ℕ)) (e : AuditError) → IfSome left (λ bytes. ReadsRecord Two bytes (Ok r)) → WritesText output (report_text (report_of r)) {A = Unit {0}} (Err e) → TellsDevice {A = Unit {0}} output (Err e)
+              → IfSome left (λ bytes. GivesRun bytes input output (Err e))
+          gives None e reads wrote written = tt
+          gives (Some bytes) (errors.Refused d) reads wrote written = absurd wrote
+          gives (Some bytes) errors.Device reads wrote written = inr ((read, written), inr (r, one bytes r reads.0, is_bad r event reason bad, wrote))
+          gives (Some bytes) errors.Memory reads wrote written = wrote
+
+          some : (e : AuditError) → WritesText output (report_text report) {A = Unit {0}} (Err e) → TellsDevice {A = Unit {0}} output (Err e) → HasWrittenRun input output (Err e)
+          some (errors.Refused d) wrote written = absurd wrote
+          some errors.Device wrote written = inr ((read, written), inr (report, wrote))
+          some errors.Memory wrote written = wrote
+
+          tells : (e : AuditError) → WritesText output (report_text report) {A = Unit {0}} (Err e) → TellsDevice {A = Unit {0}} output (Err e) → TellsFailures {A = Shown} input output (Err e)
+          tells (errors.Refused d) wrote written = absurd wrote
+          tells errors.Device wrote written = inr (read, written)
+          tells errors.Memory wrote written = (read, written)

@@ -1,26 +1,57 @@
--- What the whole program answers where its words ask for no command.
+-- What the whole program answers, by its words.
 use Rattle.std.specs.Prelude.{◌≡◌, ◌⊎◌, ℕ, List, string_bytes}
+use Rattle.pg_plan.specs.declared.request.Command.TheVariants.{Check, RunOf, Upgrade}
+use Rattle.pg_plan.specs.declared.request.Usage.{Usage}
+use Rattle.pg_plan.specs.declared.request.Usage.TheVariants.{Help, Version, Fault, Memory}
+use Rattle.pg_plan.specs.Commands.{Asks, AsksNone, AsksHelp, AsksVersion, NamesHelp}
+use Rattle.pg_plan.specs.Commands.{NamesVersion, IsFault, IsHelp, IsVersion}
 use Rattle.pg_report.specs.declared.error.AuditError.TheVariants.{Device}
-use Rattle.pg_tool.specs.declared.request.Usage.{Usage}
-use Rattle.pg_tool.specs.declared.request.Usage.TheVariants.{Help, Fault, Memory}
-use Rattle.pg_tool.specs.Commands.{AsksHelp, NamesHelp, IsFault, IsHelp}
-use Rattle.pg_tool.specs.Refusals.{Written, Adds, FailsIn, StaysSame, Tells, refusal_line, memory_line}
+use Rattle.pg_report.specs.Changes.{Change, Fails, Works, Adds, AddsSome}
+use Rattle.pg_tool.specs.Refusals.{StaysSame, Tells, refusal_line, memory_line}
+use Rattle.pg_tool.specs.Status.{Checks, ShowsRun}
+use Rattle.pg_tool.specs.Streams.{Streams}
+use Rattle.pg_tool.specs.Upgrades.{Upgrades}
 
--- 0 where the text of the help was written, and 2 where the output failed
-abbrev pub GivesHelp : List ℕ → Written → Written → ℕ → Type 0
-GivesHelp text output errors status =
-    (Adds output text × StaysSame errors × (status ≡ 0)) ⊎ (FailsIn output text × Tells errors (refusal_line Device) × (status ≡ 2))
+-- 0 where the text was written, and 2 where the output failed
+abbrev pub GivesText : List ℕ → Change → Change → ℕ → Type 0
+GivesText text output errors status =
+    (Adds output text × Works output × StaysSame errors × (status ≡ 0))
+    ⊎ (AddsSome output text × Fails output × Tells errors (refusal_line Device) × (status ≡ 2))
 
--- no plan: help was given, or 64 and what is wrong with the words was told, or 3 and that memory was refused
-abbrev pub GivesUsage : Usage → Written → Written → ℕ → Type 0
-GivesUsage (Help text) output errors status = GivesHelp (string_bytes text) output errors status
-GivesUsage (Fault text) output errors status = StaysSame output × Tells errors (string_bytes text) × (status ≡ 64)
-GivesUsage Memory output errors status = StaysSame output × Tells errors memory_line × (status ≡ 3)
+-- no plan: help or the version was given, or 64 and what is wrong with the words was told, or 3 and
+-- that memory was refused
+abbrev pub GivesUsage : Usage → Change → Change → ℕ → Type 0
+GivesUsage (Help text) output errors status =
+    GivesText (string_bytes text) output errors status
+GivesUsage (Version text) output errors status =
+    GivesText (string_bytes text) output errors status
+GivesUsage (Fault text) output errors status =
+    StaysSame output × Tells errors (string_bytes text) × (status ≡ 64)
+GivesUsage Memory output errors status =
+    StaysSame output × Tells errors memory_line × (status ≡ 3)
 
--- The words ask for no command, and are told why there is no plan. Help is given for no words but those that name it, and those that are just a flag for it are not told that they are wrong.
-abbrev pub AnswersUsage : List (List ℕ) → Written → Written → ℕ → Type 0
-AnswersUsage words output errors status = (why : Usage) × (IsHelp why → NamesHelp words) × (AsksHelp words → ¬ IsFault why) × GivesUsage why output errors status
+-- The words ask for no command, and are told why there is no plan. Help and the version are given
+-- for no words but those that name them, and words that are just a flag for one are not told that
+-- they are wrong.
+pub record AnswersUsage (words : List (List ℕ)) (s : Streams) (status : ℕ) : Type 0 where
+  pub why : Usage
+  pub help : IsHelp why → NamesHelp words
+  pub version : IsVersion why → NamesVersion words
+  pub asked_help : AsksHelp words → ¬ IsFault why
+  pub asked_version : AsksVersion words → ¬ IsFault why
+  pub gives : GivesUsage why s.output s.errors status
 
 -- memory was refused before any input was read
-abbrev pub RefusesMemory : Type 0 → Written → Written → ℕ → Type 0
-RefusesMemory Unread output errors status = Unread × GivesUsage Memory output errors status
+abbrev pub RefusesMemory : Type 0 → Streams → ℕ → Type 0
+RefusesMemory Unread s status = Unread × GivesUsage Memory s.output s.errors status
+
+-- All that the program promises of its words, its streams and its status: by a command's words what
+-- that command does, or that memory was refused before any input was read; by other words that the
+-- input was not read, and why there is no plan.
+pub record Answers (words : List (List ℕ)) (Unread : Type 0) (s : Streams) (status : ℕ) :
+    Type 0 where
+  pub check : Asks words Check → Checks s status ⊎ RefusesMemory Unread s status
+  pub run_of : Asks words RunOf → ShowsRun s status ⊎ RefusesMemory Unread s status
+  pub upgrade : Asks words Upgrade → Upgrades s status ⊎ RefusesMemory Unread s status
+  pub unread : AsksNone words → Unread
+  pub usage : AsksNone words → AnswersUsage words s status

@@ -1,6 +1,7 @@
-pub mod Lines
+pub mod Runs
 pub mod Replay
-pub mod Status
+pub mod Streams
 pub mod Refusals
-pub mod Commands
+pub mod Status
+pub mod Upgrades
 pub mod Answers

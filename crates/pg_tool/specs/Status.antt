@@ -1,77 +1,104 @@
 -- Exit statuses, and what they say.
-use Rattle.std.specs.Prelude.{◌≡◌, ℕ, Bool, true, false, List, Option, Some, None, Result, Ok, Err, ◌⊎◌, IfSome}
-use Rattle.std.specs.Io.KnownBytes.{Appends, Keeps}
+use Rattle.std.specs.Prelude.{◌≡◌, ℕ, List, Some, None, Result, Ok, Err, ◌⊎◌, IfSome}
 use Rattle.pg_event.specs.Witness.{first_bad}
-use Rattle.pg_event.specs.Spelling.{Recorded, Spells}
+use Rattle.pg_event.specs.Spelling.{Recorded}
 use Rattle.pg_event.specs.Reading.{refusal}
-use Rattle.pg_codec.specs.Streams.{AppendsSome}
 use Rattle.pg_machine.specs.declared.step.Step.{Step}
 use Rattle.pg_run_of.specs.Build.{BuildsRun}
 use Rattle.pg_report.specs.declared.report.Verdict.{Verdict}
 use Rattle.pg_report.specs.declared.report.Verdict.TheVariants.{Yes, No}
 use Rattle.pg_report.specs.declared.error.AuditError.{AuditError}
 use Rattle.pg_report.specs.declared.error.AuditError.TheVariants.{Refused, Device, Memory}
-use Rattle.pg_report.specs.Text.{report_of, report_text}
 use Rattle.pg_report.specs.declared.report.Report.{Report}
-use Rattle.pg_report.specs.Audits.{SpellsOne, Counts, ReaderFailed, WriterFailed, CountsFailures, Audits, MeansRun, Leaves}
-use Rattle.pg_tool.specs.Lines.{run_text}
-use Rattle.pg_tool.specs.Refusals.{Written, TellsError}
+use Rattle.pg_report.specs.Text.{report_of, report_text}
+use Rattle.pg_report.specs.Changes.{Change, Adds, AddsSome, AddsNothing}
+use Rattle.pg_report.specs.Audits.{SpellsOne, SpellsNone, ReaderFails, WriterFails}
+use Rattle.pg_report.specs.Audits.{TellsFailures, IsAudit}
+use Rattle.pg_tool.specs.declared.shown.Shown.{Shown}
+use Rattle.pg_tool.specs.declared.shown.Shown.TheVariants as shown
+use Rattle.pg_tool.specs.Runs.{run_text}
+use Rattle.pg_tool.specs.Refusals.{TellsError}
+use Rattle.pg_tool.specs.Streams.{Streams}
 
+-- 0 yes, 1 no, 2 refused input or a failed device, 3 want of memory
 abbrev pub error_status : AuditError → ℕ
 error_status (Refused e) = 2
 error_status Device = 2
 error_status Memory = 3
 
--- 0 yes, 1 no, 2 refused input or a failed device, 3 want of memory
+abbrev pub verdict_status : Verdict → ℕ
+verdict_status Yes = 0
+verdict_status (No event reason) = 1
+
 abbrev pub status_of : Result Verdict AuditError → ℕ
-status_of (Ok Yes) = 0
-status_of (Ok (No event reason)) = 1
+status_of (Ok verdict) = verdict_status verdict
 status_of (Err e) = error_status e
 
--- The status is that of an audit of what the reader had left, where it tells that, and the output, the counts of failures and the errors are those of the same answer.
-abbrev pub IsStatus : Option (List ℕ) → Option (List ℕ) → Option (List ℕ) → Counts → Written → ℕ → Type 0
-IsStatus left old new c errors status =
-    (answer : Result Verdict AuditError) × (status ≡ status_of answer) × IfSome left (λ bytes. Audits bytes old new c answer) × IfSome left (λ bytes. MeansRun bytes answer)
-    × Leaves old new answer × CountsFailures c answer × TellsError errors answer
-
--- what writing the text of a run leaves: the text, a beginning of it where the device failed, and else nothing
-abbrev pub WritesSteps : Option (List ℕ) → Option (List ℕ) → List Step → Result (Unit {0}) AuditError → Type 0
-WritesSteps old new steps (Ok x) = Appends old new (run_text steps)
-WritesSteps old new steps (Err Device) = AppendsSome old new (run_text steps)
-WritesSteps old new steps (Err Memory) = Keeps old new
-WritesSteps old new steps (Err (Refused e)) = ⊥
+-- The status is that of an audit of what the reader had left, and the line on standard error is
+-- that of the same answer.
+abbrev pub Checks : Streams → ℕ → Type 0
+Checks s status =
+    (answer : Result Verdict AuditError) × (status ≡ status_of answer)
+    × IsAudit s.input s.output answer × TellsError s.errors answer
 
 -- the bytes spell one record, these steps are its planned run, and this holds of their text
 abbrev pub HasRunText : List ℕ → (List ℕ → Type 0) → Type 0
-HasRunText bytes P = (r : Recorded) × SpellsOne bytes r × (steps : List Step) × BuildsRun r.head r.events steps × P (run_text steps)
+HasRunText bytes P =
+    (r : Recorded) × SpellsOne bytes r × (steps : List Step) × BuildsRun r.head r.events steps
+    × P (run_text steps)
 
 -- the bytes spell one record, which is not accepted, and this holds of its report's text
 abbrev pub HasReportText : List ℕ → (List ℕ → Type 0) → Type 0
-HasReportText bytes P = (r : Recorded) × SpellsOne bytes r × (first_bad r.head r.events ≡ None → ⊥) × P (report_text (report_of r))
+HasReportText bytes P =
+    (r : Recorded) × SpellsOne bytes r × (first_bad r.head r.events ≡ None → ⊥)
+    × P (report_text (report_of r))
 
--- Asked for a run of the record that these bytes spell, the program answers so, and leaves the writer so: there is one, and its text was written and nothing else; the record is not accepted, and its report was;
--- or the bytes spell none, and nothing was written; nor was it for want of memory, nor where the reader failed; where the writer failed a beginning of that text was.
-abbrev pub GivesRun : List ℕ → Option (List ℕ) → Option (List ℕ) → Counts → Result Bool AuditError → Type 0
-GivesRun bytes old new c (Ok true) = HasRunText bytes (Appends old new)
-GivesRun bytes old new c (Ok false) = HasReportText bytes (Appends old new)
-GivesRun bytes old new c (Err (Refused e)) = (refusal bytes ≡ Some e) × ((r : Recorded) → Spells bytes r → ⊥) × Keeps old new
-GivesRun bytes old new c (Err Memory) = Keeps old new
-GivesRun bytes old new c (Err Device) = (ReaderFailed c × Keeps old new) ⊎ (WriterFailed c × (HasRunText bytes (AppendsSome old new) ⊎ HasReportText bytes (AppendsSome old new)))
+-- Asked for a run of the record that these bytes spell, the program answers so, and leaves the
+-- writer so: there is one, and its text was written and nothing else; the record is not accepted,
+-- and its report was; or the bytes spell none, and nothing was written; nor was it for want of
+-- memory, nor where the reader failed; where the writer failed a beginning of that text was.
+abbrev pub GivesRun : List ℕ → Change → Change → Result Shown AuditError → Type 0
+GivesRun bytes input output (Ok shown.Run) = HasRunText bytes (Adds output)
+GivesRun bytes input output (Ok shown.Report) = HasReportText bytes (Adds output)
+GivesRun bytes input output (Err (Refused e)) =
+    (refusal bytes ≡ Some e) × SpellsNone bytes × AddsNothing output
+GivesRun bytes input output (Err Memory) = AddsNothing output
+GivesRun bytes input output (Err Device) =
+    (ReaderFails input output × AddsNothing output)
+    ⊎ (WriterFails input output
+    × (HasRunText bytes (AddsSome output) ⊎ HasReportText bytes (AddsSome output)))
 
--- whatever the reader tells: the text of a run or of a report was written, and an error other than a failed device left nothing
-abbrev pub LeavesRun : Option (List ℕ) → Option (List ℕ) → Result Bool AuditError → Type 0
-LeavesRun old new (Ok true) = (steps : List Step) × Appends old new (run_text steps)
-LeavesRun old new (Ok false) = (report : Report) × Appends old new (report_text report)
-LeavesRun old new (Err Device) = Unit {0}
-LeavesRun old new (Err _) = Keeps old new
+-- the text of some run, or of a report
+abbrev pub HasSomeText : (List ℕ → Type 0) → Type 0
+HasSomeText P =
+    ((steps : List Step) × P (run_text steps)) ⊎ ((report : Report) × P (report_text report))
 
-abbrev pub run_status : Result Bool AuditError → ℕ
-run_status (Ok true) = 0
-run_status (Ok false) = 1
+-- what was written, whatever the reader tells
+abbrev pub HasWrittenRun : Change → Change → Result Shown AuditError → Type 0
+HasWrittenRun input output (Ok shown.Run) =
+    (steps : List Step) × Adds output (run_text steps)
+HasWrittenRun input output (Ok shown.Report) =
+    (report : Report) × Adds output (report_text report)
+HasWrittenRun input output (Err (Refused e)) = AddsNothing output
+HasWrittenRun input output (Err Memory) = AddsNothing output
+HasWrittenRun input output (Err Device) =
+    (ReaderFails input output × AddsNothing output)
+    ⊎ (WriterFails input output × HasSomeText (AddsSome output))
+
+-- all that `run-of` promises of its answer and its streams
+pub record IsRunOf (input output : Change) (result : Result Shown AuditError) : Type 0 where
+  pub gives : IfSome input.old.bytes (λ bytes. GivesRun bytes input output result)
+  pub written : HasWrittenRun input output result
+  pub failures : TellsFailures input output result
+
+-- 0 a run, 1 the report of a record that is not accepted
+abbrev pub run_status : Result Shown AuditError → ℕ
+run_status (Ok shown.Run) = 0
+run_status (Ok shown.Report) = 1
 run_status (Err e) = error_status e
 
--- The status is that of such an answer, and the output, the counts of failures and the errors are those of the same answer.
-abbrev pub IsRunStatus : Option (List ℕ) → Option (List ℕ) → Option (List ℕ) → Counts → Written → ℕ → Type 0
-IsRunStatus left old new c errors status =
-    (answer : Result Bool AuditError) × (status ≡ run_status answer) × IfSome left (λ bytes. GivesRun bytes old new c answer)
-    × LeavesRun old new answer × CountsFailures c answer × TellsError errors answer
+-- The status is that of such an answer, and the line on standard error is its line.
+abbrev pub ShowsRun : Streams → ℕ → Type 0
+ShowsRun s status =
+    (answer : Result Shown AuditError) × (status ≡ run_status answer)
+    × IsRunOf s.input s.output answer × TellsError s.errors answer

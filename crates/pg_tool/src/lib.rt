@@ -1,15 +1,15 @@
-//! The whole program, over any streams.
+//! The whole program over any streams.
 #![tactic(auto)]
 
-mod lines;
-mod planner;
 mod program;
-mod request;
-mod stepping;
-mod steps;
+mod refusals;
+mod replayer;
+mod runs;
+mod shown;
+mod upgrader;
 
-pub use lines::tell_memory;
-pub use planner::plan;
-pub use program::{check, pcid_audit, run_of};
-pub use request::{Plan, Task, Usage};
-pub use steps::run_text;
+pub use pg_plan::{Command, Plan, Usage, plan};
+pub use program::{check, pcid_audit, run_of, upgrade};
+pub use refusals::tell_memory;
+pub use runs::run_text;
+pub use shown::Shown;

@@ -1,21 +1,19 @@
-ghost use Rattle.std.specs.Prelude.{◌≡◌, ◌⊎◌, IfSome};
-ghost use Rattle.clap.specs.Walk.{texts};
-ghost use Rattle.pg_report.specs.Intake.{CountsDevice};
-ghost use Rattle.pg_report.specs.Audits.{CountsFailures, counts_of};
-ghost use Rattle.pg_tool.specs.Status.{error_status, status_of, run_status, WritesSteps, GivesRun, LeavesRun, IsStatus, IsRunStatus};
-ghost use Rattle.pg_tool.specs.Commands.{Asks, AsksNone};
-ghost use Rattle.pg_tool.specs.Refusals.{written_of};
-ghost use Rattle.pg_tool.specs.Answers.{GivesHelp, AnswersUsage, RefusesMemory};
+ghost use Rattle.std.specs.Prelude.{◌≡◌, IfOk};
+ghost use Rattle.pg_plan.specs.Commands.{texts};
+ghost use Rattle.pg_report.specs.Changes.{filled};
+ghost use Rattle.pg_tool.specs.Answers.{GivesText, Answers};
+ghost use Rattle.pg_tool.specs.Status.{error_status, verdict_status, status_of, run_status};
+ghost use Rattle.pg_tool.specs.Status.{Checks, ShowsRun};
+ghost use Rattle.pg_tool.specs.Streams.{streams};
+ghost use Rattle.pg_tool.specs.Upgrades.{IsReportText, report_in, TellsReport, Upgrades};
 
-use crate::lines::{tell, tell_error, tell_memory};
-use crate::planner::plan;
-use crate::request::{Plan, Task, Usage};
-use crate::stepping::replay;
-use crate::steps::run_text;
+use crate::refusals::{tell, tell_error, tell_memory, tell_text};
+use crate::replayer::write_run;
+use crate::shown::{ReportText, Shown};
+use crate::upgrader::write_upgrade;
 use pg_codec::{Sink, Source, put_all};
-use pg_machine::Step;
-use pg_report::{AuditError, Verdict, audit_one, read_record, report_of, write_report};
-use pg_run_of::BuildError;
+use pg_plan::{Command, Plan, Usage, plan};
+use pg_report::{AuditError, Verdict, audit_one};
 use std::alloc::{AllocGlobal, Global};
 
 const YES: u8 = 0;
@@ -37,22 +35,30 @@ fn error_status(error: AuditError) -> u8
     }
 }
 
+fn verdict_status(verdict: Verdict) -> u8
+    ensures { result ≡ verdict_status verdict }
+{
+    match verdict {
+        Verdict::Yes => YES,
+        Verdict::No { .. } => NO,
+    }
+}
+
 fn status_of(answer: Result<Verdict, AuditError>) -> u8
     ensures { result ≡ status_of answer }
 {
     match answer {
-        Ok(Verdict::Yes) => YES,
-        Ok(Verdict::No { .. }) => NO,
+        Ok(verdict) => verdict_status(verdict),
         Err(error) => error_status(error),
     }
 }
 
-fn run_status(answer: Result<bool, AuditError>) -> u8
+fn run_status(answer: Result<Shown, AuditError>) -> u8
     ensures { result ≡ run_status answer }
 {
     match answer {
-        Ok(true) => YES,
-        Ok(false) => NO,
+        Ok(Shown::Run) => YES,
+        Ok(Shown::Report) => NO,
         Err(error) => error_status(error),
     }
 }
@@ -65,56 +71,12 @@ pub fn check<R: Source, O: Sink, E: Sink>(
     output: &mut O,
     errors: &mut E,
 ) -> u8
-    ensures { IsStatus (R.left input.old) (O.held output.old) (O.held output.new) (counts_of (R.failed input.old) (R.failed input.new) (O.failed output.old) (O.failed output.new)) (written_of (E.held errors.old) (E.held errors.new) (E.failed errors.old) (E.failed errors.new)) result }
+    ensures { Checks (streams R.Source O.Sink E.Sink
+        (input.old, output.old, errors.old) (input.new, output.new, errors.new)) result }
 {
     let answer = audit_one(alloc, input, output);
     tell_error(errors, &answer);
     status_of(answer)
-}
-
-/// Writes the text of a run. Nothing is written where memory is refused, and a beginning of the text
-/// where the writer fails.
-fn write_steps<O: Sink>(alloc: Global, output: &mut O, steps: &[Step]) -> Result<(), AuditError>
-    ensures text { WritesSteps (O.held output.old) (O.held output.new) steps.now result }
-    ensures device { CountsDevice (O.failed output.old) (O.failed output.new) result }
-{
-    let text = run_text(alloc, steps)?;
-    match put_all(output, text.as_bytes()) {
-        Ok(()) => Ok(()),
-        Err(_) => Err(AuditError::Device),
-    }
-}
-
-/// Writes the run of an accepted record, or the report of one that is not; whether it is.
-fn write_run<R: Source, O: Sink>(
-    alloc: Global,
-    input: &mut R,
-    output: &mut O,
-) -> Result<bool, AuditError>
-    ensures gives { IfSome (R.left input.old) (λ bytes. GivesRun bytes (O.held output.old) (O.held output.new) (counts_of (R.failed input.old) (R.failed input.new) (O.failed output.old) (O.failed output.new)) result) }
-    ensures written { LeavesRun (O.held output.old) (O.held output.new) result }
-    ensures failures { CountsFailures (counts_of (R.failed input.old) (R.failed input.new) (O.failed output.old) (O.failed output.new)) result }
-{
-    let history = match read_record(alloc, input) {
-        Ok(history) => history,
-        Err(error) => return Err(error),
-    };
-    match pg_run_of::run_of(alloc, &history) {
-        Ok(steps) => {
-            let _machine = replay(alloc, history.header(), &steps)?;
-            match write_steps(alloc, output, &steps) {
-                Ok(()) => Ok(true),
-                Err(error) => Err(error),
-            }
-        }
-        Err(BuildError::NotAccepted { .. }) => {
-            match write_report(alloc, output, report_of(&history)) {
-                Ok(()) => Ok(false),
-                Err(error) => Err(error),
-            }
-        }
-        Err(BuildError::Memory) => Err(AuditError::Memory),
-    }
 }
 
 /// Writes a run of the manual's machine that has the events of the record on `input`, one step a
@@ -126,15 +88,51 @@ pub fn run_of<R: Source, O: Sink, E: Sink>(
     output: &mut O,
     errors: &mut E,
 ) -> u8
-    ensures { IsRunStatus (R.left input.old) (O.held output.old) (O.held output.new) (counts_of (R.failed input.old) (R.failed input.new) (O.failed output.old) (O.failed output.new)) (written_of (E.held errors.old) (E.held errors.new) (E.failed errors.old) (E.failed errors.new)) result }
+    ensures { ShowsRun (streams R.Source O.Sink E.Sink
+        (input.old, output.old, errors.old) (input.new, output.new, errors.new)) result }
 {
     let answer = write_run(alloc, input, output);
     tell_error(errors, &answer);
     run_status(answer)
 }
 
-fn help<O: Sink, E: Sink>(text: &str, output: &mut O, errors: &mut E) -> u8
-    ensures { GivesHelp text.now (written_of (O.held output.old) (O.held output.new) (O.failed output.old) (O.failed output.new)) (written_of (E.held errors.old) (E.held errors.new) (E.failed errors.old) (E.failed errors.new)) result }
+/// Tells the report of an upgraded record, or why there is none, and gives the exit status.
+fn tell_upgrade<E: Sink>(errors: &mut E, answer: &Result<ReportText, AuditError>) -> u8
+    requires { IfOk answer.now IsReportText }
+    ensures { TellsReport (filled E.Sink errors.old errors.new) (report_in answer.now) result }
+{
+    match answer {
+        Ok(told) => match put_all(errors, told.text.as_bytes()) {
+            Ok(()) => verdict_status(told.report.verdict),
+            Err(_) => REFUSED,
+        },
+        Err(error) => {
+            tell(errors, *error);
+            error_status(*error)
+        }
+    }
+}
+
+/// Writes the version 2 record of the same events as the version 1 record on `input`, and its
+/// report to `errors`. It gives the exit status, which is that report's: 0 yes, 1 no; or 2 refused,
+/// 3 memory.
+pub fn upgrade<R: Source, O: Sink, E: Sink>(
+    alloc: Global,
+    input: &mut R,
+    output: &mut O,
+    errors: &mut E,
+) -> u8
+    ensures { Upgrades (streams R.Source O.Sink E.Sink
+        (input.old, output.old, errors.old) (input.new, output.new, errors.new)) result }
+{
+    let answer = write_upgrade(alloc, input, output);
+    tell_upgrade(errors, &answer)
+}
+
+/// Gives a text that was asked for: help, or the version.
+fn give_text<O: Sink, E: Sink>(text: &str, output: &mut O, errors: &mut E) -> u8
+    ensures { GivesText text.now
+        (filled O.Sink output.old output.new) (filled E.Sink errors.old errors.new) result }
 {
     match put_all(output, text.as_bytes()) {
         Ok(()) => YES,
@@ -154,17 +152,19 @@ pub fn pcid_audit<'a, T: AllocGlobal, R: Source, O: Sink, E: Sink>(
     output: &mut O,
     errors: &mut E,
 ) -> u8
-    ensures check { Asks (texts words.now) Task.Check → IsStatus (R.left input.old) (O.held output.old) (O.held output.new) (counts_of (R.failed input.old) (R.failed input.new) (O.failed output.old) (O.failed output.new)) (written_of (E.held errors.old) (E.held errors.new) (E.failed errors.old) (E.failed errors.new)) result ⊎ RefusesMemory (input.new ≡ input.old) (written_of (O.held output.old) (O.held output.new) (O.failed output.old) (O.failed output.new)) (written_of (E.held errors.old) (E.held errors.new) (E.failed errors.old) (E.failed errors.new)) result }
-    ensures run_of { Asks (texts words.now) Task.RunOf → IsRunStatus (R.left input.old) (O.held output.old) (O.held output.new) (counts_of (R.failed input.old) (R.failed input.new) (O.failed output.old) (O.failed output.new)) (written_of (E.held errors.old) (E.held errors.new) (E.failed errors.old) (E.failed errors.new)) result ⊎ RefusesMemory (input.new ≡ input.old) (written_of (O.held output.old) (O.held output.new) (O.failed output.old) (O.failed output.new)) (written_of (E.held errors.old) (E.held errors.new) (E.failed errors.old) (E.failed errors.new)) result }
-    ensures unread { AsksNone (texts words.now) → input.new ≡ input.old }
-    ensures usage { AsksNone (texts words.now) → AnswersUsage (texts words.now) (written_of (O.held output.old) (O.held output.new) (O.failed output.old) (O.failed output.new)) (written_of (E.held errors.old) (E.held errors.new) (E.failed errors.old) (E.failed errors.new)) result }
+    ensures { Answers (texts words.now) (input.new ≡ input.old) (streams R.Source O.Sink E.Sink
+        (input.old, output.old, errors.old) (input.new, output.new, errors.new)) result }
 {
     match plan(rt.alloc(), words) {
-        Ok(Plan { task: Task::Check }) => check(rt.alloc(), input, output, errors),
-        Ok(Plan { task: Task::RunOf }) => run_of(rt.alloc(), input, output, errors),
-        Err(Usage::Help(text)) => help(text.as_str(), output, errors),
+        Ok(Plan { command }) => match command {
+            Command::Check => check(rt.alloc(), input, output, errors),
+            Command::RunOf => run_of(rt.alloc(), input, output, errors),
+            Command::Upgrade => upgrade(rt.alloc(), input, output, errors),
+        },
+        Err(Usage::Help(text)) => give_text(text.as_str(), output, errors),
+        Err(Usage::Version(text)) => give_text(text.as_str(), output, errors),
         Err(Usage::Fault(text)) => {
-            let _ = put_all(errors, text.as_bytes());
+            tell_text(errors, text.as_str());
             USAGE
         }
         Err(Usage::Memory) => {

@@ -1,22 +1,14 @@
 use Rattle.std.proofs.Common.{arith}
 use Rattle.pg_event.specs.Reading.{byte_at}
 use Rattle.pg_codec.proofs.Local.{byte_local}
-use Rattle.pg_codec.proofs.Next.{next_read, next_refused, next_took, rest_fits}
+use Rattle.pg_codec.proofs.Next.{count_fits, next_pulls}
 use Rattle.pg_codec.proofs.parts.next_byte.Goals as goal
 
-pub keep_last-requires : goal.keep_last-requires
-keep_last-requires g c = rest_fits 1 byte_at c.prepare.new.self c.in-Ok.byte c.in-Ok.rest.now byte_local (rw c.unread.ensures.value at c.in-Ok.ensures)
+pub taken-requires : goal.taken-requires
+taken-requires g c =
+    count_fits 1 byte_at byte_local (omega arith) _ c.byte_of.result c.counted-part.result c.prepare.new.self (rw c.unread.ensures.value at c.byte_of.ensures) c.counted-part.ensures
 
-pub returns-in-Err-clause-reads : goal.returns-in-Err-clause-reads
-returns-in-Err-clause-reads g c =
-    let done = c.in_ok-prepare.ensures in
-    next_refused 1 byte_at byte_local (omega arith) _ c.prepare.new.self _ _ c.in-Err.refusal done.kept done.enough (rw c.unread.ensures.value at c.in-Err.ensures)
-
-pub returns-in-Ok-clause-reads : goal.returns-in-Ok-clause-reads
-returns-in-Ok-clause-reads g c =
-    let done = c.in_ok-prepare.ensures in
-    next_read 1 byte_at byte_local (omega arith) _ c.prepare.new.self _ _ c.in-Ok.byte c.in-Ok.rest.now _ done.kept done.enough (rw c.unread.ensures.value at c.in-Ok.ensures) c.keep_last.ensures
-
-pub returns-in-Ok-clause-took : goal.returns-in-Ok-clause-took
-returns-in-Ok-clause-took g c =
-    next_took 1 byte_at byte_local (omega arith) _ c.prepare.new.self _ _ c.in-Ok.byte c.in-Ok.rest.now _ c.in_ok-prepare.ensures.kept c.unread.ensures.bytes (rw c.unread.ensures.value at c.in-Ok.ensures) c.keep_last.ensures
+pub returns : goal.returns
+returns g c =
+    next_pulls 1 byte_at byte_local (omega arith) g.R.Source _ _ c.prepare.new.self _ _ _ _ c.in_ok-prepare.ensures c.byte_of.result c.counted-part.result _ c.unread.ensures.bytes
+    (rw c.unread.ensures.value at c.byte_of.ensures) c.counted-part.ensures c.taken.ensures

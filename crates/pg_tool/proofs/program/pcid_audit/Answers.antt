@@ -1,22 +1,30 @@
-use Rattle.std.proofs.Common.{◌∙◌, refl, sym, inr}
+use Rattle.std.proofs.Common.{refl, sym, subst, ◌∙◌}
 use Rattle.std.proofs.KnownBytes.{Keeps-refl}
-use Rattle.pg_tool.specs.declared.request.Task.TheVariants.{Check, RunOf}
+use Rattle.pg_plan.specs.declared.request.Command.TheVariants.{Check, RunOf, Upgrade}
+use Rattle.pg_plan.specs.declared.request.Usage.TheVariants.{Fault}
+use Rattle.pg_report.specs.Changes.{filled}
+use Rattle.pg_tool.specs.Refusals.{Tells}
+use Rattle.pg_tool.proofs.Asked.{gives_same}
 use Rattle.pg_tool.proofs.program.pcid_audit.Goals as goal
 
-pub returns-in-Err-Help-clause-check : goal.returns-in-Err-Help-clause-check
-returns-in-Err-Help-clause-check g c = λ asks. let bad = sym c.in-Err-Help.field-0-is ∙ c.in-Err-Help.ensures.taken Check asks in cc bad
-
-pub returns-in-Err-Help-clause-run_of : goal.returns-in-Err-Help-clause-run_of
-returns-in-Err-Help-clause-run_of g c = λ asks. let bad = sym c.in-Err-Help.field-0-is ∙ c.in-Err-Help.ensures.taken RunOf asks in cc bad
-
-pub returns-in-Err-Fault-clause-check : goal.returns-in-Err-Fault-clause-check
-returns-in-Err-Fault-clause-check g c = λ asks. let bad = sym c.in-Err-Fault.field-0-is ∙ c.in-Err-Fault.ensures.taken Check asks in cc bad
-
-pub returns-in-Err-Fault-clause-run_of : goal.returns-in-Err-Fault-clause-run_of
-returns-in-Err-Fault-clause-run_of g c = λ asks. let bad = sym c.in-Err-Fault.field-0-is ∙ c.in-Err-Fault.ensures.taken RunOf asks in cc bad
-
-pub returns-in-Err-Memory-clause-check : goal.returns-in-Err-Memory-clause-check
-returns-in-Err-Memory-clause-check g c = λ asks. inr (refl, ((Keeps-refl _, refl), c.tell_memory.ensures, refl))
-
-pub returns-in-Err-Memory-clause-run_of : goal.returns-in-Err-Memory-clause-run_of
-returns-in-Err-Memory-clause-run_of g c = λ asks. inr (refl, ((Keeps-refl _, refl), c.tell_memory.ensures, refl))
+pub returns-in-Err-Fault : goal.returns-in-Err-Fault
+returns-in-Err-Fault g c =
+    let fault = c.in-Err-Fault in
+    let said = fault.ensures in
+    let is = fault.field-0-is in
+    let output = filled g.O.Sink c.args.output.now c.args.output.now in
+    let errors = filled g.E.Sink c.args.errors.now c.tell_text.new.errors in
+    record {
+      check = λ asks. let bad = sym is ∙ said.taken Check asks in absurd cc;
+      run_of = λ asks. let bad = sym is ∙ said.taken RunOf asks in absurd cc;
+      upgrade = λ asks. let bad = sym is ∙ said.taken Upgrade asks in absurd cc;
+      unread = λ none. refl;
+      usage = λ none. record {
+        why = fault.field-0;
+        help = said.help_named;
+        version = said.version_named;
+        asked_help = said.help;
+        asked_version = said.version;
+        gives = gives_same fault.field-0 (Fault fault.text) output errors 64 is ((Keeps-refl output.old.bytes, refl), subst (Tells errors) c.as_str-in-Err-Fault.ensures.value c.tell_text.ensures, refl);
+      };
+    }

@@ -1,45 +1,24 @@
-use Rattle.std.proofs.Common.{sym, ◌∙◌}
-use Rattle.pg_chain.proofs.Notes.{on_ok, on_ok-both, next_version, IsPast-pushed, IsPushed-write, IsPushed-silent, no_write}
+use Rattle.std.proofs.Common.{refl}
+use Rattle.std.proofs.lemmas.Result.{on_ok_weaker}
+use Rattle.pg_chain.proofs.Notes.{IsPast-write, IsPast-assist, IsPast-answered, Leaves-write, Leaves-assist}
 use Rattle.pg_chain.proofs.history.Past.note.Goals as goal
-
-pub note-requires : goal.note-requires
-note-requires c = next_version c.args.self.now c.args.moment c.requires.next
-
-pub returns-in-Write-clause-pushed : goal.returns-in-Write-clause-pushed
-returns-in-Write-clause-pushed c =
-    on_ok c.note.result (λ v. IsPushed-write c.args.self.now c.note.new.self c.args.moment c.in-Write.p c.in-Write.addr c.in-Write.value c.args.event.now c.in-Write.is v) c.note.ensures.ok
 
 pub returns-in-Write-clause-ok : goal.returns-in-Write-clause-ok
 returns-in-Write-clause-ok c = λ head events h count.
-    on_ok c.note.result
-    (λ v. IsPast-pushed c.args.self.now _ head events c.args.moment c.args.event.now h count
-    (IsPushed-write c.args.self.now c.note.new.self c.args.moment c.in-Write.p c.in-Write.addr c.in-Write.value c.args.event.now c.in-Write.is v))
-    c.note.ensures.ok
+    on_ok_weaker c.note.result
+    (λ v. IsPast-write c.args.self.now _ head events c.in-Write.p c.in-Write.addr c.in-Write.value c.args.event.now c.in-Write.is refl refl h v)
+    (c.note.ensures.run events c.args.event.now h.versions count (Leaves-write events c.in-Write.p c.in-Write.addr c.in-Write.value c.args.event.now c.in-Write.is))
 
-pub returns-then-may_drop-clause-pushed : goal.returns-then-may_drop-clause-pushed
-returns-then-may_drop-clause-pushed c =
-    on_ok-both c.note_drop.result
-    (λ r d. record {
-      versions = c.note_drop.ensures.versions ∙ no_write c.args.moment c.args.event.now c.in_default.not-Write c.args.self.now.versions;
-      controls = r;
-      drops = d;
-    }) c.note_drop.ensures.controls c.note_drop.ensures.drops
+pub returns-in-Assist-clause-ok : goal.returns-in-Assist-clause-ok
+returns-in-Assist-clause-ok c = λ head events h count.
+    let a = c.in-Assist in
+    on_ok_weaker c.note-in-Assist.result
+    (λ v. IsPast-assist c.args.self.now _ head events a.p a.flags a.la a.word a.moments c.args.event.now a.is refl refl h v)
+    (c.note-in-Assist.ensures.run events c.args.event.now h.versions count
+    (Leaves-assist events a.p a.flags a.la a.word c.args.moment c.at-before.result c.marked-after.result.0 a.moments c.args.event.now c.says_dirty.result
+    a.is count (c.at-before.ensures.memory events h.versions) c.says_dirty.ensures c.marked-after.ensures))
 
-pub returns-then-may_drop-clause-ok : goal.returns-then-may_drop-clause-ok
-returns-then-may_drop-clause-ok c = λ head events h count.
-    on_ok-both c.note_drop.result
-    (λ r d. IsPast-pushed c.args.self.now c.note_drop.new.self head events c.args.moment c.args.event.now h count
-    (record {
-      versions = c.note_drop.ensures.versions ∙ no_write c.args.moment c.args.event.now c.in_default.not-Write c.args.self.now.versions;
-      controls = r;
-      drops = d;
-    })) c.note_drop.ensures.controls c.note_drop.ensures.drops
-
-pub returns-else-may_drop-clause-pushed : goal.returns-else-may_drop-clause-pushed
-returns-else-may_drop-clause-pushed c =
-    IsPushed-silent c.args.self.now c.args.moment c.args.event.now c.in_default.not-Write (sym c.may_drop.ensures ∙ c.if-may_drop.false)
-
-pub returns-else-may_drop-clause-ok : goal.returns-else-may_drop-clause-ok
-returns-else-may_drop-clause-ok c = λ head events h count.
-    IsPast-pushed c.args.self.now c.args.self.now head events c.args.moment c.args.event.now h count
-    (IsPushed-silent c.args.self.now c.args.moment c.args.event.now c.in_default.not-Write (sym c.may_drop.ensures ∙ c.if-may_drop.false))
+pub returns-in-Page-clause-ok : goal.returns-in-Page-clause-ok
+returns-in-Page-clause-ok c = λ head events h count.
+    let a = c.in-Access in
+    IsPast-answered c.args.self.now head events a.p a.flags a.la c.in-Page.field-0 a.moments c.args.event.now a.outcome a.is c.in-Page.is h

@@ -1,12 +1,18 @@
-use Rattle.std.proofs.Common.{◌≤◌, subst, sym, List}
-use Rattle.pg_inval.specs.declared.history.Invalidation.{Invalidation}
-use Rattle.pg_inval.specs.Drops.{next_moment}
-use Rattle.pg_chain.proofs.Notes.{next_change, next_drop}
+use Rattle.std.proofs.Common.{◌≡◌, ℕ, [], ◌∷◌, ap, subst, ◌∙◌}
+use Rattle.pg_event.specs.Form.{processor_of}
+use Rattle.pg_event.specs.Values.{control_at}
+use Rattle.pg_state.proofs.Known as registers
+use Rattle.pg_inval.specs.Drops as drops
+use Rattle.pg_inval.proofs.Kept as dropped
 use Rattle.pg_chain.proofs.history.Past.note_drop.Goals as goal
 
-pub note-requires : goal.note-requires
-note-requires c = next_change c.args.self.now c.args.moment c.requires.next
-
-pub note-requires-2 : goal.note-requires-2
-note-requires-2 c =
-    subst (λ (ds : List Invalidation). next_moment ds ≤ c.args.moment) (sym c.in_ok-reserve.ensures.drops) (next_drop c.args.self.now c.args.moment c.requires.next)
+pub returns-in-Err-note-clause-err : goal.returns-in-Err-note-clause-err
+returns-in-Err-note-clause-err c = λ head events h count.
+    let D : ℕ → Type 0 = λ n. drops.IsCutAt c.note.new.self c.forget_from.new.self n in
+    let read : c.control_at-before.result ≡ control_at head events (processor_of c.args.event.now) c.args.moment =
+    c.control_at-before.ensures.run head events h.controls ∙ ap (λ q. control_at head events q c.args.moment) c.processor_of.ensures in
+    record {
+      versions = h.versions;
+      controls = registers.StandsFor-same c.args.self.now.controls c.note-in-Ok.new.self head events h.controls c.in-Err-note.ensures.err;
+      drops = dropped.StandsFor-cut c.note.new.self c.forget_from.new.self head events (c.args.event.now ∷ []) (c.in-Ok.ensures.run head events h.drops count read) (subst D count c.forget_from.ensures);
+    }

@@ -1,5 +1,5 @@
 use Rattle.std.proofs.Common.{arith}
-use Rattle.pg_machine.proofs.Bounds.{field-below}
+use Rattle.pg_entry.proofs.Bounds.{field-below}
 use Rattle.pg_machine.proofs.processor.Processor.started.Goals as goal
 
 pub invariant_of-result : goal.invariant_of-result

@@ -1,0 +1,26 @@
+-- A record that no run of the machine has.
+use Rattle.std.specs.Prelude.{◌≡◌, true, List, [], ◌∷◌}
+use Rattle.pg_event.specs.declared.version.Version.TheVariants as versions
+use Rattle.pg_event.specs.declared.event.Event.{Event}
+use Rattle.pg_event.specs.declared.event.Event.TheVariants as events
+use Rattle.pg_event.specs.declared.event.Outcome.TheVariants as outcomes
+use Rattle.pg_event.specs.Heads.{Head}
+use Rattle.pg_machine.specs.declared.step.Step.{Step}
+use Rattle.pg_machine.specs.Machine.{IsRun, visible}
+
+-- MAXPHYADDR 40, WP and NXE, and one processor with global pages
+abbrev pub one_processor : Head
+one_processor = record {
+  version = versions.One;
+  cfg = record { flags = record { 0 = 3 }; m = 40 };
+  segment = 16;
+  processors = (0x1001, true) ∷ [];
+}
+
+-- a read by user code at 0x5123, that is answered by 0x9123
+abbrev pub answered_read : Event
+answered_read = events.Access 0 4 0x5123 (outcomes.Page 0x9123) (0 ∷ 0 ∷ 0 ∷ 0 ∷ [])
+
+abbrev pub SomeRecordHasNoRun : Type 0
+SomeRecordHasNoRun =
+    (steps : List Step) → IsRun one_processor steps → visible steps ≡ answered_read ∷ [] → ⊥

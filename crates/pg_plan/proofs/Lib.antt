@@ -1,0 +1,4 @@
+mod Words
+mod Lines
+mod Parses
+mod Rows

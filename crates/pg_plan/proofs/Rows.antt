@@ -1,0 +1,87 @@
+-- Which kinds `clap` gives these lines: none where it takes them.
+use Rattle.std.proofs.Common.{◌≡◌, List, [], ◌∷◌, codes, refl}
+use Rattle.clap.specs.Faults.{fault_of}
+use Rattle.clap.specs.Walk.{Text}
+use Rattle.clap.specs.Kinds.{Kinds}
+use Rattle.clap.specs.declared.error.kind.ErrorKind.TheVariants.{DisplayHelp, DisplayVersion, InvalidSubcommand, MissingSubcommand, UnknownArgument}
+use Rattle.clap.proofs.OnLiterals.{clap_on_literals}
+use Rattle.pg_plan.specs.Commands.{command_line}
+
+abbrev Gives : List Text → Kinds → Type 0
+Gives words kinds = fault_of command_line words ≡ kinds
+
+check : Gives (codes "check" ∷ []) []
+unfolding clap_on_literals
+check = refl
+
+run_of : Gives (codes "run-of" ∷ []) []
+unfolding clap_on_literals
+run_of = refl
+
+upgrade : Gives (codes "upgrade" ∷ []) []
+unfolding clap_on_literals
+upgrade = refl
+
+check_and_dashes : Gives (codes "check" ∷ codes "--" ∷ []) []
+unfolding clap_on_literals
+check_and_dashes = refl
+
+-- where `help` is alone it gives help, and it may be told that what follows it is no command
+help : Gives (codes "help" ∷ []) (DisplayHelp ∷ InvalidSubcommand ∷ [])
+unfolding clap_on_literals
+help = refl
+
+help_flag : Gives (codes "--help" ∷ []) (DisplayHelp ∷ [])
+unfolding clap_on_literals
+help_flag = refl
+
+short_help_flag : Gives (codes "-h" ∷ []) (DisplayHelp ∷ [])
+unfolding clap_on_literals
+short_help_flag = refl
+
+help_of_check : Gives (codes "check" ∷ codes "--help" ∷ []) (DisplayHelp ∷ [])
+unfolding clap_on_literals
+help_of_check = refl
+
+version_flag : Gives (codes "--version" ∷ []) (DisplayVersion ∷ [])
+unfolding clap_on_literals
+version_flag = refl
+
+short_version_flag : Gives (codes "-V" ∷ []) (DisplayVersion ∷ [])
+unfolding clap_on_literals
+short_version_flag = refl
+
+-- of several short flags the first is answered
+version_before_help : Gives (codes "-Vh" ∷ []) (DisplayVersion ∷ [])
+unfolding clap_on_literals
+version_before_help = refl
+
+-- and what stands behind a flag is not looked at
+version_before_more : Gives (codes "--version" ∷ codes "more" ∷ []) (DisplayVersion ∷ [])
+unfolding clap_on_literals
+version_before_more = refl
+
+no_words : Gives [] (MissingSubcommand ∷ [])
+unfolding clap_on_literals
+no_words = refl
+
+unknown_word : Gives (codes "judge" ∷ []) (UnknownArgument ∷ InvalidSubcommand ∷ [])
+unfolding clap_on_literals
+unknown_word = refl
+
+check_more : Gives (codes "check" ∷ codes "more" ∷ []) (UnknownArgument ∷ [])
+unfolding clap_on_literals
+check_more = refl
+
+check_single : Gives (codes "check" ∷ codes "--single" ∷ []) (UnknownArgument ∷ [])
+unfolding clap_on_literals
+check_single = refl
+
+check_twice : Gives (codes "check" ∷ codes "check" ∷ []) (UnknownArgument ∷ [])
+unfolding clap_on_literals
+check_twice = refl
+
+-- a command has no version of its own
+version_of_check : Gives (codes "check" ∷ codes "--version" ∷ []) (UnknownArgument ∷ [])
+unfolding clap_on_literals
+version_of_check = refl

@@ -1,0 +1,31 @@
+/// What the program is asked to do.
+#[derive(Clone, Copy, Debug, PartialEq, Eq)]
+pub enum Command {
+    /// Read a record, and write its report.
+    Check,
+    /// Read a record, and write a run of the manual's machine that has its events.
+    RunOf,
+    /// Read a version 1 record, and write the version 2 record of the same events; its report goes
+    /// to standard error.
+    Upgrade,
+}
+
+/// What the words of a command line ask for.
+#[derive(Clone, Copy, Debug, PartialEq, Eq)]
+pub struct Plan {
+    /// The command.
+    pub command: Command,
+}
+
+/// Why the words of a command line give no plan.
+#[derive(Debug, Drop)]
+pub enum Usage {
+    /// Help was asked for: its text.
+    Help(String),
+    /// The version was asked for: its line.
+    Version(String),
+    /// The words are no command of this program: what is wrong with them, and the usage.
+    Fault(String),
+    /// Memory ran out.
+    Memory,
+}

@@ -1,0 +1,249 @@
+ghost use Rattle.std.specs.Prelude.{◌≡◌, ◌+◌, ◌<◌, ◌≤◌, ◌^◌, nat_eq, false, List, [], ◌∷◌, ◌++◌};
+ghost use Rattle.std.specs.Prelude.{length, IsOk, IfOk, OnOk, OnErr};
+ghost use Rattle.std.specs.HashMap.{IsUnchanged};
+ghost use Rattle.pg_event.specs.declared.event.Event.{Event};
+ghost use Rattle.pg_event.specs.Form.{processor_of};
+ghost use Rattle.pg_event.specs.Heads.{Head};
+ghost use Rattle.pg_event.specs.Spelling.{IsHead};
+ghost use Rattle.pg_event.specs.Values.{controlled, control_at};
+ghost use Rattle.pg_timeline.specs.Timelines.{end_of};
+ghost use Rattle.pg_timeline.specs.Keyed.{stamps_in, IsPushed, AreCut};
+ghost use Rattle.pg_state.specs.Controls.{is_change, start_in, cfg_of, version_of, next_moment};
+ghost use Rattle.pg_state.specs.Controls.{processor_count, control_in, IsNoted, IsSame, IsCutAt};
+ghost use Rattle.pg_state.specs.Controls.{StandsFor};
+
+use pg_entry::Cfg;
+use pg_event::{Control, Event, Header, Version, controlled, loaded, processor_of};
+use pg_timeline::{Probes, Timeline};
+use std::alloc::{AllocError, Global};
+use std::collections::HashMap;
+use std::marker::Model;
+
+/// The control registers of a run's processors at its moments, as far as they were noted.
+#[derive(Debug, Drop)]
+pub struct Controls {
+    alloc: Global,
+    header: Header,
+    next: u64,
+    by_processor: HashMap<u16, Timeline<Control>>,
+}
+
+impl Model for Controls {
+    ghost use Rattle.pg_state.specs.Controls.{Registers, AreKept};
+
+    ghost Value = { Registers };
+
+    ghost view = { λ a. record {
+      head = a.header;
+      changes = record { entries = a.by_processor.entries; next = a.next };
+    } };
+
+    ghost invariant = { λ a. AreKept a.header a.by_processor.entries a.next };
+}
+
+/// Whether an event may change the control registers of its processor: MOV to CR3, and MOV to CR4
+/// with bit PGE.
+fn is_change(event: &Event) -> bool
+    ensures { result ≡ is_change event.now }
+{
+    match *event {
+        Event::MovCr3 { .. } | Event::MovCr4Pge { .. } => true,
+        Event::Write { .. }
+        | Event::Access { .. }
+        | Event::Assist { .. }
+        | Event::Invlpg { .. }
+        | Event::Invpcid { .. } => false,
+    }
+}
+
+/// Adds registers at the end of the timeline of a processor, which may be its first.
+fn push_at(
+    by_processor: &mut HashMap<u16, Timeline<Control>>,
+    alloc: Global,
+    p: u16,
+    moment: u32,
+    control: Control,
+) -> Result<(), AllocError>
+    requires { end_of (stamps_in nat_eq by_processor.old.entries p) ≤ moment }
+    ensures ok { OnOk result
+        (IsPushed nat_eq by_processor.old.entries by_processor.new.entries p
+        (record { moment = moment; value = control })) }
+    ensures err { OnErr result (IsUnchanged by_processor.old by_processor.new) }
+{
+    match by_processor.get_mut(&p) {
+        Some(timeline) => timeline.push(moment, control),
+        None => {
+            let mut timeline = Timeline::new(alloc);
+            timeline.push(moment, control)?;
+            by_processor.insert(p, timeline)?;
+            Ok(())
+        }
+    }
+}
+
+/// Forgets the registers of every processor from a moment on.
+fn cut_all(by_processor: &mut HashMap<u16, Timeline<Control>>, moment: u32)
+    ensures { AreCut nat_eq by_processor.old.entries by_processor.new.entries moment }
+{
+    by_processor.retain(|_, timeline| {
+        timeline.forget_from(moment);
+        true
+    });
+}
+
+impl Controls {
+    /// The registers at the start of a run. Fails where memory is refused.
+    pub fn new(alloc: Global, header: &Header) -> Result<Controls, AllocError>
+        requires { IsHead header.now }
+        ensures start { IfOk result (λ controls. StandsFor controls header.now []) }
+    {
+        Ok(Controls {
+            alloc,
+            header: header.clone()?,
+            next: 0,
+            by_processor: HashMap::new(alloc),
+        })
+    }
+
+    /// The settings of the run's processors.
+    pub fn cfg(&self) -> Cfg
+        ensures value { result ≡ cfg_of self.now }
+        ensures run { (head : Head) (events : List Event) → StandsFor self.now head events →
+            result ≡ head.cfg }
+        ensures width { (36 ≤ result.m) × (result.m ≤ 52) }
+    {
+        self.header.cfg
+    }
+
+    /// The version of the run's record.
+    pub fn version(&self) -> Version
+        ensures value { result ≡ version_of self.now }
+        ensures run { (head : Head) (events : List Event) → StandsFor self.now head events →
+            result ≡ head.version }
+    {
+        self.header.version
+    }
+
+    /// How many processors there are.
+    pub fn processors(&self) -> usize
+        ensures { result ≡ processor_count self.now }
+    {
+        let header = &self.header;
+        header.processors.len()
+    }
+
+    /// The least moment that a further event may have.
+    pub fn next(&self) -> u64
+        ensures { result ≡ next_moment self.now }
+    {
+        self.next
+    }
+
+    /// Notes the event with this number; one that changes no control register takes no memory.
+    /// Fails where memory is refused, and then nothing is noted.
+    pub fn note(&mut self, moment: u32, event: &Event) -> Result<(), AllocError>
+        requires next { next_moment self.old ≤ moment }
+        requires processor { processor_of event.now < processor_count self.old }
+        ensures ok { OnOk result (IsNoted self.old self.new moment event.now) }
+        ensures err { OnErr result (IsSame self.old self.new) }
+        ensures others { is_change event.now ≡ false → IsOk result }
+        ensures run { (head : Head) (events : List Event) → StandsFor self.old head events →
+            moment ≡ length events →
+            OnOk result (StandsFor self.new head (events ++ event.now ∷ [])) }
+    {
+        if is_change(event) {
+            let p = processor_of(event);
+            let after = self.after(moment, event);
+            push_at(&mut self.by_processor, self.alloc, p, moment, after)?;
+            self.next = moment as u64 + 1;
+        }
+        Ok(())
+    }
+
+    /// The control registers of an event's processor after the event, where this is its number.
+    fn after(&self, moment: u32, event: &Event) -> Control
+        requires { processor_of event.now < processor_count self.now }
+        ensures { let p = processor_of event.now in
+            result ≡ controlled self.now.head.cfg.m p (control_in self.now p moment) event.now }
+    {
+        let p = processor_of(event);
+        controlled(self.header.cfg.m, p, self.control_at(p, moment), event)
+    }
+
+    /// Forgets the events from a moment on.
+    pub fn forget_from(&mut self, moment: u32)
+        ensures { IsCutAt self.old self.new moment }
+    {
+        cut_all(&mut self.by_processor, moment);
+        self.next = self.next.min(moment as u64);
+    }
+
+    /// The control registers of a processor at the start of the run.
+    fn start(&self, p: u16) -> Control
+        requires { p < processor_count self.now }
+        ensures { result ≡ start_in self.now.head p }
+    {
+        let header = &self.header;
+        let (cr3, pge) = header.processors[p as usize];
+        loaded(header.cfg.m, cr3, pge)
+    }
+
+    /// The control registers of a processor just before the event with this number.
+    pub fn control_at(&self, p: u16, moment: u32) -> Control
+        requires { p < processor_count self.now }
+        ensures value { result ≡ control_in self.now p moment }
+        ensures run { (head : Head) (events : List Event) → StandsFor self.now head events →
+            result ≡ control_at head events p moment }
+        ensures root { result.root < 2 ^ 52 }
+    {
+        self.control_at_counted(p, moment, &mut Probes::new())
+    }
+
+    /// The physical address of the PML4 table of a processor just before the event with this
+    /// number.
+    pub fn root_at(&self, p: u16, moment: u32) -> u64
+        requires { p < processor_count self.now }
+        ensures value { result ≡ (control_in self.now p moment).root }
+        ensures run { (head : Head) (events : List Event) → StandsFor self.now head events →
+            result ≡ (control_at head events p moment).root }
+        ensures within { result < 2 ^ 52 }
+    {
+        self.control_at(p, moment).root
+    }
+
+    /// The current PCID of a processor just before the event with this number.
+    pub fn pcid_at(&self, p: u16, moment: u32) -> u16
+        requires { p < processor_count self.now }
+        ensures value { result ≡ (control_in self.now p moment).pcid }
+        ensures run { (head : Head) (events : List Event) → StandsFor self.now head events →
+            result ≡ (control_at head events p moment).pcid }
+    {
+        self.control_at(p, moment).pcid
+    }
+
+    /// Whether global pages are on (CR4.PGE) just before the event with this number.
+    pub fn pge_at(&self, p: u16, moment: u32) -> bool
+        requires { p < processor_count self.now }
+        ensures value { result ≡ (control_in self.now p moment).pge }
+        ensures run { (head : Head) (events : List Event) → StandsFor self.now head events →
+            result ≡ (control_at head events p moment).pge }
+    {
+        self.control_at(p, moment).pge
+    }
+
+    /// The same, and counts the moments that were read.
+    pub fn control_at_counted(&self, p: u16, moment: u32, probes: &mut Probes) -> Control
+        requires { p < processor_count self.now }
+        ensures value { result ≡ control_in self.now p moment }
+        ensures run { (head : Head) (events : List Event) → StandsFor self.now head events →
+            result ≡ control_at head events p moment }
+        ensures root { result.root < 2 ^ 52 }
+        ensures probes { probes.new ≤ probes.old + 34 }
+    {
+        let start = self.start(p);
+        match self.by_processor.get(&p) {
+            Some(timeline) => timeline.last_before(moment, probes).unwrap_or(start),
+            None => start,
+        }
+    }
+}

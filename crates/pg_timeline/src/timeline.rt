@@ -1,0 +1,115 @@
+ghost use Rattle.std.specs.Prelude.{◌≡◌, ◌+◌, ◌≤◌, ◌^◌, List, [], ◌∷◌, ◌++◌, length, OnOk, OnErr};
+ghost use Rattle.pg_timeline.specs.Timelines.{end_of, last_before, first_from, cut_at, count_below};
+ghost use Rattle.pg_timeline.specs.Timelines.{IsRising};
+
+use crate::probes::Probes;
+use smallvec::SmallVec;
+use std::alloc::{AllocError, Global};
+use std::marker::Model;
+
+/// A value, and the moment from just after which it holds.
+#[derive(Clone, Copy, PartialEq, Eq, Debug, Default)]
+pub struct Stamp<V> {
+    /// The number of an event.
+    pub moment: u32,
+    pub value: V,
+}
+
+/// Values whose moments rise.
+#[derive(Debug, Drop)]
+pub struct Timeline<V> {
+    stamps: SmallVec<Stamp<V>, 1>,
+}
+
+impl<V> Model for Timeline<V> {
+    ghost use Rattle.std.specs.Prelude.{List};
+    ghost use Rattle.pg_timeline.specs.declared.timeline.Stamp.{Stamp};
+
+    ghost Value = { List (Stamp V) };
+
+    ghost use Rattle.pg_timeline.specs.Timelines.{IsKept};
+
+    ghost view = { λ a. a.stamps.items };
+
+    ghost invariant = { λ a. IsKept a.stamps.items };
+}
+
+/// How many stamps lie below a moment, by halving.
+fn count_before<V: Copy>(stamps: &[Stamp<V>], moment: u32, probes: &mut Probes) -> usize
+    requires rising { IsRising stamps.now }
+    requires short { length stamps.now ≤ 2 ^ 32 }
+    ensures within { result ≤ length stamps.now }
+    ensures count { result ≡ count_below moment stamps.now }
+    ensures probes { probes.new ≤ probes.old + 34 }
+{
+    let mut low = 0;
+    let mut high = stamps.len();
+    while low < high {
+        let middle = low + (high - low) / 2;
+        probes.tick();
+        if stamps[middle].moment < moment {
+            low = middle + 1;
+        } else {
+            high = middle;
+        }
+    }
+    low
+}
+
+impl<V: Copy + Default> Timeline<V> {
+    /// No value.
+    pub fn new(alloc: Global) -> Timeline<V>
+        ensures { result ≡ [] }
+    {
+        Timeline {
+            stamps: SmallVec::new(alloc),
+        }
+    }
+
+    /// Adds a value from a moment on. Fails where memory is refused, and then nothing is added.
+    pub fn push(&mut self, moment: u32, value: V) -> Result<(), AllocError>
+        requires { end_of self.old ≤ moment }
+        ensures ok { OnOk result
+            (self.new ≡ self.old ++ record { moment = moment; value = value } ∷ []) }
+        ensures err { OnErr result (self.new ≡ self.old) }
+    {
+        self.stamps.push(Stamp { moment, value })?;
+        Ok(())
+    }
+
+    /// The value of the last stamp below a moment.
+    pub fn last_before(&self, moment: u32, probes: &mut Probes) -> Option<V>
+        ensures value { result ≡ last_before moment self.now }
+        ensures probes { probes.new ≤ probes.old + 34 }
+    {
+        let stamps = self.stamps.as_slice();
+        let count = count_before(stamps, moment, probes);
+        if count == 0 {
+            None
+        } else {
+            Some(stamps[count - 1].value)
+        }
+    }
+
+    /// The least moment of a stamp that is not below this one.
+    pub fn first_from(&self, moment: u32, probes: &mut Probes) -> Option<u32>
+        ensures value { result ≡ first_from moment self.now }
+        ensures probes { probes.new ≤ probes.old + 34 }
+    {
+        let stamps = self.stamps.as_slice();
+        let count = count_before(stamps, moment, probes);
+        if count < stamps.len() {
+            Some(stamps[count].moment)
+        } else {
+            None
+        }
+    }
+
+    /// Forgets the values from a moment on.
+    pub fn forget_from(&mut self, moment: u32)
+        ensures { self.new ≡ cut_at moment self.old }
+    {
+        let count = count_before(self.stamps.as_slice(), moment, &mut Probes::new());
+        self.stamps.truncate(count);
+    }
+}

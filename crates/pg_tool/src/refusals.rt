@@ -1,0 +1,86 @@
+//! Refusal lines on standard error. Whether they could be written changes no status.
+
+ghost use Rattle.std.specs.Prelude.{◌++◌, decimal};
+ghost use Rattle.pg_codec.specs.Writing.{Puts};
+ghost use Rattle.pg_report.specs.Changes.{filled};
+ghost use Rattle.pg_tool.specs.Refusals.{refusal_text, place_text, refusal_line, memory_line};
+ghost use Rattle.pg_tool.specs.Refusals.{Tells, TellsError};
+
+use itoa::Buffer;
+use pg_codec::{Failed, Sink, put_all};
+use pg_event::Refusal;
+use pg_report::{AuditError, rule_number};
+
+fn put_number<W: Sink>(errors: &mut W, before: &[u8], number: u64) -> Result<(), Failed>
+    ensures { Puts W.Sink (before.now ++ decimal number) errors.old errors.new result }
+{
+    let mut buffer = Buffer::new();
+    put_all(errors, before)?;
+    put_all(errors, buffer.format(number).as_bytes())
+}
+
+fn put_refusal<W: Sink>(errors: &mut W, number: u8, name: &str) -> Result<(), Failed>
+    ensures { Puts W.Sink (refusal_text number name.now) errors.old errors.new result }
+{
+    put_number(errors, b"pcid-audit: refused ", number as u64)?;
+    put_all(errors, b" ")?;
+    put_all(errors, name.as_bytes())
+}
+
+/// Where a malformed event is, and which rule it breaks.
+fn put_place<W: Sink>(errors: &mut W, error: AuditError) -> Result<(), Failed>
+    ensures { Puts W.Sink (place_text error) errors.old errors.new result }
+{
+    match error {
+        AuditError::Refused(Refusal::Malformed { event, rule }) => {
+            put_number(errors, b" event ", event)?;
+            put_number(errors, b" rule ", rule_number(rule) as u64)
+        }
+        _ => Ok(()),
+    }
+}
+
+fn put_error<W: Sink>(errors: &mut W, error: AuditError) -> Result<(), Failed>
+    ensures { Puts W.Sink (refusal_line error) errors.old errors.new result }
+{
+    put_refusal(errors, error.number(), error.name())?;
+    put_place(errors, error)?;
+    put_all(errors, b"\n")
+}
+
+fn put_memory<W: Sink>(errors: &mut W) -> Result<(), Failed>
+    ensures { Puts W.Sink memory_line errors.old errors.new result }
+{
+    put_refusal(errors, 1, "memory")?;
+    put_all(errors, b"\n")
+}
+
+/// Writes the line that says why there is no answer.
+pub fn tell<W: Sink>(errors: &mut W, error: AuditError)
+    ensures { Tells (filled W.Sink errors.old errors.new) (refusal_line error) }
+{
+    let _ = put_error(errors, error);
+}
+
+/// Writes a text that says what is wrong.
+pub fn tell_text<W: Sink>(errors: &mut W, text: &str)
+    ensures { Tells (filled W.Sink errors.old errors.new) text.now }
+{
+    let _ = put_all(errors, text.as_bytes());
+}
+
+/// Writes that line where there is an error, and else nothing.
+pub fn tell_error<W: Sink, T>(errors: &mut W, answer: &Result<T, AuditError>)
+    ensures { TellsError (filled W.Sink errors.old errors.new) answer.now }
+{
+    if let Err(error) = answer {
+        tell(errors, *error);
+    }
+}
+
+/// Writes the line for want of memory before any input was read.
+pub fn tell_memory<W: Sink>(errors: &mut W)
+    ensures { Tells (filled W.Sink errors.old errors.new) memory_line }
+{
+    let _ = put_memory(errors);
+}

@@ -1,0 +1,80 @@
+//! The run of a record, taken by a machine and written.
+
+ghost use Rattle.std.specs.Prelude.{◌≡◌, IfOk};
+ghost use Rattle.pg_event.specs.Spelling.{IsHead};
+ghost use Rattle.pg_machine.specs.Machine.{IsRun};
+ghost use Rattle.pg_machine.specs.Listed.{state_of};
+ghost use Rattle.pg_report.specs.Changes.{drawn, filled};
+ghost use Rattle.pg_report.specs.Audits.{WritesText};
+ghost use Rattle.pg_report.specs.Intake.{TellsDevice};
+ghost use Rattle.pg_tool.specs.Replay.{end_of_run};
+ghost use Rattle.pg_tool.specs.Runs.{run_text};
+ghost use Rattle.pg_tool.specs.Status.{IsRunOf};
+
+use crate::runs::run_text;
+use crate::shown::Shown;
+use pg_codec::{Sink, Source};
+use pg_event::Header;
+use pg_machine::{Machine, Step, Stuck};
+use pg_report::{AuditError, read_record, report_of, write_report, write_text};
+use pg_run_of::BuildError;
+use std::alloc::{AllocError, Global};
+
+/// A machine that has taken the steps of a run, one after another. It takes each of them, unless
+/// memory runs out.
+fn replay(alloc: Global, header: &Header, steps: &[Step]) -> Result<Machine, AllocError>
+    requires head { IsHead header.now }
+    requires run { IsRun header.now steps.now }
+    ensures { IfOk result (λ machine. state_of machine ≡ end_of_run header.now steps.now) }
+{
+    let mut machine = Machine::start(alloc, header)?;
+    for step in steps {
+        match machine.step(step) {
+            Ok(()) => {}
+            Err(Stuck::Memory) => return Err(AllocError),
+            Err(_) => unreachable!(),
+        }
+    }
+    Ok(machine)
+}
+
+/// Writes the text of a run. Nothing is written where memory is refused, and a beginning of the
+/// text where the writer fails.
+fn write_steps<O: Sink>(alloc: Global, output: &mut O, steps: &[Step]) -> Result<(), AuditError>
+    ensures text { WritesText (filled O.Sink output.old output.new) (run_text steps.now) result }
+    ensures device { TellsDevice (filled O.Sink output.old output.new) result }
+{
+    let text = run_text(alloc, steps)?;
+    write_text(output, text.as_str())
+}
+
+/// Writes the run of an accepted record, or the report of one that is not.
+pub(crate) fn write_run<R: Source, O: Sink>(
+    alloc: Global,
+    input: &mut R,
+    output: &mut O,
+) -> Result<Shown, AuditError>
+    ensures { IsRunOf
+        (drawn R.Source input.old input.new) (filled O.Sink output.old output.new) result }
+{
+    let history = match read_record(alloc, input) {
+        Ok(history) => history,
+        Err(error) => return Err(error),
+    };
+    match pg_run_of::run_of(alloc, &history) {
+        Ok(steps) => {
+            let _machine = replay(alloc, history.header(), &steps)?;
+            match write_steps(alloc, output, &steps) {
+                Ok(()) => Ok(Shown::Run),
+                Err(error) => Err(error),
+            }
+        }
+        Err(BuildError::NotAccepted { .. }) => {
+            match write_report(alloc, output, report_of(&history)) {
+                Ok(()) => Ok(Shown::Report),
+                Err(error) => Err(error),
+            }
+        }
+        Err(BuildError::Memory) => Err(AuditError::Memory),
+    }
+}

@@ -1,0 +1,79 @@
+//! The version 2 record of a version 1 record's events.
+
+ghost use Rattle.std.specs.Prelude.{◌≡◌, IfOk};
+ghost use Rattle.pg_report.specs.Changes.{drawn, filled};
+ghost use Rattle.pg_report.specs.Intake.{TellsDevice};
+ghost use Rattle.pg_report.specs.Audits.{WritesText};
+ghost use Rattle.pg_event.specs.Spelling.{record_bytes};
+ghost use Rattle.pg_report.specs.Text.{report_of};
+ghost use Rattle.pg_tool.specs.Upgrades.{upgraded, IsUpgrade, IsReportText, report_in};
+
+use crate::shown::ReportText;
+use pg_check::History;
+use pg_codec::{Sink, Source, write_record};
+use pg_event::{Header, Version};
+use pg_report::{AuditError, read_old_record, report_of};
+use std::alloc::{AllocError, Global};
+
+/// The history of the same events in a record of version 2.
+fn upgraded(alloc: Global, history: &History) -> Result<History, AllocError>
+    ensures { IfOk result (λ new. new ≡ upgraded history.now) }
+{
+    let header = history.header();
+    let mut new = History::new(
+        alloc,
+        Header {
+            version: Version::Two,
+            cfg: header.cfg,
+            segment: header.segment,
+            processors: header.processors.clone()?,
+        },
+    )?;
+    new.extend(history.events())?;
+    Ok(new)
+}
+
+/// Writes a whole record. A beginning of it is written where the writer fails.
+fn write_history<O: Sink>(output: &mut O, history: &History) -> Result<(), AuditError>
+    ensures text { WritesText (filled O.Sink output.old output.new)
+        (record_bytes history.now) result }
+    ensures device { TellsDevice (filled O.Sink output.old output.new) result }
+{
+    match write_record(output, history.header(), history.events()) {
+        Ok(()) => Ok(()),
+        Err(_) => Err(AuditError::Device),
+    }
+}
+
+/// The report of a history with its text.
+fn report_text_of(alloc: Global, history: &History) -> Result<ReportText, AllocError>
+    ensures report { IfOk result (λ told. told.report ≡ report_of history.now) }
+    ensures text { IfOk result IsReportText }
+{
+    let report = report_of(history);
+    let text = report.text(alloc)?;
+    Ok(ReportText { report, text })
+}
+
+/// Reads the version 1 record that `input` has left, and writes the version 2 record of the same
+/// events. The report of that record is ready before anything is written.
+pub(crate) fn write_upgrade<R: Source, O: Sink>(
+    alloc: Global,
+    input: &mut R,
+    output: &mut O,
+) -> Result<ReportText, AuditError>
+    ensures upgrade { IsUpgrade (drawn R.Source input.old input.new)
+        (filled O.Sink output.old output.new) (report_in result) }
+    ensures text { IfOk result IsReportText }
+{
+    let history = match read_old_record(alloc, input) {
+        Ok(history) => history,
+        Err(error) => return Err(error),
+    };
+    let new = upgraded(alloc, &history)?;
+    let told = report_text_of(alloc, &new)?;
+    match write_history(output, &new) {
+        Ok(()) => Ok(told),
+        Err(error) => Err(error),
+    }
+}
