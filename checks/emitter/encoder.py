@@ -1,0 +1,153 @@
+"""Records as Python values and as bytes, written from docs/FORMAT.md alone.
+
+A header is (version, m, settings, segment, [(cr3, pge), ..]). An event is a tuple: its name, its
+processor and its fields:
+    ("write", p, address, value)
+    ("answer", p, flags, linear, physical, moments)    ("fault", p, flags, linear, code, moments)
+    ("mov_cr3", p, operand)    ("invlpg", p, linear)    ("invpcid", p, type, pcid, linear)
+    ("mov_cr4", p, pge)        ("assist", p, flags, linear, entry, moments)
+"""
+import struct
+
+TAGS = {"write": 0x10, "answer": 0x11, "fault": 0x11, "mov_cr3": 0x12, "invlpg": 0x13,
+        "invpcid": 0x14, "mov_cr4": 0x15, "assist": 0x16}
+FIELDS = {"write": "<QQ", "answer": "<BQBQ", "fault": "<BQBH", "mov_cr3": "<Q", "invlpg": "<Q",
+          "invpcid": "<BHQ", "mov_cr4": "<B", "assist": "<BQQ"}
+MOST_PROCESSORS = {1: 64, 2: 1024}
+
+
+def event_bytes(version, event):
+    name, processor, *fields = event
+    moments = fields.pop() if name in ("answer", "fault", "assist") else None
+    if name in ("answer", "fault"):
+        fields.insert(2, int(name == "fault"))
+    head = struct.pack("<BB" if version == 1 else "<BH", TAGS[name], processor)
+    body = struct.pack(FIELDS[name], *fields)
+    if moments is not None:
+        body += struct.pack(f"<B{len(moments)}I", len(moments), *moments)
+    return head + body
+
+
+def header_bytes(header):
+    version, m, settings, segment, start = header
+    fixed = struct.pack("<8sHBB", b"PGRECORD", version, m, settings)
+    fixed += struct.pack("<BI" if version == 1 else "<HI", len(start), segment)
+    return fixed + b"".join(struct.pack("<QB", cr3, pge) for cr3, pge in start)
+
+
+def segments_bytes(header, events):
+    """The bytes of each segment."""
+    version, size = header[0], header[3]
+    cuts = [events[at:at + size] for at in range(0, len(events), size)]
+    return [struct.pack("<BII", 1, number, len(cut))
+            + b"".join(event_bytes(version, event) for event in cut)
+            for number, cut in enumerate(cuts)]
+
+
+def end_bytes(count):
+    return struct.pack("<BI", 2, count)
+
+
+def record_bytes(header, events):
+    return header_bytes(header) + b"".join(segments_bytes(header, events)) + end_bytes(len(events))
+
+
+class Cut(Exception):
+    """The bytes end, or are no record's."""
+
+
+class Bytes:
+    def __init__(self, data):
+        self.data, self.at = data, 0
+
+    def take(self, form):
+        size = struct.calcsize(form)
+        if self.at + size > len(self.data):
+            raise Cut
+        self.at += size
+        return struct.unpack_from(form, self.data, self.at - size)
+
+
+def read_header(source):
+    magic, version, m, settings = source.take("<8sHBB")
+    if magic != b"PGRECORD" or version not in (1, 2):
+        raise Cut
+    processors, segment = source.take("<BI" if version == 1 else "<HI")
+    return version, m, settings, segment, [source.take("<QB") for _ in range(processors)]
+
+
+def read_event(source, version):
+    tag, processor = source.take("<BB" if version == 1 else "<BH")
+    if tag == 0x11:
+        flags, linear, outcome = source.take("<BQB")
+        name = ("answer", "fault")[outcome]
+        fields = [flags, linear, *source.take("<H" if outcome else "<Q")]
+    else:
+        name = {number: word for word, number in TAGS.items()}[tag]
+        fields = list(source.take(FIELDS[name]))
+    if tag in (0x11, 0x16):
+        fields.append(list(source.take(f"<{source.take('<B')[0]}I")))
+    return (name, processor, *fields)
+
+
+def read_record(data):
+    """The header and the events of a record that is whole."""
+    source, events = Bytes(data), []
+    header = read_header(source)
+    while source.take("<B") == (1,):
+        _, count = source.take("<II")
+        events += [read_event(source, header[0]) for _ in range(count)]
+    if source.take("<I") != (len(events),) or source.at != len(data):
+        raise Cut
+    return header, events
+
+
+def header_refusal(header, size):
+    """The status that `pcid_record_begin` answers, with a buffer of `size` bytes."""
+    version, m, settings, segment, start = header
+    if version not in (1, 2):
+        return 10
+    if not (36 <= m <= 52 and settings < 16 and 1 <= len(start) <= MOST_PROCESSORS[version]
+            and 1 <= segment <= 65536 and all(cr3 < 1 << m and pge < 2 for cr3, pge in start)):
+        return 11
+    return 12 if size < 9 + segment * (37 if version == 1 else 38) else 0
+
+
+def canonical(linear):
+    return linear < 1 << 47 or linear >= (1 << 64) - (1 << 47)
+
+
+def event_refusal(header, event):
+    """The status that the call of this event answers, where the record is open and not full."""
+    version, m, _, _, start = header
+    name, processor, *fields = event
+    moments = fields[-1] if name in ("answer", "fault", "assist") else [0]
+    if name == "assist" and version == 1:
+        return 8
+    if not 1 <= len(moments) <= 4 or (name == "fault" and fields[2] > 0xFFFF):
+        return 7
+    if name == "mov_cr4" and fields[0] > 1:
+        return 7
+    if processor >= len(start):
+        return 1
+    word = {"write": fields[0], "assist": fields[2] if len(fields) > 2 else 0}.get(name, 0)
+    if word % 8 or word >= 1 << m:
+        return 2
+    linear = {"answer": 1, "fault": 1, "assist": 1, "invlpg": 0}.get(name)
+    if name == "invpcid" and fields[0] == 0:
+        linear = 2
+    if linear is not None and not canonical(fields[linear]):
+        return 3
+    if name == "mov_cr3" and fields[0] % (1 << 63) >= 1 << m:
+        return 4
+    if name == "invpcid":
+        kind, pcid, address = fields
+        if kind > 3 or pcid > 4095 or (kind in (2, 3) and pcid) or (kind in (1, 2, 3) and address):
+            return 5
+    if name in ("answer", "fault", "assist"):
+        flags = fields[0]
+        if flags % 4 == 3 or flags >> (5 if name == "assist" else 4):
+            return 6
+        if flags & 16 and flags % 4 != 1:
+            return 6
+    return 0
