@@ -64,10 +64,10 @@ pub(crate) fn next_old_header<R: Source>(
     }
 }
 
-/// A segment after its tag.
+/// A segment after its tag, in the memory of a list whose own events are let go.
 #[tactic(auto, unfolding(pg_event::specs::Reading::segment_at))]
 fn next_segment<R: Source>(
-    alloc: Global,
+    room: Vec<Event>,
     buffer: &mut Buffer,
     source: &mut R,
     progress: &Progress,
@@ -86,7 +86,7 @@ fn next_segment<R: Source>(
         return Err(ReadError::Refused(Refusal::SegmentCount));
     }
     next_events(
-        alloc,
+        room,
         buffer,
         source,
         &progress.header,
@@ -116,7 +116,7 @@ fn next_end<R: Source>(
 /// A segment, or none at the end mark.
 #[tactic(auto, unfolding(pg_event::specs::Reading::chunk_at))]
 fn next_chunk<R: Source>(
-    alloc: Global,
+    room: Vec<Event>,
     buffer: &mut Buffer,
     source: &mut R,
     progress: &Progress,
@@ -138,7 +138,7 @@ fn next_chunk<R: Source>(
     if !progress.full {
         return Err(ReadError::Refused(Refusal::SegmentCount));
     }
-    let events = next_segment(alloc, buffer, source, progress)?;
+    let events = next_segment(room, buffer, source, progress)?;
     Ok(Some(events))
 }
 
@@ -151,7 +151,7 @@ fn is_at_end<R: Source>(buffer: &mut Buffer, source: &mut R) -> Result<bool, Fai
 
 /// A segment, or none at the end mark and the end of the input behind it.
 pub(crate) fn next_closed_chunk<R: Source>(
-    alloc: Global,
+    room: Vec<Event>,
     buffer: &mut Buffer,
     source: &mut R,
     progress: &Progress,
@@ -163,7 +163,7 @@ pub(crate) fn next_closed_chunk<R: Source>(
     ensures next { IfOk result (λ chunk.
         IfSome chunk (λ v. IsSegment progress.now v.items)) }
 {
-    let chunk = next_chunk(alloc, buffer, source, progress)?;
+    let chunk = next_chunk(room, buffer, source, progress)?;
     if chunk.is_none() && !is_at_end(buffer, source)? {
         return Err(ReadError::Refused(Refusal::Trailing));
     }

@@ -147,11 +147,31 @@ impl RecordReader {
         ensures refused { self.old.stage ≡ Refused →
             (result ≡ Err ReadError.Failed) × (self.new ≡ self.old) × (source.new ≡ source.old) }
     {
+        self.read_segment_in(Vec::new(alloc), source)
+    }
+
+    /// The same, in the memory of a list whose own events are let go.
+    pub fn read_segment_in<R: Source>(
+        &mut self,
+        room: Vec<Event>,
+        source: &mut R,
+    ) -> Result<Option<Vec<Event>>, ReadError>
+        requires { MayReadSegment self.old.stage }
+        ensures pulls { PullsSegment R.Source self.old.stage
+            (self.old.unread, source.old) (self.new.unread, source.new)
+            (seen (option_map (λ v. v.items)) result) }
+        ensures next { IfOk result (λ chunk.
+            IsNext self.old.stage (option_map (λ v. v.items) chunk)) }
+        ensures stage { self.new.stage ≡
+            stage_after_chunk self.old.stage (seen (option_map (λ v. v.items)) result) }
+        ensures refused { self.old.stage ≡ Refused →
+            (result ≡ Err ReadError.Failed) × (self.new ≡ self.old) × (source.new ≡ source.old) }
+    {
         let progress = match mem::replace(&mut self.stage, Stage::Refused) {
             Stage::Segments(progress) => progress,
             _ => return Err(ReadError::Failed),
         };
-        let chunk = next_closed_chunk(alloc, &mut self.buffer, source, &progress)?;
+        let chunk = next_closed_chunk(room, &mut self.buffer, source, &progress)?;
         self.stage = behind_chunk(progress, &chunk);
         Ok(chunk)
     }

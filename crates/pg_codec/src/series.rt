@@ -34,9 +34,10 @@ pub(crate) fn next_starts<R: Source>(
     Ok(starts)
 }
 
-/// So many events, of which the first has the number `before`.
+/// So many events, of which the first has the number `before`, in the memory of a list whose own
+/// events are let go.
 pub(crate) fn next_events<R: Source>(
-    alloc: Global,
+    room: Vec<Event>,
     buffer: &mut Buffer,
     source: &mut R,
     header: &Header,
@@ -51,7 +52,9 @@ pub(crate) fn next_events<R: Source>(
         AllByRecursion (λ e. broken_rule header.now e ≡ None) v.items) }
     ensures count { IfOk result (λ v. length v.items ≡ count) }
 {
-    let mut events = Vec::with_capacity(alloc, count as usize)?;
+    let mut events = room;
+    events.clear();
+    events.reserve(count as usize)?;
     for i in 0..count {
         let event = next_event(buffer, source, header, (before + i) as u64)?;
         events.push(event)?;

@@ -1,8 +1,6 @@
 -- The events of a run that may drop cached entries, and which entries they drop.
-use Rattle.std.specs.Prelude.{◌≡◌, ℕ, ◌+◌, ◌≤◌, length, Bool, true, false, not, ◌&&◌, ◌||◌, ◌==◌}
-use Rattle.std.specs.Prelude.{◌⊎◌}
-use Rattle.std.specs.Prelude.{nat_lt, nat_le, min, if◌then◌else◌, List, [], ◌∷◌, fold}
-use Rattle.std.specs.List.{list_any}
+use Rattle.std.specs.Prelude.{◌≡◌, ◌⊎◌, ℕ, ◌+◌, ◌≤◌, Bool, true, false, not, ◌&&◌, ◌||◌}
+use Rattle.std.specs.Prelude.{◌==◌, nat_lt, nat_le, min, if◌then◌else◌, List, length}
 use Rattle.pg_entry.specs.declared.Level.{Level}
 use Rattle.pg_entry.specs.declared.Level.TheVariants.{Four, Three, Two, One}
 use Rattle.pg_event.specs.declared.event.Event.{Event}
@@ -16,7 +14,11 @@ use Rattle.pg_event.specs.Heads.{Head}
 use Rattle.pg_event.specs.Form.{processor_of}
 use Rattle.pg_event.specs.Invalidation.{must_drop_structure, must_drop_translation}
 use Rattle.pg_event.specs.Witness.{survives}
-use Rattle.pg_inval.specs.declared.history.Invalidation.{Invalidation}
+use Rattle.pg_timeline.specs.Keyed as keyed
+use Rattle.pg_timeline.specs.Keyed.{Keyed}
+use Rattle.pg_inval.specs.declared.key.DropKey.{DropKey}
+use Rattle.pg_inval.specs.Keys.{structure_keys, translation_keys}
+use Rattle.pg_inval.specs.Lists.{has_between}
 
 -- whether an event is of a kind that may drop entries
 abbrev pub may_drop : Event → Bool
@@ -61,22 +63,21 @@ abbrev pub drops_between : ℕ → Event → Control → ℕ → CacheEntry → 
 drops_between moment e before p entry from to =
     nat_le from moment && nat_lt moment to && processor_of e == p && must_drop entry before e
 
+-- by what an entry of p is dropped
+abbrev pub keys_of : ℕ → CacheEntry → List DropKey
+keys_of p (Structure key) = structure_keys p key
+keys_of p (Translation key) = translation_keys p key
+
 -- whether p had to drop an entry from one moment up to, not with, another
-abbrev pub is_dropped : List Invalidation → ℕ → CacheEntry → ℕ → ℕ → Bool
-is_dropped drops p entry from to =
-    list_any (λ d. drops_between d.moment d.event d.before p entry from to) drops
+abbrev pub is_dropped : Keyed DropKey Unit → ℕ → CacheEntry → ℕ → ℕ → Bool
+is_dropped drops p entry from to = has_between drops.entries (keys_of p entry) from to
 
--- the least moment that a further event may have: one above that of the last, or 0
-abbrev pub next_moment : List Invalidation → ℕ
-next_moment drops = fold (λ n d. d.moment + 1) 0 drops
-
--- the moments rise, from one that is at least this
-abbrev pub IsRisingFrom : ℕ → List Invalidation → Type 0
-IsRisingFrom n [] = Unit {0}
-IsRisingFrom n (d ∷ ds) = (n ≤ d.moment) × IsRisingFrom (d.moment + 1) ds
+-- the least moment that a further event may have
+abbrev pub next_moment : Keyed DropKey Unit → ℕ
+next_moment drops = keyed.next_moment drops
 
 -- one more event is known, with the control registers of its processor before it
-pub record IsNoted (old new : List Invalidation) (moment : ℕ) (event : Event) (before : Control) :
+pub record IsNoted (old new : Keyed DropKey Unit) (moment : ℕ) (event : Event) (before : Control) :
     Type 0 where
   pub next : next_moment new ≡ (if may_drop event then moment + 1 else next_moment old)
   pub drops : (p : ℕ) (entry : CacheEntry) (from to : ℕ) → MayBeCached entry →
@@ -84,19 +85,19 @@ pub record IsNoted (old new : List Invalidation) (moment : ℕ) (event : Event) 
       ≡ (is_dropped old p entry from to || drops_between moment event before p entry from to)
 
 -- the same is known
-pub record IsSame (old new : List Invalidation) : Type 0 where
+pub record IsSame (old new : Keyed DropKey Unit) : Type 0 where
   pub next : next_moment new ≡ next_moment old
   pub drops : (p : ℕ) (entry : CacheEntry) (from to : ℕ) → MayBeCached entry →
       is_dropped new p entry from to ≡ is_dropped old p entry from to
 
 -- what is known of the moments up to one
-pub record IsCutAt (old new : List Invalidation) (moment : ℕ) : Type 0 where
+pub record IsCutAt (old new : Keyed DropKey Unit) (moment : ℕ) : Type 0 where
   pub next : next_moment new ≤ min (next_moment old) moment
   pub drops : (p : ℕ) (entry : CacheEntry) (from to : ℕ) → MayBeCached entry →
       is_dropped new p entry from to ≡ is_dropped old p entry from (min to moment)
 
 -- what is dropped is what the events of a run drop
-pub record StandsFor (d : List Invalidation) (head : Head) (events : List Event) : Type 0 where
+pub record StandsFor (d : Keyed DropKey Unit) (head : Head) (events : List Event) : Type 0 where
   pub next : next_moment d ≤ length events
   pub drops : (p : ℕ) (entry : CacheEntry) (from to : ℕ) → MayBeCached entry →
       is_dropped d p entry from to ≡ not (survives head events p (must_drop entry) from to)

@@ -1,5 +1,5 @@
-ghost use Rattle.std.specs.Prelude.{◌≡◌, ◌<◌, ◌≤◌, not, false, List, [], ◌∷◌, ◌++◌, length, IsOk};
-ghost use Rattle.std.specs.Prelude.{OnOk, OnErr, ◌&&◌, ◌==◌, nat_le, nat_lt};
+ghost use Rattle.std.specs.Prelude.{◌≡◌, ◌+◌, ◌<◌, ◌≤◌, not, false, List, [], ◌∷◌, ◌++◌, length};
+ghost use Rattle.std.specs.Prelude.{IsOk, OnOk, OnErr};
 ghost use Rattle.pg_event.specs.declared.event.Event.{Event};
 ghost use Rattle.pg_event.specs.Form.{processor_of};
 ghost use Rattle.pg_event.specs.Heads.{Head};
@@ -10,52 +10,38 @@ ghost use Rattle.pg_event.specs.Witness.{survives};
 ghost use Rattle.pg_inval.specs.Drops.{may_drop, Structure, Translation, IsTableLevel, IsPageShift};
 ghost use Rattle.pg_inval.specs.Drops.{next_moment, is_dropped, IsNoted, IsSame, IsCutAt};
 ghost use Rattle.pg_inval.specs.Drops.{StandsFor};
+ghost use Rattle.pg_inval.specs.Keys.{dropped_keys};
+ghost use Rattle.pg_inval.specs.Lists.{IsFirstDrop};
 
+use crate::dropped::dropped_keys;
+use crate::key::{DropKey, structure_keys, translation_keys};
+use crate::lists::{cut_all, first_between, push_moments};
 use pg_entry::Level;
-use pg_event::{
-    Control, Event, Outcome, StructureKey, TranslationKey, must_drop_structure,
-    must_drop_translation, processor_of, structure_key, translation_key,
-};
+use pg_event::{Control, Event, Outcome, structure_key, translation_key};
+use pg_timeline::{Probes, Timeline};
 use std::alloc::{AllocError, Global};
+use std::collections::HashMap;
 use std::marker::Model;
 
-/// An event that may drop cached entries of its processor.
-#[derive(Clone, Copy, PartialEq, Eq, Debug)]
-pub struct Invalidation {
-    /// The number of the event.
-    pub moment: u32,
-    pub event: Event,
-    /// The control registers of its processor just before it.
-    pub before: Control,
-}
-
-impl Invalidation {
-    /// Whether it is an event of a processor, from one moment up to, not with, another.
-    fn is_of(&self, p: u16, from: u32, to: u32) -> bool
-        ensures { result ≡ (nat_le from self.now.moment && nat_lt self.now.moment to
-            && processor_of self.now.event == p) }
-    {
-        from <= self.moment && self.moment < to && processor_of(&self.event) == p
-    }
-}
-
-/// The events of a run that may drop cached entries, as far as they were noted, in their order.
+/// What a run's events dropped from the caches of their processors, as far as they were noted: for
+/// each key, the moments of its events.
 #[derive(Debug, Drop)]
 pub struct Drops {
-    drops: Vec<Invalidation>,
+    alloc: Global,
+    next: u64,
+    by_key: HashMap<DropKey, Timeline<()>>,
 }
 
 impl Model for Drops {
-    ghost use Rattle.std.specs.Prelude.{List};
-    ghost use Rattle.pg_inval.specs.declared.history.Invalidation.{Invalidation};
+    ghost use Rattle.pg_timeline.specs.Keyed.{Keyed, EndsBefore};
+    ghost use Rattle.pg_inval.specs.declared.key.DropKey.{DropKey};
+    ghost use Rattle.pg_inval.specs.Keys.{is_same_key};
 
-    ghost Value = { List Invalidation };
+    ghost Value = { Keyed DropKey Unit };
 
-    ghost use Rattle.pg_inval.specs.Drops.{IsRisingFrom};
+    ghost view = { λ a. record { entries = a.by_key.entries; next = a.next } };
 
-    ghost view = { λ a. a.drops.items };
-
-    ghost invariant = { λ a. IsRisingFrom 0 a.drops.items };
+    ghost invariant = { λ a. EndsBefore is_same_key a.by_key.entries a.next };
 }
 
 /// Whether an event is of a kind that may drop entries (Intel SDM, vol. 3, 4.10.4.1): a write to
@@ -83,7 +69,9 @@ impl Drops {
         ensures start { (head : Head) → StandsFor result head [] }
     {
         Drops {
-            drops: Vec::new(alloc),
+            alloc,
+            next: 0,
+            by_key: HashMap::new(alloc),
         }
     }
 
@@ -91,38 +79,35 @@ impl Drops {
     pub fn forget_from(&mut self, moment: u32)
         ensures { IsCutAt self.old self.new moment }
     {
-        self.drops.retain(|d| d.moment < moment);
+        cut_all(&mut self.by_key, moment);
+        self.next = self.next.min(moment as u64);
     }
 
-    /// The least moment that a further event may have: one above that of the last, or 0.
+    /// The least moment that a further event may have.
     pub fn next(&self) -> u64
         ensures { result ≡ next_moment self.now }
     {
-        match self.drops.as_slice() {
-            [.., last] => last.moment as u64 + 1,
-            [] => 0,
-        }
+        self.next
     }
 
     /// Notes the event with this number, where `before` are the control registers of its processor
-    /// just before it; one of a kind that drops nothing is not kept, and takes no memory. Fails
-    /// where memory is refused, and then nothing is noted.
+    /// just before it; one that drops nothing takes no memory. Fails where memory is refused, and
+    /// then nothing is noted.
     pub fn note(&mut self, moment: u32, event: &Event, before: Control) -> Result<(), AllocError>
         requires { next_moment self.old ≤ moment }
         ensures ok { OnOk result (IsNoted self.old self.new moment event.now before) }
         ensures err { OnErr result (IsSame self.old self.new) }
         ensures others { may_drop event.now ≡ false → IsOk result }
+        ensures none { dropped_keys before event.now ≡ [] → IsOk result }
         ensures run { (head : Head) (events : List Event) → StandsFor self.old head events →
             moment ≡ length events →
             before ≡ control_at head events (processor_of event.now) moment →
             OnOk result (StandsFor self.new head (events ++ event.now ∷ [])) }
     {
         if may_drop(event) {
-            self.drops.push(Invalidation {
-                moment,
-                event: *event,
-                before,
-            })?;
+            let keys = dropped_keys(before, event);
+            push_moments(&mut self.by_key, self.alloc, keys.as_slice(), moment)?;
+            self.next = moment as u64 + 1;
         }
         Ok(())
     }
@@ -145,14 +130,57 @@ impl Drops {
             (head : Head) (events : List Event) → StandsFor self.now head events →
             result ≡ not (survives head events p (λ c e. must_drop_structure c e key) from to) }
     {
-        self.drops_structure(p, structure_key(pcid, level, la), from, to)
+        self.structure_dropped_counted(p, pcid, level, la, from, to, &mut Probes::new())
     }
 
-    fn drops_structure(&self, p: u16, key: StructureKey, from: u32, to: u32) -> bool
-        ensures { result ≡ is_dropped self.now p (Structure key) from to }
+    /// The same, and counts the moments that were read.
+    pub fn structure_dropped_counted(
+        &self,
+        p: u16,
+        pcid: u16,
+        level: Level,
+        la: u64,
+        from: u32,
+        to: u32,
+        probes: &mut Probes,
+    ) -> bool
+        requires { IsTableLevel level }
+        ensures value { result
+            ≡ is_dropped self.now p (Structure (structure_key pcid level la)) from to }
+        ensures run { let key = structure_key pcid level la in
+            (head : Head) (events : List Event) → StandsFor self.now head events →
+            result ≡ not (survives head events p (λ c e. must_drop_structure c e key) from to) }
+        ensures probes { (probes.old ≤ probes.new) × (probes.new ≤ probes.old + 102) }
     {
-        self.drops.iter().any(|d| d.is_of(p, from, to)
-            && must_drop_structure(d.before, &d.event, key))
+        self.first_drop_of_structure(p, pcid, level, la, from, to, probes)
+            .is_some()
+    }
+
+    /// The least moment from `from` up to, not with, `to` at which processor `p` had to drop the
+    /// paging-structure-cache entry that level 4, 3 or 2 gave for a linear address under a PCID. It
+    /// counts the moments that were read.
+    pub fn first_drop_of_structure(
+        &self,
+        p: u16,
+        pcid: u16,
+        level: Level,
+        la: u64,
+        from: u32,
+        to: u32,
+        probes: &mut Probes,
+    ) -> Option<u32>
+        requires { IsTableLevel level }
+        ensures first { IsFirstDrop
+            (is_dropped self.now p (Structure (structure_key pcid level la))) from to result }
+        ensures run { let key = structure_key pcid level la in
+            (head : Head) (events : List Event) → StandsFor self.now head events →
+            IsFirstDrop
+            (λ a b. not (survives head events p (λ c e. must_drop_structure c e key) a b))
+            from to result }
+        ensures probes { (probes.old ≤ probes.new) × (probes.new ≤ probes.old + 102) }
+    {
+        let keys = structure_keys(p, structure_key(pcid, level, la));
+        first_between(&self.by_key, &keys, from, to, probes)
     }
 
     /// Whether processor `p` had to drop the translation of a linear address by a page of 2 to the
@@ -175,14 +203,60 @@ impl Drops {
             (head : Head) (events : List Event) → StandsFor self.now head events →
             result ≡ not (survives head events p (λ c e. must_drop_translation c e key) from to) }
     {
-        self.drops_translation(p, translation_key(pcid, shift, global, la), from, to)
+        let mut probes = Probes::new();
+        self.translation_dropped_counted(p, pcid, shift, la, global, from, to, &mut probes)
     }
 
-    fn drops_translation(&self, p: u16, key: TranslationKey, from: u32, to: u32) -> bool
-        requires { key.shift < 64 }
-        ensures { result ≡ is_dropped self.now p (Translation key) from to }
+    /// The same, and counts the moments that were read.
+    pub fn translation_dropped_counted(
+        &self,
+        p: u16,
+        pcid: u16,
+        shift: u8,
+        la: u64,
+        global: bool,
+        from: u32,
+        to: u32,
+        probes: &mut Probes,
+    ) -> bool
+        requires { IsPageShift shift }
+        ensures value { result
+            ≡ is_dropped self.now p (Translation (translation_key pcid shift global la)) from to }
+        ensures run { let key = translation_key pcid shift global la in
+            (head : Head) (events : List Event) → StandsFor self.now head events →
+            result ≡ not (survives head events p (λ c e. must_drop_translation c e key) from to) }
+        ensures probes { (probes.old ≤ probes.new) × (probes.new ≤ probes.old + 136) }
     {
-        self.drops.iter().any(|d| d.is_of(p, from, to)
-            && must_drop_translation(d.before, &d.event, key))
+        self.first_drop_of_translation(p, pcid, shift, la, global, from, to, probes)
+            .is_some()
+    }
+
+    /// The least moment from `from` up to, not with, `to` at which processor `p` had to drop the
+    /// translation of a linear address by a page of 2 to the power of `shift` bytes (12, 21 or 30)
+    /// under a PCID. It counts the moments that were read.
+    pub fn first_drop_of_translation(
+        &self,
+        p: u16,
+        pcid: u16,
+        shift: u8,
+        la: u64,
+        global: bool,
+        from: u32,
+        to: u32,
+        probes: &mut Probes,
+    ) -> Option<u32>
+        requires { IsPageShift shift }
+        ensures first { IsFirstDrop
+            (is_dropped self.now p (Translation (translation_key pcid shift global la)))
+            from to result }
+        ensures run { let key = translation_key pcid shift global la in
+            (head : Head) (events : List Event) → StandsFor self.now head events →
+            IsFirstDrop
+            (λ a b. not (survives head events p (λ c e. must_drop_translation c e key) a b))
+            from to result }
+        ensures probes { (probes.old ≤ probes.new) × (probes.new ≤ probes.old + 136) }
+    {
+        let keys = translation_keys(p, translation_key(pcid, shift, global, la));
+        first_between(&self.by_key, keys.as_slice(), from, to, probes)
     }
 }

@@ -1,8 +1,11 @@
 //! Which cached entries a processor had to drop between two moments.
 #![tactic(auto)]
 
+mod dropped;
 mod history;
+mod key;
+mod lists;
 #[cfg(test)]
 mod tests;
 
-pub use history::{Drops, Invalidation};
+pub use history::Drops;

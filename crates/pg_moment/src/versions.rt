@@ -118,7 +118,7 @@ impl Versions {
         ensures value { result ≡ value_at self.now moment addr }
         ensures memory { (events : List Event) → StandsFor self.now events →
             result ≡ mem_at events moment addr }
-        ensures probes { probes.new ≤ probes.old + 34 }
+        ensures probes { (probes.old ≤ probes.new) × (probes.new ≤ probes.old + 34) }
     {
         match self.by_address.get(&addr) {
             Some(timeline) => timeline.last_before(moment, probes).unwrap_or(0),

@@ -4,3 +4,4 @@ pub mod Whole
 pub mod Continuing
 pub mod Verdicts
 pub mod Rows
+pub mod Windows

@@ -3,3 +3,4 @@ pub mod Text
 pub mod Numbers
 pub mod Intake
 pub mod Audits
+pub mod Judging

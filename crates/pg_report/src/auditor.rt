@@ -2,26 +2,16 @@
 
 ghost use Rattle.std.specs.Prelude.{◌≡◌, string_bytes};
 ghost use Rattle.pg_report.specs.Changes.{drawn, filled};
-ghost use Rattle.pg_report.specs.Text.{verdict_of, report_of, report_text};
+ghost use Rattle.pg_report.specs.Text.{report_of, report_text};
 ghost use Rattle.pg_report.specs.Intake.{TellsDevice};
 ghost use Rattle.pg_report.specs.Audits.{WritesText, IsAudit};
 
 use crate::error::AuditError;
-use crate::intake::read_record;
-use crate::report::{Report, Verdict};
+use crate::judging::judge_record;
+use crate::report::{Report, Verdict, verdict_of};
 use pg_check::{History, first_bad};
 use pg_codec::{Sink, Source, put_all};
-use pg_event::Reason;
 use std::alloc::Global;
-
-fn verdict_of(first_bad: Option<(u64, Reason)>) -> Verdict
-    ensures { result ≡ verdict_of first_bad }
-{
-    match first_bad {
-        None => Verdict::Yes,
-        Some((event, reason)) => Verdict::No { event, reason },
-    }
-}
 
 /// The report of a record.
 pub fn report_of(history: &History) -> Report
@@ -60,7 +50,8 @@ pub fn write_report<W: Sink>(
 }
 
 /// Reads the record that `reader` has left, all of it, judges it, and then writes its report to
-/// `writer`. Nothing is written before the whole record is read and judged.
+/// `writer`. Nothing is written before the whole record is read and judged. Its events are judged
+/// as they are read, and let go.
 ///
 /// It takes no thread and waits for nobody.
 pub fn audit_one<R: Source, W: Sink>(
@@ -71,11 +62,10 @@ pub fn audit_one<R: Source, W: Sink>(
     ensures { IsAudit
         (drawn R.Source reader.old reader.new) (filled W.Sink writer.old writer.new) result }
 {
-    let history = match read_record(alloc, reader) {
-        Ok(history) => history,
+    let report = match judge_record(alloc, reader) {
+        Ok(report) => report,
         Err(error) => return Err(error),
     };
-    let report = report_of(&history);
     match write_report(alloc, writer, report) {
         Ok(()) => Ok(report.verdict),
         Err(error) => Err(error),

@@ -15,9 +15,9 @@ use pg_event::{Header, Version};
 use std::alloc::Global;
 
 /// At most this many parts follow a header: up to 2^32 - 1 segments, and the end mark.
-const MOST_CHUNKS: u64 = 1 << 32;
+pub(crate) const MOST_CHUNKS: u64 = 1 << 32;
 
-fn audit_error(error: ReadError) -> AuditError
+pub(crate) fn audit_error(error: ReadError) -> AuditError
     requires { error ≢ ReadError.Failed }
     ensures { IsErrorOf error result }
 {
@@ -31,7 +31,7 @@ fn audit_error(error: ReadError) -> AuditError
 }
 
 /// The header of a record of a version up to this.
-fn read_header_up_to<R: Source>(
+pub(crate) fn read_header_up_to<R: Source>(
     alloc: Global,
     reader: &mut RecordReader,
     source: &mut R,

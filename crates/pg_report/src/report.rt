@@ -1,6 +1,6 @@
 ghost use Rattle.std.specs.Prelude.{◌≡◌, IfOk, string_bytes};
 ghost use Rattle.pg_report.specs.Text.{reason_number, reason_name, counts_text, verdict_text};
-ghost use Rattle.pg_report.specs.Text.{report_text};
+ghost use Rattle.pg_report.specs.Text.{report_text, verdict_of};
 
 use pg_event::Reason;
 use std::alloc::{AllocError, Global};
@@ -23,6 +23,15 @@ pub struct Report {
     pub events: u64,
     /// How many segments it has: events over segment size, rounded up.
     pub segments: u64,
+}
+
+pub(crate) fn verdict_of(first_bad: Option<(u64, Reason)>) -> Verdict
+    ensures { result ≡ verdict_of first_bad }
+{
+    match first_bad {
+        None => Verdict::Yes,
+        Some((event, reason)) => Verdict::No { event, reason },
+    }
 }
 
 /// The number of a reason, 1 to 13.

@@ -208,7 +208,19 @@ impl Controls {
             result ≡ (control_at head events p moment).root }
         ensures within { result < 2 ^ 52 }
     {
-        self.control_at(p, moment).root
+        self.root_at_counted(p, moment, &mut Probes::new())
+    }
+
+    /// The same, and counts the moments that were read.
+    pub fn root_at_counted(&self, p: u16, moment: u32, probes: &mut Probes) -> u64
+        requires { p < processor_count self.now }
+        ensures value { result ≡ (control_in self.now p moment).root }
+        ensures run { (head : Head) (events : List Event) → StandsFor self.now head events →
+            result ≡ (control_at head events p moment).root }
+        ensures within { result < 2 ^ 52 }
+        ensures probes { (probes.old ≤ probes.new) × (probes.new ≤ probes.old + 34) }
+    {
+        self.control_at_counted(p, moment, probes).root
     }
 
     /// The current PCID of a processor just before the event with this number.
@@ -218,7 +230,18 @@ impl Controls {
         ensures run { (head : Head) (events : List Event) → StandsFor self.now head events →
             result ≡ (control_at head events p moment).pcid }
     {
-        self.control_at(p, moment).pcid
+        self.pcid_at_counted(p, moment, &mut Probes::new())
+    }
+
+    /// The same, and counts the moments that were read.
+    pub fn pcid_at_counted(&self, p: u16, moment: u32, probes: &mut Probes) -> u16
+        requires { p < processor_count self.now }
+        ensures value { result ≡ (control_in self.now p moment).pcid }
+        ensures run { (head : Head) (events : List Event) → StandsFor self.now head events →
+            result ≡ (control_at head events p moment).pcid }
+        ensures probes { (probes.old ≤ probes.new) × (probes.new ≤ probes.old + 34) }
+    {
+        self.control_at_counted(p, moment, probes).pcid
     }
 
     /// Whether global pages are on (CR4.PGE) just before the event with this number.
@@ -228,7 +251,18 @@ impl Controls {
         ensures run { (head : Head) (events : List Event) → StandsFor self.now head events →
             result ≡ (control_at head events p moment).pge }
     {
-        self.control_at(p, moment).pge
+        self.pge_at_counted(p, moment, &mut Probes::new())
+    }
+
+    /// The same, and counts the moments that were read.
+    pub fn pge_at_counted(&self, p: u16, moment: u32, probes: &mut Probes) -> bool
+        requires { p < processor_count self.now }
+        ensures value { result ≡ (control_in self.now p moment).pge }
+        ensures run { (head : Head) (events : List Event) → StandsFor self.now head events →
+            result ≡ (control_at head events p moment).pge }
+        ensures probes { (probes.old ≤ probes.new) × (probes.new ≤ probes.old + 34) }
+    {
+        self.control_at_counted(p, moment, probes).pge
     }
 
     /// The same, and counts the moments that were read.
@@ -238,7 +272,7 @@ impl Controls {
         ensures run { (head : Head) (events : List Event) → StandsFor self.now head events →
             result ≡ control_at head events p moment }
         ensures root { result.root < 2 ^ 52 }
-        ensures probes { probes.new ≤ probes.old + 34 }
+        ensures probes { (probes.old ≤ probes.new) × (probes.new ≤ probes.old + 34) }
     {
         let start = self.start(p);
         match self.by_processor.get(&p) {

@@ -1,7 +1,9 @@
 -- Values over the moments of a run.
-use Rattle.std.specs.Prelude.{ℕ, suc, ◌+◌, ◌≤◌, ◌^◌, nat_lt, nat_le, if◌then◌else◌, List, [], ◌∷◌}
-use Rattle.std.specs.Prelude.{length, fold, Option, Some, None}
-use Rattle.std.specs.List.{filter}
+use Rattle.std.specs.Prelude.{◌≡◌, ℕ, suc, ◌+◌, ◌<◌, ◌≤◌, ◌^◌, Bool, true, false}
+use Rattle.std.specs.Prelude.{nat_eq, nat_lt, nat_le, if◌then◌else◌, List, [], ◌∷◌}
+use Rattle.std.specs.Prelude.{length, fold, slice_get, Option, Some, None}
+use Rattle.std.specs.List.{filter, list_any}
+use Rattle.std.specs.Option.{option_map, MatchOption}
 use Rattle.pg_timeline.specs.declared.timeline.Stamp.{Stamp}
 
 -- one above the last moment, or 0
@@ -17,6 +19,20 @@ last_before w stamps =
 abbrev pub first_from : {V : Type 0} → ℕ → List (Stamp V) → Option ℕ
 first_from w [] = None
 first_from w (s ∷ ss) = if nat_le w s.moment then Some s.moment else first_from w ss
+
+-- the moment of the stamp with a number
+abbrev pub moment_in : {V : Type 0} → List (Stamp V) → ℕ → Option ℕ
+moment_in stamps i = option_map (λ s. s.moment) (slice_get stamps i)
+
+-- whether a stamp has a moment
+abbrev pub has_moment : {V : Type 0} → List (Stamp V) → ℕ → Bool
+has_moment stamps j = list_any (λ s. nat_eq s.moment j) stamps
+
+-- the least number from one on that passes a test, if any does
+abbrev pub IsLeastFrom : (ℕ → Bool) → ℕ → Option ℕ → Type 0
+IsLeastFrom test from found =
+    MatchOption found ((j : ℕ) → from ≤ j → test j ≡ false)
+    (λ m. (from ≤ m) × (test m ≡ true) × ((j : ℕ) → from ≤ j → j < m → test j ≡ false))
 
 -- how many stamps are below a moment
 abbrev pub count_below : {V : Type 0} → ℕ → List (Stamp V) → ℕ

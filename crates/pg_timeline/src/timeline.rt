@@ -1,6 +1,7 @@
-ghost use Rattle.std.specs.Prelude.{◌≡◌, ◌+◌, ◌≤◌, ◌^◌, List, [], ◌∷◌, ◌++◌, length, OnOk, OnErr};
+ghost use Rattle.std.specs.Prelude.{◌≡◌, ◌+◌, ◌-◌, ◌<◌, ◌≤◌, ◌^◌, min, List, [], ◌∷◌, ◌++◌, length};
+ghost use Rattle.std.specs.Prelude.{Some, OnOk, OnErr};
 ghost use Rattle.pg_timeline.specs.Timelines.{end_of, last_before, first_from, cut_at, count_below};
-ghost use Rattle.pg_timeline.specs.Timelines.{IsRising};
+ghost use Rattle.pg_timeline.specs.Timelines.{IsRising, IsLeastFrom, moment_in, has_moment};
 
 use crate::probes::Probes;
 use smallvec::SmallVec;
@@ -34,20 +35,30 @@ impl<V> Model for Timeline<V> {
     ghost invariant = { λ a. IsKept a.stamps.items };
 }
 
+/// The moment of a stamp. Look-ups read moments here alone, and each reading is a probe.
+fn moment_at<V: Copy>(stamps: &[Stamp<V>], i: usize, probes: &mut Probes) -> u32
+    requires { i < length stamps.now }
+    ensures moment { moment_in stamps.now i ≡ Some result }
+    ensures probes { probes.new ≡ min (probes.old + 1) (2 ^ 64 - 1) }
+    ensures more { probes.old ≤ probes.new }
+{
+    probes.tick();
+    stamps[i].moment
+}
+
 /// How many stamps lie below a moment, by halving.
 fn count_before<V: Copy>(stamps: &[Stamp<V>], moment: u32, probes: &mut Probes) -> usize
     requires rising { IsRising stamps.now }
     requires short { length stamps.now ≤ 2 ^ 32 }
     ensures within { result ≤ length stamps.now }
     ensures count { result ≡ count_below moment stamps.now }
-    ensures probes { probes.new ≤ probes.old + 34 }
+    ensures probes { (probes.old ≤ probes.new) × (probes.new ≤ probes.old + 33) }
 {
     let mut low = 0;
     let mut high = stamps.len();
     while low < high {
         let middle = low + (high - low) / 2;
-        probes.tick();
-        if stamps[middle].moment < moment {
+        if moment_at(stamps, middle, probes) < moment {
             low = middle + 1;
         } else {
             high = middle;
@@ -80,7 +91,7 @@ impl<V: Copy + Default> Timeline<V> {
     /// The value of the last stamp below a moment.
     pub fn last_before(&self, moment: u32, probes: &mut Probes) -> Option<V>
         ensures value { result ≡ last_before moment self.now }
-        ensures probes { probes.new ≤ probes.old + 34 }
+        ensures probes { (probes.old ≤ probes.new) × (probes.new ≤ probes.old + 34) }
     {
         let stamps = self.stamps.as_slice();
         let count = count_before(stamps, moment, probes);
@@ -94,12 +105,13 @@ impl<V: Copy + Default> Timeline<V> {
     /// The least moment of a stamp that is not below this one.
     pub fn first_from(&self, moment: u32, probes: &mut Probes) -> Option<u32>
         ensures value { result ≡ first_from moment self.now }
-        ensures probes { probes.new ≤ probes.old + 34 }
+        ensures least { IsLeastFrom (has_moment self.now) moment result }
+        ensures probes { (probes.old ≤ probes.new) × (probes.new ≤ probes.old + 34) }
     {
         let stamps = self.stamps.as_slice();
         let count = count_before(stamps, moment, probes);
         if count < stamps.len() {
-            Some(stamps[count].moment)
+            Some(moment_at(stamps, count, probes))
         } else {
             None
         }

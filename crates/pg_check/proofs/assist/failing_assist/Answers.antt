@@ -1,7 +1,7 @@
 use Rattle.std.proofs.Common.{sym, ap, ◌∙◌}
 use Rattle.pg_entry.specs.declared.Cfg.{Cfg}
 use Rattle.pg_check.specs.Ends.{after_walk, failing_marks}
-use Rattle.pg_check.proofs.Judged.{failing_assist-walk}
+use Rattle.pg_check.proofs.Reasons.{failing_assist-walk}
 use Rattle.pg_check.proofs.assist.failing_assist.Goals as goal
 
 pub returns-in-Ok : goal.returns-in-Ok

@@ -1,15 +1,17 @@
-use Rattle.std.proofs.Common.{◌≡◌, nat_lt, rules}
-use Rattle.std.specs.List.{filter}
-use Rattle.std.proofs.lemmas.Fn.{filter_same}
-use Rattle.pg_inval.proofs.Kept.{IsRisingFrom-cut, IsCutAt-filter}
+use Rattle.std.proofs.Common.{refl}
+use Rattle.pg_timeline.specs.Keyed.{Keyed}
+use Rattle.pg_timeline.proofs.Timelines.{EndsBefore-cut}
+use Rattle.pg_inval.specs.declared.key.DropKey.{DropKey}
+use Rattle.pg_inval.specs.Keys.{is_same_key}
+use Rattle.pg_inval.proofs.Kept.{IsCutAt-cut}
 use Rattle.pg_inval.proofs.history.Drops.forget_from.Goals as goal
 
 pub invariant_of-self : goal.invariant_of-self
 invariant_of-self c =
-    let cut : c.retain.new.self.items ≡ filter (λ d. nat_lt d.moment c.args.moment) c.self.inside.drops.items = filter_same _ _ _ (λ x b f' k. search rules) _ _ c.retain.ensures.filtered in
-    rw cut (IsRisingFrom-cut c.args.moment c.self.inside.drops.items c.self.invariant)
+    rw c.min-self-inside.ensures
+    (EndsBefore-cut is_same_key c.args.moment c.self.inside.next c.self.inside.by_key.entries c.cut_all.new.by_key.entries c.self.invariant c.cut_all.ensures)
 
 pub returns : goal.returns
 returns c =
-    let cut : c.retain.new.self.items ≡ filter (λ d. nat_lt d.moment c.args.moment) c.self.inside.drops.items = filter_same _ _ _ (λ x b f' k. search rules) _ _ c.retain.ensures.filtered in
-    rw (cut, ← c.self.view_is) (IsCutAt-filter c.self.inside.drops.items c.args.moment c.self.invariant)
+    let old : Keyed DropKey Unit = record { entries = c.self.inside.by_key.entries; next = c.self.inside.next } in
+    rw (← c.self.view_is) (IsCutAt-cut old _ c.args.moment c.min-self-inside.ensures c.cut_all.ensures)

@@ -1,0 +1,226 @@
+/*
+ * records KIND EVENTS: writes an accepted record of four processors to standard output, made by a
+ * small machine that caches translations as a hypervisor would.
+ *
+ *   mixed    four events of five are reads, mostly of a few hundred pages, by entries that were
+ *            read long before; the others are writes of their entries, INVLPG and MOV to CR3
+ *   word     every second event writes one and the same word, and half of the others read its page,
+ *            which is invalidated now and then, so that moments spread over all that it held
+ *   invlpg   every second event is an INVLPG of a random page
+ *   cr3      every second event is a MOV to CR3, which drops what its PCID has
+ */
+#include "../../emit/pcid_record.h"
+
+#include <stdio.h>
+#include <stdlib.h>
+#include <string.h>
+
+enum { PROCESSORS = 4, PAGES = 4096, HOT = 256, PCIDS = 64, SEGMENT = 4096 };
+
+#define ROOT UINT64_C(0x1000)
+#define UPPER UINT64_C(0x2000)
+#define MIDDLE UINT64_C(0x3000)
+#define LEAVES UINT64_C(0x10000) /* a table of 512 entries for each 2 MB */
+#define PRESENT UINT64_C(0x7)
+
+struct page {
+    uint32_t generation; /* that of its space when it was read; 0 where it was not */
+    uint64_t entry;
+    uint32_t moments[4];
+};
+
+/* What one PCID of a processor caches: translations, and the moments of the upper levels of one
+ * region. What is of an earlier generation was dropped. */
+struct space {
+    uint32_t generation; /* from 1 on */
+    uint32_t region;     /* of the upper levels, from 1 on; 0 where none are cached */
+    uint32_t upper[3];
+    struct page *pages;
+};
+
+struct processor {
+    uint32_t pcid;
+    struct space spaces[PCIDS];
+};
+
+static struct processor processors[PROCESSORS];
+static uint64_t entries[PAGES];
+static struct pcid_record record;
+static uint64_t state = UINT64_C(0x9e3779b97f4a7c15);
+
+static uint32_t random_below(uint32_t n)
+{
+    state ^= state << 13;
+    state ^= state >> 7;
+    state ^= state << 17;
+    return (uint32_t)((state >> 32) * n >> 32);
+}
+
+static int put(void *context, const uint8_t *bytes, size_t count)
+{
+    return fwrite(bytes, 1, count, context) != count;
+}
+
+static void taken(enum pcid_record_status status)
+{
+    if (status != PCID_RECORD_TAKEN) {
+        fprintf(stderr, "records: status %d\n", (int)status);
+        exit(1);
+    }
+}
+
+static uint64_t address_of(uint32_t page)
+{
+    return (uint64_t)page << 12;
+}
+
+static uint64_t slot_of(uint32_t page)
+{
+    return LEAVES + (uint64_t)page * 8;
+}
+
+static void write_entry(uint32_t p, uint32_t page)
+{
+    entries[page] = (uint64_t)(0x100 + random_below(1 << 20)) << 12 | PRESENT;
+    taken(pcid_record_write(&record, p, slot_of(page), entries[page]));
+}
+
+/* The tables above the leaves are written once. */
+static void write_tables(void)
+{
+    uint32_t k;
+
+    taken(pcid_record_write(&record, 0, ROOT, UPPER | PRESENT));
+    taken(pcid_record_write(&record, 0, UPPER, MIDDLE | PRESENT));
+    for (k = 0; k < PAGES / 512; k++)
+        taken(pcid_record_write(&record, 0, MIDDLE + 8 * k, (LEAVES + 4096 * (uint64_t)k) | PRESENT));
+    for (k = 0; k < PAGES; k++)
+        write_entry(k % PROCESSORS, k);
+}
+
+static struct space *space_of(uint32_t p)
+{
+    return &processors[p].spaces[processors[p].pcid];
+}
+
+/* A read by the cached translation, or by a walk from the cached upper levels, or from the root. */
+static void read_page(uint32_t p, uint32_t number)
+{
+    struct space *space = space_of(p);
+    struct page *page = &space->pages[number];
+    const uint32_t now = pcid_record_moment(&record);
+
+    if (page->generation != space->generation) {
+        const uint32_t region = number / 512 + 1;
+
+        if (space->region != region) {
+            space->region = region;
+            space->upper[0] = space->upper[1] = space->upper[2] = now;
+        }
+        memcpy(page->moments, space->upper, sizeof space->upper);
+        page->moments[3] = now;
+        page->entry = entries[number];
+        page->generation = space->generation;
+    }
+    taken(pcid_record_answer(&record, p, PCID_RECORD_READ | PCID_RECORD_USER,
+                             address_of(number) + 0x123,
+                             (page->entry & ~UINT64_C(0xfff)) + 0x123, page->moments, 4));
+}
+
+/* Drops the page's translation, and all structure entries of the PCID. */
+static void invlpg(uint32_t p, uint32_t number)
+{
+    struct space *space = space_of(p);
+
+    space->pages[number].generation = 0;
+    space->region = 0;
+    taken(pcid_record_invlpg(&record, p, address_of(number)));
+}
+
+static void load(uint32_t p, uint32_t pcid, int keep)
+{
+    processors[p].pcid = pcid;
+    if (!keep) {
+        space_of(p)->generation++;
+        space_of(p)->region = 0;
+    }
+    taken(pcid_record_mov_cr3(&record, p, ROOT | pcid | (keep ? UINT64_C(1) << 63 : 0)));
+}
+
+static uint32_t some_page(uint32_t p)
+{
+    return random_below(10) ? (p * HOT + random_below(HOT)) % PAGES : random_below(PAGES);
+}
+
+static void mixed(uint32_t p)
+{
+    const uint32_t what = random_below(100);
+
+    if (what < 80)
+        read_page(p, some_page(p));
+    else if (what < 92)
+        write_entry(p, some_page(p));
+    else if (what < 98)
+        invlpg(p, some_page(p));
+    else
+        load(p, random_below(8), 1);
+}
+
+static void word(uint32_t p)
+{
+    const uint32_t what = random_below(64);
+
+    if (pcid_record_moment(&record) % 2)
+        write_entry(p, 7);
+    else if (what == 0)
+        invlpg(p, 7);
+    else
+        read_page(p, what < 32 ? 7 : some_page(p));
+}
+
+static int is_kind(const char *kind)
+{
+    return !strcmp(kind, "mixed") || !strcmp(kind, "word") || !strcmp(kind, "invlpg") ||
+           !strcmp(kind, "cr3");
+}
+
+int main(int count, char **words)
+{
+    const char *kind = count == 3 ? words[1] : "";
+    const uint32_t events = count == 3 ? (uint32_t)strtoul(words[2], NULL, 10) : 0;
+    static uint8_t buffer[PCID_RECORD_BYTES(1, SEGMENT)];
+    const struct pcid_record_start start[PROCESSORS] = {
+        {ROOT, 1}, {ROOT, 1}, {ROOT, 1}, {ROOT, 1}};
+    const struct pcid_record_header header = {
+        1, 40, PCID_RECORD_WP | PCID_RECORD_NXE, PROCESSORS, SEGMENT, start};
+    uint32_t k, p;
+
+    if (events < 8192 || !is_kind(kind)) {
+        fprintf(stderr, "usage: records mixed|word|invlpg|cr3 EVENTS, at least 8192\n");
+        return 64;
+    }
+    for (p = 0; p < PROCESSORS; p++)
+        for (k = 0; k < PCIDS; k++) {
+            processors[p].spaces[k].generation = 1;
+            processors[p].spaces[k].pages = calloc(PAGES, sizeof(struct page));
+            if (!processors[p].spaces[k].pages)
+                return 3;
+        }
+    taken(pcid_record_begin(&record, &header, buffer, sizeof buffer, put, stdout));
+    write_tables();
+    while (pcid_record_moment(&record) < events) {
+        p = random_below(PROCESSORS);
+        if (!strcmp(kind, "mixed"))
+            mixed(p);
+        else if (!strcmp(kind, "word"))
+            word(p);
+        else if (pcid_record_moment(&record) % 2)
+            read_page(p, some_page(p));
+        else if (!strcmp(kind, "invlpg"))
+            invlpg(p, random_below(PAGES));
+        else
+            load(p, random_below(PCIDS), 0);
+    }
+    taken(pcid_record_end(&record));
+    return fflush(stdout) ? 1 : 0;
+}

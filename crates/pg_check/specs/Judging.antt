@@ -1,0 +1,30 @@
+-- What is known of a run that was judged as it was read.
+use Rattle.std.specs.Prelude.{◌≡◌, ℕ, ◌+◌, ◌<◌, ◌^◌, List, length, Option}
+use Rattle.pg_event.specs.declared.event.Event.{Event}
+use Rattle.pg_event.specs.declared.event.Reason.{Reason}
+use Rattle.pg_event.specs.Heads.{Head}
+use Rattle.pg_event.specs.Witness.{first_bad}
+use Rattle.pg_chain.specs.declared.history.Past.{Past}
+use Rattle.pg_chain.specs.Standing.{IsPast}
+use Rattle.pg_check.specs.Kept.{AreWellFormed}
+
+-- its settings, its past, how many events it has, and the first bad one
+pub record Findings : Type 0 where
+  pub head : Head
+  pub past : Past
+  pub count : ℕ
+  pub first_bad : Option (ℕ × Reason)
+
+-- they are those of a run with these events under this header
+pub record IsJudged (f : Findings) (head : Head) (events : List Event) : Type 0 where
+  pub settings : f.head ≡ head
+  pub past : IsPast f.past head events
+  pub count : f.count ≡ length events
+  pub first_bad : f.first_bad ≡ first_bad head events
+
+-- these events may come next: they are well formed, and not too many
+pub record MayFollow (f : Findings) (more : List Event) : Type 0 where
+  pub before : List Event
+  pub judged : IsJudged f f.head before
+  pub well : AreWellFormed f.head more
+  pub limit : length before + length more < 2 ^ 32

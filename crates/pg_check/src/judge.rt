@@ -1,0 +1,79 @@
+//! Events judged by the past of their run.
+
+ghost use Rattle.std.specs.Prelude.{◌≡◌, ◌+◌, ◌<◌, ◌≤◌, ◌^◌, List, length};
+ghost use Rattle.std.specs.List.{AllByRecursion};
+ghost use Rattle.pg_event.specs.declared.event.Event.{Event};
+ghost use Rattle.pg_event.specs.Form.{processor_of};
+ghost use Rattle.pg_event.specs.Heads.{Head};
+ghost use Rattle.pg_event.specs.Witness.{failing_event, first_bad_from};
+ghost use Rattle.pg_chain.specs.Standing.{IsPast, processor_count};
+
+use crate::access::failing_access;
+use crate::assist::failing_assist;
+use pg_chain::Past;
+use pg_event::{Claim, Event, Reason, Update, access_kind, says_dirty};
+
+/// The least reason that fails for an event with this number.
+pub(crate) fn failing(past: &Past, number: u32, event: &Event) -> Option<Reason>
+    requires { processor_of event.now < processor_count past.now }
+    ensures { (head : Head) (events : List Event) → IsPast past.now head events →
+        result ≡ failing_event head events number event.now }
+{
+    match *event {
+        Event::Access {
+            p,
+            flags,
+            la,
+            outcome,
+            moments,
+        } => {
+            let claim = Claim {
+                number,
+                p,
+                kind: access_kind(flags),
+                la,
+                outcome,
+            };
+            failing_access(past, &claim, &moments)
+        }
+        Event::Assist {
+            p,
+            flags,
+            la,
+            word,
+            moments,
+        } => {
+            let update = Update {
+                number,
+                p,
+                kind: access_kind(flags),
+                la,
+                word,
+                dirty: says_dirty(flags),
+            };
+            failing_assist(past, &update, &moments)
+        }
+        Event::Write { .. }
+        | Event::MovCr3 { .. }
+        | Event::Invlpg { .. }
+        | Event::Invpcid { .. }
+        | Event::MovCr4Pge { .. } => None,
+    }
+}
+
+/// The least of some events that is not witnessed, where the first of them has this number.
+pub(crate) fn first_bad_of(past: &Past, first: u64, events: &[Event]) -> Option<(u64, Reason)>
+    requires processors { AllByRecursion
+        (λ e. processor_of e < processor_count past.now) events.now }
+    requires count { first + length events.now ≤ 2 ^ 32 }
+    ensures { (head : Head) (all : List Event) → IsPast past.now head all →
+        result ≡ first_bad_from head all first events.now }
+{
+    for (i, event) in events.iter().enumerate() {
+        let number = first + i as u64;
+        if let Some(reason) = failing(past, number as u32, event) {
+            return Some((number, reason));
+        }
+    }
+    None
+}

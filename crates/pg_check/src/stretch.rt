@@ -1,0 +1,50 @@
+//! A stretch of a run, judged segment by segment.
+
+ghost use Rattle.std.specs.Prelude.{◌≡◌};
+ghost use Rattle.pg_event.specs.Spelling.{Recorded};
+ghost use Rattle.pg_check.specs.Segments.{first_bad_of_segment};
+ghost use Rattle.pg_check.specs.Stretches.{IsStretch, HasSegment};
+
+use crate::judge::first_bad_of;
+use pg_chain::Past;
+use pg_event::{Event, Reason};
+
+/// What the check of one segment found.
+#[derive(Clone, Copy, PartialEq, Eq, Debug)]
+pub struct SegmentVerdict {
+    /// The number of the segment.
+    pub number: u64,
+    /// The least event of the segment that is not witnessed, with the least reason that fails.
+    pub first_bad: Option<(u64, Reason)>,
+}
+
+/// The events of a run from some number on, with what is known of all events up to their end. The
+/// events before them need not be at hand, since an event is judged by its past alone.
+#[derive(Clone, Copy)]
+pub struct Stretch<'a> {
+    /// What the run did up to the end of the events.
+    pub past: &'a Past,
+    /// How many events a full segment has.
+    pub segment: u32,
+    /// The number of the first event.
+    pub first: u64,
+    pub events: &'a [Event],
+}
+
+impl Stretch<'_> {
+    /// Checks the events of one segment, in their order, up to the first that is not witnessed.
+    pub fn check_segment(&self, k: u64) -> SegmentVerdict
+        requires { HasSegment self.now k }
+        ensures { (r : Recorded) → IsStretch self.now r →
+            result ≡ record { number = k; first_bad = first_bad_of_segment r k } }
+    {
+        let size = self.segment as u64;
+        let start = k * size - self.first;
+        let end = (start + size).min(self.events.len() as u64);
+        let events = &self.events[start as usize..end as usize];
+        SegmentVerdict {
+            number: k,
+            first_bad: first_bad_of(self.past, k * size, events),
+        }
+    }
+}

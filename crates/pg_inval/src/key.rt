@@ -1,0 +1,124 @@
+ghost use Rattle.std.specs.Prelude.{◌≡◌};
+ghost use Rattle.pg_inval.specs.Keys.{structure_at, local_at, global_at, structure_keys};
+ghost use Rattle.pg_inval.specs.Keys.{translation_keys};
+
+use arrayvec::ArrayVec;
+use pg_event::{StructureKey, TranslationKey, level_shift};
+
+/// What an event drops on a processor: all cached entries of a kind, those of a PCID, or those that
+/// would be used for an address. An entry is dropped by the events of a few of these keys, and an
+/// event has a few of them, so that neither has to be searched for among all others.
+#[derive(Clone, Copy, PartialEq, Eq, Hash, Debug)]
+pub enum DropKey {
+    /// All paging-structure-cache entries.
+    Structures {
+        p: u16,
+    },
+    /// Those of a PCID.
+    StructuresOf {
+        p: u16,
+        pcid: u16,
+    },
+    /// That of a PCID for a region of 2 to the power of `shift` bytes.
+    Structure {
+        shift: u8,
+        p: u16,
+        pcid: u16,
+        prefix: u64,
+    },
+    /// All translations.
+    Translations {
+        p: u16,
+    },
+    /// Those that are not global.
+    Locals {
+        p: u16,
+    },
+    /// Those of a PCID that are not global.
+    LocalsOf {
+        p: u16,
+        pcid: u16,
+    },
+    /// That of a PCID for a page of 2 to the power of `shift` bytes, where it is not global.
+    Local {
+        shift: u8,
+        p: u16,
+        pcid: u16,
+        number: u64,
+    },
+    /// Those for a page that are global.
+    Global {
+        shift: u8,
+        p: u16,
+        number: u64,
+    },
+}
+
+impl Default for DropKey {
+    /// What fills the unused places of an array of keys.
+    fn default() -> DropKey {
+        DropKey::Structures { p: 0 }
+    }
+}
+
+/// The events that drop a paging-structure-cache entry of a processor.
+pub fn structure_keys(p: u16, key: StructureKey) -> [DropKey; 3]
+    ensures { result ≡ structure_keys p key }
+{
+    [
+        DropKey::Structures { p },
+        DropKey::StructuresOf { p, pcid: key.pcid },
+        structure_at(p, key),
+    ]
+}
+
+/// The events that drop a translation of a processor.
+pub fn translation_keys(p: u16, key: TranslationKey) -> ArrayVec<DropKey, 4>
+    ensures { result.items ≡ translation_keys p key }
+{
+    let mut keys = ArrayVec::new();
+    keys.push(DropKey::Translations { p });
+    if key.global {
+        keys.push(global_at(p, key));
+    } else {
+        keys.push(DropKey::Locals { p });
+        keys.push(DropKey::LocalsOf { p, pcid: key.pcid });
+        keys.push(local_at(p, key));
+    }
+    keys
+}
+
+/// The key of one paging-structure-cache entry.
+pub fn structure_at(p: u16, key: StructureKey) -> DropKey
+    ensures { result ≡ structure_at p key }
+{
+    DropKey::Structure {
+        shift: level_shift(key.level),
+        p,
+        pcid: key.pcid,
+        prefix: key.prefix,
+    }
+}
+
+/// The key of one translation that is not global.
+pub fn local_at(p: u16, key: TranslationKey) -> DropKey
+    ensures { result ≡ local_at p key }
+{
+    DropKey::Local {
+        shift: key.shift,
+        p,
+        pcid: key.pcid,
+        number: key.number,
+    }
+}
+
+/// The key of one global translation.
+pub fn global_at(p: u16, key: TranslationKey) -> DropKey
+    ensures { result ≡ global_at p key }
+{
+    DropKey::Global {
+        shift: key.shift,
+        p,
+        number: key.number,
+    }
+}

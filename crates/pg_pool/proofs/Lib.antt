@@ -1,0 +1,6 @@
+pub mod Deals
+pub mod Judged
+pub mod Placed
+pub mod Rules
+pub mod Seats
+pub mod Times

@@ -1,0 +1,8 @@
+pub mod Errors
+pub mod Rounds
+pub mod Seats
+pub mod Segments
+pub mod Shares
+pub mod Verdicts
+pub mod Ways
+pub mod Work

@@ -1,0 +1,33 @@
+-- What a checker does.
+use Rattle.std.specs.Prelude.{◌≡◌, ℕ, Bool, true, false, List, All, Contains}
+use Rattle.std.specs.List.{flat_map, list_any}
+use Rattle.pg_check.specs.declared.stretch.SegmentVerdict.{SegmentVerdict}
+use Rattle.pg_pool.specs.declared.round.Round.{Round}
+use Rattle.pg_pool.specs.declared.checker.Done.{Done}
+use Rattle.pg_pool.specs.Seats.{Checker, has_taken}
+use Rattle.pg_pool.specs.Verdicts.{Found, IsVerdict, verdict}
+
+-- nothing was taken yet
+abbrev pub IsFresh : Checker → Type 0
+IsFresh c = (n : ℕ) → has_taken c n ≡ false
+
+abbrev pub IsFreshIn : Round → Checker → Type 0
+IsFreshIn r c = (c.round ≡ r) × IsFresh c
+
+-- a checker has the verdict of each number that it took, and verdicts of the round alone
+pub record HasJudged (found : Found) (r : Round) (c : Checker) (verdicts : List SegmentVerdict) :
+    Type 0 where
+  pub round : c.round ≡ r
+  pub right : All (IsVerdict found r) verdicts
+  pub whole : (n : ℕ) → has_taken c n ≡ true → Contains verdicts (verdict found n)
+
+abbrev pub IsDone : Found → Round → Done → Type 0
+IsDone found r d = HasJudged found r d.seat d.verdicts.items
+
+-- whether some checker was refused memory
+abbrev pub is_refused : List Done → Bool
+is_refused done = list_any (λ d. d.refused) done
+
+-- the verdicts of all checkers
+abbrev pub all_verdicts : List Done → List SegmentVerdict
+all_verdicts done = flat_map (λ d. d.verdicts.items) done

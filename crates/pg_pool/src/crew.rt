@@ -1,0 +1,98 @@
+//! The checkers' threads.
+ghost use Rattle.std.specs.Prelude.{◌≡◌, ◌≢◌, ◌≤◌, ◌<◌, ℕ, true, All, IfOk, IfErr, vec_len};
+ghost use Rattle.pg_pool.specs.Work.{IsDone, IsFresh, IsFreshIn, is_refused};
+
+use crate::checker::{Done, work};
+use crate::error::PoolError;
+use crate::gate::Gate;
+use crate::judge::Judge;
+use crate::round::Round;
+use crate::seat::Seat;
+use std::alloc::Global;
+use std::sync::Wait;
+use std::thread;
+use std::thread::{Promise, Threads};
+
+/// What a checker's thread promises of what it gives back.
+pub struct Promised<'a, J> {
+    pub judge: &'a J,
+    pub round: Round,
+}
+
+// By hand, since a derive would ask it of the judge.
+impl<'a, J> Drop for Promised<'a, J> {
+    fn drop(self) {
+        let Promised { judge: _, round: _ } = self;
+    }
+}
+
+impl<'a, J: Judge> Promise<Done> for Promised<'a, J> {
+    ghost kept_by = { λ p d. IsDone (J.found p.judge.now) p.round d };
+}
+
+/// What all threads did, if as many worked as were asked for and none was refused memory.
+fn settled(done: Vec<Done>, asked: usize) -> Result<Vec<Done>, PoolError>
+    ensures ok { IfOk result (λ all. (all.items ≡ done.items) × (asked ≤ vec_len all)) }
+    ensures memory { result ≡ Err PoolError.Memory → is_refused done.items ≡ true }
+    ensures thread { result ≡ Err PoolError.Thread → vec_len done < asked }
+    ensures err { IfErr result (λ e. e ≢ PoolError.Checkers) }
+{
+    if done.iter().any(|one| one.refused) {
+        return Err(PoolError::Memory);
+    }
+    if done.len() < asked {
+        return Err(PoolError::Thread);
+    }
+    Ok(done)
+}
+
+/// Lets each seat's checker work in a thread of its own. All that were started are joined before
+/// it answers, also where a thread was refused.
+pub fn run_checkers<R: Threads + Wait + Sync, J: Judge, G: Gate>(
+    rt: &R,
+    alloc: Global,
+    judge: &J,
+    gate: &G,
+    round: Round,
+    seats: Vec<Seat>,
+) -> Result<Vec<Done>, PoolError>
+    requires fresh { All (IsFreshIn round) seats.items }
+    requires count { round.last ≤ J.count judge.now }
+    ensures len { IfOk result (λ done. vec_len seats ≤ vec_len done) }
+    ensures done { IfOk result (λ done. All (IsDone (J.found judge.now) round) done.items) }
+    ensures err { IfErr result (λ e. e ≢ PoolError.Checkers) }
+{
+    thread::scope(
+        thread::scope_env(),
+        rt,
+        |scope| -> Result<Vec<Done>, PoolError>
+            requires fresh { All (IsFreshIn round) seats.items }
+            requires count { round.last ≤ J.count judge.now }
+            ensures len { IfOk result (λ done. vec_len seats ≤ vec_len done) }
+            ensures done { IfOk result
+                (λ done. All (IsDone (J.found judge.entry.now) round) done.items) }
+            ensures err { IfErr result (λ e. e ≢ PoolError.Checkers) }
+        {
+            let asked = seats.len();
+            let mut handles = Vec::with_capacity(alloc, asked)?;
+            for seat in seats {
+                let promised = Promised { judge, round };
+                let started = scope.spawn_with(
+                    promised,
+                    move || -> Done
+                        requires fresh { IsFresh seat }
+                        requires count { seat.round.last ≤ J.count judge.now }
+                    { work(alloc, judge, gate, seat) },
+                );
+                match started {
+                    Ok(handle) => handles.push_reserved(handle),
+                    Err(_) => break,
+                }
+            }
+            match thread::join_promised(rt, handles) {
+                Ok(done) => settled(done, asked),
+                Err(_) => Err(PoolError::Memory),
+            }
+        },
+    )
+}

@@ -1,0 +1,106 @@
+//! How the numbers of a round are dealt.
+ghost use Rattle.std.specs.Prelude.{◌≡◌, ◌-◌, ◌+◌, ◌<◌, ◌≤◌, true, [], ◌++◌, IfOk, OnOk, map};
+ghost use Rattle.std.specs.Prelude.{vec_len};
+ghost use Rattle.std.specs.List.{range_with_len};
+ghost use Rattle.crossbeam_deque.specs.Handles.{worker_view, worker_flavor};
+ghost use Rattle.pg_pool.specs.Rounds.{AreCheckers, round, dealt, others};
+ghost use Rattle.pg_pool.specs.Seats.{lone_seat, seats_at_start, way_to};
+ghost use Rattle.pg_pool.specs.Shares.{hand};
+ghost use Rattle.pg_pool.specs.Ways.{reached};
+
+use crate::round::Round;
+use crate::rule::Deque;
+use crate::seat::Seat;
+use crate::steps::{new_deque, push};
+use crate::thief::Thief;
+use std::alloc::{AllocError, Global};
+
+/// The deque of one of so many checkers, with the numbers that are its own.
+fn deal(alloc: Global, round: Round, checkers: u32, number: u32) -> Result<Deque, AllocError>
+    requires ordered { round.first ≤ round.last }
+    requires some { 0 < checkers }
+    ensures fifo { IfOk result (λ deque. worker_flavor deque ≡ 0) }
+    ensures dealt { IfOk result (λ deque.
+        worker_view deque ≡ hand true (dealt round checkers number) []) }
+{
+    // Room for all comes at once, so that a push is refused for want of memory alone.
+    let room = (round.last - round.first).div_ceil(checkers);
+    let mut deque = new_deque(alloc, room as usize)?;
+    for n in round.first..round.last {
+        if (n - round.first) % checkers == number {
+            push(&mut deque, n)?;
+        }
+    }
+    Ok(deque)
+}
+
+/// The seats with their own deques alone.
+fn lone_seats(alloc: Global, round: Round, checkers: u32) -> Result<Vec<Seat>, AllocError>
+    requires ordered { round.first ≤ round.last }
+    requires some { 0 < checkers }
+    ensures { IfOk result (λ seats.
+        seats.items ≡ map (lone_seat round checkers) (range_with_len 0 checkers)) }
+{
+    let mut seats = Vec::new(alloc);
+    for number in 0..checkers {
+        let deque = deal(alloc, round, checkers, number)?;
+        seats.push(Seat::new(alloc, number, round, deque)?)?;
+    }
+    Ok(seats)
+}
+
+/// Adds the ways to the deques of some seats, in order.
+fn reach(
+    seats: &mut Vec<Seat>,
+    thieves: &mut Vec<Thief>,
+    from: usize,
+    to: usize,
+) -> Result<(), AllocError>
+    requires { (from ≤ to) × (to ≤ vec_len seats.old) }
+    ensures same { seats.new.items ≡ seats.old.items }
+    ensures ways { OnOk result (reached thieves.new.items ≡ reached thieves.old.items
+        ++ map (way_to seats.old.items) (range_with_len from (to - from))) }
+{
+    for owner in from..to {
+        let seat = &mut seats[owner];
+        let thief = seat.lend()?;
+        thieves.push(thief)?;
+    }
+    Ok(())
+}
+
+/// The ways from the seat at a place to the deques of all others, in the order in which it is to
+/// visit them.
+fn ways(alloc: Global, seats: &mut Vec<Seat>, place: usize) -> Result<Vec<Thief>, AllocError>
+    requires { place < vec_len seats.old }
+    ensures same { seats.new.items ≡ seats.old.items }
+    ensures ways { IfOk result (λ thieves. reached thieves.items
+        ≡ map (way_to seats.old.items) (others (vec_len seats.old) place)) }
+{
+    let mut thieves = Vec::new(alloc);
+    let count = seats.len();
+    reach(seats, &mut thieves, place + 1, count)?;
+    reach(seats, &mut thieves, 0, place)?;
+    Ok(thieves)
+}
+
+/// Deals the numbers from `first` on and below `last` to so many checkers, each number to the
+/// checker of its place modulo their number, and gives their seats. Fails where memory is refused.
+pub fn open_round(
+    alloc: Global,
+    first: u32,
+    last: u32,
+    checkers: u32,
+) -> Result<Vec<Seat>, AllocError>
+    requires ordered { first ≤ last }
+    requires checkers { AreCheckers checkers }
+    ensures { IfOk result (λ seats. seats.items ≡ seats_at_start (round first last) checkers) }
+{
+    let mut seats = lone_seats(alloc, Round { first, last }, checkers)?;
+    for place in 0..seats.len() {
+        let thieves = ways(alloc, &mut seats, place)?;
+        let seat = &mut seats[place];
+        seat.join(thieves);
+    }
+    Ok(seats)
+}

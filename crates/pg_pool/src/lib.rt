@@ -1,0 +1,29 @@
+//! Checkers that share a round of numbers, and steal from one another what is left.
+#![tactic(auto)]
+
+mod auditor;
+mod checker;
+mod close;
+mod crew;
+mod deal;
+mod error;
+mod gate;
+mod hand;
+mod judge;
+mod judging;
+mod placing;
+mod round;
+mod rule;
+mod seat;
+mod steps;
+#[cfg(test)]
+mod tests;
+mod thief;
+
+pub use auditor::audit_round;
+pub use close::close_round;
+pub use deal::open_round;
+pub use error::PoolError;
+pub use gate::{Gate, OpenGate};
+pub use round::Round;
+pub use seat::Seat;

@@ -1,0 +1,6 @@
+/// The numbers of a round: from `first` on, below `last`.
+#[derive(Clone, Copy, PartialEq, Eq, Debug)]
+pub struct Round {
+    pub first: u32,
+    pub last: u32,
+}

@@ -1,0 +1,62 @@
+-- A record on the way that is judged window by window.
+use Rattle.std.proofs.Common.{◌≡◌, ℕ, ◌+◌, ◌^◌, ◌<◌, List, [], ◌++◌, length, length-append, Option, Some, None, Ok, Err, refl, sym, ap, subst, ◌∙◌, arith}
+use Rattle.std.specs.Prelude.{IfSome}
+use Rattle.std.proofs.lemmas.List.{append_assoc}
+use Rattle.pg_event.specs.declared.event.Event.{Event}
+use Rattle.pg_event.specs.declared.version.Version.TheVariants.{Two}
+use Rattle.pg_event.specs.Heads.{Head}
+use Rattle.pg_event.specs.Spelling.{Recorded}
+use Rattle.pg_codec.specs.declared.stream.Source.{Ghosts}
+use Rattle.pg_codec.specs.declared.stage.Stage.{Stage}
+use Rattle.pg_codec.specs.Readers.{stage_after_chunk, PullsSegment, IsNext}
+use Rattle.pg_check.specs.Judging.{Findings, IsJudged, MayFollow}
+use Rattle.pg_check.specs.Kept.{AreWellFormed}
+use Rattle.pg_check.proofs.Known.{AreWellFormed-append}
+use Rattle.pg_report.specs.Judging.{IsMovedOn}
+use Rattle.pg_report.proofs.Continuing.{IsGoing, next_fits, going_on}
+
+module _ {R : Type 0} (g : Ghosts R) (start : Option (List ℕ)) (f : ℕ) where
+  -- what was read was judged, but for a window
+  pub record IsJudging (at : List ℕ × R) (stage : Stage) (judged : Findings) (window : List Event) (segments : ℕ) : Type 0 where
+    pub before : List Event
+    pub judges : IsJudged judged judged.head before
+    pub well : AreWellFormed judged.head window
+    pub going : IsGoing g Two start f at stage (record { head = judged.head; events = before ++ window }) segments
+
+  pub judging_at_start : (at : List ℕ × R) (stage : Stage) (judged : Findings) (head : Head) → IsJudged judged head [] → IsGoing g Two start f at stage (record { head = head; events = [] }) 0 → IsJudging at stage judged [] 0
+  judging_at_start at stage judged head judges going = record {
+    before = [];
+    judges = subst (λ (h : Head). IsJudged judged h []) (sym judges.settings) judges;
+    well = tt;
+    going = subst (λ (h : Head). IsGoing g Two start f at stage (record { head = h; events = [] }) 0) (sym judges.settings) going;
+  }
+
+  module _ (at : List ℕ × R) (stage : Stage) (judged : Findings) (window : List Event) (segments : ℕ) (h : IsJudging at stage judged window segments) where
+    -- the window may be judged
+    pub may_follow : MayFollow judged window
+    may_follow =
+        let few : length (h.before ++ window) < 2 ^ 32 = h.going.few in
+        record { before = h.before; judged = h.judges; well = h.well; limit = omega (arith, length-append h.before window, few) }
+
+    -- a segment that comes next waits in the window
+    pub longer : (after : List ℕ × R) (items : List Event) (later : Stage) → PullsSegment g stage at after (Ok (Some items)) → IsNext stage (Some items)
+        → later ≡ stage_after_chunk stage (Ok (Some items)) → IsJudging after later judged (window ++ items) (segments + 1)
+    longer after items later pulls next e =
+        let r : Recorded = record { head = judged.head; events = h.before ++ window } in
+        let fits = next_fits g Two start f at stage r segments h.going items next in
+        let on = going_on g Two start f at after stage r segments h.going items later pulls next e in
+        record {
+          before = h.before;
+          judges = h.judges;
+          well = AreWellFormed-append judged.head window items h.well fits.well;
+          going = subst (λ (es : List Event). IsGoing g Two start f after later (record { head = judged.head; events = es }) (segments + 1)) (append_assoc h.before window items) on;
+        }
+
+    -- a window that was judged, or not yet
+    pub moved_on : (judged' : Findings) (window' : List Event) → IsMovedOn judged' judged.head (h.before ++ window) window' → IsJudging at stage judged' window' segments
+    moved_on judged' window' m = record {
+      before = m.before;
+      judges = subst (λ (h : Head). IsJudged judged' h m.before) (sym m.judged.settings) m.judged;
+      well = subst (λ (h : Head). AreWellFormed h window') (sym m.judged.settings) m.well;
+      going = subst (λ (h : Head). IsGoing g Two start f at stage (record { head = h; events = m.before ++ window' }) segments) (sym m.judged.settings) (subst (λ (es : List Event). IsGoing g Two start f at stage (record { head = judged.head; events = es }) segments) m.all h.going);
+    }

@@ -1,0 +1,78 @@
+//! Whole records, judged as they are read.
+
+ghost use Rattle.std.specs.Prelude.{◌≡◌, ◌<◌, ◌^◌, ◌++◌, List, length, OnOk};
+ghost use Rattle.pg_event.specs.declared.event.Event.{Event};
+ghost use Rattle.pg_event.specs.Heads.{Head};
+ghost use Rattle.pg_check.specs.Judging.{IsJudged, MayFollow};
+ghost use Rattle.pg_check.specs.Kept.{AreWellFormed};
+ghost use Rattle.pg_report.specs.Changes.{drawn};
+ghost use Rattle.pg_report.specs.Intake.{TellsDevice};
+ghost use Rattle.pg_report.specs.Judging.{JudgesRecord, IsMovedOn, IsReportOf};
+
+use crate::error::AuditError;
+use crate::intake::{MOST_CHUNKS, audit_error, read_header_up_to};
+use crate::report::{Report, verdict_of};
+use pg_check::Judged;
+use pg_codec::{RecordReader, Source};
+use pg_event::{Event, Version};
+use std::alloc::{AllocError, Global};
+
+/// Events are judged once so many wait, and then let go; the last segment may bring more.
+const WINDOW: usize = 1 << 14;
+
+/// Judges the events of a window once they are many, and lets them go.
+fn judge_many(judged: &mut Judged, window: &mut Vec<Event>) -> Result<(), AllocError>
+    requires { MayFollow judged.old window.old.items }
+    ensures few { OnOk result (length window.new.items < 2 ^ 14) }
+    ensures moved { (head : Head) (before : List Event) → IsJudged judged.old head before →
+        AreWellFormed head window.old.items → OnOk result
+        (IsMovedOn judged.new head (before ++ window.old.items) window.new.items) }
+{
+    if window.len() >= WINDOW {
+        judged.judge(window.as_slice())?;
+        window.clear();
+    }
+    Ok(())
+}
+
+/// The report of a run that was judged.
+fn report_of_judged(judged: &Judged) -> Report
+    ensures { IsReportOf judged.now result }
+{
+    Report {
+        verdict: verdict_of(judged.first_bad()),
+        events: judged.len(),
+        segments: judged.segments(),
+    }
+}
+
+/// Reads the record that a source has left, all of it, and judges it as it is read: no more events
+/// are kept than wait to be judged, and those of the segment that was read last.
+pub fn judge_record<R: Source>(alloc: Global, source: &mut R) -> Result<Report, AuditError>
+    ensures judges { JudgesRecord (R.left source.old) result }
+    ensures device { TellsDevice (drawn R.Source source.old source.new) result }
+{
+    let mut reader = RecordReader::new(alloc)?;
+    let header = match read_header_up_to(alloc, &mut reader, source, Version::Two) {
+        Ok(header) => header,
+        Err(error) => return Err(audit_error(error)),
+    };
+    let mut judged = Judged::new(alloc, header)?;
+    let mut window = Vec::new(alloc);
+    let mut room = Vec::new(alloc);
+    for _ in 0..MOST_CHUNKS {
+        match reader.read_segment_in(room, source) {
+            Ok(Some(events)) => {
+                window.extend_from_slice(&events)?;
+                judge_many(&mut judged, &mut window)?;
+                room = events;
+            }
+            Ok(None) => {
+                judged.judge(&window)?;
+                return Ok(report_of_judged(&judged));
+            }
+            Err(error) => return Err(audit_error(error)),
+        }
+    }
+    unreachable!()
+}

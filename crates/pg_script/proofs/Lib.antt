@@ -1,0 +1,8 @@
+mod Pieces
+mod Powers
+mod Fronts
+mod Lists
+mod Deals
+mod Loops
+mod Pushing
+mod Wells

@@ -1,0 +1,43 @@
+use Rattle.std.proofs.Common.{◌≡◌, ◌∙◌, ◌++◌, ◌∷◌, ◌<◌, ◌^◌, ◌+◌, [], ℕ, Bool, Some, None, length, sym, refl, arith}
+use Rattle.std.specs.Prelude.{Ok, Err}
+use Rattle.std.proofs.lemmas.List.{length_push}
+use Rattle.std.proofs.lemmas.Result.{err_from_is_err_and}
+use Rattle.pg_script.specs.Answers.{told_in, next_start_at}
+use Rattle.pg_script.proofs.Loops.{refused_so, starts_go_on, starts_end, starts_full, starts_refused}
+use Rattle.pg_script.proofs.Pushing.{all_pushed}
+use Rattle.pg_script.proofs.reader.processors_of.Goals as goal
+use Rattle.pg_script.proofs.reader.processors_of.Goals.{else-loop-test, then-loop-test+in_ok-line-2+in_default}
+
+pub returns-in_err-line-2-clause-starts : goal.returns-in_err-line-2-clause-starts
+returns-in_err-line-2-clause-starts c =
+    let p = err_from_is_err_and c.from_residual-in_err-line-2.result c.from_residual-in_err-line-2.ensures.1 in
+    let e = c.in_err-line-2.field-0.0 in
+    let read = sym c.loop.invariant.so_far ∙ starts_refused c.args.m c.args.most c.loop.counter c.loop.starts.items (told_in c.loop.rest) e c.loop-test.true c.in_err-line-2.ensures.start in
+    rw (p.1, p.2) (refused_so e _ read)
+
+pub loop-preserved : goal.loop-preserved
+loop-preserved c =
+    let m = c.args.m in
+    let starts = c.loop.starts.items in
+    let start = c.in-Some.start in
+    let next : next_start_at m (told_in c.loop.rest) ≡ Ok (Some (c.in-Some.line, start, told_in c.in-Some.more)) =
+    rw c.in-Some.is at c.in_ok-line-2.ensures.start in
+    let pushed = c.in-Ok.ensures.items in
+    let P : ℕ × Bool → Type 0 = λ x. x.0 < 2 ^ m in
+    let range : P start = rw c.in-Some.is at c.in_ok-line-2.ensures.range in
+    record {
+      so_far = rw pushed (starts_go_on m c.args.most c.loop.counter starts (told_in c.loop.rest) (told_in c.in-Some.more) c.in-Some.line start c.loop-test.true next ∙ c.loop.invariant.so_far);
+      count = rw pushed (rw (length_push starts start, c.loop.invariant.count) refl);
+      range = rw pushed (all_pushed P starts start c.loop.invariant.range range);
+    }
+
+pub returns-clause-starts : goal.returns-clause-starts
+returns-clause-starts c =
+    let m = c.args.m in
+    let l = c.loop in
+    elim c.loop-test.branch [
+      | else-loop-test w ↦ sym l.invariant.so_far ∙ starts_full m c.args.most l.counter l.starts.items (told_in l.rest) w.loop-test.false
+      | then-loop-test+in_ok-line-2+in_default w ↦
+          let next : next_start_at m (told_in l.rest) ≡ Ok None = rw w.in_default.is at w.in_ok-line-2.ensures.start in
+          sym l.invariant.so_far ∙ starts_end m c.args.most l.counter l.starts.items (told_in l.rest) w.loop-test.true next
+    ]

@@ -1,0 +1,115 @@
+-- What a line says that is an instruction: its processor, its name and its fields, word by word.
+use Rattle.std.specs.Prelude.{ℕ, ◌+◌, ◌^◌, Bool, true, false, ◌&&◌, nat_lt, if◌then◌else◌}
+use Rattle.std.specs.Prelude.{List, [], ◌∷◌, codes, Option, Some, None, Result, Ok, Err}
+use Rattle.std.specs.Str.{bytes_eq}
+use Rattle.pg_event.specs.declared.event.Malformed.{Malformed}
+use Rattle.pg_event.specs.Heads.{Head}
+use Rattle.pg_event.specs.Form.{broken_rule}
+use Rattle.pg_script.specs.declared.refusal.ScriptRefusal.{ScriptRefusal}
+use Rattle.pg_script.specs.declared.refusal.ScriptRefusal.TheVariants as refusals
+use Rattle.pg_script.specs.declared.instruction.Instruction.{Instruction}
+use Rattle.pg_script.specs.declared.instruction.Instruction.TheVariants as instructions
+use Rattle.pg_script.specs.declared.instruction.Task.{Task}
+use Rattle.pg_script.specs.Numbers.{dec_of}
+use Rattle.pg_script.specs.Words.{Words, Part, word_at, dec_at, hex_at, bit_at, keyword_at, ended}
+use Rattle.pg_script.specs.Words.{◌>>=◌}
+use Rattle.pg_script.specs.Tasks.{event_of}
+
+-- the number of a processor, which begins the line
+abbrev pub processor_or_refusal : Option ℕ → Words → Part ℕ
+processor_or_refusal None words = Err refusals.Instruction
+processor_or_refusal (Some p) words = Ok (p, words)
+
+unfoldable pub processor_at : Words → Part ℕ
+processor_at words = do
+  word ← word_at words
+  processor_or_refusal (dec_of word.0) word.1
+
+-- bits of an access's flags: bit 2 is user mode, bit 3 EFLAGS.AC
+abbrev pub mode_or_refusal : List ℕ → Words → Part ℕ
+mode_or_refusal word words =
+    if bytes_eq word (codes "user") then Ok (4, words) else
+    if bytes_eq word (codes "super") then Ok (0, words) else
+    if bytes_eq word (codes "super-ac") then Ok (8, words) else Err refusals.Instruction
+
+-- the mode of an access
+unfoldable pub mode_at : Words → Part ℕ
+mode_at words = do
+  word ← word_at words
+  mode_or_refusal word.0 word.1
+
+unfoldable pub write_in : Words → Result Instruction ScriptRefusal
+write_in words = do
+  addr ← hex_at words
+  value ← hex_at addr.1
+  ended (instructions.Write addr.0 value.0, value.1)
+
+-- an access of operation 0 (read), 1 (write) or 2 (fetch)
+unfoldable pub access_in : ℕ → Words → Result Instruction ScriptRefusal
+access_in op words = do
+  la ← hex_at words
+  mode ← mode_at la.1
+  ended (instructions.Access (op + mode.0) la.0, mode.1)
+
+unfoldable pub mov_cr3_in : Words → Result Instruction ScriptRefusal
+mov_cr3_in words = do
+  operand ← hex_at words
+  ended (instructions.MovCr3 operand.0, operand.1)
+
+unfoldable pub invlpg_in : Words → Result Instruction ScriptRefusal
+invlpg_in words = do
+  la ← hex_at words
+  ended (instructions.Invlpg la.0, la.1)
+
+-- the type has one byte in an event, and the PCID two
+abbrev pub fitting_invpcid : ℕ → ℕ → ℕ → Result Instruction ScriptRefusal
+fitting_invpcid kind pcid la =
+    if nat_lt kind (2 ^ 8) && nat_lt pcid (2 ^ 16) then Ok (instructions.Invpcid kind pcid la) else
+    Err refusals.Malformed
+
+-- type, PCID and address
+unfoldable pub invpcid_in : Words → Result Instruction ScriptRefusal
+invpcid_in words = do
+  kind ← dec_at words
+  pcid ← hex_at kind.1
+  last ← hex_at pcid.1
+  la ← ended last
+  fitting_invpcid kind.0 pcid.0 la
+
+unfoldable pub mov_cr4_pge_in : Words → Result Instruction ScriptRefusal
+mov_cr4_pge_in words = do
+  on ← bit_at words
+  ended (instructions.MovCr4Pge on.0, on.1)
+
+-- the fields of an instruction by its name
+unfoldable pub instruction_in : List ℕ → Words → Result Instruction ScriptRefusal
+instruction_in name words =
+    if bytes_eq name (codes "write") then write_in words else
+    if bytes_eq name (codes "read") then access_in 0 words else
+    if bytes_eq name (codes "store") then access_in 1 words else
+    if bytes_eq name (codes "fetch") then access_in 2 words else
+    if bytes_eq name (codes "cr3") then mov_cr3_in words else
+    if bytes_eq name (codes "invlpg") then invlpg_in words else
+    if bytes_eq name (codes "invpcid") then invpcid_in words else
+    if bytes_eq name (codes "pge") then mov_cr4_pge_in words else Err refusals.Instruction
+
+abbrev pub well_formed_or_refusal : Option Malformed → Task → Result Task ScriptRefusal
+well_formed_or_refusal None task = Ok task
+well_formed_or_refusal (Some rule) task = Err refusals.Malformed
+
+-- a processor's number has two bytes in an event, and the event has to be well formed
+abbrev pub fitting_task : Head → ℕ → Instruction → Result Task ScriptRefusal
+fitting_task head p instruction =
+    if nat_lt p (2 ^ 16) then
+    well_formed_or_refusal (broken_rule head (event_of p instruction)) (record {
+      p = p;
+      instruction = instruction;
+    })
+    else Err refusals.Malformed
+
+unfoldable pub task_in : Head → Words → Result Task ScriptRefusal
+task_in head words = do
+  p ← processor_at words
+  name ← word_at p.1
+  instruction ← instruction_in name.0 name.1
+  fitting_task head p.0 instruction

@@ -1,0 +1,9 @@
+pub mod Lines
+pub mod Numbers
+pub mod Words
+pub mod Tasks
+pub mod Dealt
+pub mod Heading
+pub mod Instructions
+pub mod Reading
+pub mod Answers

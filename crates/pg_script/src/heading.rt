@@ -1,0 +1,113 @@
+//! What the lines before the instructions say by their words.
+
+ghost use Rattle.std.specs.Prelude.{◌≡◌, ◌<◌, ◌≤◌, ◌^◌, IfOk};
+ghost use Rattle.pg_script.specs.Heading.{version_in, setting_at, settings_at, machine_in};
+ghost use Rattle.pg_script.specs.Heading.{segment_in, start_in, names_processor};
+ghost use Rattle.pg_script.specs.Answers.{Gives};
+
+use crate::refusal::ScriptRefusal;
+use crate::words::{
+    Words, after_keyword, bit_word, dec_word, ended, hex_word, same_bytes, word_of,
+};
+use pg_entry::{Cfg, CfgFlags};
+use pg_event::Version;
+
+/// `pcid-guest 1` or `pcid-guest 2`.
+#[tactic(auto, unfolding(crate::specs::Heading::version_in))]
+pub(crate) fn version_of(words: &Words) -> Result<Version, ScriptRefusal>
+    ensures { Gives (λ x. x) result (version_in words.now) }
+{
+    let rest = after_keyword(b"pcid-guest", words)?;
+    let (word, rest) = word_of(&rest)?;
+    let word = ended(word, &rest)?;
+    if same_bytes(word, b"1") {
+        return Ok(Version::One);
+    }
+    if same_bytes(word, b"2") {
+        return Ok(Version::Two);
+    }
+    Err(ScriptRefusal::Instruction)
+}
+
+/// The bit of a setting if its word comes next, else 0; and the words behind it.
+fn setting_of<'a>(name: &[u8], bit: u8, words: Words<'a>) -> (u8, Words<'a>)
+    ensures value { result ≡ setting_at name.now bit words.entry }
+    ensures bound { result.0 ≤ bit }
+{
+    if let Some((word, rest)) = words.split_first() {
+        if same_bytes(word, name) {
+            return (bit, rest);
+        }
+    }
+    (0, words)
+}
+
+/// The flags of any of the settings in their order.
+#[tactic(auto, unfolding(crate::specs::Heading::settings_at))]
+fn settings_of<'a>(words: Words<'a>) -> (u8, Words<'a>)
+    ensures value { result ≡ settings_at words.entry }
+    ensures bound { result.0 < 16 }
+{
+    let (wp, rest) = setting_of(b"wp", CfgFlags::WP.0, words);
+    let (nxe, rest) = setting_of(b"nxe", CfgFlags::NXE.0, rest);
+    let (smep, rest) = setting_of(b"smep", CfgFlags::SMEP.0, rest);
+    let (smap, rest) = setting_of(b"smap", CfgFlags::SMAP.0, rest);
+    (wp + nxe + smep + smap, rest)
+}
+
+/// `machine` and MAXPHYADDR, and any of `wp nxe smep smap` in this order.
+#[tactic(auto, unfolding(crate::specs::Heading::machine_in))]
+pub(crate) fn machine_of(words: &Words) -> Result<Cfg, ScriptRefusal>
+    ensures value { Gives (λ x. x) result (machine_in words.now) }
+    ensures range { IfOk result (λ cfg. (36 ≤ cfg.m) × (cfg.m ≤ 52) × (cfg.flags.0 < 16)) }
+{
+    let rest = after_keyword(b"machine", words)?;
+    let (m, rest) = dec_word(&rest)?;
+    if m < 36 || m > 52 {
+        return Err(ScriptRefusal::Instruction);
+    }
+    let (flags, rest) = settings_of(rest);
+    let flags = CfgFlags(flags);
+    let m = m as u8;
+    ended(Cfg { flags, m }, &rest)
+}
+
+/// `segment` and the events of a full segment.
+#[tactic(auto, unfolding(crate::specs::Heading::segment_in))]
+pub(crate) fn segment_of(words: &Words) -> Result<u32, ScriptRefusal>
+    ensures value { Gives (λ x. x) result (segment_in words.now) }
+    ensures range { IfOk result (λ size. (1 ≤ size) × (size ≤ 65536)) }
+{
+    let rest = after_keyword(b"segment", words)?;
+    let (size, rest) = dec_word(&rest)?;
+    if size < 1 || size > 65_536 {
+        return Err(ScriptRefusal::Instruction);
+    }
+    ended(size as u32, &rest)
+}
+
+/// `cpu`, a CR3, and whether there are global pages.
+#[tactic(auto, unfolding(crate::specs::Heading::start_in))]
+pub(crate) fn start_of(m: u8, words: &Words) -> Result<(u64, bool), ScriptRefusal>
+    requires { m ≤ 52 }
+    ensures value { Gives (λ x. x) result (start_in m words.now) }
+    ensures range { IfOk result (λ start. start.0 < 2 ^ m) }
+{
+    let rest = after_keyword(b"cpu", words)?;
+    let (cr3, rest) = hex_word(&rest)?;
+    let (pge, rest) = bit_word(&rest)?;
+    if cr3 >= 1 << m {
+        return Err(ScriptRefusal::Instruction);
+    }
+    ended((cr3, pge), &rest)
+}
+
+/// Whether the first word is `cpu`.
+pub(crate) fn names_processor(words: &Words) -> bool
+    ensures { result ≡ names_processor words.now }
+{
+    match words.split_first() {
+        Some((word, _)) => same_bytes(word, b"cpu"),
+        None => false,
+    }
+}

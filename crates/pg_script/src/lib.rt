@@ -1,0 +1,20 @@
+//! Guest scripts: the text of a run's settings and of the instructions of its processors.
+#![tactic(auto)]
+
+mod heading;
+mod instruction;
+mod number;
+mod reader;
+mod refusal;
+mod script;
+mod task;
+mod tasks;
+mod text;
+mod words;
+
+pub use instruction::{Instruction, Task};
+pub use refusal::{ScriptError, ScriptRefusal};
+pub use script::Script;
+
+#[cfg(test)]
+mod tests;

@@ -1,0 +1,264 @@
+//! The lines of a script, one after the other.
+
+ghost use Rattle.std.specs.Prelude.{◌≡◌, ◌≤◌, ◌<◌, ◌+◌, ◌^◌, length, vec_len, option_map};
+ghost use Rattle.std.specs.Prelude.{IfOk, IfSome};
+ghost use Rattle.std.specs.List.{AllByRecursion};
+ghost use Rattle.pg_event.specs.Spelling.{IsHead};
+ghost use Rattle.pg_script.specs.Heading.{version_in, machine_in, segment_in, start_in};
+ghost use Rattle.pg_script.specs.Tasks.{IsWellFormed};
+ghost use Rattle.pg_script.specs.Reading.{in_line, placed, line_at, heading_at, starts_at};
+ghost use Rattle.pg_script.specs.Reading.{processors_at, head_at, task_after, tasks_at};
+ghost use Rattle.pg_script.specs.Answers.{Gives, Reads, lines_in, told_in, front_seen};
+ghost use Rattle.pg_script.specs.Answers.{line_or_refusal, next_start_at, next_task_at};
+
+use crate::heading::{machine_of, names_processor, segment_of, start_of, version_of};
+use crate::instruction::Task;
+use crate::refusal::{ScriptError, ScriptRefusal};
+use crate::task::task_of;
+use crate::tasks::Tasks;
+use crate::text::{Front, Text};
+use crate::words::Words;
+use pg_entry::Cfg;
+use pg_event::{Header, Version, most_processors};
+use std::alloc::Global;
+
+/// The most instructions of a script.
+pub(crate) const MOST_INSTRUCTIONS: usize = 1_048_576;
+
+/// A refusal of words as one of their line.
+fn in_line<T: Copy>(line: u32, read: Result<T, ScriptRefusal>) -> Result<T, ScriptError>
+    ensures { result ≡ in_line line read }
+{
+    match read {
+        Ok(value) => Ok(value),
+        Err(refusal) => Err(ScriptError { line, refusal }),
+    }
+}
+
+/// Any refusal of words as that of their line's place.
+fn placed<T: Copy>(place: ScriptRefusal, read: Result<T, ScriptRefusal>) -> Result<T, ScriptRefusal>
+    ensures { result ≡ placed place read }
+{
+    match read {
+        Ok(value) => Ok(value),
+        Err(_) => Err(place),
+    }
+}
+
+/// A line by its number and its words, and the lines behind it.
+type Told<'a> = (u32, Words<'a>, Text<'a>);
+
+/// A front that must be a line.
+fn line_of<'a>(place: ScriptRefusal, front: Front<'a>) -> Result<Told<'a>, ScriptError>
+    ensures all { Gives (λ x. (x.0, x.1, lines_in x.2)) result
+        (line_or_refusal place (front_seen lines_in front.entry)) }
+    ensures told { Gives (λ x. (x.0, x.1, told_in x.2)) result
+        (line_or_refusal place (front_seen told_in front.entry)) }
+{
+    match front {
+        (number, Some((line, rest))) => Ok((number, Words::new(line), rest)),
+        (number, None) => Err(ScriptError {
+            line: number,
+            refusal: place,
+        }),
+    }
+}
+
+/// Line 1.
+#[tactic(auto, unfolding(crate::specs::Reading::heading_at))]
+fn version_line<'a>(text: &Text<'a>) -> Result<(Version, Text<'a>), ScriptError>
+    ensures { Gives (λ x. (x.0, lines_in x.1)) result
+        (heading_at ScriptRefusal.FirstLine version_in (lines_in text.now)) }
+{
+    let place = ScriptRefusal::FirstLine;
+    let (line, words, rest) = line_of(place, text.front()?)?;
+    let version = in_line(line, placed(place, version_of(&words)))?;
+    Ok((version, rest))
+}
+
+#[tactic(auto, unfolding(crate::specs::Reading::heading_at))]
+fn machine_line<'a>(text: &Text<'a>) -> Result<(Cfg, Text<'a>), ScriptError>
+    ensures cfg { Gives (λ x. (x.0, told_in x.1)) result
+        (heading_at ScriptRefusal.Machine machine_in (told_in text.now)) }
+    ensures range { IfOk result
+        (λ x. (36 ≤ x.0.m) × (x.0.m ≤ 52) × (x.0.flags.0 < 16)) }
+{
+    let place = ScriptRefusal::Machine;
+    let (line, words, rest) = line_of(place, text.told_front()?)?;
+    let cfg = in_line(line, placed(place, machine_of(&words)))?;
+    Ok((cfg, rest))
+}
+
+#[tactic(auto, unfolding(crate::specs::Reading::heading_at))]
+fn segment_line<'a>(text: &Text<'a>) -> Result<(u32, Text<'a>), ScriptError>
+    ensures size { Gives (λ x. (x.0, told_in x.1)) result
+        (heading_at ScriptRefusal.Segment segment_in (told_in text.now)) }
+    ensures range { IfOk result (λ x. (1 ≤ x.0) × (x.0 ≤ 65536)) }
+{
+    let place = ScriptRefusal::Segment;
+    let (line, words, rest) = line_of(place, text.told_front()?)?;
+    let size = in_line(line, placed(place, segment_of(&words)))?;
+    Ok((size, rest))
+}
+
+/// The line of a processor more, if one comes: its number, what it says, and the lines behind it.
+type NextStart<'a> = Option<(u32, (u64, bool), Text<'a>)>;
+
+#[tactic(auto, unfolding(crate::specs::Answers::next_start_at))]
+fn next_start<'a>(m: u8, text: &Text<'a>) -> Result<NextStart<'a>, ScriptError>
+    requires { m ≤ 52 }
+    ensures start { Gives (option_map (λ x. (x.0, x.1, told_in x.2))) result
+        (next_start_at m (told_in text.now)) }
+    ensures range { IfOk result (λ next. IfSome next (λ x. x.1.0 < 2 ^ m)) }
+{
+    let (number, next) = text.told_front()?;
+    let Some((line, rest)) = next else {
+        return Ok(None);
+    };
+    let words = Words::new(line);
+    if !names_processor(&words) {
+        return Ok(None);
+    }
+    let place = ScriptRefusal::Cpu;
+    let start = in_line(number, placed(place, start_of(m, &words)))?;
+    Ok(Some((number, start, rest)))
+}
+
+/// The first processor.
+#[tactic(auto, unfolding(crate::specs::Reading::heading_at))]
+fn first_start<'a>(m: u8, text: &Text<'a>) -> Result<(u32, (u64, bool), Text<'a>), ScriptError>
+    requires { m ≤ 52 }
+    ensures start { Gives (λ x. (x.1, told_in x.2)) result
+        (heading_at ScriptRefusal.Cpu (start_in m) (told_in text.now)) }
+    ensures range { IfOk result (λ x. x.1.0 < 2 ^ m) }
+{
+    let place = ScriptRefusal::Cpu;
+    let (line, words, rest) = line_of(place, text.told_front()?)?;
+    let start = in_line(line, placed(place, start_of(m, &words)))?;
+    Ok((line, start, rest))
+}
+
+/// Want of memory in a line.
+fn out_of_memory(line: u32) -> ScriptError
+    ensures { result ≡ record { line = line; refusal = ScriptRefusal.Memory } }
+{
+    ScriptError {
+        line,
+        refusal: ScriptRefusal::Memory,
+    }
+}
+
+/// The processors: one and at most so many more.
+#[tactic(auto, unfolding(crate::specs::Reading::processors_at))]
+fn processors_of<'a>(
+    alloc: Global,
+    m: u8,
+    most: usize,
+    text: &Text<'a>,
+) -> Result<(Vec<(u64, bool)>, Text<'a>), ScriptError>
+    requires { m ≤ 52 }
+    ensures starts { Reads (λ x. (x.0.items, told_in x.1)) result
+        (processors_at m most (told_in text.now)) }
+    ensures some { IfOk result (λ x. 1 ≤ vec_len x.0) }
+    ensures few { IfOk result (λ x. vec_len x.0 ≤ most + 1) }
+    ensures range { IfOk result (λ x. AllByRecursion (λ start. start.0 < 2 ^ m) x.0.items) }
+{
+    let (line, start, mut rest) = first_start(m, text)?;
+    let mut starts = Vec::new(alloc);
+    if starts.push(start).is_err() {
+        return Err(out_of_memory(line));
+    }
+    for _ in 0..most {
+        let Some((line, start, more)) = next_start(m, &rest)? else {
+            break;
+        };
+        match starts.push(start) {
+            Ok(()) => rest = more,
+            Err(_) => return Err(out_of_memory(line)),
+        }
+    }
+    Ok((starts, rest))
+}
+
+/// The lines before the instructions.
+#[tactic(auto, unfolding(crate::specs::Reading::head_at))]
+pub(crate) fn header_of<'a>(
+    alloc: Global,
+    text: &Text<'a>,
+) -> Result<(Header, Text<'a>), ScriptError>
+    ensures header { Reads (λ x. (x.0, told_in x.1)) result (head_at (lines_in text.now)) }
+    ensures range { IfOk result (λ x. IsHead x.0) }
+{
+    let (version, rest) = version_line(text)?;
+    let (cfg, rest) = machine_line(&rest)?;
+    let (segment, rest) = segment_line(&rest)?;
+    let most = most_processors(version) - 1;
+    let (processors, rest) = processors_of(alloc, cfg.m, most, &rest)?;
+    let header = Header {
+        version,
+        cfg,
+        segment,
+        processors,
+    };
+    Ok((header, rest))
+}
+
+/// What the words of an instruction say, where so many came before.
+fn task_after(count: usize, header: &Header, words: &Words) -> Result<Task, ScriptRefusal>
+    requires { header.now.cfg.m ≤ 52 }
+    ensures task { Gives (λ x. x) result (task_after count header.now words.now) }
+    ensures well { IfOk result (λ task. IsWellFormed header.now task.p task.instruction) }
+{
+    if count >= MOST_INSTRUCTIONS {
+        return Err(ScriptRefusal::TooMany);
+    }
+    task_of(header, words)
+}
+
+/// The line of an instruction, if one comes: its number, what it says, and the lines behind it.
+type NextTask<'a> = Option<(u32, Task, Text<'a>)>;
+
+#[tactic(auto, unfolding(crate::specs::Answers::next_task_at))]
+fn next_task<'a>(
+    header: &Header,
+    count: usize,
+    text: &Text<'a>,
+) -> Result<NextTask<'a>, ScriptError>
+    requires { header.now.cfg.m ≤ 52 }
+    ensures task { Gives (option_map (λ x. (x.0, x.1, told_in x.2))) result
+        (next_task_at header.now count (told_in text.now)) }
+    ensures well { IfOk result (λ next. IfSome next
+        (λ x. IsWellFormed header.now x.1.p x.1.instruction)) }
+    ensures less { IfOk result (λ next. IfSome next (λ x. length x.2.1 < length text.now.1)) }
+{
+    let (number, next) = text.told_front()?;
+    let Some((line, rest)) = next else {
+        return Ok(None);
+    };
+    let task = in_line(number, task_after(count, header, &Words::new(line)))?;
+    Ok(Some((number, task, rest)))
+}
+
+/// The instructions, one a line.
+pub(crate) fn tasks_of<'a>(
+    alloc: Global,
+    header: &Header,
+    text: Text<'a>,
+) -> Result<Tasks, ScriptError>
+    requires { header.now.cfg.m ≤ 52 }
+    ensures tasks { Reads (λ x. x) result (tasks_at header.now 0 (told_in text.entry)) }
+    ensures well { IfOk result (λ tasks.
+        AllByRecursion (λ task. IsWellFormed header.now task.p task.instruction) tasks) }
+{
+    let mut tasks = Tasks::new(alloc);
+    let mut rest = text;
+    'lines: loop {
+        let Some((line, task, more)) = next_task(header, tasks.len(), &rest)? else {
+            return Ok(tasks);
+        };
+        match tasks.push(alloc, &task) {
+            Ok(()) => rest = more,
+            Err(_) => return Err(out_of_memory(line)),
+        }
+    }
+}

@@ -1,0 +1,38 @@
+use thiserror::Error;
+
+/// Why a text is no script: what is wrong with its first line that is.
+#[derive(Clone, Copy, PartialEq, Eq, Debug)]
+pub enum ScriptRefusal {
+    /// Line 1 is not `pcid-guest 1` or `pcid-guest 2`.
+    FirstLine,
+    /// The next line is not `machine M` with any of `wp nxe smep smap` behind it in this order, M
+    /// from 36 to 52.
+    Machine,
+    /// The next line is not `segment N`, N from 1 to 65,536.
+    Segment,
+    /// No line `cpu CR3 PGE` follows, or one that begins with `cpu` is not that, or its CR3 is not
+    /// below 2 to the power of M.
+    Cpu,
+    /// An instruction does not begin with a number in decimal digits, or its name, mode, PGE or
+    /// count of words is wrong.
+    Instruction,
+    /// A word of an instruction is no number where one belongs.
+    Number,
+    /// A number of an instruction is too large for its field, or its event is not well formed.
+    Malformed,
+    /// No LF ends the text's last line, or a line has a byte below 0x20 or above 0x7E.
+    LineEnd,
+    /// More instructions than 1,048,576.
+    TooMany,
+    /// A growth was refused in this call.
+    Memory,
+}
+
+/// A refusal and the line that it is of, from 1. Where a line lacks at the end of the text, it is
+/// the number after the last.
+#[derive(Clone, Copy, PartialEq, Eq, Debug, Drop, Error)]
+#[error("script line {line}: {refusal:?}")]
+pub struct ScriptError {
+    pub line: u32,
+    pub refusal: ScriptRefusal,
+}

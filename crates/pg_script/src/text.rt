@@ -1,0 +1,112 @@
+//! The lines of a text.
+
+ghost use Rattle.std.specs.Prelude.{◌≡◌, ◌<◌, ◌-◌, ◌^◌, length, IfOk};
+ghost use Rattle.pg_script.specs.Lines.{is_plain, is_skipped};
+ghost use Rattle.pg_script.specs.Answers.{Gives, lines_in, told_in, front_at, front_seen};
+ghost use Rattle.pg_script.specs.Answers.{ShortensTo};
+
+use crate::refusal::{ScriptError, ScriptRefusal};
+use crate::words::{Words, cut};
+use std::marker::Model;
+
+/// The lines of a text from one on.
+#[derive(Drop)]
+pub(crate) struct Text<'a> {
+    bytes: &'a [u8],
+    /// The number of the first of them.
+    number: u32,
+}
+
+impl<'a> Model for Text<'a> {
+    ghost use Rattle.std.specs.Prelude.{ℕ, List, ◌+◌, ◌^◌, ◌<◌, length};
+
+    ghost Value = { ℕ × List ℕ };
+
+    ghost view = { λ t. (t.number, t.bytes.now) };
+
+    ghost invariant = { λ t. t.number + length t.bytes.now < 2 ^ 32 };
+}
+
+/// The number of the next line; and its bytes and the lines behind it, if the text has not ended.
+pub(crate) type Front<'a> = (u32, Option<(&'a [u8], Text<'a>)>);
+
+impl<'a> Text<'a> {
+    /// All lines of a text.
+    pub(crate) fn new(bytes: &'a [u8]) -> Text<'a>
+        requires { length bytes.now < 2 ^ 32 - 1 }
+        ensures { result ≡ (1, bytes.now) }
+    {
+        Text { bytes, number: 1 }
+    }
+
+    /// The next line.
+    pub(crate) fn front(&self) -> Result<Front<'a>, ScriptError>
+        ensures front { Gives (front_seen lines_in) result (front_at (lines_in self.now)) }
+        ensures less { IfOk result (ShortensTo (length self.now.1)) }
+    {
+        let number = self.number;
+        let unended = ScriptError {
+            line: number,
+            refusal: ScriptRefusal::LineEnd,
+        };
+        let (line, behind) = cut(self.bytes, b'\n');
+        match behind {
+            None => {
+                if !line.is_empty() {
+                    return Err(unended);
+                }
+                Ok((number, None))
+            }
+            Some(bytes) => {
+                if !is_plain(line) {
+                    return Err(unended);
+                }
+                let rest = Text {
+                    bytes,
+                    number: number + 1,
+                };
+                Ok((number, Some((line, rest))))
+            }
+        }
+    }
+
+    /// The next line that says something.
+    pub(crate) fn told_front(&self) -> Result<Front<'a>, ScriptError>
+        ensures front { Gives (front_seen told_in) result (front_at (told_in self.now)) }
+        ensures less { IfOk result (ShortensTo (length self.now.1)) }
+    {
+        let mut text = Text {
+            bytes: self.bytes,
+            number: self.number,
+        };
+        'lines: loop {
+            let (number, next) = text.front()?;
+            match next {
+                None => return Ok((number, None)),
+                Some((line, rest)) => {
+                    if !is_skipped(line) {
+                        return Ok((number, Some((line, rest))));
+                    }
+                    text = rest;
+                }
+            }
+        }
+    }
+}
+
+/// Whether each byte is from 0x20 to 0x7E.
+fn is_plain(line: &[u8]) -> bool
+    ensures { result ≡ is_plain line.now }
+{
+    line.iter().all(|byte| 0x20 <= *byte && *byte <= 0x7e)
+}
+
+/// Whether a line is empty or a comment.
+fn is_skipped(line: &[u8]) -> bool
+    ensures { result ≡ is_skipped line.now }
+{
+    match line {
+        [] => true,
+        [first, ..] => *first == b'#',
+    }
+}

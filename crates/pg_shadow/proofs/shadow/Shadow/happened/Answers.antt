@@ -1,0 +1,33 @@
+use Rattle.std.proofs.Common.{◌≡◌, ap, sym, subst, ◌∙◌, arith}
+use Rattle.pg_event.specs.Form.{processor_of}
+use Rattle.pg_event.specs.Values.{controlled}
+use Rattle.pg_event.specs.declared.control.Control.{Control}
+use Rattle.pg_shadow.specs.Caches.{AreInRange}
+use Rattle.pg_shadow.specs.Held.{Held, seen}
+use Rattle.pg_shadow.proofs.Ranges.{AreInRange-after}
+use Rattle.pg_shadow.proofs.Shadows.{seen-after}
+use Rattle.pg_shadow.proofs.shadow.Shadow.happened.Goals as goal
+
+pub controlled-self-inside-requires : goal.controlled-self-inside-requires
+unfolding seen
+controlled-self-inside-requires c = record { width = (omega (arith, c.self.invariant.least), omega (arith, c.self.invariant.most)) }
+
+pub invariant_of-self : goal.invariant_of-self
+invariant_of-self c =
+    let h : Held = record { width = c.self.inside.m; control = c.self.inside.control; own = c.self.inside.own.entries; globals = c.self.inside.globals } in
+    let e = c.args.event.now in
+    let registers : c.controlled-self-inside.result ≡ controlled h.width (processor_of e) h.control e =
+    c.controlled-self-inside.ensures ∙ ap (λ p. controlled h.width p h.control e) c.processor_of.ensures in
+    let P : Control → Type 0 = λ r. AreInRange (seen (record { width = h.width; control = r; own = c.leave_own.new.own.entries; globals = c.leave.new.self })) in
+    subst P (sym registers)
+    (subst AreInRange (sym (seen-after h e c.leave_own.new.own.entries c.leave.new.self c.leave_own.ensures c.leave.ensures)) (AreInRange-after e (seen h) c.self.invariant))
+
+pub returns : goal.returns
+returns c =
+    let h : Held = record { width = c.self.inside.m; control = c.self.inside.control; own = c.self.inside.own.entries; globals = c.self.inside.globals } in
+    let e = c.args.event.now in
+    let registers : c.controlled-self-inside.result ≡ controlled h.width (processor_of e) h.control e =
+    c.controlled-self-inside.ensures ∙ ap (λ p. controlled h.width p h.control e) c.processor_of.ensures in
+    let made : Control → Held = λ r. record { width = h.width; control = r; own = c.leave_own.new.own.entries; globals = c.leave.new.self } in
+    rw (← c.self.view_is)
+    (ap (λ r. seen (made r)) registers ∙ seen-after h e c.leave_own.new.own.entries c.leave.new.self c.leave_own.ensures c.leave.ensures)

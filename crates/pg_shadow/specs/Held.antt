@@ -1,0 +1,55 @@
+-- What a shadow is seen as.
+use Rattle.std.specs.Prelude.{◌≡◌, ℕ, false, nat_eq, ◌==◌, ◌&&◌, if◌then◌else◌, List}
+use Rattle.std.specs.Map.{lookup}
+use Rattle.std.specs.Option.{unwrap_or}
+use Rattle.pg_entry.specs.declared.Level.{Level}
+use Rattle.pg_entry.specs.declared.Level.TheVariants.{Three, Two, One}
+use Rattle.pg_event.specs.declared.event.Event.{Event}
+use Rattle.pg_event.specs.declared.control.Control.{Control}
+use Rattle.pg_event.specs.Invalidation.{level_shift}
+use Rattle.pg_shadow.specs.declared.slot.Kept.{Kept}
+use Rattle.pg_shadow.specs.Caches.{Caches}
+use Rattle.pg_shadow.specs.Slots.{with_kept, left_in}
+use Rattle.pg_shadow.specs.Pages.{Sheet}
+use Rattle.pg_shadow.specs.Spaces.{nothing, slot_in, leaf_in}
+
+pub record Held : Type 0 where
+  pub width : ℕ
+  pub control : Control
+  pub own : List (ℕ × (List Sheet))
+  pub globals : List Sheet
+
+-- what is kept under a PCID
+abbrev pub space_of : List (ℕ × (List Sheet)) → ℕ → List Sheet
+space_of own pcid = unwrap_or (lookup (nat_eq pcid) own) nothing
+
+-- what a shadow caches
+unfoldable pub seen : Held → Caches
+seen h = record {
+  width = h.width;
+  control = h.control;
+  tables = λ k. (slot_in (space_of h.own k.pcid) k.level k.prefix).structure;
+  leaves = λ k. leaf_in (if k.global then h.globals else space_of h.own k.pcid) k.shift k.number;
+}
+
+-- the level whose entries map pages of 2 ^ shift bytes
+abbrev pub level_of : ℕ → Level
+level_of shift = if shift == 30 then Three else if shift == 21 then Two else One
+
+-- under one PCID one slot has an entry more, and the others are as they were
+pub record KeepsOwn (old new : List (ℕ × (List Sheet))) (pcid : ℕ) (level : Level) (number : ℕ)
+    (kept : Kept) : Type 0 where
+  pub at : (q : ℕ) (l : Level) (n : ℕ) → let before = slot_in (space_of old q) l n in
+      slot_in (space_of new q) l n
+      ≡ (if pcid == q && level_shift level == level_shift l && number == n
+      then with_kept kept before else before)
+
+-- each slot under each PCID is as it was
+pub record IsSameOwn (old new : List (ℕ × (List Sheet))) : Type 0 where
+  pub at : (q : ℕ) (l : Level) (n : ℕ) →
+      slot_in (space_of new q) l n ≡ slot_in (space_of old q) l n
+
+-- each slot under each PCID has what an event leaves of it
+pub record IsLeftOwn (c : Control) (e : Event) (old new : List (ℕ × (List Sheet))) : Type 0 where
+  pub at : (q : ℕ) (l : Level) (n : ℕ) → slot_in (space_of new q) l n
+      ≡ left_in c e q false l n (slot_in (space_of old q) l n)

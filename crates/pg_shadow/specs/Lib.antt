@@ -1,0 +1,6 @@
+pub mod Caches
+pub mod Find
+pub mod Slots
+pub mod Pages
+pub mod Spaces
+pub mod Held

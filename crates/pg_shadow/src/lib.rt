@@ -1,0 +1,15 @@
+//! What one processor of the recorder caches: translations and paging-structure-cache entries, each
+//! with the moments at which it was read (Intel SDM, vol. 3, 4.10).
+#![tactic(auto)]
+
+mod entries;
+mod lookup;
+mod page;
+mod shadow;
+mod slot;
+mod space;
+#[cfg(test)]
+mod tests;
+
+pub use entries::{Found, KeptLeaf, KeptTable};
+pub use shadow::Shadow;

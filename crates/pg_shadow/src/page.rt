@@ -1,0 +1,160 @@
+ghost use Rattle.std.specs.Prelude.{◌≡◌, ◌+◌, ◌*◌, ◌<◌, ◌≤◌, ◌^◌, ℕ, IfOk, length, slice_set};
+ghost use Rattle.std.specs.Prelude.{slice_index_or};
+ghost use Rattle.pg_shadow.specs.Slots.{left_in, with_kept};
+ghost use Rattle.pg_shadow.specs.Pages.{no_place, left_place, empty_page, IsLeftPage};
+
+use crate::slot::{Kept, Slot};
+use pg_entry::Level;
+use pg_event::{Control, Event};
+use pg_timeline::Probes;
+use std::alloc::{AllocError, Global};
+use std::marker::Model;
+
+/// How many slots a page has.
+pub(crate) const SLOTS: usize = 512;
+
+/// A slot, and the number of the page of the level below that is reached through it.
+#[derive(Clone, Copy, PartialEq, Eq, Debug)]
+pub(crate) struct Place {
+    pub slot: Slot,
+    pub below: Option<usize>,
+}
+
+impl Place {
+    pub const EMPTY: Place = Place {
+        slot: Slot::EMPTY,
+        below: None,
+    };
+
+    /// What an event leaves.
+    fn left(
+        &self,
+        control: Control,
+        event: &Event,
+        pcid: u16,
+        global: bool,
+        level: Level,
+        number: u64,
+    ) -> Place
+        ensures { result ≡ left_place control event.now pcid global level number self.now }
+    {
+        Place {
+            slot: self.slot.left(control, event, pcid, global, level, number),
+            below: self.below,
+        }
+    }
+}
+
+/// The slots of one level for the linear addresses that agree in the bits above it.
+#[derive(Debug, Drop)]
+pub(crate) struct Page {
+    level: Level,
+    /// The bits above the level.
+    prefix: u64,
+    places: Vec<Place>,
+}
+
+impl Model for Page {
+    ghost use Rattle.pg_shadow.specs.Pages.{Sheet, IsPage};
+
+    ghost Value = { Sheet };
+
+    ghost view = { λ a. record {
+      level = a.level;
+      prefix = a.prefix;
+      places = a.places.items;
+    } };
+
+    ghost invariant = { λ a. IsPage a.prefix a.places.items };
+}
+
+/// Takes out of slots what an event must drop, where the first has this number.
+fn leave_places(
+    places: &mut [Place],
+    control: Control,
+    event: &Event,
+    pcid: u16,
+    global: bool,
+    level: Level,
+    first: u64,
+)
+    requires { first + length places.old < 2 ^ 64 }
+    ensures { (i : ℕ) → slice_index_or places.new i no_place
+        ≡ left_place control event.now pcid global level (first + i)
+        (slice_index_or places.old i no_place) }
+{
+    for i in 0..places.len() {
+        let left = places[i].left(control, event, pcid, global, level, first + i as u64);
+        places[i] = left;
+    }
+}
+
+impl Page {
+    /// A page with nothing in it.
+    pub fn new(alloc: Global, level: Level, prefix: u64) -> Result<Page, AllocError>
+        requires { prefix < 2 ^ 40 }
+        ensures { IfOk result (λ page. page ≡ empty_page level prefix) }
+    {
+        let mut places = Vec::new(alloc);
+        places.resize(SLOTS, Place::EMPTY)?;
+        Ok(Page {
+            level,
+            prefix,
+            places,
+        })
+    }
+
+    /// What stands at an index.
+    pub fn read(&self, index: usize, probes: &mut Probes) -> Place
+        requires { index < 512 }
+        ensures value { result ≡ slice_index_or self.now.places index no_place }
+        ensures probes { probes.new ≤ probes.old + 1 }
+    {
+        probes.tick();
+        self.places[index]
+    }
+
+    /// Keeps an entry at an index.
+    pub fn keep(&mut self, index: usize, kept: &Kept)
+        requires { index < 512 }
+        ensures full { length self.old.places ≡ 512 }
+        ensures kept { let place = slice_index_or self.old.places index no_place in
+            self.new ≡ record self.old {
+              places = slice_set self.old.places index
+                  (record place { slot = with_kept kept.now place.slot });
+            } }
+    {
+        let place = &mut self.places[index];
+        place.slot.keep(kept);
+    }
+
+    /// Lets a page be reached through an index.
+    pub fn link(&mut self, index: usize, below: usize)
+        requires { index < 512 }
+        ensures full { length self.old.places ≡ 512 }
+        ensures linked { let place = slice_index_or self.old.places index no_place in
+            self.new ≡ record self.old {
+              places = slice_set self.old.places index
+                  (record place { below = Some below });
+            } }
+    {
+        let place = &mut self.places[index];
+        place.below = Some(below);
+    }
+
+    /// Takes out what an event must drop.
+    pub fn leave(&mut self, control: Control, event: &Event, pcid: u16, global: bool)
+        ensures { IsLeftPage control event.now pcid global self.old self.new }
+    {
+        let first = self.prefix * SLOTS as u64;
+        leave_places(
+            &mut self.places,
+            control,
+            event,
+            pcid,
+            global,
+            self.level,
+            first,
+        );
+    }
+}

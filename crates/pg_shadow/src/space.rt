@@ -1,0 +1,179 @@
+ghost use Rattle.std.specs.Prelude.{◌≡◌, ◌+◌, ◌-◌, ◌*◌, ◌/◌, ◌%◌, ◌<◌, ◌≤◌, ◌^◌, ℕ, Option, List};
+ghost use Rattle.std.specs.Prelude.{OnOk, OnErr, length, slice_index_or, Some, None};
+ghost use Rattle.pg_entry.specs.declared.Level.TheVariants as levels;
+ghost use Rattle.pg_event.specs.Invalidation.{level_shift};
+ghost use Rattle.pg_shadow.specs.Pages.{place_of, no_page, IsLeftPage};
+ghost use Rattle.pg_shadow.specs.Spaces.{path_in, Keeps, IsSame, IsLeft, nothing, IsAbove, HasPage};
+
+use crate::page::{Page, Place};
+use crate::slot::{Kept, Path};
+use pg_entry::Level;
+use pg_event::{Control, Event, bits_from};
+use pg_timeline::Probes;
+use std::alloc::{AllocError, Global};
+use std::marker::Model;
+
+/// What is kept under one PCID, or for all of them: a tree of pages, of which the first is that of
+/// level 4.
+#[derive(Debug, Drop)]
+pub(crate) struct Space {
+    alloc: Global,
+    pages: Vec<Page>,
+}
+
+impl Model for Space {
+    ghost use Rattle.std.specs.Prelude.{List};
+    ghost use Rattle.pg_shadow.specs.Pages.{Sheet, IsTree};
+
+    ghost Value = { List Sheet };
+
+    ghost view = { λ a. a.pages.items };
+
+    ghost invariant = { λ a. IsTree a.pages.items };
+}
+
+/// Takes out of pages what an event must drop.
+fn leave_pages(pages: &mut [Page], control: Control, event: &Event, pcid: u16, global: bool)
+    ensures { (j : ℕ) → IsLeftPage control event.now pcid global
+        (slice_index_or pages.old j no_page) (slice_index_or pages.new j no_page) }
+{
+    for j in 0..pages.len() {
+        let page = &mut pages[j];
+        page.leave(control, event, pcid, global);
+    }
+}
+
+/// The index into a page of a number of its level.
+fn index_of(number: u64) -> usize
+    ensures value { result ≡ number % 512 }
+    ensures within { result < 512 }
+{
+    (number % 512) as usize
+}
+
+impl Space {
+    /// Nothing.
+    pub fn new(alloc: Global) -> Space
+        ensures { result ≡ nothing }
+    {
+        Space {
+            alloc,
+            pages: Vec::new(alloc),
+        }
+    }
+
+    /// What stands in a page for a number of its level.
+    fn read(&self, page: Option<usize>, number: u64, probes: &mut Probes) -> Place
+        ensures value { result ≡ place_of self.now page (number % 512) }
+        ensures probes { probes.new ≤ probes.old + 1 }
+    {
+        match page {
+            Some(j) => match self.pages.get(j) {
+                Some(page) => page.read(index_of(number), probes),
+                None => Place::EMPTY,
+            },
+            None => Place::EMPTY,
+        }
+    }
+
+    /// The slots that a walk for a linear address meets.
+    pub fn path(&self, la: u64, probes: &mut Probes) -> Path
+        ensures value { result ≡ path_in self.now la }
+        ensures probes { probes.new ≤ probes.old + 4 }
+    {
+        let four = self.read(Some(0), bits_from(39, la), probes);
+        let three = self.read(four.below, bits_from(30, la), probes);
+        let two = self.read(three.below, bits_from(21, la), probes);
+        let one = self.read(two.below, bits_from(12, la), probes);
+        Path {
+            four: four.slot,
+            three: three.slot,
+            two: two.slot,
+            one: one.slot,
+        }
+    }
+
+    /// The page of level 4, which may be the first.
+    fn page_four(&mut self) -> Result<usize, AllocError>
+        ensures { HasPage self.old self.new levels.Four 0 result }
+    {
+        if self.pages.is_empty() {
+            self.pages.push(Page::new(self.alloc, Level::Four, 0)?)?;
+        }
+        Ok(0)
+    }
+
+    fn page_three(&mut self, prefix: u64) -> Result<usize, AllocError>
+        requires { prefix < 2 ^ 9 }
+        ensures { HasPage self.old self.new levels.Three prefix result }
+    {
+        let four = self.page_four()?;
+        self.page_below(four, Level::Three, prefix)
+    }
+
+    fn page_two(&mut self, prefix: u64) -> Result<usize, AllocError>
+        requires { prefix < 2 ^ 18 }
+        ensures { HasPage self.old self.new levels.Two prefix result }
+    {
+        let three = self.page_three(prefix / 512)?;
+        self.page_below(three, Level::Two, prefix)
+    }
+
+    fn page_one(&mut self, prefix: u64) -> Result<usize, AllocError>
+        requires { prefix < 2 ^ 27 }
+        ensures { HasPage self.old self.new levels.One prefix result }
+    {
+        let two = self.page_two(prefix / 512)?;
+        self.page_below(two, Level::One, prefix)
+    }
+
+    /// The page of a level that is reached through a page of the level above, and may be new.
+    fn page_below(&mut self, above: usize, level: Level, prefix: u64) -> Result<usize, AllocError>
+        requires parent { IsAbove self.old level prefix above }
+        requires low { prefix < 2 ^ 40 }
+        ensures { HasPage self.old self.new level prefix result }
+    {
+        match self.read(Some(above), prefix, &mut Probes::new()).below {
+            Some(j) => Ok(j),
+            None => {
+                let j = self.pages.len();
+                self.pages.push(Page::new(self.alloc, level, prefix)?)?;
+                let parent = &mut self.pages[above];
+                parent.link(index_of(prefix), j);
+                Ok(j)
+            }
+        }
+    }
+
+    /// The page that holds a number of a level, and may be new.
+    fn page_for(&mut self, level: Level, number: u64) -> Result<usize, AllocError>
+        requires { number < 2 ^ (48 - level_shift level) }
+        ensures { HasPage self.old self.new level (number / 512) result }
+    {
+        match level {
+            Level::Four => self.page_four(),
+            Level::Three => self.page_three(number / 512),
+            Level::Two => self.page_two(number / 512),
+            Level::One => self.page_one(number / 512),
+        }
+    }
+
+    /// Keeps an entry in a slot. Fails where memory is refused, and then nothing is kept.
+    pub fn keep(&mut self, level: Level, number: u64, kept: &Kept) -> Result<(), AllocError>
+        requires { number < 2 ^ (48 - level_shift level) }
+        ensures ok { OnOk result (Keeps self.old self.new level number kept.now) }
+        ensures err { OnErr result (IsSame self.old self.new) }
+    {
+        let j = self.page_for(level, number)?;
+        let page = &mut self.pages[j];
+        page.keep(index_of(number), kept);
+        Ok(())
+    }
+
+    /// Takes out what an event must drop.
+    pub fn leave(&mut self, control: Control, event: &Event, pcid: u16, global: bool)
+        ensures { IsLeft control event.now pcid global self.old self.new }
+    {
+        leave_pages(&mut self.pages, control, event, pcid, global);
+    }
+}

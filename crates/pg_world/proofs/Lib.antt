@@ -1,0 +1,5 @@
+pub mod Tables
+pub mod Formed
+pub mod Segments
+pub mod Flags
+pub mod Rows

@@ -1,0 +1,32 @@
+-- Laws of recordings.
+use Rattle.std.specs.Prelude.{◌≡◌, ◌≢◌, ℕ, zero, suc, ◌*◌, ◌%◌, ◌<◌, ◌≤◌, true, List, []}
+use Rattle.std.specs.Prelude.{◌++◌, take}
+use Rattle.pg_entry.specs.declared.AccessKind.{AccessKind}
+use Rattle.pg_entry.specs.Kinds.{table_of}
+use Rattle.pg_event.specs.declared.event.Event.{Event}
+use Rattle.pg_event.specs.Form.{access_kind}
+use Rattle.pg_event.specs.Spelling.{IsHead}
+use Rattle.pg_world.specs.Recording.{Recording, segment_of, sealed_count}
+use Rattle.pg_world.specs.Walks.{flags_of, is_table_address}
+
+-- so many segments, one after another
+abbrev pub joined_segments : Recording → ℕ → List Event
+joined_segments r zero = []
+joined_segments r (suc k) = joined_segments r k ++ segment_of r k
+
+abbrev pub SegmentsBeginTheEvents : Type 0
+SegmentsBeginTheEvents =
+    (r : Recording) (k : ℕ) → joined_segments r k ≡ take (k * r.head.segment) r.events
+
+abbrev pub FinishedSegmentsAreTheEvents : Type 0
+FinishedSegmentsAreTheEvents = (r : Recording) → IsHead r.head → r.finished ≡ true →
+    joined_segments r (sealed_count r) ≡ r.events
+
+-- an access is what its flags say, and well formed flags are those of the access that they say
+pub record FlagsAreTold : Type 0 where
+  pub kind : (kind : AccessKind) → access_kind (flags_of kind) ≡ kind
+  pub flags : (flags : ℕ) → flags < 16 → flags % 4 ≢ 3 → flags_of (access_kind flags) ≡ flags
+
+-- what an entry or CR3 refers to is the address of a table
+abbrev pub TablesHaveAddresses : Type 0
+TablesHaveAddresses = (m value : ℕ) → 12 ≤ m → is_table_address m (table_of m value) ≡ true

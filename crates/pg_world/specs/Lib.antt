@@ -1,0 +1,5 @@
+pub mod Memory
+pub mod Recording
+pub mod Kept
+pub mod Walks
+pub mod Laws

@@ -1,0 +1,28 @@
+ghost use Rattle.std.specs.Prelude.{◌≡◌};
+ghost use Rattle.pg_world.specs.declared.error.WorldError.TheVariants.{Memory};
+
+use std::alloc::AllocError;
+
+/// Why a call is refused: the least of these that applies. A refused call changes nothing, and the
+/// same call later can succeed.
+#[derive(Clone, Copy, PartialEq, Eq, Debug)]
+pub enum WorldError {
+    /// The event breaks a rule of records, or is of another processor or kind than the call's. Of a
+    /// read: there is no such processor, the address is not canonical, the table is no address of a
+    /// paging structure, or the moments are not one for each level above.
+    Malformed,
+    /// An event would be added, and 4,294,967,295 stand.
+    Full,
+    /// The record is finished.
+    Finished,
+    /// An event would be added, and memory for it was refused.
+    Memory,
+}
+
+impl From<AllocError> for WorldError {
+    ghost from_gives = { λ _ e. e ≡ Memory };
+
+    fn from(_error: AllocError) -> WorldError {
+        WorldError::Memory
+    }
+}

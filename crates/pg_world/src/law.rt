@@ -1,0 +1,25 @@
+//! Laws of recordings. Each function does nothing: its contract is the law.
+
+ghost use Rattle.pg_world.specs.Laws.{SegmentsBeginTheEvents, FinishedSegmentsAreTheEvents};
+ghost use Rattle.pg_world.specs.Laws.{FlagsAreTold, TablesHaveAddresses};
+
+/// The first segments, one after another, are the first events.
+pub fn segments_begin_the_events()
+    ensures { SegmentsBeginTheEvents }
+{}
+
+/// The sealed segments of a finished record, one after another, are its events.
+pub fn finished_segments_are_the_events()
+    ensures { FinishedSegmentsAreTheEvents }
+{}
+
+/// The flags of an access say the access, and the access says its flags.
+pub fn flags_are_told()
+    ensures { FlagsAreTold }
+{}
+
+/// What an entry or CR3 refers to is the address of a table: a walk that goes by what it read is
+/// not refused for its table.
+pub fn tables_have_addresses()
+    ensures { TablesHaveAddresses }
+{}

@@ -1,0 +1,21 @@
+//! Table memory and the record of a run: a world that processors read, write and record in.
+#![tactic(auto)]
+
+mod error;
+mod kinds;
+mod law;
+mod memory;
+mod receipt;
+#[cfg(test)]
+mod tests;
+mod walk;
+mod world;
+
+pub use error::WorldError;
+pub use law::{
+    finished_segments_are_the_events, flags_are_told, segments_begin_the_events,
+    tables_have_addresses,
+};
+pub use receipt::Receipt;
+pub use walk::{Found, Walk};
+pub use world::World;
