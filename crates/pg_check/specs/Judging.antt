@@ -1,9 +1,9 @@
 -- What is known of a run that was judged as it was read.
-use Rattle.std.specs.Prelude.{◌≡◌, ℕ, ◌+◌, ◌<◌, ◌^◌, List, length, Option}
+use Rattle.std.specs.Prelude.{◌≡◌, ℕ, ◌+◌, ◌<◌, ◌^◌, List, ◌++◌, length, Option, None}
 use Rattle.pg_event.specs.declared.event.Event.{Event}
 use Rattle.pg_event.specs.declared.event.Reason.{Reason}
 use Rattle.pg_event.specs.Heads.{Head}
-use Rattle.pg_event.specs.Witness.{first_bad}
+use Rattle.pg_event.specs.Witness.{first_bad, first_bad_from}
 use Rattle.pg_chain.specs.declared.history.Past.{Past}
 use Rattle.pg_chain.specs.Standing.{IsPast}
 use Rattle.pg_check.specs.Kept.{AreWellFormed}
@@ -21,6 +21,21 @@ pub record IsJudged (f : Findings) (head : Head) (events : List Event) : Type 0 
   pub past : IsPast f.past head events
   pub count : f.count ≡ length events
   pub first_bad : f.first_bad ≡ first_bad head events
+
+-- they are those of a run with these events under this header, to which more were added that wait
+-- to be judged
+pub record Awaits (f : Findings) (head : Head) (before more : List Event) : Type 0 where
+  pub settings : f.head ≡ head
+  pub past : IsPast f.past head (before ++ more)
+  pub count : f.count ≡ length before
+  pub first_bad : f.first_bad ≡ first_bad head before
+  pub well : AreWellFormed head more
+  pub limit : length before + length more < 2 ^ 32
+
+-- this is what judging the events that wait finds, where no event before them is bad
+abbrev pub IsFound : Option (ℕ × Reason) → Head → List Event → List Event → Type 0
+IsFound found head before more =
+    first_bad head before ≡ None → found ≡ first_bad_from head (before ++ more) (length before) more
 
 -- these events may come next: they are well formed, and not too many
 pub record MayFollow (f : Findings) (more : List Event) : Type 0 where

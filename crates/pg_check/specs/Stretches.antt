@@ -12,7 +12,7 @@ pub record IsStretch (s : Stretch) (r : Recorded) : Type 0 where
   pub first : s.first ≤ length r.events
   pub events : s.events.now ≡ drop s.first r.events
   pub head : IsHead r.head
-  pub well : AreWellFormed r.head r.events
+  pub well : AreWellFormed r.head s.events.now
   pub count : length r.events < 2 ^ 32
 
 -- a segment of the record begins in the stretch
@@ -21,3 +21,11 @@ pub record HasSegment (s : Stretch) (k : ℕ) : Type 0 where
   pub stretch : IsStretch s of
   pub starts : s.first ≤ k * s.segment
   pub within : k < segment_count of
+
+-- the segments from one number on and below another begin in the stretch
+pub record HasSegments (s : Stretch) (first last : ℕ) : Type 0 where
+  pub of : Recorded
+  pub stretch : IsStretch s of
+  pub starts : s.first ≤ first * s.segment
+  pub ordered : first ≤ last
+  pub within : last ≤ segment_count of

@@ -1,7 +1,7 @@
 //! A run that is judged as it is read.
 
-ghost use Rattle.std.specs.Prelude.{◌≡◌, ◌+◌, ◌<◌, ◌≤◌, ◌^◌, ◌++◌, List, [], length, IfOk, OnOk};
-ghost use Rattle.std.specs.Prelude.{OnErr};
+ghost use Rattle.std.specs.Prelude.{◌≡◌, ◌+◌, ◌<◌, ◌≤◌, ◌^◌, ◌++◌, List, [], length, Some, None};
+ghost use Rattle.std.specs.Prelude.{IfOk, OnOk, OnErr};
 ghost use Rattle.std.specs.List.{AllByRecursion};
 ghost use Rattle.pg_event.specs.Form.{processor_of};
 ghost use Rattle.pg_chain.specs.Standing.{IsPast, processor_count};
@@ -9,9 +9,11 @@ ghost use Rattle.pg_event.specs.declared.event.Event.{Event};
 ghost use Rattle.pg_event.specs.Heads.{Head};
 ghost use Rattle.pg_event.specs.Spelling.{IsHead, segment_count};
 ghost use Rattle.pg_event.specs.Witness.{first_bad};
-ghost use Rattle.pg_check.specs.Judging.{IsJudged, MayFollow};
+ghost use Rattle.pg_check.specs.Judging.{Awaits, IsFound, IsJudged, MayFollow};
+ghost use Rattle.pg_check.specs.Stretches.{IsStretch};
 
 use crate::judge::first_bad_of;
+use crate::stretch::Stretch;
 use pg_chain::Past;
 use pg_event::{Event, Header, Reason};
 use std::alloc::{AllocError, Global};
@@ -43,27 +45,6 @@ impl Model for Judged {
     ghost invariant = { λ j. IsHead j.header };
 }
 
-/// The first bad event of a run that has more events than before, the first of which has this
-/// number, where `known` is that of the events before.
-fn first_bad_with(
-    known: Option<(u64, Reason)>,
-    past: &Past,
-    first: u64,
-    events: &[Event],
-) -> Option<(u64, Reason)>
-    requires processors { AllByRecursion
-        (λ e. processor_of e < processor_count past.now) events.now }
-    requires count { first + length events.now ≤ 2 ^ 32 }
-    ensures { (head : Head) (before : List Event) → IsPast past.now head (before ++ events.now) →
-        first ≡ length before → known ≡ first_bad head before →
-        result ≡ first_bad head (before ++ events.now) }
-{
-    match known {
-        Some(bad) => Some(bad),
-        None => first_bad_of(past, first, events),
-    }
-}
-
 impl Judged {
     /// A run with no event yet. Fails where memory is refused.
     pub fn new(alloc: Global, header: Header) -> Result<Judged, AllocError>
@@ -87,6 +68,45 @@ impl Judged {
         &self.header
     }
 
+    /// Notes the events that come next, which then wait to be judged. Fails where memory is refused,
+    /// and then they have not come.
+    pub fn note(&mut self, events: &[Event]) -> Result<(), AllocError>
+        requires { MayFollow self.old events.now }
+        ensures ok { (head : Head) (before : List Event) → IsJudged self.old head before →
+            OnOk result (Awaits self.new head before events.now) }
+        ensures err { (head : Head) (before : List Event) → IsJudged self.old head before →
+            OnErr result (IsJudged self.new head before) }
+    {
+        self.past.note_all(self.count as u32, events)
+    }
+
+    /// The events that wait, with what is known of all events up to their end.
+    pub fn stretch<'a>(&'a self, events: &'a [Event]) -> Stretch<'a>
+        ensures stretch { (head : Head) (before : List Event) →
+            Awaits self.now head before events.now →
+            IsStretch result (record { head = head; events = before ++ events.now }) }
+        ensures first { result.first ≡ self.now.count }
+    {
+        Stretch {
+            past: &self.past,
+            segment: self.header.segment,
+            first: self.count,
+            events,
+        }
+    }
+
+    /// Takes the first bad event of those that wait. It is not asked for where one before them is
+    /// bad: that one stays the first.
+    pub fn settle(&mut self, events: &[Event], found: Option<(u64, Reason)>)
+        requires { (head : Head) × (before : List Event) × Awaits self.old head before events.now }
+        ensures { (head : Head) (before : List Event) → Awaits self.old head before events.now →
+            IsFound found head before events.now →
+            IsJudged self.new head (before ++ events.now) }
+    {
+        self.first_bad = self.first_bad.or(found);
+        self.count += events.len() as u64;
+    }
+
     /// Notes the events that come next, and judges them, unless an event before them is bad. Fails
     /// where memory is refused, and then they have not come.
     pub fn judge(&mut self, events: &[Event]) -> Result<(), AllocError>
@@ -96,15 +116,19 @@ impl Judged {
         ensures err { (head : Head) (before : List Event) → IsJudged self.old head before →
             OnErr result (IsJudged self.new head before) }
     {
-        self.past.note_all(self.count as u32, events)?;
-        self.first_bad = first_bad_with(self.first_bad, &self.past, self.count, events);
-        self.count += events.len() as u64;
+        self.note(events)?;
+        let found = match self.first_bad {
+            Some(_) => None,
+            None => first_bad_of(&self.past, self.count, events),
+        };
+        self.settle(events, found);
         Ok(())
     }
 
-    /// How many events there were.
+    /// How many events were judged.
     pub fn len(&self) -> u64
-        ensures { (head : Head) (events : List Event) → IsJudged self.now head events →
+        ensures count { result ≡ self.now.count }
+        ensures length { (head : Head) (events : List Event) → IsJudged self.now head events →
             result ≡ length events }
     {
         self.count
@@ -120,7 +144,8 @@ impl Judged {
 
     /// The least event that is not witnessed, with the least reason that fails for it.
     pub fn first_bad(&self) -> Option<(u64, Reason)>
-        ensures { (head : Head) (events : List Event) → IsJudged self.now head events →
+        ensures found { result ≡ self.now.first_bad }
+        ensures first { (head : Head) (events : List Event) → IsJudged self.now head events →
             result ≡ first_bad head events }
     {
         self.first_bad

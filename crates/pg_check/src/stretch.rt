@@ -2,7 +2,7 @@
 
 ghost use Rattle.std.specs.Prelude.{◌≡◌};
 ghost use Rattle.pg_event.specs.Spelling.{Recorded};
-ghost use Rattle.pg_check.specs.Segments.{first_bad_of_segment};
+ghost use Rattle.pg_check.specs.Segments.{segment_verdict};
 ghost use Rattle.pg_check.specs.Stretches.{IsStretch, HasSegment};
 
 use crate::judge::first_bad_of;
@@ -35,8 +35,7 @@ impl Stretch<'_> {
     /// Checks the events of one segment, in their order, up to the first that is not witnessed.
     pub fn check_segment(&self, k: u64) -> SegmentVerdict
         requires { HasSegment self.now k }
-        ensures { (r : Recorded) → IsStretch self.now r →
-            result ≡ record { number = k; first_bad = first_bad_of_segment r k } }
+        ensures { (r : Recorded) → IsStretch self.now r → result ≡ segment_verdict r k }
     {
         let size = self.segment as u64;
         let start = k * size - self.first;

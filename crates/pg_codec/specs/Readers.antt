@@ -90,9 +90,13 @@ pub record IsSegment (p : Progress) (events : List Event) : Type 0 where
   pub limit : p.before + length events < 2 ^ 32
   pub well : AllByRecursion (λ e. broken_rule p.header e ≡ None) events
 
+-- a segment that may come behind those that were read: the last of them was full
+abbrev pub MayCome : Progress → List Event → Type 0
+MayCome p events = (p.full ≡ true) × IsSegment p events
+
 -- a segment that may come where a reader stands
 abbrev pub IsNext : Stage → Option (List Event) → Type 0
-IsNext (Segments p) (Some events) = IsSegment p events
+IsNext (Segments p) (Some events) = MayCome p events
 IsNext _ _ = Unit {0}
 
 -- what a reader keeps of where it stands

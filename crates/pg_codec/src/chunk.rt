@@ -6,7 +6,7 @@ ghost use Rattle.pg_event.specs.Reading.{header_at, end_at};
 ghost use Rattle.pg_codec.specs.Reads.{seen, Pulls, Finds, FindsEnd};
 ghost use Rattle.pg_codec.specs.Parts.{version_said, is_two, old_header_at};
 ghost use Rattle.pg_codec.specs.Readers.{next_segment_at, next_chunk_at, next_closed_chunk_at};
-ghost use Rattle.pg_codec.specs.Readers.{IsSegment};
+ghost use Rattle.pg_codec.specs.Readers.{IsSegment, MayCome};
 
 use crate::buffer::Buffer;
 use crate::error::ReadError;
@@ -126,7 +126,7 @@ fn next_chunk<R: Source>(
         (buffer.old, source.old) (buffer.new, source.new)
         (seen (option_map (λ v. v.items)) result) }
     ensures next { IfOk result (λ chunk.
-        IfSome chunk (λ v. IsSegment progress.now v.items)) }
+        IfSome chunk (λ v. MayCome progress.now v.items)) }
 {
     let tag = next_byte(buffer, source)?;
     if tag != 1 && tag != 2 {
@@ -161,7 +161,7 @@ pub(crate) fn next_closed_chunk<R: Source>(
         (buffer.old, source.old) (buffer.new, source.new)
         (seen (option_map (λ v. v.items)) result) }
     ensures next { IfOk result (λ chunk.
-        IfSome chunk (λ v. IsSegment progress.now v.items)) }
+        IfSome chunk (λ v. MayCome progress.now v.items)) }
 {
     let chunk = next_chunk(room, buffer, source, progress)?;
     if chunk.is_none() && !is_at_end(buffer, source)? {

@@ -9,11 +9,15 @@ use Rattle.pg_check.specs.declared.stretch.SegmentVerdict.{SegmentVerdict}
 use Rattle.pg_pool.specs.declared.checker.Done.{Done}
 use Rattle.pg_pool.specs.declared.round.Round.{Round}
 use Rattle.pg_pool.specs.Rounds.{round, IsIn, numbers, visited}
-use Rattle.pg_pool.specs.Seats.{Checker, has_taken, is_taken, round_of, untaken, AreOfOneRound, seats_at_start, seat_at_start, part_at_start}
+use Rattle.pg_pool.specs.Seats.{Checker, has_taken, is_taken, round_of, untaken, AreOfOneRound, AreAtStart, seat_at_start, part_at_start}
 use Rattle.pg_pool.specs.Verdicts.{Found, verdict, verdicts_of, IsVerdict, placed}
-use Rattle.pg_pool.specs.Work.{IsDone, IsFreshIn, all_verdicts}
+use Rattle.pg_pool.specs.Work.{HasJudged, IsDone, IsFreshIn, all_verdicts}
 use Rattle.pg_pool.proofs.Deals.{none_taken}
 use Rattle.pg_pool.proofs.Seats.{times_taken-none}
+
+-- a checker has judged by these
+abbrev Judges : Found → Round → Done → Type 0
+Judges found r d = HasJudged found r d.seat d.verdicts.items
 
 no_verdict : SegmentVerdict
 no_verdict = record { number = 0; first_bad = None }
@@ -67,18 +71,18 @@ module _ (found : Found) (r : Round) where
       ap (λ (k : ℕ). get_or verdicts k no_verdict) (sym e) ∙ (all (r.first + i) (omega arith, omega (arith, inside))).at
       ∙ sym (get_or-map-range_with_len (verdict found) r.first (r.last - r.first) i (r.first + i) no_verdict inside refl))
 
-  all_right : (done : List Done) → All (IsDone found r) done → All (IsVerdict found r) (all_verdicts done)
+  all_right : (done : List Done) → All (Judges found r) done → All (IsVerdict found r) (all_verdicts done)
   all_right [] all = All-nil (IsVerdict found r)
   all_right (d ∷ ds) all =
-      All-append (IsVerdict found r) d.verdicts.items (all_verdicts ds) (All-head (IsDone found r) d ds all).right (all_right ds (All-tail (IsDone found r) d ds all))
+      All-append (IsVerdict found r) d.verdicts.items (all_verdicts ds) (All-head (Judges found r) d ds all).right (all_right ds (All-tail (Judges found r) d ds all))
 
   -- a number that was taken has its verdict
-  taken_has : (done : List Done) (n : ℕ) → All (IsDone found r) done → is_taken (map (λ d. d.seat) done) n ≡ true → Contains (all_verdicts done) (verdict found n)
+  taken_has : (done : List Done) (n : ℕ) → All (Judges found r) done → is_taken (map (λ d. d.seat) done) n ≡ true → Contains (all_verdicts done) (verdict found n)
   taken_has [] n all taken = absurd (true≢false (sym taken))
-  taken_has (d ∷ ds) n all taken = go (has_taken d.seat n) refl (taken_has ds n (All-tail (IsDone found r) d ds all))
+  taken_has (d ∷ ds) n all taken = go (has_taken d.seat n) refl (taken_has ds n (All-tail (Judges found r) d ds all))
     where
       go : (b : Bool) → has_taken d.seat n ≡ b → (is_taken (map (λ d. d.seat) ds) n ≡ true → Contains (all_verdicts ds) (verdict found n)) → Contains (all_verdicts (d ∷ ds)) (verdict found n)
-      go true e ih = Contains-append_left d.verdicts.items (all_verdicts ds) (verdict found n) ((All-head (IsDone found r) d ds all).whole n e)
+      go true e ih = Contains-append_left d.verdicts.items (all_verdicts ds) (verdict found n) ((All-head (Judges found r) d ds all).whole n e)
       go false e ih =
           Contains-append_right d.verdicts.items (all_verdicts ds) (verdict found n)
           (ih (subst (λ (b : Bool). (b || is_taken (map (λ d. d.seat) ds) n) ≡ true) e taken))
@@ -125,26 +129,43 @@ left_has found r seats n of free within =
     (contains_filter (λ m. not (is_taken seats m)) (numbers (round_of seats)) n (ap not free)
     (subst (λ (q : Round). Contains (numbers q) n) (sym of) (contains_range n r.first (r.last - r.first) within.0 (omega (arith, within.0, within.1)))))
 
-round_of_done : (found : Found) (r : Round) (done : List Done) → 0 < length done → All (IsDone found r) done → round_of (map (λ d. d.seat) done) ≡ r
-round_of_done found r [] some all = absurd (omega arith)
-round_of_done found r (d ∷ ds) some all = (All-head (IsDone found r) d ds all).round
+module _ (finds : Found → Type 0) (r : Round) where
+  round_of_done : (done : List Done) → 0 < length done → All (IsDone finds r) done → round_of (map (λ d. d.seat) done) ≡ r
+  round_of_done [] some all = absurd (omega arith)
+  round_of_done (d ∷ ds) some all = (All-head (IsDone finds r) d ds all).round
 
-pub judged_within : (found : Found) (r : Round) (done : List Done) (seats : List Checker) (left : List ℕ) → 0 < length done → All (IsDone found r) done → seats ≡ map (λ d. d.seat) done → left ≡ untaken seats → All (IsIn r) left
-judged_within found r done seats left some all of is = left_within r seats left (ap round_of of ∙ round_of_done found r done some all) is
+  pub judged_within : (done : List Done) (seats : List Checker) (left : List ℕ) → 0 < length done → All (IsDone finds r) done → seats ≡ map (λ d. d.seat) done → left ≡ untaken seats → All (IsIn r) left
+  judged_within done seats left some all of is = left_within r seats left (ap round_of of ∙ round_of_done done some all) is
 
-pub one_round : (found : Found) (r : Round) (done : List Done) → 0 < length done → All (IsDone found r) done → AreOfOneRound (map (λ d. d.seat) done)
-one_round found r done some all =
-    let first = round_of_done found r done some all in
-    let P : Checker → Type 0 = λ s. s.round ≡ round_of (map (λ d. d.seat) done) in
-    All-map P (λ (d : Done). d.seat) done (All-weaker (IsDone found r) (λ (d : Done). P d.seat) (λ d is. is.round ∙ sym first) done all)
+  pub one_round : (done : List Done) → 0 < length done → All (IsDone finds r) done → AreOfOneRound (map (λ d. d.seat) done)
+  one_round done some all =
+      let first = round_of_done done some all in
+      let P : Checker → Type 0 = λ s. s.round ≡ round_of (map (λ d. d.seat) done) in
+      All-map P (λ (d : Done). d.seat) done (All-weaker (IsDone finds r) (λ (d : Done). P d.seat) (λ d is. is.round ∙ sym first) done all)
 
-in_place : (found : Found) (r : Round) (done : List Done) (old : List SegmentVerdict) (left : List ℕ) → 0 < length done → All (IsDone found r) done → length old ≡ r.last - r.first
+  -- the verdicts of a checker are of the round
+  pub verdicts_within : (first size : ℕ) (done : List Done) → first ≡ r.first → size ≡ r.last - r.first → r.first ≤ r.last → All (IsDone finds r) done →
+      All (λ d. All (λ v. IsIn (round first (first + size)) v.number) d.verdicts.items) done
+  verdicts_within first size done low is ordered all =
+      All-weaker (IsDone finds r) (λ (d : Done). All (λ v. IsIn (round first (first + size)) v.number) d.verdicts.items)
+      (λ d worked. All-weaker (λ (v : SegmentVerdict). IsIn r v.number) (λ (v : SegmentVerdict). IsIn (round first (first + size)) v.number) (λ v within. (omega (arith, low, within.0), omega (arith, low, is, ordered, within.1))) d.verdicts.items worked.within)
+      done all
+
+  -- wherever these are the first bad events
+  pub judged_by : (found : Found) → finds found → (done : List Done) → All (IsDone finds r) done → All (Judges found r) done
+  judged_by found is done all = All-weaker (IsDone finds r) (Judges found r) (λ d worked. worked.judged found is) done all
+
+round_of_judges : (found : Found) (r : Round) (done : List Done) → 0 < length done → All (Judges found r) done → round_of (map (λ d. d.seat) done) ≡ r
+round_of_judges found r [] some all = absurd (omega arith)
+round_of_judges found r (d ∷ ds) some all = (All-head (Judges found r) d ds all).round
+
+in_place : (found : Found) (r : Round) (done : List Done) (old : List SegmentVerdict) (left : List ℕ) → 0 < length done → All (Judges found r) done → length old ≡ r.last - r.first
     → left ≡ untaken (map (λ d. d.seat) done) → placed r.first (placed r.first old (all_verdicts done)) (map (verdict found) left) ≡ verdicts_of found r
 in_place found r done old left some all size is =
     let seats : List Checker = map (λ d. d.seat) done in
     let mid : List SegmentVerdict = placed r.first old (all_verdicts done) in
     let rest : List SegmentVerdict = map (verdict found) left in
-    let of : round_of seats ≡ r = round_of_done found r done some all in
+    let of : round_of seats ≡ r = round_of_judges found r done some all in
     let mid_size : length mid ≡ r.last - r.first = length-placed r.first old (all_verdicts done) ∙ size in
     let right : All (IsVerdict found r) rest = All-map (IsVerdict found r) (verdict found) left (All-weaker (IsIn r) (λ n. IsVerdict found r (verdict found n)) (λ n within. (within, refl)) left (left_within r seats left of is)) in
     complete found r (placed r.first mid rest) (length-placed r.first mid rest ∙ mid_size)
@@ -159,7 +180,7 @@ in_place found r done old left some all size is =
     either false P yes_true yes_false = yes_false refl
 
 -- all verdicts of a round, once those of its checkers and of the numbers left are at their places
-pub gathered : (found : Found) (r : Round) (done here : List Done) (seats : List Checker) (old mid new : List SegmentVerdict) (left there : List ℕ) → 0 < length done → All (IsDone found r) done → length old ≡ r.last - r.first
+pub gathered : (found : Found) (r : Round) (done here : List Done) (seats : List Checker) (old mid new : List SegmentVerdict) (left there : List ℕ) → 0 < length done → All (Judges found r) done → length old ≡ r.last - r.first
     → here ≡ done → mid ≡ placed r.first old (all_verdicts here) → seats ≡ map (λ d. d.seat) done → left ≡ untaken seats → there ≡ left → new ≡ placed r.first mid (map (verdict found) there) → new ≡ verdicts_of found r
 gathered found r done here seats old mid new left there some all room same first of is last second =
     let before : mid ≡ placed r.first old (all_verdicts done) = first ∙ ap (λ (l : List Done). placed r.first old (all_verdicts l)) same in
@@ -176,14 +197,11 @@ have_places r old more now left room is all =
     let size : length now ≡ r.last - r.first = ap (λ (l : List SegmentVerdict). length l) is ∙ length-placed r.first old more ∙ room in
     All-weaker (IsIn r) (IsIn (round r.first (r.first + length now))) (λ n within. has_place r (length now) n size within) left all
 
-pub below_count : (r : Round) (count : ℕ) (left : List ℕ) → r.last ≤ count → All (IsIn r) left → All (λ n. n < count) left
-below_count r count left most all = All-weaker (IsIn r) (λ n. n < count) (λ n within. omega (arith, within.1, most)) left all
-
 -- no seat has taken anything at the start
-pub all_fresh : (r : Round) (checkers : ℕ) (seats : List Checker) → seats ≡ seats_at_start r checkers → All (IsFreshIn r) seats
-all_fresh r checkers seats is =
+pub all_fresh : (r : Round) (checkers : ℕ) (seats : List Checker) → AreAtStart r checkers seats → All (IsFreshIn r) seats
+all_fresh r checkers seats (deques, is) =
     subst (λ (l : List Checker). All (IsFreshIn r) l) (sym is)
-    (All-map (IsFreshIn r) (seat_at_start r checkers) (range_with_len 0 checkers) (λ k d less. fresh (get_or (range_with_len 0 checkers) k d)))
+    (All-map (IsFreshIn r) (seat_at_start deques r checkers) (range_with_len 0 checkers) (λ k d less. fresh (get_or (range_with_len 0 checkers) k d)))
   where
-    fresh : (c : ℕ) → IsFreshIn r (seat_at_start r checkers c)
-    fresh c = (refl, λ n. ap (nat_lt 0) (times_taken-none n (map (part_at_start r checkers) (visited checkers c)) (none_taken r checkers (visited checkers c))))
+    fresh : (c : ℕ) → IsFreshIn r (seat_at_start deques r checkers c)
+    fresh c = (refl, λ n. ap (nat_lt 0) (times_taken-none n (map (part_at_start deques r checkers) (visited checkers c)) (none_taken deques r checkers (visited checkers c))))

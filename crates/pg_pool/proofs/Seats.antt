@@ -7,39 +7,39 @@ use Rattle.std.proofs.lemmas.List.Elements.{All-set, All-append, All-cons, All-n
 use Rattle.std.proofs.lemmas.List.Sums.{sum_by-set, sum_by-cons, sum_by-append, get_or-le-sum_by}
 use Rattle.std.proofs.Math.Decide.{ℕ_discrete}
 use Rattle.std.proofs.Math.Seq.{map-set_same}
-use Rattle.crossbeam_deque.specs.Handles.{view}
+use Rattle.crossbeam_deque.specs.Handles.{view, stealer_deque}
 use Rattle.pg_pool.specs.declared.hand.Hand.{Hand}
 use Rattle.pg_pool.specs.declared.round.Round.{Round}
 use Rattle.pg_pool.specs.declared.thief.Thief.{Thief}
 use Rattle.pg_pool.specs.Rounds.{IsIn}
 use Rattle.pg_pool.specs.Shares.{times, Took}
-use Rattle.pg_pool.specs.Seats.{Part, part_of, untouched, part_at, times_taken, times_pushed, with_taken, TookPushed, TookFrom, IsDeal, IsSeat}
-use Rattle.pg_pool.specs.Ways.{reached}
+use Rattle.pg_pool.specs.Seats.{DequeId, Part, part_of, no_part, part_at, times_taken, times_pushed, with_taken, TookPushed, TookFrom, IsDeal, IsSeat}
+use Rattle.pg_pool.specs.Ways.{reached, reached_part}
 use Rattle.pg_pool.proofs.Times.{times-append, times-same, times-other, some_more}
 
-abbrev token_part : Thief → Part
-token_part t = part_of (view t.token)
-
-pub reached-same : (ts : List Thief) (k : ℕ) (t u : Thief) → t ≡ get_or ts k t → view u.token ≡ view t.token → reached (set ts k u) ≡ reached ts
-reached-same ts k t u read same = map-set_same token_part ts k u t (ap part_of same ∙ ap token_part read)
+pub reached-same : (ts : List Thief) (k : ℕ) (t u : Thief) → t ≡ get_or ts k t → stealer_deque u.reach ≡ stealer_deque t.reach → view u.token ≡ view t.token → reached (set ts k u) ≡ reached ts
+reached-same ts k t u read deque same = map-set_same reached_part ts k u t ((λ i. part_of (deque i).0 (same i)) ∙ ap reached_part read)
 
 -- what a pop or a steal tells, of the part
-part_took : (old new : Hand) (n : ℕ) → Took old (n ∷ []) new → (part_of new ≡ with_taken (part_of old) n) × TookPushed (with_taken (part_of old) n)
-part_took old new n took = let e = ap part_of took.0 in (e, λ m. subst (λ (d : Part). times m d.taken ≤ times m d.pushed) e (took.1 m))
+part_took : (id was : DequeId) (old new : Hand) (n : ℕ) → id ≡ was → Took old (n ∷ []) new → (part_of id new ≡ with_taken (part_of was old) n) × TookPushed (with_taken (part_of was old) n)
+part_took id was old new n same took =
+    let e : part_of id new ≡ with_taken (part_of was old) n = λ i. part_of (same i) (took.0 i) in
+    (e, λ m. subst (λ (d : Part). times m d.taken ≤ times m d.pushed) e (took.1 m))
 
-pub reached-took : (ts : List Thief) (k : ℕ) (t u : Thief) (n : ℕ) → k < length ts → t ≡ get_or ts k t → Took (view t.token) (n ∷ []) (view u.token) → TookFrom (reached ts) n (reached (set ts k u))
-reached-took ts k t u n inside read took =
-    let there : part_of (view t.token) ≡ part_at (reached ts) k = ap token_part read ∙ sym (get_or-map token_part ts k t (untouched []) inside) in
-    let p = part_took (view t.token) (view u.token) n took in record {
+pub reached-took : (ts : List Thief) (k : ℕ) (t u : Thief) (n : ℕ) → k < length ts → t ≡ get_or ts k t → stealer_deque u.reach ≡ stealer_deque t.reach → Took (view t.token) (n ∷ []) (view u.token)
+    → TookFrom (reached ts) n (reached (set ts k u))
+reached-took ts k t u n inside read same took =
+    let there : reached_part t ≡ part_at (reached ts) k = ap reached_part read ∙ sym (get_or-map reached_part ts k t no_part inside) in
+    let p = part_took (stealer_deque u.reach).0 (stealer_deque t.reach).0 (view t.token) (view u.token) n (λ i. (same i).0) took in record {
       place = k;
       inside = omega (arith, inside, length-map {A = Thief} {B = Part});
       pushed = subst (λ (d : Part). TookPushed (with_taken d n)) there p.1;
-      new_is = map-set token_part ts k u ∙ ap (set (reached ts) k) (p.0 ∙ ap (λ (d : Part). with_taken d n) there);
+      new_is = map-set reached_part ts k u ∙ ap (set (reached ts) k) (p.0 ∙ ap (λ (d : Part). with_taken d n) there);
     }
 
-pub took_own : (old new : Hand) (rest : List Part) (n : ℕ) → Took old (n ∷ []) new → TookFrom (part_of old ∷ rest) n (part_of new ∷ rest)
-took_own old new rest n took =
-    let p = part_took old new n took in record {
+pub took_own : (id was : DequeId) (old new : Hand) (rest : List Part) (n : ℕ) → id ≡ was → Took old (n ∷ []) new → TookFrom (part_of was old ∷ rest) n (part_of id new ∷ rest)
+took_own id was old new rest n same took =
+    let p = part_took id was old new n same took in record {
       place = 0;
       inside = omega arith;
       pushed = p.1;
@@ -49,11 +49,11 @@ took_own old new rest n took =
 took_other : (d : Part) (old new : List Part) (n : ℕ) → TookFrom old n new → TookFrom (d ∷ old) n (d ∷ new)
 took_other d old new n t = record { place = suc t.place; inside = omega (arith, t.inside); pushed = t.pushed; new_is = ap (λ (l : List Part). d ∷ l) t.new_is }
 
-pub found_other : (h w : Hand) (old new : List Part) (r : Option ℕ) → w ≡ h → MatchOption r (new ≡ old) (λ n. TookFrom old n new)
-    → MatchOption r (part_of w ∷ new ≡ part_of h ∷ old) (λ n. TookFrom (part_of h ∷ old) n (part_of w ∷ new))
-found_other h w old new None same e = λ i. part_of (same i) ∷ e i
-found_other h w old new (Some n) same t =
-    subst (λ (u : Hand). TookFrom (part_of h ∷ old) n (part_of u ∷ new)) (sym same) (took_other (part_of h) old new n t)
+pub found_other : (d e : Part) (old new : List Part) (r : Option ℕ) → e ≡ d → MatchOption r (new ≡ old) (λ n. TookFrom old n new)
+    → MatchOption r (e ∷ new ≡ d ∷ old) (λ n. TookFrom (d ∷ old) n (e ∷ new))
+found_other d e old new None same is = λ i. same i ∷ is i
+found_other d e old new (Some n) same t =
+    subst (λ (u : Part). TookFrom (d ∷ old) n (u ∷ new)) (sym same) (took_other d old new n t)
 
 -- no number is taken more often than it is pushed, over all deques
 times_taken-le : (n : ℕ) (parts : List Part) → All TookPushed parts → times_taken n parts ≤ times_pushed n parts
@@ -65,17 +65,17 @@ module _ (old new : List Part) (n : ℕ) (t : TookFrom old n new) where
   pub times_taken-took : (m : ℕ) → times_taken m new ≡ times_taken m old + times m (n ∷ [])
   times_taken-took m =
       let d = part_at old t.place in
-      omega (arith, ap (times_taken m) t.new_is, sum_by-set (λ (e : Part). times m e.taken) old t.place (with_taken d n) (untouched []) t.inside, times-append m d.taken (n ∷ []))
+      omega (arith, ap (times_taken m) t.new_is, sum_by-set (λ (e : Part). times m e.taken) old t.place (with_taken d n) no_part t.inside, times-append m d.taken (n ∷ []))
 
   pub times_pushed-took : (m : ℕ) → times_pushed m new ≡ times_pushed m old
   times_pushed-took m =
       let d = part_at old t.place in
-      omega (arith, ap (times_pushed m) t.new_is, sum_by-set (λ (e : Part). times m e.pushed) old t.place (with_taken d n) (untouched []) t.inside)
+      omega (arith, ap (times_pushed m) t.new_is, sum_by-set (λ (e : Part). times m e.pushed) old t.place (with_taken d n) no_part t.inside)
 
   pub was_pushed : 0 < times_pushed n old
   was_pushed =
       let d = part_at old t.place in
-      omega (arith, t.pushed n, times-append n d.taken (n ∷ []), times-same n, get_or-le-sum_by (λ (e : Part). times n e.pushed) old t.place (untouched []) t.inside)
+      omega (arith, t.pushed n, times-append n d.taken (n ∷ []), times-same n, get_or-le-sum_by (λ (e : Part). times n e.pushed) old t.place no_part t.inside)
 
   pub all_took : All TookPushed old → All TookPushed new
   all_took all =

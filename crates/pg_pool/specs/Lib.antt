@@ -1,7 +1,6 @@
 pub mod Errors
 pub mod Rounds
 pub mod Seats
-pub mod Segments
 pub mod Shares
 pub mod Verdicts
 pub mod Ways

@@ -7,8 +7,14 @@ use Rattle.pg_pool.specs.declared.round.Round.{Round}
 use Rattle.pg_pool.specs.Rounds.{round, IsIn, numbers, dealt, visited}
 use Rattle.pg_pool.specs.Shares.{times}
 
--- a seat's part of a deque: the numbers that were pushed, and those that the seat took
+-- which deque it is
+abbrev pub DequeId : Type 0
+DequeId = ℕ × ℕ
+
+-- a seat's part of a deque: which deque it is, the numbers that were pushed, and those that the seat
+-- took
 pub record Part : Type 0 where
+  pub deque : DequeId
   pub pushed : List ℕ
   pub taken : List ℕ
 
@@ -19,15 +25,19 @@ pub record Checker : Type 0 where
   pub round : Round
   pub parts : List Part
 
-abbrev pub part_of : Hand → Part
-part_of h = record { pushed = h.pushed; taken = h.taken }
+abbrev pub part_of : DequeId → Hand → Part
+part_of deque h = record { deque = deque; pushed = h.pushed; taken = h.taken }
 
 -- a part of which nothing was taken
-abbrev pub untouched : List ℕ → Part
-untouched pushed = record { pushed = pushed; taken = [] }
+abbrev pub untouched : DequeId → List ℕ → Part
+untouched deque pushed = record { deque = deque; pushed = pushed; taken = [] }
+
+-- the part that stands where none is
+abbrev pub no_part : Part
+no_part = untouched (0, 0) []
 
 abbrev pub part_at : List Part → ℕ → Part
-part_at parts place = slice_index_or parts place (untouched [])
+part_at parts place = slice_index_or parts place no_part
 
 -- how often a number was taken, from whichever deque
 abbrev pub times_taken : ℕ → List Part → ℕ
@@ -43,7 +53,7 @@ has_taken c n = nat_lt 0 (times_taken n c.parts)
 
 -- a part with one more number taken
 abbrev pub with_taken : Part → ℕ → Part
-with_taken d n = record { pushed = d.pushed; taken = d.taken ++ n ∷ [] }
+with_taken d n = record { deque = d.deque; pushed = d.pushed; taken = d.taken ++ n ∷ [] }
 
 -- no number was taken more often than it was pushed
 abbrev pub TookPushed : Part → Type 0
@@ -70,26 +80,35 @@ pub record IsSeat (r : Round) (marks : List Bool) (parts : List Part) : Type 0 w
   pub deal : IsDeal r parts
   pub took : All TookPushed parts
 
+-- the deque of each checker
+abbrev pub Deques : Type 0
+Deques = ℕ → DequeId
+
 -- the part of the deque of one of so many checkers at the start of a round
-abbrev pub part_at_start : Round → ℕ → ℕ → Part
-part_at_start r checkers c = untouched (dealt r checkers c)
+abbrev pub part_at_start : Deques → Round → ℕ → ℕ → Part
+part_at_start deques r checkers c = untouched (deques c) (dealt r checkers c)
 
 -- the seat of one of so many checkers at the start of a round
-abbrev pub seat_at_start : Round → ℕ → ℕ → Checker
-seat_at_start r checkers c = record {
+abbrev pub seat_at_start : Deques → Round → ℕ → ℕ → Checker
+seat_at_start deques r checkers c = record {
   number = c;
   round = r;
-  parts = map (part_at_start r checkers) (visited checkers c);
+  parts = map (part_at_start deques r checkers) (visited checkers c);
 }
 
--- all seats at the start of a round
-abbrev pub seats_at_start : Round → ℕ → List Checker
-seats_at_start r checkers = map (seat_at_start r checkers) (range_with_len 0 checkers)
+-- all seats at the start of a round: each reaches the same deques, one of each checker
+abbrev pub seats_at_start : Deques → Round → ℕ → List Checker
+seats_at_start deques r checkers =
+    map (seat_at_start deques r checkers) (range_with_len 0 checkers)
+
+-- these are all seats at the start of a round
+abbrev pub AreAtStart : Round → ℕ → List Checker → Type 0
+AreAtStart r checkers seats = (deques : Deques) × (seats ≡ seats_at_start deques r checkers)
 
 -- a seat that reaches its own deque alone
-abbrev pub lone_seat : Round → ℕ → ℕ → Checker
-lone_seat r checkers c =
-    record { number = c; round = r; parts = part_at_start r checkers c ∷ [] }
+abbrev pub lone_seat : Deques → Round → ℕ → ℕ → Checker
+lone_seat deques r checkers c =
+    record { number = c; round = r; parts = part_at_start deques r checkers c ∷ [] }
 
 -- the seat that stands where none is
 abbrev pub nobody : Checker
@@ -98,9 +117,17 @@ nobody = record { number = 0; round = round 0 0; parts = [] }
 abbrev pub seat_of : List Checker → ℕ → Checker
 seat_of seats place = slice_index_or seats place nobody
 
+-- the own deque of the seat at a place
+abbrev pub own_deque : List Checker → Deques
+own_deque seats place = (part_at (seat_of seats place).parts 0).deque
+
+-- a part of which nothing was taken, of the same deque
+abbrev pub way_to_part : Part → Part
+way_to_part d = untouched d.deque d.pushed
+
 -- a way to the deque of the seat at a place
 abbrev pub way_to : List Checker → ℕ → Part
-way_to seats place = untouched (part_at (seat_of seats place).parts 0).pushed
+way_to seats place = way_to_part (part_at (seat_of seats place).parts 0)
 
 -- the round of the first seat
 abbrev pub round_of : List Checker → Round

@@ -1,9 +1,19 @@
--- The ways of a seat to other deques.
+-- A seat's own deque, and its ways to others.
 use Rattle.std.specs.Prelude.{List, map}
-use Rattle.crossbeam_deque.specs.Handles.{view}
+use Rattle.crossbeam_deque.specs.Handles.{view, stealer_deque, worker_deque, worker_view}
+use Rattle.crossbeam_deque.specs.declared.handles.Worker.{Worker}
+use Rattle.pg_pool.specs.declared.hand.Hand.{Hand}
 use Rattle.pg_pool.specs.declared.thief.Thief.{Thief}
 use Rattle.pg_pool.specs.Seats.{Part, part_of}
 
+-- the part of the own deque
+abbrev pub own_part : {T A P : Type 0} → Worker T A Hand P → Part
+own_part w = part_of (worker_deque w).0 (worker_view w)
+
+-- the part of the deque that a thief reaches
+abbrev pub reached_part : Thief → Part
+reached_part t = part_of (stealer_deque t.reach).0 (view t.token)
+
 -- the parts of the deques that thieves reach
 abbrev pub reached : List Thief → List Part
-reached thieves = map (λ t. part_of (view t.token)) thieves
+reached thieves = map reached_part thieves

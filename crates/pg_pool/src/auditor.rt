@@ -1,34 +1,53 @@
-//! A round over the segments of a record.
-ghost use Rattle.std.specs.Prelude.{◌≡◌, ◌-◌, ◌≤◌, ◌↔◌, IfOk, map};
-ghost use Rattle.std.specs.List.{range_with_len};
-ghost use Rattle.pg_event.specs.Spelling.{segment_count};
-ghost use Rattle.pg_pool.specs.Rounds.{AreCheckers};
-ghost use Rattle.pg_pool.specs.Segments.{segment_verdict};
+//! A round over the segments of a stretch.
+ghost use Rattle.std.specs.Prelude.{◌≡◌, ◌↔◌, IfOk, map};
+ghost use Rattle.pg_event.specs.Spelling.{Recorded};
+ghost use Rattle.pg_check.specs.Segments.{segment_verdict};
+ghost use Rattle.pg_check.specs.Stretches.{HasSegments, IsStretch};
+ghost use Rattle.pg_pool.specs.Rounds.{AreCheckers, numbers};
 
 use crate::error::PoolError;
 use crate::gate::Gate;
 use crate::judge::Judge;
 use crate::judging::judge_round;
 use crate::round::Round;
-use pg_check::{History, SegmentVerdict, check_segment};
+use pg_check::{SegmentVerdict, Stretch};
 use std::alloc::Global;
+use std::marker::Model;
 use std::sync::Wait;
 use std::thread::Threads;
 
-/// The segments of a record.
+/// The segments of a stretch that belong to a round.
 #[derive(Drop)]
-struct Segments<'a>(&'a History);
+struct Segments<'a> {
+    stretch: Stretch<'a>,
+    round: Round,
+}
+
+impl<'a> Model for Segments<'a> {
+    ghost use Rattle.pg_pool.specs.Work.{Task};
+
+    ghost Value = { Task };
+
+    ghost use Rattle.pg_check.specs.Stretches.{HasSegments};
+
+    ghost view = { λ s. record { stretch = s.stretch; round = s.round } };
+
+    ghost invariant = { λ s. HasSegments s.stretch s.round.first s.round.last };
+}
 
 impl<'a> Judge for Segments<'a> {
-    ghost use Rattle.pg_event.specs.Spelling.{segment_count};
+    ghost use Rattle.std.specs.Prelude.{◌≡◌};
+    ghost use Rattle.pg_event.specs.Spelling.{Recorded};
     ghost use Rattle.pg_check.specs.Segments.{first_bad_of_segment};
+    ghost use Rattle.pg_check.specs.Stretches.{IsStretch};
 
-    ghost count = { λ s. segment_count s.0.now };
+    ghost round = { λ s. s.round };
 
-    ghost found = { λ s. first_bad_of_segment s.0.now };
+    ghost finds = { λ s found.
+        (r : Recorded) × IsStretch s.stretch r × (found ≡ first_bad_of_segment r) };
 
     fn judge(&self, number: u32) -> SegmentVerdict {
-        check_segment(self.0, number as u64)
+        self.stretch.check_segment(number as u64)
     }
 }
 
@@ -41,21 +60,19 @@ impl<'a> Judge for Segments<'a> {
 pub fn audit_round<R: Threads + Wait + Sync, G: Gate>(
     rt: &R,
     alloc: Global,
-    history: &History,
-    first: u32,
-    last: u32,
+    stretch: Stretch<'_>,
+    round: Round,
     checkers: u32,
     gate: &G,
 ) -> Result<Vec<SegmentVerdict>, PoolError>
-    requires ordered { first ≤ last }
-    requires segments { last ≤ segment_count history.now }
-    ensures ok { IfOk result (λ verdicts. verdicts.items
-        ≡ map (segment_verdict history.now) (range_with_len first (last - first))) }
+    requires { HasSegments stretch round.first round.last }
+    ensures ok { (r : Recorded) → IsStretch stretch.entry r → IfOk result (λ verdicts.
+        verdicts.items ≡ map (segment_verdict r) (numbers round)) }
     ensures checkers { (result ≡ Err PoolError.Checkers) ↔ (¬ AreCheckers checkers) }
 {
     if checkers == 0 || checkers > 64 {
         return Err(PoolError::Checkers);
     }
-    let round = Round { first, last };
-    judge_round(rt, alloc, &Segments(history), gate, round, checkers)
+    let segments = Segments { stretch, round };
+    judge_round(rt, alloc, &segments, gate, round, checkers)
 }

@@ -1,5 +1,5 @@
 //! The work of one checker.
-ghost use Rattle.std.specs.Prelude.{◌≡◌, ◌≤◌, ◌<◌, ℕ, false};
+ghost use Rattle.std.specs.Prelude.{◌≡◌, ◌<◌, ℕ, false};
 ghost use Rattle.pg_pool.specs.Seats.{has_taken};
 ghost use Rattle.pg_pool.specs.Work.{IsDone, IsFresh};
 
@@ -35,8 +35,8 @@ impl Done {
 /// comes before its segment is taken.
 pub fn work<J: Judge, G: Gate>(alloc: Global, judge: &J, gate: &G, mut seat: Seat) -> Done
     requires fresh { IsFresh seat }
-    requires count { seat.round.last ≤ J.count judge.now }
-    ensures { IsDone (J.found judge.now) seat.round result }
+    requires round { seat.round ≡ J.round judge.now }
+    ensures { IsDone (J.finds judge.now) seat.round result }
 {
     let worker = seat.number();
     let round = seat.round();

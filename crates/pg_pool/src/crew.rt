@@ -27,7 +27,7 @@ impl<'a, J> Drop for Promised<'a, J> {
 }
 
 impl<'a, J: Judge> Promise<Done> for Promised<'a, J> {
-    ghost kept_by = { λ p d. IsDone (J.found p.judge.now) p.round d };
+    ghost kept_by = { λ p d. IsDone (J.finds p.judge.now) p.round d };
 }
 
 /// What all threads did, if as many worked as were asked for and none was refused memory.
@@ -57,9 +57,9 @@ pub fn run_checkers<R: Threads + Wait + Sync, J: Judge, G: Gate>(
     seats: Vec<Seat>,
 ) -> Result<Vec<Done>, PoolError>
     requires fresh { All (IsFreshIn round) seats.items }
-    requires count { round.last ≤ J.count judge.now }
+    requires round { round ≡ J.round judge.now }
     ensures len { IfOk result (λ done. vec_len seats ≤ vec_len done) }
-    ensures done { IfOk result (λ done. All (IsDone (J.found judge.now) round) done.items) }
+    ensures done { IfOk result (λ done. All (IsDone (J.finds judge.now) round) done.items) }
     ensures err { IfErr result (λ e. e ≢ PoolError.Checkers) }
 {
     thread::scope(
@@ -67,10 +67,10 @@ pub fn run_checkers<R: Threads + Wait + Sync, J: Judge, G: Gate>(
         rt,
         |scope| -> Result<Vec<Done>, PoolError>
             requires fresh { All (IsFreshIn round) seats.items }
-            requires count { round.last ≤ J.count judge.now }
+            requires round { round ≡ J.round judge.now }
             ensures len { IfOk result (λ done. vec_len seats ≤ vec_len done) }
             ensures done { IfOk result
-                (λ done. All (IsDone (J.found judge.entry.now) round) done.items) }
+                (λ done. All (IsDone (J.finds judge.entry.now) round) done.items) }
             ensures err { IfErr result (λ e. e ≢ PoolError.Checkers) }
         {
             let asked = seats.len();
@@ -81,7 +81,7 @@ pub fn run_checkers<R: Threads + Wait + Sync, J: Judge, G: Gate>(
                     promised,
                     move || -> Done
                         requires fresh { IsFresh seat }
-                        requires count { seat.round.last ≤ J.count judge.now }
+                        requires round { seat.round ≡ J.round judge.now }
                     { work(alloc, judge, gate, seat) },
                 );
                 match started {

@@ -4,7 +4,7 @@ ghost use Rattle.std.specs.Prelude.{vec_len};
 ghost use Rattle.std.specs.List.{range_with_len};
 ghost use Rattle.crossbeam_deque.specs.Handles.{worker_view, worker_flavor};
 ghost use Rattle.pg_pool.specs.Rounds.{AreCheckers, round, dealt, others};
-ghost use Rattle.pg_pool.specs.Seats.{lone_seat, seats_at_start, way_to};
+ghost use Rattle.pg_pool.specs.Seats.{Deques, lone_seat, AreAtStart, way_to};
 ghost use Rattle.pg_pool.specs.Shares.{hand};
 ghost use Rattle.pg_pool.specs.Ways.{reached};
 
@@ -38,8 +38,8 @@ fn deal(alloc: Global, round: Round, checkers: u32, number: u32) -> Result<Deque
 fn lone_seats(alloc: Global, round: Round, checkers: u32) -> Result<Vec<Seat>, AllocError>
     requires ordered { round.first ≤ round.last }
     requires some { 0 < checkers }
-    ensures { IfOk result (λ seats.
-        seats.items ≡ map (lone_seat round checkers) (range_with_len 0 checkers)) }
+    ensures { IfOk result (λ seats. (deques : Deques)
+        × (seats.items ≡ map (lone_seat deques round checkers) (range_with_len 0 checkers))) }
 {
     let mut seats = Vec::new(alloc);
     for number in 0..checkers {
@@ -85,7 +85,8 @@ fn ways(alloc: Global, seats: &mut Vec<Seat>, place: usize) -> Result<Vec<Thief>
 }
 
 /// Deals the numbers from `first` on and below `last` to so many checkers, each number to the
-/// checker of its place modulo their number, and gives their seats. Fails where memory is refused.
+/// checker of its place modulo their number, and gives their seats, each with ways to the deques of
+/// all others. Fails where memory is refused.
 pub fn open_round(
     alloc: Global,
     first: u32,
@@ -94,7 +95,7 @@ pub fn open_round(
 ) -> Result<Vec<Seat>, AllocError>
     requires ordered { first ≤ last }
     requires checkers { AreCheckers checkers }
-    ensures { IfOk result (λ seats. seats.items ≡ seats_at_start (round first last) checkers) }
+    ensures { IfOk result (λ seats. AreAtStart (round first last) checkers seats.items) }
 {
     let mut seats = lone_seats(alloc, Round { first, last }, checkers)?;
     for place in 0..seats.len() {

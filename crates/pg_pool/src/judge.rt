@@ -1,19 +1,24 @@
 //! What a round asks of the segments.
-ghost use Rattle.std.specs.Prelude.{◌≡◌, ◌<◌, ℕ};
+ghost use Rattle.std.specs.Prelude.{◌≡◌};
+ghost use Rattle.pg_pool.specs.Rounds.{IsIn};
 ghost use Rattle.pg_pool.specs.Verdicts.{Found, verdict};
 
+use crate::round::Round;
 use pg_check::SegmentVerdict;
 
 /// What judges segments by their numbers, for many threads at once.
 pub trait Judge: Sync {
-    // How many segments there are.
-    ghost count: { Self → ℕ };
+    ghost use Rattle.pg_pool.specs.declared.round.Round.{Round};
 
-    // The first bad event of each.
-    ghost found: { Self → Found };
+    // The segments that it can judge.
+    ghost round: { Self → Round };
+
+    // These are the first bad events of the segments.
+    ghost finds: { Self → Found → Type 0 };
 
     /// The verdict of one segment.
     fn judge(&self, number: u32) -> SegmentVerdict
-        requires { number < count self.now }
-        ensures { result ≡ verdict (found self.now) number };
+        requires { IsIn (round self.now) number }
+        ensures number { result.number ≡ number }
+        ensures found { (found : Found) → finds self.now found → result ≡ verdict found number };
 }

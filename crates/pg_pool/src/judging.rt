@@ -2,7 +2,7 @@
 ghost use Rattle.std.specs.Prelude.{◌≡◌, ◌≢◌, ◌-◌, ◌≤◌, ◌<◌, All, IfOk, IfErr, OnOk, length, map};
 ghost use Rattle.std.specs.Prelude.{vec_len};
 ghost use Rattle.pg_pool.specs.Rounds.{AreCheckers};
-ghost use Rattle.pg_pool.specs.Verdicts.{verdicts_of};
+ghost use Rattle.pg_pool.specs.Verdicts.{Found, verdicts_of};
 ghost use Rattle.pg_pool.specs.Work.{IsDone};
 
 use crate::checker::Done;
@@ -44,11 +44,12 @@ fn gather<J: Judge, G: Gate>(
     verdicts: &mut [SegmentVerdict],
 ) -> Result<(), AllocError>
     requires ordered { round.first ≤ round.last }
-    requires count { round.last ≤ J.count judge.now }
+    requires round { round ≡ J.round judge.now }
     requires room { length verdicts.old ≡ round.last - round.first }
     requires some { 0 < vec_len done }
-    requires done { All (IsDone (J.found judge.now) round) done.items }
-    ensures { OnOk result (verdicts.new ≡ verdicts_of (J.found judge.now) round) }
+    requires done { All (IsDone (J.finds judge.now) round) done.items }
+    ensures { (found : Found) → J.finds judge.now found →
+        OnOk result (verdicts.new ≡ verdicts_of found round) }
 {
     place_done(verdicts, round.first, &done);
     let left = close_round(alloc, seats_of(alloc, done)?)?;
@@ -67,10 +68,10 @@ pub fn judge_round<R: Threads + Wait + Sync, J: Judge, G: Gate>(
     checkers: u32,
 ) -> Result<Vec<SegmentVerdict>, PoolError>
     requires ordered { round.first ≤ round.last }
-    requires count { round.last ≤ J.count judge.now }
+    requires round { round ≡ J.round judge.now }
     requires checkers { AreCheckers checkers }
-    ensures ok { IfOk result (λ verdicts.
-        verdicts.items ≡ verdicts_of (J.found judge.now) round) }
+    ensures ok { (found : Found) → J.finds judge.now found →
+        IfOk result (λ verdicts. verdicts.items ≡ verdicts_of found round) }
     ensures err { IfErr result (λ e. e ≢ PoolError.Checkers) }
 {
     let count = (round.last - round.first) as usize;

@@ -1,7 +1,7 @@
 //! Verdicts at the places of their segments.
 ghost use Rattle.std.specs.Prelude.{◌≡◌, ◌+◌, ◌≤◌, ◌<◌, All, length, map};
 ghost use Rattle.pg_pool.specs.Rounds.{IsIn, round};
-ghost use Rattle.pg_pool.specs.Verdicts.{placed, verdict};
+ghost use Rattle.pg_pool.specs.Verdicts.{Found, placed, verdict};
 ghost use Rattle.pg_pool.specs.Work.{all_verdicts};
 
 use crate::checker::Done;
@@ -40,9 +40,9 @@ pub fn judge_left<J: Judge, G: Gate>(
     left: &[u32],
 )
     requires within { All (λ n. IsIn (round first (first + length verdicts.old)) n) left.now }
-    requires count { All (λ n. n < J.count judge.now) left.now }
-    ensures { verdicts.new
-        ≡ placed first verdicts.old (map (verdict (J.found judge.now)) left.now) }
+    requires round { All (IsIn (J.round judge.now)) left.now }
+    ensures { (found : Found) → J.finds judge.now found →
+        verdicts.new ≡ placed first verdicts.old (map (verdict found) left.now) }
 {
     for number in left {
         gate.enter(worker, *number as u64);

@@ -1,10 +1,10 @@
 //! A checker's seat.
 ghost use Rattle.std.specs.Prelude.{◌≡◌, ◌-◌, ◌+◌, ◌<◌, ◌≤◌, ◌==◌, ◌||◌, ℕ, true, false, [], ◌∷◌};
 ghost use Rattle.std.specs.Prelude.{◌++◌, All, MatchOption, IfOk, IfSome, IfNone, slice_index_or};
-ghost use Rattle.crossbeam_deque.specs.Handles.{view, worker_view, worker_flavor};
+ghost use Rattle.crossbeam_deque.specs.Handles.{worker_view, worker_flavor};
 ghost use Rattle.pg_pool.specs.Rounds.{IsIn};
-ghost use Rattle.pg_pool.specs.Seats.{IsDeal, TookFrom, has_taken, part_at, part_of, untouched};
-ghost use Rattle.pg_pool.specs.Ways.{reached};
+ghost use Rattle.pg_pool.specs.Seats.{IsDeal, TookFrom, has_taken, part_at, way_to_part};
+ghost use Rattle.pg_pool.specs.Ways.{own_part, reached, reached_part};
 
 use crate::round::Round;
 use crate::rule::Deque;
@@ -29,19 +29,18 @@ impl Model for Seat {
     ghost Value = { Checker };
 
     ghost use Rattle.std.specs.Prelude.{◌≡◌, ◌∷◌};
-    ghost use Rattle.crossbeam_deque.specs.Handles.{worker_view, worker_flavor};
-    ghost use Rattle.pg_pool.specs.Seats.{IsSeat, part_of};
-    ghost use Rattle.pg_pool.specs.Ways.{reached};
+    ghost use Rattle.crossbeam_deque.specs.Handles.{worker_flavor};
+    ghost use Rattle.pg_pool.specs.Seats.{IsSeat};
+    ghost use Rattle.pg_pool.specs.Ways.{own_part, reached};
 
     ghost view = { λ s. record {
       number = s.number;
       round = s.round;
-      parts = part_of (worker_view s.deque) ∷ reached s.thieves.items;
+      parts = own_part s.deque ∷ reached s.thieves.items;
     } };
 
     ghost invariant = { λ s. (worker_flavor s.deque ≡ 0)
-        × IsSeat s.round s.marks.items
-        (part_of (worker_view s.deque) ∷ reached s.thieves.items) };
+        × IsSeat s.round s.marks.items (own_part s.deque ∷ reached s.thieves.items) };
 }
 
 /// A number from the first deque that gives one, of those that the thieves reach.
@@ -62,8 +61,8 @@ fn steal_any(thieves: &mut Vec<Thief>) -> Option<u32>
 fn find(deque: &mut Deque, thieves: &mut Vec<Thief>) -> Option<u32>
     requires { worker_flavor deque.old ≡ 0 }
     ensures fifo { worker_flavor deque.new ≡ 0 }
-    ensures found { let old = part_of (worker_view deque.old) ∷ reached thieves.old.items in
-        let new = part_of (worker_view deque.new) ∷ reached thieves.new.items in
+    ensures found { let old = own_part deque.old ∷ reached thieves.old.items in
+        let new = own_part deque.new ∷ reached thieves.new.items in
         MatchOption result (new ≡ old) (λ n. TookFrom old n new) }
 {
     match pop(deque) {
@@ -126,11 +125,11 @@ impl Seat {
         requires ordered { round.first ≤ round.last }
         requires fifo { worker_flavor deque ≡ 0 }
         requires none { (worker_view deque).taken ≡ [] }
-        requires deal { IsDeal round (part_of (worker_view deque) ∷ []) }
+        requires deal { IsDeal round (own_part deque ∷ []) }
         ensures { IfOk result (λ seat. seat ≡ record {
           number = number;
           round = round;
-          parts = part_of (worker_view deque) ∷ [];
+          parts = own_part deque ∷ [];
         }) }
     {
         let marks = Vec::from_elem(alloc, false, (round.last - round.first) as usize)?;
@@ -147,7 +146,7 @@ impl Seat {
     pub(crate) fn lend(&mut self) -> Result<Thief, AllocError>
         ensures same { self.new ≡ self.old }
         ensures way { IfOk result (λ thief.
-            part_of (view thief.token) ≡ untouched (part_at self.old.parts 0).pushed) }
+            reached_part thief ≡ way_to_part (part_at self.old.parts 0)) }
     {
         let reach = self.deque.stealer()?;
         let token = cut(&mut self.deque);

@@ -35,7 +35,8 @@ pub fn push(deque: &mut Deque, number: u32) -> Result<(), AllocError>
 /// The owner takes the number at the front.
 pub fn pop(deque: &mut Deque) -> Option<u32>
     requires { worker_flavor deque.old ≡ 0 }
-    ensures fifo { worker_flavor deque.new ≡ worker_flavor deque.old }
+    ensures same { (worker_flavor deque.new ≡ worker_flavor deque.old)
+        × (worker_deque deque.new ≡ worker_deque deque.old) }
     ensures took { MatchOption result (worker_view deque.new ≡ worker_view deque.old)
         (λ n. Took (worker_view deque.old) (n ∷ []) (worker_view deque.new)) }
 {

@@ -1,7 +1,7 @@
 ghost use Rattle.std.specs.Prelude.{◌≡◌, ◌≤◌, IfOk};
 ghost use Rattle.pg_event.specs.Spelling.{IsHead};
 
-use crate::{Gate, OpenGate, PoolError, Seat, audit_round, close_round, open_round};
+use crate::{Gate, OpenGate, PoolError, Round, Seat, audit_round, close_round, open_round};
 use pg_check::{History, SegmentVerdict};
 use pg_entry::{Cfg, CfgFlags};
 use pg_event::{Event, Header, Moments, Outcome, Reason, Version, well_formed};
@@ -52,6 +52,21 @@ fn one_seat_takes_all(rt: HostRuntime) -> Result<(), Fail> {
 }
 
 #[test]
+fn what_one_seat_took_no_other_takes(rt: HostRuntime) -> Result<(), Fail> {
+    let alloc = rt.alloc();
+    let mut seats = open_round(alloc, 0, 10, 3)?;
+    assert_eq!(rt; seats.len(), 3);
+    let first = &mut seats[1];
+    assert_eq!(rt; taken_by(alloc, first)?.len(), 10);
+    let second = &mut seats[0];
+    assert_eq!(rt; second.take(), None);
+    let third = &mut seats[2];
+    assert_eq!(rt; third.take(), None);
+    assert!(rt; left_by(alloc, seats)?.is_empty());
+    Ok(())
+}
+
+#[test]
 fn a_round_closed_at_once(rt: HostRuntime) -> Result<(), Fail> {
     let alloc = rt.alloc();
     let left = left_by(alloc, open_round(alloc, 0, 10, 3)?)?;
@@ -70,11 +85,14 @@ fn a_round_of_nothing(rt: HostRuntime) -> Result<(), Fail> {
     Ok(())
 }
 
-/// Holds segment 0 until segment 1 has left, and segment 1 until segment 0 has come.
+/// Holds segment 0 until segment 1 has left, and segment 1 until segment 0 has come. It counts who
+/// comes, and keeps each one's worker.
 #[derive(Drop)]
 struct Held {
     came: AtomicU64,
     left: AtomicU64,
+    comings: AtomicU64,
+    workers: [AtomicU64; 2],
     failed: AtomicU64,
 }
 
@@ -89,7 +107,11 @@ fn comes(flag: &AtomicU64) -> bool {
 }
 
 impl Gate for Held {
-    fn enter(&self, _worker: u32, number: u64) {
+    fn enter(&self, worker: u32, number: u64) {
+        self.comings.fetch_add(1, Ordering::SeqCst);
+        if number < 2 {
+            self.workers[number as usize].store(1 + worker as u64, Ordering::SeqCst);
+        }
         let came = if number == 0 {
             self.came.store(1, Ordering::SeqCst);
             comes(&self.left)
@@ -189,11 +211,18 @@ fn two_checkers_at_the_same_time(rt: HostRuntime) -> Result<(), Fail> {
     let gate = Held {
         came: AtomicU64::new(0),
         left: AtomicU64::new(0),
+        comings: AtomicU64::new(0),
+        workers: [AtomicU64::new(0), AtomicU64::new(0)],
         failed: AtomicU64::new(0),
     };
-    let verdicts = audit_round(&rt, rt.alloc(), &history, 0, 2, 2, &gate)?;
+    let round = Round { first: 0, last: 2 };
+    let verdicts = audit_round(&rt, rt.alloc(), history.stretch(), round, 2, &gate)?;
     assert_eq!(rt; verdicts.as_slice(), STALE_LEAF.as_slice());
     assert_eq!(rt; gate.failed.load(Ordering::SeqCst), 0);
+    assert_eq!(rt; gate.comings.load(Ordering::SeqCst), 2);
+    let first = gate.workers[0].load(Ordering::SeqCst);
+    let second = gate.workers[1].load(Ordering::SeqCst);
+    assert!(rt; first > 0 && second > 0 && first != second);
     Ok(())
 }
 
@@ -201,12 +230,27 @@ fn two_checkers_at_the_same_time(rt: HostRuntime) -> Result<(), Fail> {
 fn any_number_of_checkers(rt: HostRuntime) -> Result<(), Fail> {
     let history = stale_leaf(rt.alloc())?;
     assert_eq!(rt; history.segments(), 2);
+    let round = Round { first: 0, last: 2 };
     for checkers in [1, 2, 7, 64] {
-        let verdicts = audit_round(&rt, rt.alloc(), &history, 0, 2, checkers, &OpenGate)?;
+        let verdicts = audit_round(
+            &rt,
+            rt.alloc(),
+            history.stretch(),
+            round,
+            checkers,
+            &OpenGate,
+        )?;
         assert_eq!(rt; verdicts.as_slice(), STALE_LEAF.as_slice());
     }
     for checkers in [0, 65] {
-        let refused = audit_round(&rt, rt.alloc(), &history, 0, 2, checkers, &OpenGate);
+        let refused = audit_round(
+            &rt,
+            rt.alloc(),
+            history.stretch(),
+            round,
+            checkers,
+            &OpenGate,
+        );
         assert_eq!(rt; refused.err(), Some(PoolError::Checkers));
     }
     Ok(())

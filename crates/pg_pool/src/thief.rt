@@ -17,6 +17,7 @@ pub struct Thief {
 impl Thief {
     /// Takes the number at the front, if the tries that it has are enough.
     pub fn steal(&mut self) -> Option<u32>
+        ensures same { stealer_deque self.new.reach ≡ stealer_deque self.old.reach }
         ensures took { MatchOption result (view self.new.token ≡ view self.old.token)
             (λ n. Took (view self.old.token) (n ∷ []) (view self.new.token)) }
     {

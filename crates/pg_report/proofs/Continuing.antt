@@ -1,6 +1,8 @@
 -- How a record is read: the header, the segments, the end.
-use Rattle.std.proofs.Common.{◌≡◌, ℕ, ◌+◌, ◌^◌, ◌<◌, ◌≤◌, arith, length-append, Bool, true, ◌==◌, List, [], ◌++◌, length, Option, Some, None, Ok, Err, refl, sym, ap, subst, ◌∙◌, append-nil, false, cond, Result}
+use Rattle.std.proofs.Common.{◌≡◌, ℕ, ◌+◌, ◌%◌, ◌^◌, ◌<◌, ◌≤◌, arith, length-append, Bool, true, ◌==◌, List, [], ◌++◌, length, Option, Some, None, Ok, Err, refl, sym, ap, subst, ◌∙◌, append-nil, false, cond, Result}
 use Rattle.std.specs.Prelude.{IfSome}
+use Rattle.std.proofs.Math.Nat.{zero-mod, add-mod_right}
+use Rattle.std.proofs.lemmas.Bool.{eqb-true}
 use Rattle.pg_event.specs.declared.event.Event.{Event}
 use Rattle.pg_event.specs.declared.refusal.Refusal.{Refusal}
 use Rattle.pg_event.specs.Heads.{Head}
@@ -161,19 +163,27 @@ module _ {R : Type 0} (g : Ghosts R) (newest : Version) (start : Option (List �
     pub failed : g.failed at.1 ≡ f
     pub count : segments ≤ length r.events
     pub few : length r.events < 2 ^ 32
+    pub whole : full ≡ true → length r.events % r.head.segment ≡ 0
 
   pub going_at_start : (head : Head) (at : List ℕ × R) (stage : Stage) → Reads start (left_in g at) (Ok head) (header_up_to newest) → Took start (left_in g at) → stage ≡ behind_header head → g.failed at.1 ≡ f
       → IsGoing at stage (record { head = head; events = [] }) 0
   going_at_start head at stage h took e same =
       let known = header_not_new newest head start (left_in g at) h in
-      record { number = 0; full = true; stage_is = e; old = known.0; continues = continues_at_start head start (left_in g at) known.1 took; took = took; failed = same; count = omega arith; few = omega arith }
+      record { number = 0; full = true; stage_is = e; old = known.0; continues = continues_at_start head start (left_in g at) known.1 took; took = took; failed = same; count = omega arith; few = omega arith; whole = λ _. zero-mod head.segment }
 
   pub next_fits : (at : List ℕ × R) (stage : Stage) (r : Recorded) (segments : ℕ) → IsGoing at stage r segments → (items : List Event) → IsNext stage (Some items)
       → IsSegment (record { header = r.head; number = 0; before = length r.events; full = true }) items
   next_fits at stage r segments h items n =
       let P : Stage → Type 0 = λ s. IsNext s (Some items) in
-      let here = subst P h.stage_is n in
+      let here = (subst P h.stage_is n).1 in
       record { some = here.some; limit = here.limit; well = here.well }
+
+  -- behind the events that were read a segment may begin
+  pub next_begins : (at : List ℕ × R) (stage : Stage) (r : Recorded) (segments : ℕ) → IsGoing at stage r segments → (items : List Event) → IsNext stage (Some items)
+      → length r.events % r.head.segment ≡ 0
+  next_begins at stage r segments h items n =
+      let P : Stage → Type 0 = λ s. IsNext s (Some items) in
+      h.whole (subst P h.stage_is n).0
 
   module _ (at after : List ℕ × R) (stage : Stage) (r : Recorded) (segments : ℕ) (h : IsGoing at stage r segments) where
     pulled : (result : Result (Option (List Event)) ReadError) → PullsSegment g stage at after result → Pulls g (closed_chunk_at r.head h.number (length r.events) h.full) at after result
@@ -199,6 +209,9 @@ module _ {R : Type 0} (g : Ghosts R) (newest : Version) (start : Option (List �
           failed = here.device ∙ h.failed;
           count = omega (arith, some, limit, len, h.count);
           few = omega (arith, some, limit, len);
+          whole = λ full.
+              let size : length items ≡ r.head.segment = eqb-true (length items) r.head.segment full in
+              ap (λ (n : ℕ). n % r.head.segment) (sym len ∙ ap (λ (n : ℕ). length r.events + n) size) ∙ add-mod_right (length r.events) r.head.segment ∙ next_begins at stage r segments h items next;
         }
 
     pub going_ends : PullsSegment g stage at after (Ok None) → IfSome start (λ bytes. ReadsRecord newest bytes (Ok r))

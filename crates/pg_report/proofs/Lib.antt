@@ -5,3 +5,5 @@ pub mod Continuing
 pub mod Verdicts
 pub mod Rows
 pub mod Windows
+pub mod Merged
+pub mod Rounds

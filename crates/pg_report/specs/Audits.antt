@@ -34,12 +34,15 @@ WritesText output text (Ok x) = Adds output text
 WritesText output text (Err errors.Device) = AddsSome output text
 WritesText output text (Err errors.Memory) = AddsNothing output
 WritesText output text (Err (errors.Refused e)) = ⊥
+WritesText output text (Err errors.Thread) = ⊥
+WritesText output text (Err errors.Checkers) = ⊥
 
 -- Of these bytes the audit answers so, and leaves the writer so: a verdict is that of the one
 -- record that the bytes spell, the text of its report was written and nothing else, and where the
 -- verdict is yes some run of the manual's machine has exactly its events in that order; a refusal
 -- is the first of the bytes, which spell no record, and nothing was written; nor was it for want of
--- memory, nor where the reader failed; where the writer failed a beginning of the report was.
+-- memory or a thread, for a number of checkers that can't be, nor where the reader failed; where the
+-- writer failed a beginning of the report was.
 abbrev pub Audits : List ℕ → Change → Change → Result Verdict AuditError → Type 0
 Audits bytes input output (Ok verdict) =
     (r : Recorded) × SpellsOne bytes r × (verdict ≡ (report_of r).verdict)
@@ -47,6 +50,8 @@ Audits bytes input output (Ok verdict) =
 Audits bytes input output (Err (errors.Refused e)) =
     (refusal bytes ≡ Some e) × SpellsNone bytes × AddsNothing output
 Audits bytes input output (Err errors.Memory) = AddsNothing output
+Audits bytes input output (Err errors.Thread) = AddsNothing output
+Audits bytes input output (Err errors.Checkers) = AddsNothing output
 Audits bytes input output (Err errors.Device) =
     (ReaderFails input output × AddsNothing output)
     ⊎ (WriterFails input output
@@ -59,6 +64,14 @@ MeansRun bytes (Ok Yes) = (r : Recorded) × SpellsOne bytes r × HasRun r.head r
 MeansRun bytes (Ok (No event reason)) = Unit {0}
 MeansRun bytes (Err e) = Unit {0}
 
+-- The verdict is a function of the record, and so is what was written: any audit of the same bytes
+-- that comes to a verdict, by however many checkers, comes to this one, and writes this text.
+abbrev pub IsTheVerdict : List ℕ → Change → Result Verdict AuditError → Type 0
+IsTheVerdict bytes output (Ok verdict) =
+    (text : List ℕ) × Adds output text × ((other : Verdict) (input' output' : Change) →
+    Audits bytes input' output' (Ok other) → (other ≡ verdict) × Adds output' text)
+IsTheVerdict bytes output (Err e) = Unit {0}
+
 -- What was written, whatever the reader tells: with a verdict the text of a report that has it;
 -- where the writer failed a beginning of such a text; and with any other error nothing.
 abbrev pub HasWritten : Change → Change → Result Verdict AuditError → Type 0
@@ -66,6 +79,8 @@ HasWritten input output (Ok verdict) =
     (report : Report) × (report.verdict ≡ verdict) × Adds output (report_text report)
 HasWritten input output (Err (errors.Refused e)) = AddsNothing output
 HasWritten input output (Err errors.Memory) = AddsNothing output
+HasWritten input output (Err errors.Thread) = AddsNothing output
+HasWritten input output (Err errors.Checkers) = AddsNothing output
 HasWritten input output (Err errors.Device) =
     (ReaderFails input output × AddsNothing output)
     ⊎ (WriterFails input output × (report : Report) × AddsSome output (report_text report))
@@ -76,11 +91,14 @@ TellsFailures input output (Ok x) = NoneFails input output
 TellsFailures input output (Err errors.Device) =
     ReaderFails input output ⊎ WriterFails input output
 TellsFailures input output (Err errors.Memory) = NoneFails input output
+TellsFailures input output (Err errors.Thread) = NoneFails input output
+TellsFailures input output (Err errors.Checkers) = NoneFails input output
 TellsFailures input output (Err (errors.Refused e)) = NoneFails input output
 
 -- all that an audit promises of its answer and its streams
 pub record IsAudit (input output : Change) (result : Result Verdict AuditError) : Type 0 where
   pub report : IfSome input.old.bytes (λ bytes. Audits bytes input output result)
   pub yes : IfSome input.old.bytes (λ bytes. MeansRun bytes result)
+  pub only : IfSome input.old.bytes (λ bytes. IsTheVerdict bytes output result)
   pub written : HasWritten input output result
   pub failures : TellsFailures input output result

@@ -45,11 +45,15 @@ ReadsRecord newest bytes (Ok r) = Spells bytes r × (is_too_new newest bytes ≡
 ReadsRecord newest bytes (Err (errors.Refused e)) = refusal_up_to newest bytes ≡ Some e
 ReadsRecord newest bytes (Err errors.Device) = Unit {0}
 ReadsRecord newest bytes (Err errors.Memory) = Unit {0}
+ReadsRecord newest bytes (Err errors.Thread) = ⊥
+ReadsRecord newest bytes (Err errors.Checkers) = ⊥
 
 abbrev pub is_device : AuditError → Bool
 is_device (errors.Refused e) = false
 is_device errors.Device = true
 is_device errors.Memory = false
+is_device errors.Thread = false
+is_device errors.Checkers = false
 
 -- the device failed in a call that answers so, and in no other
 abbrev pub TellsDevice : {A : Type 0} → Change → Result A AuditError → Type 0

@@ -4,3 +4,4 @@ pub mod Numbers
 pub mod Intake
 pub mod Audits
 pub mod Judging
+pub mod Merging

@@ -37,8 +37,12 @@ abbrev pub error_number : AuditError → ℕ
 error_number (errors.Refused refusal) = refusal_number refusal
 error_number errors.Device = 11
 error_number errors.Memory = 12
+error_number errors.Thread = 14
+error_number errors.Checkers = 15
 
 abbrev pub error_name : AuditError → List ℕ
 error_name (errors.Refused refusal) = refusal_name refusal
 error_name errors.Device = codes "device"
 error_name errors.Memory = codes "memory"
+error_name errors.Thread = codes "thread"
+error_name errors.Checkers = codes "checkers"

@@ -1,17 +1,23 @@
 //! The audit of a record, from bytes to report.
 
-ghost use Rattle.std.specs.Prelude.{◌≡◌, string_bytes};
+ghost use Rattle.std.specs.Prelude.{◌≡◌, ◌≢◌, ◌↔◌, Err, string_bytes};
+ghost use Rattle.pg_pool.specs.Rounds.{AreCheckers};
 ghost use Rattle.pg_report.specs.Changes.{drawn, filled};
 ghost use Rattle.pg_report.specs.Text.{report_of, report_text};
 ghost use Rattle.pg_report.specs.Intake.{TellsDevice};
 ghost use Rattle.pg_report.specs.Audits.{WritesText, IsAudit};
 
+use crate::crew::Crew;
 use crate::error::AuditError;
 use crate::judging::judge_record;
+use crate::judging_by::judge_record_by;
 use crate::report::{Report, Verdict, verdict_of};
 use pg_check::{History, first_bad};
 use pg_codec::{Sink, Source, put_all};
+use pg_pool::{Gate, OpenGate};
 use std::alloc::Global;
+use std::sync::Wait;
+use std::thread::Threads;
 
 /// The report of a record.
 pub fn report_of(history: &History) -> Report
@@ -59,8 +65,9 @@ pub fn audit_one<R: Source, W: Sink>(
     reader: &mut R,
     writer: &mut W,
 ) -> Result<Verdict, AuditError>
-    ensures { IsAudit
+    ensures audit { IsAudit
         (drawn R.Source reader.old reader.new) (filled W.Sink writer.old writer.new) result }
+    ensures alone { (result ≢ Err AuditError.Thread) × (result ≢ Err AuditError.Checkers) }
 {
     let report = match judge_record(alloc, reader) {
         Ok(report) => report,
@@ -70,4 +77,60 @@ pub fn audit_one<R: Source, W: Sink>(
         Ok(()) => Ok(report.verdict),
         Err(error) => Err(error),
     }
+}
+
+/// The same by so many checkers, each in a thread of its own: they take the segments of a window
+/// of events from one another, and each segment goes through the gate with the number of the
+/// checker that judges it. Segments after a bad event are read, and not judged.
+///
+/// Where the number of checkers is none of 1 to 64 nothing is read. The threads of a window have
+/// ended before the next is read, and before an error is told.
+pub fn audit_watched<T: Threads + Wait + Sync, R: Source, W: Sink, G: Gate>(
+    rt: &T,
+    alloc: Global,
+    reader: &mut R,
+    writer: &mut W,
+    checkers: u32,
+    gate: &G,
+) -> Result<Verdict, AuditError>
+    ensures audit { IsAudit
+        (drawn R.Source reader.old reader.new) (filled W.Sink writer.old writer.new) result }
+    ensures checkers { (result ≡ Err AuditError.Checkers) ↔ (¬ AreCheckers checkers) }
+    ensures unread { ¬ AreCheckers checkers →
+        (reader.new ≡ reader.old) × (writer.new ≡ writer.old) }
+{
+    if checkers == 0 || checkers > 64 {
+        return Err(AuditError::Checkers);
+    }
+    let crew = Crew {
+        rt,
+        alloc,
+        checkers,
+        gate,
+    };
+    let report = match judge_record_by(&crew, reader) {
+        Ok(report) => report,
+        Err(error) => return Err(error),
+    };
+    match write_report(alloc, writer, report) {
+        Ok(()) => Ok(report.verdict),
+        Err(error) => Err(error),
+    }
+}
+
+/// The same, with a gate that does nothing.
+pub fn audit<T: Threads + Wait + Sync, R: Source, W: Sink>(
+    rt: &T,
+    alloc: Global,
+    reader: &mut R,
+    writer: &mut W,
+    checkers: u32,
+) -> Result<Verdict, AuditError>
+    ensures audit { IsAudit
+        (drawn R.Source reader.old reader.new) (filled W.Sink writer.old writer.new) result }
+    ensures checkers { (result ≡ Err AuditError.Checkers) ↔ (¬ AreCheckers checkers) }
+    ensures unread { ¬ AreCheckers checkers →
+        (reader.new ≡ reader.old) × (writer.new ≡ writer.old) }
+{
+    audit_watched(rt, alloc, reader, writer, checkers, &OpenGate)
 }

@@ -1,13 +1,13 @@
 //! Whole records, judged as they are read.
 
-ghost use Rattle.std.specs.Prelude.{◌≡◌, ◌<◌, ◌^◌, ◌++◌, List, length, OnOk};
+ghost use Rattle.std.specs.Prelude.{◌≢◌, ◌<◌, ◌^◌, ◌++◌, List, length, Err, OnOk};
 ghost use Rattle.pg_event.specs.declared.event.Event.{Event};
 ghost use Rattle.pg_event.specs.Heads.{Head};
 ghost use Rattle.pg_check.specs.Judging.{IsJudged, MayFollow};
 ghost use Rattle.pg_check.specs.Kept.{AreWellFormed};
 ghost use Rattle.pg_report.specs.Changes.{drawn};
 ghost use Rattle.pg_report.specs.Intake.{TellsDevice};
-ghost use Rattle.pg_report.specs.Judging.{JudgesRecord, IsMovedOn, IsReportOf};
+ghost use Rattle.pg_report.specs.Judging.{BeginsSegment, IsMovedOn, IsReportOf, JudgesRecord};
 
 use crate::error::AuditError;
 use crate::intake::{MOST_CHUNKS, audit_error, read_header_up_to};
@@ -22,8 +22,10 @@ const WINDOW: usize = 1 << 14;
 
 /// Judges the events of a window once they are many, and lets them go.
 fn judge_many(judged: &mut Judged, window: &mut Vec<Event>) -> Result<(), AllocError>
-    requires { MayFollow judged.old window.old.items }
+    requires next { MayFollow judged.old window.old.items }
+    requires whole { BeginsSegment judged.old window.old.items }
     ensures few { OnOk result (length window.new.items < 2 ^ 14) }
+    ensures whole { OnOk result (BeginsSegment judged.new window.new.items) }
     ensures moved { (head : Head) (before : List Event) → IsJudged judged.old head before →
         AreWellFormed head window.old.items → OnOk result
         (IsMovedOn judged.new head (before ++ window.old.items) window.new.items) }
@@ -36,7 +38,7 @@ fn judge_many(judged: &mut Judged, window: &mut Vec<Event>) -> Result<(), AllocE
 }
 
 /// The report of a run that was judged.
-fn report_of_judged(judged: &Judged) -> Report
+pub(crate) fn report_of_judged(judged: &Judged) -> Report
     ensures { IsReportOf judged.now result }
 {
     Report {
@@ -50,6 +52,7 @@ fn report_of_judged(judged: &Judged) -> Report
 /// are kept than wait to be judged, and those of the segment that was read last.
 pub fn judge_record<R: Source>(alloc: Global, source: &mut R) -> Result<Report, AuditError>
     ensures judges { JudgesRecord (R.left source.old) result }
+    ensures alone { result ≢ Err AuditError.Thread }
     ensures device { TellsDevice (drawn R.Source source.old source.new) result }
 {
     let mut reader = RecordReader::new(alloc)?;

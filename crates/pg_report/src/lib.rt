@@ -2,13 +2,16 @@
 #![tactic(auto)]
 
 mod auditor;
+mod crew;
 mod error;
 mod intake;
 mod judging;
+mod judging_by;
+mod merger;
 mod report;
 
-pub use auditor::{audit_one, report_of, write_report, write_text};
-pub use error::{AuditError, rule_number};
+pub use auditor::{audit, audit_one, audit_watched, report_of, write_report, write_text};
+pub use error::{AuditError, MergeError, rule_number};
 pub use intake::{read_old_record, read_record};
-pub use judging::judge_record;
+pub use merger::merge;
 pub use report::{Report, Verdict, reason_name, reason_number};

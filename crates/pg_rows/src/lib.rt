@@ -4,6 +4,8 @@
 #[cfg(test)]
 mod cells;
 #[cfg(test)]
+mod crews;
+#[cfg(test)]
 mod headers;
 #[cfg(test)]
 mod invalidations;

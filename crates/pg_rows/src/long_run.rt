@@ -1,18 +1,23 @@
-//! A run of 2,000 events on four processors, in one segment.
+//! Long runs on four processors: in one segment, and in segments that are judged window by window.
+
+ghost use Rattle.std.specs.Prelude.{◌≤◌};
 
 use crate::row::{Row, run_on};
 use pg_codec::Watched;
-use std::alloc::{AllocError, Global};
+use std::alloc::{AllocError, AllocGlobal, Global};
+use std::process::Abort;
 use std::test::Fail;
 
-/// The settings, and four processors whose PML4 table is at 0x1000.
-const HEADER: [u8; 53] = [
-    0x50, 0x47, 0x52, 0x45, 0x43, 0x4f, 0x52, 0x44, 1, 0, 40, 3, 4, 0, 0, 1, 0, //
+/// The settings but for the segment size.
+const SETTINGS: [u8; 13] = [
+    0x50, 0x47, 0x52, 0x45, 0x43, 0x4f, 0x52, 0x44, 1, 0, 40, 3, 4,
+];
+
+/// Four processors whose PML4 table is at 0x1000.
+const PROCESSORS: [u8; 36] = [
     0x01, 0x10, 0, 0, 0, 0, 0, 0, 1, 0x02, 0x10, 0, 0, 0, 0, 0, 0, 1, //
     0x03, 0x10, 0, 0, 0, 0, 0, 0, 1, 0x04, 0x10, 0, 0, 0, 0, 0, 0, 1,
 ];
-
-const EVENTS: u32 = 2000;
 
 /// Pages whose entries are written: linear page i at physical page 9 + i.
 const PAGES: u32 = 13;
@@ -30,15 +35,17 @@ fn push_write(bytes: &mut Vec<u8>, addr: u64, value: u64) -> Result<(), AllocErr
     push_u64(bytes, value)
 }
 
-fn push_tables(bytes: &mut Vec<u8>) -> Result<(), AllocError> {
-    push_write(bytes, 0x1000, 0x2007)?;
-    push_write(bytes, 0x2000, 0x3007)?;
-    push_write(bytes, 0x3000, 0x4007)?;
-    for i in 0..PAGES {
-        let page = u64::from(i);
-        push_write(bytes, 0x4000 + page * 8, 0x9007 + page * 0x1000)?;
+/// One of the writes that the run begins with: a table above the page table, or an entry of it.
+fn push_table(bytes: &mut Vec<u8>, number: u32) -> Result<(), AllocError> {
+    match number {
+        0 => push_write(bytes, 0x1000, 0x2007),
+        1 => push_write(bytes, 0x2000, 0x3007),
+        2 => push_write(bytes, 0x3000, 0x4007),
+        _ => {
+            let page = u64::from(number % WRITES) - 3;
+            push_write(bytes, 0x4000 + page * 8, 0x9007 + page * 0x1000)
+        }
     }
-    Ok(())
 }
 
 /// A user read that answers the physical page, each level read just before it.
@@ -71,18 +78,47 @@ fn push_event(bytes: &mut Vec<u8>, number: u32, bad: u32) -> Result<(), AllocErr
     }
 }
 
-fn push_record(alloc: Global, bad: u32) -> Result<Vec<u8>, AllocError> {
+fn push_segment(bytes: &mut Vec<u8>, number: u32, count: u32) -> Result<(), AllocError> {
+    bytes.extend_from_slice(&[1])?;
+    bytes.extend_from_slice(&number.to_le_bytes())?;
+    bytes.extend_from_slice(&count.to_le_bytes())
+}
+
+fn push_record(alloc: Global, events: u32, segment: u32, bad: u32) -> Result<Vec<u8>, AllocError>
+    requires { 1 ≤ segment }
+{
     let mut bytes = Vec::new(alloc);
-    bytes.extend_from_slice(&HEADER)?;
-    bytes.extend_from_slice(&[1, 0, 0, 0, 0])?;
-    bytes.extend_from_slice(&EVENTS.to_le_bytes())?;
-    push_tables(&mut bytes)?;
-    for number in WRITES..EVENTS {
-        push_event(&mut bytes, number, bad)?;
+    bytes.extend_from_slice(&SETTINGS)?;
+    bytes.extend_from_slice(&segment.to_le_bytes())?;
+    bytes.extend_from_slice(&PROCESSORS)?;
+    for number in 0..events {
+        if number % segment == 0 {
+            push_segment(&mut bytes, number / segment, segment.min(events - number))?;
+        }
+        if number < WRITES {
+            push_table(&mut bytes, number)?;
+        } else {
+            push_event(&mut bytes, number, bad)?;
+        }
     }
     bytes.extend_from_slice(&[2])?;
-    bytes.extend_from_slice(&EVENTS.to_le_bytes())?;
+    bytes.extend_from_slice(&events.to_le_bytes())?;
     Ok(bytes)
+}
+
+/// A record of so many events in segments of so many, and what the program says of it.
+fn run_record<T: AllocGlobal + Abort>(
+    rt: &T,
+    events: u32,
+    segment: u32,
+    bad: u32,
+    row: &Row,
+) -> Result<(), Fail>
+    requires { 1 ≤ segment }
+{
+    let bytes = push_record(rt.alloc(), events, segment, bad)?;
+    let mut input = Watched::new(bytes.as_slice());
+    run_on(rt, row, bytes.len(), &mut input)
 }
 
 const ALL_GOOD: Row = Row {
@@ -105,10 +141,42 @@ const LAST_BAD: Row = Row {
 
 #[test]
 fn two_thousand_events(rt: HostRuntime) -> Result<(), Fail> {
-    for (bad, row) in [(EVENTS, &ALL_GOOD), (1999, &LAST_BAD)] {
-        let bytes = push_record(rt.alloc(), bad)?;
-        let mut input = Watched::new(bytes.as_slice());
-        run_on(&rt, row, bytes.len(), &mut input)?;
-    }
-    Ok(())
+    run_record(&rt, 2000, 65536, 2000, &ALL_GOOD)?;
+    run_record(&rt, 2000, 65536, 1999, &LAST_BAD)
+}
+
+// Forty thousand events in segments of ten thousand: two segments fill a window.
+
+const WINDOWS_GOOD: Row = Row {
+    name: "40000_events",
+    words: &["check"],
+    input: &[],
+    output: "verdict: yes\nevents: 40000\nsegments: 4\n",
+    line: "",
+    status: 0,
+};
+
+const FIRST_WINDOW_BAD: Row = Row {
+    name: "40000_events_first_window_bad",
+    words: &["check"],
+    input: &[],
+    output: "verdict: no\nevent: 19999\nreason: 9 answer\nevents: 40000\nsegments: 4\n",
+    line: "",
+    status: 1,
+};
+
+const SECOND_WINDOW_BAD: Row = Row {
+    name: "40000_events_second_window_bad",
+    words: &["check"],
+    input: &[],
+    output: "verdict: no\nevent: 30001\nreason: 9 answer\nevents: 40000\nsegments: 4\n",
+    line: "",
+    status: 1,
+};
+
+#[test]
+fn forty_thousand_events_in_windows(rt: HostRuntime) -> Result<(), Fail> {
+    run_record(&rt, 40000, 10000, 40000, &WINDOWS_GOOD)?;
+    run_record(&rt, 40000, 10000, 19999, &FIRST_WINDOW_BAD)?;
+    run_record(&rt, 40000, 10000, 30001, &SECOND_WINDOW_BAD)
 }

@@ -29,7 +29,7 @@ const DEVICE: Row = Row {
     status: 2,
 };
 
-const TEN_SEGMENTS: Row = Row {
+pub const TEN_SEGMENTS: Row = Row {
     name: "ten_segments_two_bad_events",
     words: &["check"],
     input: &[

@@ -183,13 +183,19 @@ module _ (input output : Change) (r : Recorded) (reads : IfSome input.old.bytes 
         gives (Some bytes) errors.Device reads wrote written =
             inr ((read, written), (r, one bytes r reads.0, is_old bytes r reads.0 reads.1, record_bytes (upgraded r), spelled r reads.0.0, wrote))
         gives (Some bytes) errors.Memory reads wrote written = wrote
+        gives (Some bytes) errors.Thread reads wrote written = absurd wrote
+        gives (Some bytes) errors.Checkers reads wrote written = absurd wrote
 
         some : (e : AuditError) → WritesText output (record_bytes (upgraded r)) {A = Unit {0}} (Err e) → TellsDevice {A = Unit {0}} output (Err e) → HasWrittenUpgrade input output (Err e)
         some (errors.Refused d) wrote written = absurd wrote
         some errors.Device wrote written = inr ((read, written), r, wrote)
         some errors.Memory wrote written = wrote
+        some errors.Thread wrote written = absurd wrote
+        some errors.Checkers wrote written = absurd wrote
 
         tells : (e : AuditError) → WritesText output (record_bytes new) {A = Unit {0}} (Err e) → TellsDevice {A = Unit {0}} output (Err e) → TellsFailures {A = Report} input output (Err e)
         tells (errors.Refused d) wrote written = absurd wrote
         tells errors.Device wrote written = inr (read, written)
         tells errors.Memory wrote written = (read, written)
+        tells errors.Thread wrote written = absurd wrote
+        tells errors.Checkers wrote written = absurd wrote

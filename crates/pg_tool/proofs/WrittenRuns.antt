@@ -32,6 +32,8 @@ module _ (input output : Change) where
   reading_gives (Some bytes) (errors.Refused d) reads read kept worked = (reads, none bytes d reads, kept)
   reading_gives (Some bytes) errors.Device reads read kept worked = inl ((read, worked), kept)
   reading_gives (Some bytes) errors.Memory reads read kept worked = kept
+  reading_gives (Some bytes) errors.Thread reads read kept worked = absurd reads
+  reading_gives (Some bytes) errors.Checkers reads read kept worked = absurd reads
 
   pub reading_fails : (e : AuditError) → IfSome input.old.bytes (λ bytes. ReadsRecord Two bytes (Err e)) → TellsDevice {A = Recorded} input (Err e) → AddsNothing output → Works output → IsRunOf input output (Err e)
   reading_fails e reads read kept worked = record { gives = reading_gives input.old.bytes e reads read kept worked; written = nothing e read; failures = tells e read }
@@ -40,11 +42,15 @@ module _ (input output : Change) where
       nothing (errors.Refused d) read = kept
       nothing errors.Device read = inl ((read, worked), kept)
       nothing errors.Memory read = kept
+      nothing errors.Thread read = kept
+      nothing errors.Checkers read = kept
 
       tells : (e : AuditError) → TellsDevice {A = Recorded} input (Err e) → TellsFailures {A = Shown} input output (Err e)
       tells (errors.Refused d) read = (read, worked)
       tells errors.Device read = inl (read, worked)
       tells errors.Memory read = (read, worked)
+      tells errors.Thread read = (read, worked)
+      tells errors.Checkers read = (read, worked)
 
   -- want of memory before anything is written
   pub memory_fails : (r : Recorded) → TellsDevice {A = Recorded} input (Ok r) → AddsNothing output → Works output → IsRunOf input output (Err errors.Memory)
@@ -79,16 +85,22 @@ module _ (input output : Change) where
           gives (Some bytes) (errors.Refused d) reads wrote written = absurd wrote
           gives (Some bytes) errors.Device reads wrote written = inr ((read, written), inl (r, one bytes r reads.0, steps, builds, wrote))
           gives (Some bytes) errors.Memory reads wrote written = wrote
+          gives (Some bytes) errors.Thread reads wrote written = absurd wrote
+          gives (Some bytes) errors.Checkers reads wrote written = absurd wrote
 
           some : (e : AuditError) → WritesText output (run_text given) {A = Unit {0}} (Err e) → TellsDevice {A = Unit {0}} output (Err e) → HasWrittenRun input output (Err e)
           some (errors.Refused d) wrote written = absurd wrote
           some errors.Device wrote written = inr ((read, written), inl (given, wrote))
           some errors.Memory wrote written = wrote
+          some errors.Thread wrote written = absurd wrote
+          some errors.Checkers wrote written = absurd wrote
 
           tells : (e : AuditError) → WritesText output (run_text given) {A = Unit {0}} (Err e) → TellsDevice {A = Unit {0}} output (Err e) → TellsFailures {A = Shown} input output (Err e)
           tells (errors.Refused d) wrote written = absurd wrote
           tells errors.Device wrote written = inr (read, written)
           tells errors.Memory wrote written = (read, written)
+          tells errors.Thread wrote written = absurd wrote
+          tells errors.Checkers wrote written = absurd wrote
 
     -- ---- a record that is not accepted
 
@@ -114,13 +126,19 @@ module _ (input output : Change) where
           gives (Some bytes) (errors.Refused d) reads wrote written = absurd wrote
           gives (Some bytes) errors.Device reads wrote written = inr ((read, written), inr (r, one bytes r reads.0, is_bad r event reason bad, wrote))
           gives (Some bytes) errors.Memory reads wrote written = wrote
+          gives (Some bytes) errors.Thread reads wrote written = absurd wrote
+          gives (Some bytes) errors.Checkers reads wrote written = absurd wrote
 
           some : (e : AuditError) → WritesText output (report_text report) {A = Unit {0}} (Err e) → TellsDevice {A = Unit {0}} output (Err e) → HasWrittenRun input output (Err e)
           some (errors.Refused d) wrote written = absurd wrote
           some errors.Device wrote written = inr ((read, written), inr (report, wrote))
           some errors.Memory wrote written = wrote
+          some errors.Thread wrote written = absurd wrote
+          some errors.Checkers wrote written = absurd wrote
 
           tells : (e : AuditError) → WritesText output (report_text report) {A = Unit {0}} (Err e) → TellsDevice {A = Unit {0}} output (Err e) → TellsFailures {A = Shown} input output (Err e)
           tells (errors.Refused d) wrote written = absurd wrote
           tells errors.Device wrote written = inr (read, written)
           tells errors.Memory wrote written = (read, written)
+          tells errors.Thread wrote written = absurd wrote
+          tells errors.Checkers wrote written = absurd wrote

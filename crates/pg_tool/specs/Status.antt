@@ -1,5 +1,5 @@
 -- Exit statuses, and what they say.
-use Rattle.std.specs.Prelude.{◌≡◌, ℕ, List, Some, None, Result, Ok, Err, ◌⊎◌, IfSome}
+use Rattle.std.specs.Prelude.{◌≡◌, ◌≢◌, ℕ, List, Some, None, Result, Ok, Err, ◌⊎◌, IfSome}
 use Rattle.pg_event.specs.Witness.{first_bad}
 use Rattle.pg_event.specs.Spelling.{Recorded}
 use Rattle.pg_event.specs.Reading.{refusal}
@@ -9,6 +9,7 @@ use Rattle.pg_report.specs.declared.report.Verdict.{Verdict}
 use Rattle.pg_report.specs.declared.report.Verdict.TheVariants.{Yes, No}
 use Rattle.pg_report.specs.declared.error.AuditError.{AuditError}
 use Rattle.pg_report.specs.declared.error.AuditError.TheVariants.{Refused, Device, Memory}
+use Rattle.pg_report.specs.declared.error.AuditError.TheVariants.{Thread, Checkers}
 use Rattle.pg_report.specs.declared.report.Report.{Report}
 use Rattle.pg_report.specs.Text.{report_of, report_text}
 use Rattle.pg_report.specs.Changes.{Change, Adds, AddsSome, AddsNothing}
@@ -20,11 +21,14 @@ use Rattle.pg_tool.specs.Runs.{run_text}
 use Rattle.pg_tool.specs.Refusals.{TellsError}
 use Rattle.pg_tool.specs.Streams.{Streams}
 
--- 0 yes, 1 no, 2 refused input or a failed device, 3 want of memory
+-- 0 yes, 1 no, 2 refused input or a failed device, 3 want of memory or of a thread, 64 a number of
+-- checkers that can't be
 abbrev pub error_status : AuditError → ℕ
 error_status (Refused e) = 2
 error_status Device = 2
 error_status Memory = 3
+error_status Thread = 3
+error_status Checkers = 64
 
 abbrev pub verdict_status : Verdict → ℕ
 verdict_status Yes = 0
@@ -34,12 +38,16 @@ abbrev pub status_of : Result Verdict AuditError → ℕ
 status_of (Ok verdict) = verdict_status verdict
 status_of (Err e) = error_status e
 
+-- an audit on the calling thread alone answers so: it wants no thread and no checkers
+abbrev pub IsAlone : Result Verdict AuditError → Type 0
+IsAlone answer = (answer ≢ Err Thread) × (answer ≢ Err Checkers)
+
 -- The status is that of an audit of what the reader had left, and the line on standard error is
 -- that of the same answer.
 abbrev pub Checks : Streams → ℕ → Type 0
 Checks s status =
     (answer : Result Verdict AuditError) × (status ≡ status_of answer)
-    × IsAudit s.input s.output answer × TellsError s.errors answer
+    × IsAudit s.input s.output answer × IsAlone answer × TellsError s.errors answer
 
 -- the bytes spell one record, these steps are its planned run, and this holds of their text
 abbrev pub HasRunText : List ℕ → (List ℕ → Type 0) → Type 0
@@ -63,6 +71,8 @@ GivesRun bytes input output (Ok shown.Report) = HasReportText bytes (Adds output
 GivesRun bytes input output (Err (Refused e)) =
     (refusal bytes ≡ Some e) × SpellsNone bytes × AddsNothing output
 GivesRun bytes input output (Err Memory) = AddsNothing output
+GivesRun bytes input output (Err Thread) = ⊥
+GivesRun bytes input output (Err Checkers) = ⊥
 GivesRun bytes input output (Err Device) =
     (ReaderFails input output × AddsNothing output)
     ⊎ (WriterFails input output
@@ -81,6 +91,8 @@ HasWrittenRun input output (Ok shown.Report) =
     (report : Report) × Adds output (report_text report)
 HasWrittenRun input output (Err (Refused e)) = AddsNothing output
 HasWrittenRun input output (Err Memory) = AddsNothing output
+HasWrittenRun input output (Err Thread) = AddsNothing output
+HasWrittenRun input output (Err Checkers) = AddsNothing output
 HasWrittenRun input output (Err Device) =
     (ReaderFails input output × AddsNothing output)
     ⊎ (WriterFails input output × HasSomeText (AddsSome output))

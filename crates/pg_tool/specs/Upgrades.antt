@@ -8,6 +8,7 @@ use Rattle.pg_report.specs.declared.report.Verdict.TheVariants.{Yes}
 use Rattle.pg_report.specs.declared.report.Report.{Report}
 use Rattle.pg_report.specs.declared.error.AuditError.{AuditError}
 use Rattle.pg_report.specs.declared.error.AuditError.TheVariants.{Refused, Device, Memory}
+use Rattle.pg_report.specs.declared.error.AuditError.TheVariants.{Thread, Checkers}
 use Rattle.pg_report.specs.Text.{report_of, report_text}
 use Rattle.pg_report.specs.Changes.{Change, Fails, Works, Adds, AddsSome, AddsNothing}
 use Rattle.pg_report.specs.Audits.{SpellsOne, ReaderFails, WriterFails, TellsFailures}
@@ -43,6 +44,8 @@ GivesUpgrade bytes input output (Ok report) =
 GivesUpgrade bytes input output (Err (Refused e)) =
     (refusal_up_to versions.One bytes ≡ Some e) × AddsNothing output
 GivesUpgrade bytes input output (Err Memory) = AddsNothing output
+GivesUpgrade bytes input output (Err Thread) = ⊥
+GivesUpgrade bytes input output (Err Checkers) = ⊥
 GivesUpgrade bytes input output (Err Device) =
     (ReaderFails input output × AddsNothing output)
     ⊎ (WriterFails input output × HasUpgrade bytes (λ r text. AddsSome output text))
@@ -54,6 +57,8 @@ HasWrittenUpgrade input output (Ok report) =
     (r : Recorded) × (report ≡ report_of (upgraded r)) × Adds output (record_bytes (upgraded r))
 HasWrittenUpgrade input output (Err (Refused e)) = AddsNothing output
 HasWrittenUpgrade input output (Err Memory) = AddsNothing output
+HasWrittenUpgrade input output (Err Thread) = AddsNothing output
+HasWrittenUpgrade input output (Err Checkers) = AddsNothing output
 HasWrittenUpgrade input output (Err Device) =
     (ReaderFails input output × AddsNothing output)
     ⊎ (WriterFails input output × (r : Recorded) × AddsSome output (record_bytes (upgraded r)))

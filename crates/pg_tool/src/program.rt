@@ -31,7 +31,8 @@ fn error_status(error: AuditError) -> u8
 {
     match error {
         AuditError::Refused(_) | AuditError::Device => REFUSED,
-        AuditError::Memory => MEMORY,
+        AuditError::Memory | AuditError::Thread => MEMORY,
+        AuditError::Checkers => USAGE,
     }
 }
 

@@ -1,8 +1,18 @@
-use Rattle.pg_pool.proofs.Judged.{HasJudged-more}
+use Rattle.std.proofs.Common.{◌∙◌, subst}
+use Rattle.pg_pool.specs.declared.round.Round.{Round}
+use Rattle.pg_pool.specs.Rounds.{IsIn}
+use Rattle.pg_pool.proofs.Judged.{HasWorked-start, HasWorked-more}
 use Rattle.pg_pool.proofs.checker.work.Goals as goal
+
+pub loop-init : goal.loop-init
+loop-init g c = rw c.new-verdicts.ensures.items (HasWorked-start (g.J.Judge.finds c.args.judge.now) c.args.seat c.requires.fresh)
+
+pub judge-requires : goal.judge-requires
+judge-requires g c =
+    subst (λ (r : Round). IsIn r c.in-Some.number) (c.loop.invariant.round ∙ c.requires.round) c.in-Some.ensures.within
 
 pub loop-preserved : goal.loop-preserved
 loop-preserved g c =
     let took = c.in-Some.ensures in
-    HasJudged-more (g.J.Judge.found c.args.judge.now) c.args.seat.round c.loop.seat c.take.new.self c.in-Some.number c.loop.verdicts.items c.reserve.new.self.items c.push_reserved.new.self.items c.judge.result
-    c.loop.invariant took.seat.1 took.within took.marked c.reserve.ensures.items c.judge.ensures c.push_reserved.ensures.items
+    HasWorked-more (g.J.Judge.finds c.args.judge.now) c.args.seat.round c.loop.seat c.take.new.self c.in-Some.number c.loop.verdicts.items c.reserve.new.self.items c.push_reserved.new.self.items c.judge.result
+    c.loop.invariant took.seat.1 took.within took.marked c.reserve.ensures.items c.judge.ensures.number c.judge.ensures.found c.push_reserved.ensures.items

@@ -2,10 +2,8 @@ use Rattle.std.proofs.Common.{rules, ◌≡◌, ◌∙◌, ◌+◌, ◌-◌, ◌
 use Rattle.std.specs.List.{range_with_len}
 use Rattle.std.proofs.lemmas.List.{get_or_read, map_push, append_assoc}
 use Rattle.std.proofs.lemmas.List.FromFn.{map-range_with_len_more}
-use Rattle.crossbeam_deque.specs.Handles.{view}
-use Rattle.pg_pool.specs.declared.thief.Thief.{Thief}
-use Rattle.pg_pool.specs.Seats.{Part, Checker, part_of, part_at, untouched, nobody, seat_of, way_to}
-use Rattle.pg_pool.specs.Ways.{reached}
+use Rattle.pg_pool.specs.Seats.{Part, Checker, part_at, way_to_part, nobody, seat_of, way_to}
+use Rattle.pg_pool.specs.Ways.{reached, reached_part}
 use Rattle.pg_pool.proofs.Deals.{set-same}
 use Rattle.pg_pool.proofs.deal.reach.Goals as goal
 
@@ -18,13 +16,13 @@ loop-owner-preserved c =
     let inside : owner < length seats.items = search rules in
     let seat : c.index_mut-seat.result.now ≡ seat_of old owner =
     get_or_read seats.items owner c.index_mut-seat.result.now inside c.index_mut-seat.ensures.value nobody ∙ ap (λ (l : List Checker). seat_of l owner) was.0 in
-    let way : part_of (view c.in_ok-thief.thief.token) ≡ way_to old owner =
-    c.in_ok-thief.ensures.way ∙ ap (λ (s : Checker). untouched (part_at s.parts 0).pushed) seat in
+    let way : reached_part c.in_ok-thief.thief ≡ way_to old owner =
+    c.in_ok-thief.ensures.way ∙ ap (λ (s : Checker). way_to_part (part_at s.parts 0)) seat in
     let pushed : c.push.new.self.items ≡ c.loop-owner.thieves.items ++ c.in_ok-thief.thief ∷ [] = search rules in
     let e : owner + 1 - c.args.from ≡ owner - c.args.from + 1 = omega arith in (
       set-same seats.items owner c.index_mut-seat.result.now c.lend.new.self c.index_mut-seat.ensures.value c.lend.ensures.same ∙ was.0,
       ap reached pushed
-          ∙ map_push (λ (t : Thief). part_of (view t.token)) c.loop-owner.thieves.items c.in_ok-thief.thief
+          ∙ map_push reached_part c.loop-owner.thieves.items c.in_ok-thief.thief
           ∙ (λ i. was.1 i ++ way i ∷ [])
           ∙ append_assoc (reached c.args.thieves.now.items) (map (way_to old) (range_with_len c.args.from (owner - c.args.from))) (way_to old owner ∷ [])
           ∙ ap (λ (l : List Part). reached c.args.thieves.now.items ++ l)

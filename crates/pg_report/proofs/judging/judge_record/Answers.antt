@@ -4,13 +4,14 @@ use Rattle.pg_event.specs.declared.event.Event.{Event}
 use Rattle.pg_event.specs.declared.version.Version.TheVariants.{Two}
 use Rattle.pg_event.specs.Spelling.{Recorded}
 use Rattle.pg_check.specs.Judging.{IsJudged, MayFollow}
-use Rattle.pg_report.proofs.Continuing.{fresh_header_fails, going_from_fresh, going_ends, going_fails, memory_reads}
-use Rattle.pg_report.proofs.Windows.{IsJudging, judging_at_start, may_follow, longer, moved_on}
+use Rattle.pg_report.proofs.Continuing.{fresh_header_fails, going_from_fresh, going_ends, going_fails, failure_counts}
+use Rattle.pg_report.proofs.Windows.{error_judges, IsJudging, judging_at_start, may_follow, longer, moved_on}
 use Rattle.pg_report.proofs.judging.judge_record.Goals as goal
 
 pub returns-in-Err-clause-judges : goal.returns-in-Err-clause-judges
 returns-in-Err-clause-judges g c =
-    fresh_header_fails g.R.Source Two c.in_ok-reader.reader _ _ c.in_ok-reader.ensures c.in-Err.error c.audit_error.result c.audit_error.ensures c.in-Err.ensures.pulls
+    error_judges _ c.in-Err.error c.audit_error.result c.audit_error.ensures
+    (fresh_header_fails g.R.Source Two c.in_ok-reader.reader _ _ c.in_ok-reader.ensures c.in-Err.error c.audit_error.result c.audit_error.ensures c.in-Err.ensures.pulls)
 
 pub loop-init : goal.loop-init
 loop-init g c =
@@ -23,20 +24,27 @@ loop-init g c =
 pub returns-in_err-extend_from_slice-in-Ok-Some-clause-judges : goal.returns-in_err-extend_from_slice-in-Ok-Some-clause-judges
 returns-in_err-extend_from_slice-in-Ok-Some-clause-judges g c =
     let p = err_from_is_err_and c.from_residual-in_err-extend_from_slice-in-Ok-Some.result c.from_residual-in_err-extend_from_slice-in-Ok-Some.ensures.1 in
-    rw (p.1, p.2) (memory_reads Two _)
+    rw (p.1, p.2) tt
 
-pub judge_many-requires : goal.judge_many-requires
-judge_many-requires g c =
+pub judge_many-requires-clause-next : goal.judge_many-requires-clause-next
+judge_many-requires-clause-next g c =
     let read = c.in-Ok-Some.ensures in
     let on = longer g.R.Source _ _ _ c.loop.reader.stage c.loop.judged c.loop.window.items c.loop.counter c.loop.invariant _ c.in-Ok-Some.events.items _
     (rw c.in-Ok-Some.field-0-is at read.pulls) (rw c.in-Ok-Some.field-0-is at read.next) (rw c.in-Ok-Some.field-0-is at read.stage) in
     let come : MayFollow c.loop.judged (c.loop.window.items ++ c.in-Ok-Some.events.items) = may_follow g.R.Source _ _ _ _ c.loop.judged _ _ on in
     rw (c.in_ok-extend_from_slice-in-Ok-Some.ensures.items, c.deref.ensures.value) come
 
+pub judge_many-requires-clause-whole : goal.judge_many-requires-clause-whole
+judge_many-requires-clause-whole g c =
+    let read = c.in-Ok-Some.ensures in
+    let on = longer g.R.Source _ _ _ c.loop.reader.stage c.loop.judged c.loop.window.items c.loop.counter c.loop.invariant _ c.in-Ok-Some.events.items _
+    (rw c.in-Ok-Some.field-0-is at read.pulls) (rw c.in-Ok-Some.field-0-is at read.next) (rw c.in-Ok-Some.field-0-is at read.stage) in
+    rw (c.in_ok-extend_from_slice-in-Ok-Some.ensures.items, c.deref.ensures.value) on.whole
+
 pub returns-in_err-judge_many-in-Ok-Some-clause-judges : goal.returns-in_err-judge_many-in-Ok-Some-clause-judges
 returns-in_err-judge_many-in-Ok-Some-clause-judges g c =
     let p = err_from_is_err_and c.from_residual-in_err-judge_many-in-Ok-Some.result c.from_residual-in_err-judge_many-in-Ok-Some.ensures.1 in
-    rw (p.1, p.2) (memory_reads Two _)
+    rw (p.1, p.2) tt
 
 pub loop-preserved : goal.loop-preserved
 loop-preserved g c =
@@ -45,7 +53,7 @@ loop-preserved g c =
     (rw c.in-Ok-Some.field-0-is at read.pulls) (rw c.in-Ok-Some.field-0-is at read.next) (rw c.in-Ok-Some.field-0-is at read.stage) in
     let longer' : IsJudging g.R.Source _ _ _ _ c.loop.judged c.extend_from_slice.new.self.items _ = rw (c.in_ok-extend_from_slice-in-Ok-Some.ensures.items, c.deref.ensures.value) on in
     moved_on g.R.Source _ _ _ _ c.loop.judged c.extend_from_slice.new.self.items _ longer' c.judge_many.new.judged c.judge_many.new.window.items
-    (c.in_ok-judge_many-in-Ok-Some.ensures.moved c.loop.judged.head longer'.before longer'.judges longer'.well)
+    (c.in_ok-judge_many-in-Ok-Some.ensures.moved c.loop.judged.head longer'.before longer'.judges longer'.well) c.in_ok-judge_many-in-Ok-Some.ensures.whole
 
 pub judge-requires : goal.judge-requires
 judge-requires g c = rw c.deref-in-Ok-None.ensures.value (may_follow g.R.Source _ _ _ _ c.loop.judged _ _ c.loop.invariant)
@@ -53,13 +61,21 @@ judge-requires g c = rw c.deref-in-Ok-None.ensures.value (may_follow g.R.Source 
 pub returns-in_err-judge-in-Ok-None-clause-judges : goal.returns-in_err-judge-in-Ok-None-clause-judges
 returns-in_err-judge-in-Ok-None-clause-judges g c =
     let p = err_from_is_err_and c.from_residual-in_err-judge-in-Ok-None.result c.from_residual-in_err-judge-in-Ok-None.ensures.1 in
-    rw (p.1, p.2) (memory_reads Two _)
+    rw (p.1, p.2) tt
 
 pub returns-in-Err-read_segment_in-clause-judges : goal.returns-in-Err-read_segment_in-clause-judges
 returns-in-Err-read_segment_in-clause-judges g c =
     let was = c.loop.invariant in
     let r : Recorded = record { head = c.loop.judged.head; events = was.before ++ c.loop.window.items } in
-    going_fails g.R.Source Two _ _ _ _ c.loop.reader.stage r c.loop.counter was.going c.in-Err-read_segment_in.error c.audit_error-in-Err-read_segment_in.result c.audit_error-in-Err-read_segment_in.ensures
+    error_judges _ c.in-Err-read_segment_in.error c.audit_error-in-Err-read_segment_in.result c.audit_error-in-Err-read_segment_in.ensures
+    (going_fails g.R.Source Two _ _ _ _ c.loop.reader.stage r c.loop.counter was.going c.in-Err-read_segment_in.error c.audit_error-in-Err-read_segment_in.result c.audit_error-in-Err-read_segment_in.ensures
+    c.in-Err-read_segment_in.ensures.pulls)
+
+pub returns-in-Err-read_segment_in-clause-device : goal.returns-in-Err-read_segment_in-clause-device
+returns-in-Err-read_segment_in-clause-device g c =
+    let was = c.loop.invariant in
+    let r : Recorded = record { head = c.loop.judged.head; events = was.before ++ c.loop.window.items } in
+    failure_counts g.R.Source Two _ _ _ _ c.loop.reader.stage r c.loop.counter was.going c.in-Err-read_segment_in.error c.audit_error-in-Err-read_segment_in.result c.audit_error-in-Err-read_segment_in.ensures
     c.in-Err-read_segment_in.ensures.pulls
 
 pub returns-in-Ok-None-clause-judges : goal.returns-in-Ok-None-clause-judges

@@ -1,14 +1,13 @@
 use Rattle.std.proofs.Common.{◌≡◌, subst, List, [], ◌∷◌, ◌++◌}
-use Rattle.crossbeam_deque.specs.Handles.{worker_view}
-use Rattle.pg_pool.specs.Seats.{Part, part_of, IsDeal, IsSeat}
-use Rattle.pg_pool.specs.Ways.{reached}
+use Rattle.pg_pool.specs.Seats.{Part, IsDeal, IsSeat}
+use Rattle.pg_pool.specs.Ways.{own_part, reached}
 use Rattle.pg_pool.proofs.Seats.{IsSeat-join}
 use Rattle.pg_pool.proofs.seat.Seat.join.Goals as goal
 
 pub invariant_of-self : goal.invariant_of-self
 invariant_of-self c =
     let s = c.self.inside in
-    let own : Part = part_of (worker_view s.deque) in
+    let own : Part = own_part s.deque in
     let parts : List Part = own ∷ reached s.thieves.items in
     let more : List Part = reached c.args.thieves.items in
     let alone : parts ≡ own ∷ [] = rw (← c.self.view_is) at c.requires.alone in

@@ -1,0 +1,11 @@
+use Rattle.std.proofs.Common.{rules, arith}
+use Rattle.pg_report.proofs.Merged.{double_found, no_double}
+use Rattle.pg_report.proofs.merger.least_double.Goals as goal
+
+pub returns-then-counts-number-gt1 : goal.returns-then-counts-number-gt1
+returns-then-counts-number-gt1 c = λ verdicts h.
+    double_found c.args.round verdicts c.args.counts.now h c.loop-number.number (c.loop-number.auto.number, c.loop-number-test.true) (search rules) c.loop-number.invariant
+
+pub returns : goal.returns
+returns c = λ verdicts h.
+    no_double c.args.round verdicts c.args.counts.now h (λ m within. c.loop-number.invariant m within (omega (arith, c.loop-number-test.false, within.1)))

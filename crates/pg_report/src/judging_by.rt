@@ -1,0 +1,87 @@
+//! Whole records, judged by checkers as they are read.
+
+ghost use Rattle.std.specs.Prelude.{◌≡◌, ◌<◌, ◌^◌, ◌++◌, List, length, OnOk, IfErr};
+ghost use Rattle.pg_event.specs.declared.event.Event.{Event};
+ghost use Rattle.pg_event.specs.Heads.{Head};
+ghost use Rattle.pg_check.specs.Judging.{IsJudged, MayFollow};
+ghost use Rattle.pg_check.specs.Kept.{AreWellFormed};
+ghost use Rattle.pg_report.specs.Changes.{drawn};
+ghost use Rattle.pg_report.specs.Intake.{TellsDevice};
+ghost use Rattle.pg_report.specs.Judging.{BeginsSegment, IsMovedOn, JudgesRecord, StopsJudging};
+
+use crate::crew::Crew;
+use crate::error::AuditError;
+use crate::intake::{MOST_CHUNKS, audit_error, read_header_up_to};
+use crate::judging::report_of_judged;
+use crate::report::Report;
+use pg_check::Judged;
+use pg_codec::{RecordReader, Source};
+use pg_event::{Event, Version};
+use pg_pool::Gate;
+use std::sync::Wait;
+use std::thread::Threads;
+
+/// Events are judged once so many wait, and then let go; the last segment may bring more. A new
+/// thread starts late, so rounds are few and long.
+const WINDOW: usize = 1 << 18;
+
+/// Judges the events of a window once they are many, and lets them go.
+fn judge_many<T: Threads + Wait + Sync, G: Gate>(
+    crew: &Crew<'_, T, G>,
+    judged: &mut Judged,
+    window: &mut Vec<Event>,
+) -> Result<(), AuditError>
+    requires next { MayFollow judged.old window.old.items }
+    requires whole { BeginsSegment judged.old window.old.items }
+    ensures few { OnOk result (length window.new.items < 2 ^ 18) }
+    ensures whole { OnOk result (BeginsSegment judged.new window.new.items) }
+    ensures err { IfErr result StopsJudging }
+    ensures moved { (head : Head) (before : List Event) → IsJudged judged.old head before →
+        AreWellFormed head window.old.items → OnOk result
+        (IsMovedOn judged.new head (before ++ window.old.items) window.new.items) }
+{
+    if window.len() >= WINDOW {
+        crew.judge(judged, window.as_slice())?;
+        window.clear();
+    }
+    Ok(())
+}
+
+/// Reads the record that a source has left, all of it, and judges it by checkers as it is read: no
+/// more events are kept than wait to be judged, and those of the segment that was read last.
+pub fn judge_record_by<T: Threads + Wait + Sync, G: Gate, R: Source>(
+    crew: &Crew<'_, T, G>,
+    source: &mut R,
+) -> Result<Report, AuditError>
+    ensures judges { JudgesRecord (R.left source.old) result }
+    ensures device { TellsDevice (drawn R.Source source.old source.new) result }
+{
+    let alloc = crew.alloc;
+    let mut reader = RecordReader::new(alloc)?;
+    let header = match read_header_up_to(alloc, &mut reader, source, Version::Two) {
+        Ok(header) => header,
+        Err(error) => return Err(audit_error(error)),
+    };
+    let mut judged = Judged::new(alloc, header)?;
+    let mut window = Vec::new(alloc);
+    let mut room = Vec::new(alloc);
+    for _ in 0..MOST_CHUNKS {
+        match reader.read_segment_in(room, source) {
+            Ok(Some(events)) => {
+                window.extend_from_slice(&events)?;
+                if let Err(error) = judge_many(crew, &mut judged, &mut window) {
+                    return Err(error);
+                }
+                room = events;
+            }
+            Ok(None) => {
+                if let Err(error) = crew.judge(&mut judged, &window) {
+                    return Err(error);
+                }
+                return Ok(report_of_judged(&judged));
+            }
+            Err(error) => return Err(audit_error(error)),
+        }
+    }
+    unreachable!()
+}

@@ -1,0 +1,121 @@
+//! Records audited by many checkers.
+
+use crate::row::bytes_of;
+use crate::streams::TEN_SEGMENTS;
+use pg_codec::Watched;
+use pg_event::Reason;
+use pg_pool::Gate;
+use pg_report::{AuditError, Verdict, audit, audit_watched};
+use std::sync::atomic::{AtomicU64, Ordering};
+use std::test::Fail;
+use std::thread;
+
+/// How often a waiting thread yields before a test fails.
+const TURNS: u32 = 10_000_000;
+
+#[test]
+fn the_same_by_any_number_of_checkers(rt: HostRuntime) -> Result<(), Fail> {
+    let bytes = bytes_of(rt.alloc(), TEN_SEGMENTS.input)?;
+    for checkers in [1, 2, 7, 64] {
+        let mut input = Watched::new(bytes.as_slice());
+        let mut output = Watched::new(Vec::new(rt.alloc()));
+        let verdict = audit(&rt, rt.alloc(), &mut input, &mut output, checkers);
+        assert_eq!(rt;
+            verdict,
+            Ok(Verdict::No {
+                event: 7,
+                reason: Reason::Answer
+            })
+        );
+        assert_eq!(rt; output.inner.as_slice(), TEN_SEGMENTS.output.as_bytes());
+    }
+    Ok(())
+}
+
+#[test]
+fn no_checkers_or_too_many(rt: HostRuntime) -> Result<(), Fail> {
+    let bytes = bytes_of(rt.alloc(), TEN_SEGMENTS.input)?;
+    for checkers in [0, 65] {
+        let mut input = Watched::new(bytes.as_slice());
+        let mut output = Watched::new(Vec::new(rt.alloc()));
+        let refused = audit(&rt, rt.alloc(), &mut input, &mut output, checkers);
+        assert_eq!(rt; refused, Err(AuditError::Checkers));
+        assert_eq!(rt; refused.err().map(|error| error.number()), Some(15));
+        assert_eq!(rt; input.inner.len(), bytes.len());
+        assert!(rt; output.inner.is_empty());
+    }
+    Ok(())
+}
+
+/// Holds segment 0 until segment 1 has left, and segment 1 until segment 0 has come. It keeps the
+/// worker of each, and counts all that come.
+#[derive(Drop)]
+struct Held {
+    came: AtomicU64,
+    left: AtomicU64,
+    comings: AtomicU64,
+    workers: [AtomicU64; 2],
+    failed: AtomicU64,
+}
+
+fn comes(flag: &AtomicU64) -> bool {
+    for _ in 0..TURNS {
+        if flag.load(Ordering::SeqCst) > 0 {
+            return true;
+        }
+        thread::yield_now();
+    }
+    false
+}
+
+impl Held {
+    fn await_other(&self, number: usize) -> bool {
+        if number == 0 {
+            self.came.store(1, Ordering::SeqCst);
+            comes(&self.left)
+        } else {
+            comes(&self.came)
+        }
+    }
+}
+
+impl Gate for Held {
+    fn enter(&self, worker: u32, number: u64) {
+        self.comings.fetch_add(1, Ordering::SeqCst);
+        if number < 2 {
+            self.workers[number as usize].store(1 + worker as u64, Ordering::SeqCst);
+            if !self.await_other(number as usize) {
+                self.failed.store(1, Ordering::SeqCst);
+            }
+        }
+    }
+
+    fn leave(&self, _worker: u32, number: u64) {
+        if number == 1 {
+            self.left.store(1, Ordering::SeqCst);
+        }
+    }
+}
+
+#[test]
+fn two_checkers_of_one_record_at_the_same_time(rt: HostRuntime) -> Result<(), Fail> {
+    let bytes = bytes_of(rt.alloc(), TEN_SEGMENTS.input)?;
+    let gate = Held {
+        came: AtomicU64::new(0),
+        left: AtomicU64::new(0),
+        comings: AtomicU64::new(0),
+        workers: [AtomicU64::new(0), AtomicU64::new(0)],
+        failed: AtomicU64::new(0),
+    };
+    let mut input = Watched::new(bytes.as_slice());
+    let mut output = Watched::new(Vec::new(rt.alloc()));
+    let verdict = audit_watched(&rt, rt.alloc(), &mut input, &mut output, 2, &gate);
+    assert!(rt; verdict.is_ok());
+    assert_eq!(rt; output.inner.as_slice(), TEN_SEGMENTS.output.as_bytes());
+    assert_eq!(rt; gate.failed.load(Ordering::SeqCst), 0);
+    assert_eq!(rt; gate.comings.load(Ordering::SeqCst), 10);
+    let first = gate.workers[0].load(Ordering::SeqCst);
+    let second = gate.workers[1].load(Ordering::SeqCst);
+    assert!(rt; first > 0 && second > 0 && first != second);
+    Ok(())
+}
