@@ -108,12 +108,12 @@ pub fn audit_watched<T: Threads + Wait + Sync, R: Source, W: Sink, G: Gate>(
         checkers,
         gate,
     };
-    let report = match judge_record_by(&crew, reader) {
+    let judged = match judge_record_by(&crew, reader) {
         Ok(report) => report,
         Err(error) => return Err(error),
     };
-    match write_report(alloc, writer, report) {
-        Ok(()) => Ok(report.verdict),
+    match write_report(alloc, writer, judged) {
+        Ok(()) => Ok(judged.verdict),
         Err(error) => Err(error),
     }
 }

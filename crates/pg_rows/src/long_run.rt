@@ -42,7 +42,7 @@ fn push_table(bytes: &mut Vec<u8>, number: u32) -> Result<(), AllocError> {
         1 => push_write(bytes, 0x2000, 0x3007),
         2 => push_write(bytes, 0x3000, 0x4007),
         _ => {
-            let page = u64::from(number % WRITES) - 3;
+            let page = u64::from(number).saturating_sub(3);
             push_write(bytes, 0x4000 + page * 8, 0x9007 + page * 0x1000)
         }
     }
