@@ -6,3 +6,5 @@ pub mod Pages
 pub mod Spaces
 pub mod Ranges
 pub mod Shadows
+pub mod Lookups
+pub mod Classified

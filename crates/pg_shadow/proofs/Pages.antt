@@ -11,7 +11,7 @@ use Rattle.pg_event.specs.Invalidation.{level_shift, bits_from}
 use Rattle.pg_event.specs.Walk.{below}
 use Rattle.pg_shadow.specs.declared.slot.Kept.{Kept}
 use Rattle.pg_shadow.specs.declared.page.Place.{Place}
-use Rattle.pg_shadow.specs.Slots.{with_kept, left_in}
+use Rattle.pg_shadow.specs.Slots.{no_slot, with_kept, left_in}
 use Rattle.pg_shadow.specs.Pages.{Sheet, no_place, no_page, page_in, place_in, place_of, page_four, page_three, page_two, page_one, page_at, empty_page, left_place, IsLeftPage, IsChild, IsTree}
 use Rattle.pg_shadow.specs.Spaces.{slot_in, path_in, is_slot, Keeps, IsSame, IsLeft, IsPageFor, IsAbove, HasPage}
 use Rattle.pg_shadow.proofs.Slots.{left_in-nothing}
@@ -592,3 +592,15 @@ left_place-nothing c e pcid global level n = λ i. record { slot = left_in-nothi
 
 pub IsLeftPage-nothing : (c : Control) (e : Event) (pcid : ℕ) (global : Bool) → IsLeftPage c e pcid global no_page no_page
 IsLeftPage-nothing c e pcid global = record { level = refl; prefix = refl; places = λ i. left_place-nothing c e pcid global Four (0 * 512 + i) }
+
+-- ---- numbers whose page is not there
+
+pub slot_in-missing : (pages : List Sheet) (level : Level) (number : ℕ) → page_at pages level (number / 512) ≡ None → slot_in pages level number ≡ no_slot
+unfolding slot_in
+slot_in-missing pages level number none = ap (λ o. (place_of pages o (number % 512)).slot) none
+
+pub slot_in-beyond : (pages : List Sheet) (level : Level) (number j : ℕ) → page_at pages level (number / 512) ≡ Some j → length pages ≤ j → slot_in pages level number ≡ no_slot
+unfolding slot_in
+slot_in-beyond pages level number j at beyond =
+    ap (λ o. (place_of pages o (number % 512)).slot) at
+    ∙ ap (λ (page : Sheet). (get_or page.places (number % 512) no_place).slot) (get_or_past pages j no_page beyond)

@@ -21,7 +21,7 @@ use Rattle.pg_shadow.specs.declared.slot.Slot.{Slot}
 use Rattle.pg_shadow.specs.declared.slot.Kept.TheVariants.{Table, Leaf}
 use Rattle.pg_shadow.specs.Caches.{Caches, empty, with_table, with_leaf, after, is_page_shift}
 use Rattle.pg_shadow.specs.Find.{chosen, found}
-use Rattle.pg_shadow.specs.Slots.{with_kept}
+use Rattle.pg_shadow.specs.Slots.{no_slot, with_kept}
 use Rattle.pg_shadow.specs.Pages.{Sheet}
 use Rattle.pg_shadow.specs.Spaces.{nothing, slot_in, leaf_in, path_in, is_slot, Keeps, IsSame, IsLeft}
 use Rattle.pg_shadow.specs.Held.{Held, space_of, seen, level_of, KeepsOwn, IsSameOwn, IsLeftOwn}
@@ -69,7 +69,7 @@ leaf_in-nothing shift n =
     (λ _. cond_both (nat_eq shift 30) (translations nothing n Three) None P (λ _. at Three) (λ _. refl)))
 
 -- what holds of each size of a page
-page_cases : (P : ℕ → Type 0) (shift : ℕ) → is_page_shift shift ≡ true → P 12 → P 21 → P 30 → P shift
+pub page_cases : (P : ℕ → Type 0) (shift : ℕ) → is_page_shift shift ≡ true → P 12 → P 21 → P 30 → P shift
 page_cases P shift page small large giant =
     elim (cases_Bool (nat_eq shift 12)) [
       | inl e ↦ subst P (sym (eqb-true shift 12 e)) small
@@ -234,6 +234,25 @@ seen-same_globals h globals same = λ i. record {
   tables = (seen h).tables;
   leaves = λ k. same_global_leaf h globals same k.global k.pcid k.shift k.number i;
 }
+
+-- ---- keys that have nothing
+
+leaf_in-none : (s : List Sheet) (shift n : ℕ) → is_page_shift shift ≡ true → slot_in s (level_of shift) n ≡ no_slot → leaf_in s shift n ≡ None
+leaf_in-none s shift n page = page_cases (λ t. slot_in s (level_of t) n ≡ no_slot → leaf_in s t n ≡ None) shift page (λ h. ap translation_of h) (λ h. ap translation_of h) (λ h. ap translation_of h)
+
+pub no_table : (h : Held) (pcid : ℕ) (level : Level) (n : ℕ) → slot_in (space_of h.own pcid) level n ≡ no_slot → (seen h).tables (record { pcid = pcid; level = level; prefix = n }) ≡ None
+unfolding seen
+no_table h pcid level n none = ap structure_of none
+
+pub no_own_leaf : (h : Held) (pcid shift n : ℕ) → is_page_shift shift ≡ true → slot_in (space_of h.own pcid) (level_of shift) n ≡ no_slot
+    → (seen h).leaves (record { pcid = pcid; shift = shift; number = n; global = false }) ≡ None
+unfolding seen
+no_own_leaf h pcid shift n page none = leaf_in-none (space_of h.own pcid) shift n page none
+
+pub no_global_leaf : (h : Held) (pcid shift n : ℕ) → is_page_shift shift ≡ true → slot_in h.globals (level_of shift) n ≡ no_slot
+    → (seen h).leaves (record { pcid = pcid; shift = shift; number = n; global = true }) ≡ None
+unfolding seen
+no_global_leaf h pcid shift n page none = leaf_in-none h.globals shift n page none
 
 -- ---- what an event leaves
 

@@ -4,3 +4,4 @@ pub mod Slots
 pub mod Pages
 pub mod Spaces
 pub mod Held
+pub mod Laws

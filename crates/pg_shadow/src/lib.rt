@@ -3,6 +3,7 @@
 #![tactic(auto)]
 
 mod entries;
+mod law;
 mod lookup;
 mod page;
 mod shadow;
@@ -12,4 +13,5 @@ mod space;
 mod tests;
 
 pub use entries::{Found, KeptLeaf, KeptTable};
+pub use law::entries_may_be_kept;
 pub use shadow::Shadow;

@@ -108,7 +108,7 @@ impl Page {
     pub fn read(&self, index: usize, probes: &mut Probes) -> Place
         requires { index < 512 }
         ensures value { result ≡ slice_index_or self.now.places index no_place }
-        ensures probes { probes.new ≤ probes.old + 1 }
+        ensures probes { (probes.old ≤ probes.new) × (probes.new ≤ probes.old + 1) }
     {
         probes.tick();
         self.places[index]

@@ -2,8 +2,10 @@ ghost use Rattle.std.specs.Prelude.{◌≡◌, ◌+◌, ◌-◌, ◌*◌, ◌/�
 ghost use Rattle.std.specs.Prelude.{OnOk, OnErr, length, slice_index_or, Some, None};
 ghost use Rattle.pg_entry.specs.declared.Level.TheVariants as levels;
 ghost use Rattle.pg_event.specs.Invalidation.{level_shift};
-ghost use Rattle.pg_shadow.specs.Pages.{place_of, no_page, IsLeftPage};
-ghost use Rattle.pg_shadow.specs.Spaces.{path_in, Keeps, IsSame, IsLeft, nothing, IsAbove, HasPage};
+ghost use Rattle.pg_shadow.specs.Pages.{place_of, page_at, no_page, IsLeftPage};
+ghost use Rattle.pg_shadow.specs.Spaces.{slot_in, path_in, Keeps, IsSame, IsLeft, nothing};
+ghost use Rattle.pg_shadow.specs.Spaces.{IsAbove, HasPage};
+ghost use Rattle.pg_shadow.specs.Slots.{no_slot};
 
 use crate::page::{Page, Place};
 use crate::slot::{Kept, Path};
@@ -65,7 +67,7 @@ impl Space {
     /// What stands in a page for a number of its level.
     fn read(&self, page: Option<usize>, number: u64, probes: &mut Probes) -> Place
         ensures value { result ≡ place_of self.now page (number % 512) }
-        ensures probes { probes.new ≤ probes.old + 1 }
+        ensures probes { (probes.old ≤ probes.new) × (probes.new ≤ probes.old + 1) }
     {
         match page {
             Some(j) => match self.pages.get(j) {
@@ -79,7 +81,7 @@ impl Space {
     /// The slots that a walk for a linear address meets.
     pub fn path(&self, la: u64, probes: &mut Probes) -> Path
         ensures value { result ≡ path_in self.now la }
-        ensures probes { probes.new ≤ probes.old + 4 }
+        ensures probes { (probes.old ≤ probes.new) × (probes.new ≤ probes.old + 4) }
     {
         let four = self.read(Some(0), bits_from(39, la), probes);
         let three = self.read(four.below, bits_from(30, la), probes);
@@ -158,13 +160,60 @@ impl Space {
         }
     }
 
-    /// Keeps an entry in a slot. Fails where memory is refused, and then nothing is kept.
+    /// The page that holds a number of a level, if it was made; at level 4 page 0 all the same.
+    fn page_of(&self, level: Level, number: u64) -> Option<usize>
+        requires { number < 2 ^ (48 - level_shift level) }
+        ensures { result ≡ page_at self.now level (number / 512) }
+    {
+        match level {
+            Level::Four => Some(0),
+            Level::Three => self.below(Some(0), number / 512),
+            Level::Two => {
+                let three = self.below(Some(0), number / 512 / 512);
+                self.below(three, number / 512)
+            }
+            Level::One => {
+                let three = self.below(Some(0), number / 512 / 512 / 512);
+                let two = self.below(three, number / 512 / 512);
+                self.below(two, number / 512)
+            }
+        }
+    }
+
+    /// The page that is reached through a page for a number of its level.
+    fn below(&self, page: Option<usize>, number: u64) -> Option<usize>
+        ensures { result ≡ (place_of self.now page (number % 512)).below }
+    {
+        self.read(page, number, &mut Probes::new()).below
+    }
+
+    /// The page that holds a number of a level. Takes memory only where it was not made.
+    fn page_to_keep(&mut self, level: Level, number: u64) -> Result<usize, AllocError>
+        requires { number < 2 ^ (48 - level_shift level) }
+        ensures page { HasPage self.old self.new level (number / 512) result }
+        ensures refused { OnErr result (slot_in self.old level number ≡ no_slot) }
+    {
+        match self.page_of(level, number) {
+            None => self.page_for(level, number),
+            Some(j) => {
+                if j < self.pages.len() {
+                    Ok(j)
+                } else {
+                    self.page_for(level, number)
+                }
+            }
+        }
+    }
+
+    /// Keeps an entry in a slot. Fails where memory is refused, and then nothing is kept; none is
+    /// taken where the slot has an entry.
     pub fn keep(&mut self, level: Level, number: u64, kept: &Kept) -> Result<(), AllocError>
         requires { number < 2 ^ (48 - level_shift level) }
         ensures ok { OnOk result (Keeps self.old self.new level number kept.now) }
+        ensures refused { OnErr result (slot_in self.old level number ≡ no_slot) }
         ensures err { OnErr result (IsSame self.old self.new) }
     {
-        let j = self.page_for(level, number)?;
+        let j = self.page_to_keep(level, number)?;
         let page = &mut self.pages[j];
         page.keep(index_of(number), kept);
         Ok(())
