@@ -6,6 +6,7 @@ mod entries;
 mod law;
 mod lookup;
 mod page;
+mod scope;
 mod shadow;
 mod slot;
 mod space;

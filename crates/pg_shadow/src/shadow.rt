@@ -1,5 +1,5 @@
 ghost use Rattle.std.specs.Prelude.{◌≡◌, ◌+◌, ◌-◌, ◌^◌, ◌<◌, ◌≤◌, ◌&&◌, ℕ, List, length};
-ghost use Rattle.std.specs.Prelude.{slice_get, OnOk, OnErr, None};
+ghost use Rattle.std.specs.Prelude.{slice_get, OnOk, OnErr, None, if◌then◌else◌};
 ghost use Rattle.pg_entry.specs.declared.Level.{Level};
 ghost use Rattle.pg_event.specs.declared.event.Event.TheVariants as events;
 ghost use Rattle.pg_event.specs.declared.event.Outcome.TheVariants as outcomes;
@@ -12,11 +12,14 @@ ghost use Rattle.pg_shadow.specs.Caches.{empty, with_table, with_leaf, after, Ar
 ghost use Rattle.pg_shadow.specs.Caches.{IsTableAt, IsPageAt, is_page_shift};
 ghost use Rattle.pg_shadow.specs.Find.{found, IsFound, IsInRange};
 ghost use Rattle.pg_shadow.specs.Spaces.{slot_in, path_in};
-ghost use Rattle.pg_shadow.specs.Slots.{no_slot};
+ghost use Rattle.pg_shadow.specs.Slots.{no_slot, bare};
+ghost use Rattle.pg_shadow.specs.Scopes.{is_on_path};
 ghost use Rattle.pg_shadow.specs.Held.{seen, space_of, level_of, KeepsOwn, IsSameOwn, IsLeftOwn};
+ghost use Rattle.pg_shadow.specs.Held.{IsLeftGlobals, IsChangedOwn};
 
 use crate::entries::{Found, KeptLeaf, KeptTable};
 use crate::lookup::chosen;
+use crate::scope::{Scope, scope_of};
 use crate::slot::{Kept, Path};
 use crate::space::Space;
 use pg_entry::{AccessKind, Level};
@@ -117,14 +120,72 @@ fn keep_own(
     }
 }
 
+/// Gives up what stands under a PCID on the path of a linear address.
+fn forget_own(own: &mut HashMap<u16, Space>, pcid: u16, la: u64)
+    ensures { IsChangedOwn (λ l n s. if is_on_path l n la then no_slot else s) pcid
+        own.old.entries own.new.entries }
+{
+    match own.get_mut(&pcid) {
+        Some(space) => space.forget(la),
+        None => {}
+    }
+}
+
+/// Gives up all tables under a PCID.
+fn bare_own(own: &mut HashMap<u16, Space>, pcid: u16)
+    ensures { IsChangedOwn (λ l n s. bare s) pcid own.old.entries own.new.entries }
+{
+    match own.get_mut(&pcid) {
+        Some(space) => space.bare(),
+        None => {}
+    }
+}
+
+/// Gives up all that stands under a PCID, and its memory.
+fn remove_own(own: &mut HashMap<u16, Space>, pcid: u16)
+    ensures { IsChangedOwn (λ l n s. no_slot) pcid own.old.entries own.new.entries }
+{
+    let _ = own.remove(&pcid);
+}
+
 /// Takes out under each PCID what an event must drop.
 fn leave_own(own: &mut HashMap<u16, Space>, control: Control, event: &Event)
     ensures { IsLeftOwn control event.now own.old.entries own.new.entries }
 {
-    own.retain(|pcid, space| {
-        space.leave(control, event, *pcid, false);
-        true
-    });
+    match scope_of(control, event) {
+        Scope::Nowhere => {}
+        Scope::Path { pcid, la, .. } => forget_own(own, pcid, la),
+        Scope::Tables { pcid, la } => {
+            bare_own(own, pcid);
+            forget_own(own, pcid, la);
+        }
+        Scope::Pcid(pcid) => remove_own(own, pcid),
+        Scope::Everywhere { .. } => own.clear(),
+    }
+}
+
+/// Takes out the global translations that an event must drop.
+fn leave_globals(globals: &mut Space, control: Control, event: &Event)
+    ensures { IsLeftGlobals control event.now globals.old globals.new }
+{
+    match scope_of(control, event) {
+        Scope::Nowhere | Scope::Pcid(_) => {}
+        Scope::Path {
+            la,
+            globals: takes,
+            ..
+        } => {
+            if takes {
+                globals.forget(la);
+            }
+        }
+        Scope::Tables { la, .. } => globals.forget(la),
+        Scope::Everywhere { globals: takes } => {
+            if takes {
+                globals.clear();
+            }
+        }
+    }
 }
 
 impl Shadow {
@@ -263,15 +324,15 @@ impl Shadow {
         }
     }
 
-    /// An event of the processor itself, whatever number it has there: takes out what the event must
-    /// drop, under the control registers before it, which it then changes. An event that drops
-    /// nothing and changes no register does nothing here.
+    /// An event of the processor itself, whatever number it has there: takes out what it must drop,
+    /// under the control registers before it, which it then changes. An event that drops nothing
+    /// and changes no register does nothing here. Takes no memory.
     pub fn happened(&mut self, event: &Event)
         ensures { seen self.new ≡ after event.now (seen self.old) }
     {
         let control = self.control;
         leave_own(&mut self.own, control, event);
-        self.globals.leave(control, event, 0, true);
+        leave_globals(&mut self.globals, control, event);
         self.control = controlled(self.m, processor_of(event), control, event);
     }
 

@@ -2,15 +2,16 @@ ghost use Rattle.std.specs.Prelude.{◌≡◌, ◌+◌, ◌-◌, ◌*◌, ◌/�
 ghost use Rattle.std.specs.Prelude.{OnOk, OnErr, length, slice_index_or, Some, None};
 ghost use Rattle.pg_entry.specs.declared.Level.TheVariants as levels;
 ghost use Rattle.pg_event.specs.Invalidation.{level_shift};
-ghost use Rattle.pg_shadow.specs.Pages.{place_of, page_at, no_page, IsLeftPage};
-ghost use Rattle.pg_shadow.specs.Spaces.{slot_in, path_in, Keeps, IsSame, IsLeft, nothing};
-ghost use Rattle.pg_shadow.specs.Spaces.{IsAbove, HasPage};
+ghost use Rattle.pg_shadow.specs.declared.slot.Kept.TheVariants.{Neither};
+ghost use Rattle.pg_shadow.specs.Pages.{place_of, page_at, no_page, IsBarePage};
+ghost use Rattle.pg_shadow.specs.Spaces.{slot_in, path_in, Keeps, IsSame, IsForgotten};
+ghost use Rattle.pg_shadow.specs.Spaces.{IsBared, nothing, IsAbove, HasPage};
 ghost use Rattle.pg_shadow.specs.Slots.{no_slot};
 
 use crate::page::{Page, Place};
 use crate::slot::{Kept, Path};
 use pg_entry::Level;
-use pg_event::{Control, Event, bits_from};
+use pg_event::bits_from;
 use pg_timeline::Probes;
 use std::alloc::{AllocError, Global};
 use std::marker::Model;
@@ -34,14 +35,14 @@ impl Model for Space {
     ghost invariant = { λ a. IsTree a.pages.items };
 }
 
-/// Takes out of pages what an event must drop.
-fn leave_pages(pages: &mut [Page], control: Control, event: &Event, pcid: u16, global: bool)
-    ensures { (j : ℕ) → IsLeftPage control event.now pcid global
+/// Gives up the tables of pages.
+fn bare_pages(pages: &mut [Page])
+    ensures { (j : ℕ) → IsBarePage
         (slice_index_or pages.old j no_page) (slice_index_or pages.new j no_page) }
 {
     for j in 0..pages.len() {
         let page = &mut pages[j];
-        page.leave(control, event, pcid, global);
+        page.bare();
     }
 }
 
@@ -219,10 +220,43 @@ impl Space {
         Ok(())
     }
 
-    /// Takes out what an event must drop.
-    pub fn leave(&mut self, control: Control, event: &Event, pcid: u16, global: bool)
-        ensures { IsLeft control event.now pcid global self.old self.new }
+    /// Empties a slot.
+    fn empty(&mut self, level: Level, number: u64)
+        requires { number < 2 ^ (48 - level_shift level) }
+        ensures { Keeps self.old self.new level number Neither }
     {
-        leave_pages(&mut self.pages, control, event, pcid, global);
+        match self.page_of(level, number) {
+            None => {}
+            Some(j) => {
+                if j < self.pages.len() {
+                    let page = &mut self.pages[j];
+                    page.keep(index_of(number), &Kept::Neither);
+                }
+            }
+        }
+    }
+
+    /// Gives up what stands on the path of a linear address.
+    pub fn forget(&mut self, la: u64)
+        ensures { IsForgotten la self.old self.new }
+    {
+        self.empty(Level::Four, bits_from(39, la));
+        self.empty(Level::Three, bits_from(30, la));
+        self.empty(Level::Two, bits_from(21, la));
+        self.empty(Level::One, bits_from(12, la));
+    }
+
+    /// Gives up all tables.
+    pub fn bare(&mut self)
+        ensures { IsBared self.old self.new }
+    {
+        bare_pages(&mut self.pages);
+    }
+
+    /// Gives up everything, and its memory.
+    pub fn clear(&mut self)
+        ensures { self.new ≡ nothing }
+    {
+        self.pages = Vec::new(self.alloc);
     }
 }

@@ -1,5 +1,5 @@
-//! Fields of events are within the widths that they have in a record. Each function does nothing: its
-//! contract is the fact.
+//! Fields of events are within the widths that they have in a record. Each function does nothing:
+//! its contract is the fact.
 
 ghost use Rattle.std.specs.Prelude.{◌<◌, ◌^◌};
 ghost use Rattle.std.specs.List.{AllByRecursion};

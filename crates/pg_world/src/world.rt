@@ -292,9 +292,8 @@ impl World {
         self.memory.word(addr)
     }
 
-    /// A copy of the next sealed segment that was not yet given out, if there is one; where there is
-    /// none, no memory is taken. Fails where memory is refused, and then the same segment is the
-    /// next.
+    /// A copy of the next sealed segment that was not yet given out, if there is one; else no
+    /// memory is taken. Fails where memory is refused, and then the same segment is the next.
     pub fn take_sealed(&mut self, alloc: Global) -> Result<Option<Vec<Event>>, AllocError>
         ensures none { IfOk result
             (λ taken. IsNone taken ↔ (self.old.taken ≡ sealed_count self.old)) }
