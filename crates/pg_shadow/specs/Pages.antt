@@ -1,5 +1,5 @@
 -- A tree of pages: each slot of a page may lead to a page of the level below.
-use Rattle.std.specs.Prelude.{◌≡◌, ℕ, ◌+◌, ◌*◌, ◌/◌, ◌%◌, ◌^◌, ◌<◌, ◌==◌, List, []}
+use Rattle.std.specs.Prelude.{◌≡◌, ℕ, ◌+◌, ◌*◌, ◌/◌, ◌%◌, ◌^◌, ◌<◌, ◌≤◌, ◌==◌, List, []}
 use Rattle.std.specs.Prelude.{if◌then◌else◌, length, slice_index_or, replicate, Option, Some, None}
 use Rattle.pg_entry.specs.declared.Level.{Level}
 use Rattle.pg_entry.specs.declared.Level.TheVariants.{Four, Three, Two, One}
@@ -13,13 +13,20 @@ pub record Sheet : Type 0 where
   pub prefix : ℕ
   pub places : List Place
 
--- a page has 512 places, and its numbers are in their range
-pub record IsPage (prefix : ℕ) (places : List Place) : Type 0 where
-  pub low : prefix < 2 ^ 40
-  pub full : length places ≡ 512
-
 abbrev pub no_place : Place
 no_place = record { slot = no_slot; below = None }
+
+-- there is no table at a place
+abbrev pub HasNone : List Place → ℕ → Type 0
+HasNone places i = (slice_index_or places i no_place).slot.structure ≡ None
+
+-- a page has 512 places, of which those from one on and below another may have tables
+pub record IsPage (prefix first end : ℕ) (places : List Place) : Type 0 where
+  pub low : prefix < 2 ^ 40
+  pub full : length places ≡ 512
+  pub within : end ≤ 512
+  pub below : (i : ℕ) → i < first → HasNone places i
+  pub above : (i : ℕ) → end ≤ i → HasNone places i
 
 abbrev pub no_page : Sheet
 no_page = record { level = Four; prefix = 0; places = [] }
@@ -62,10 +69,6 @@ page_at pages One prefix = page_one pages prefix
 -- a place without its table
 abbrev pub bare_place : Place → Place
 bare_place p = record p { slot = bare p.slot }
-
--- no place of a page has a table
-pub record IsBare (places : List Place) : Type 0 where
-  pub at : (i : ℕ) → (slice_index_or places i no_place).slot.structure ≡ None
 
 -- a page without its tables
 pub record IsBarePage (old new : Sheet) : Type 0 where

@@ -33,6 +33,9 @@ pub(crate) struct Page {
     /// The bits above the level.
     prefix: u64,
     places: Vec<Place>,
+    /// Tables stand from this index on, and below the other, alone.
+    first: usize,
+    end: usize,
 }
 
 impl Model for Page {
@@ -46,15 +49,20 @@ impl Model for Page {
       places = a.places.items;
     } };
 
-    ghost invariant = { λ a. IsPage a.prefix a.places.items };
+    ghost invariant = { λ a. IsPage a.prefix a.first a.end a.places.items };
 }
 
-/// Gives up the tables of places.
-fn bare_places(places: &mut [Place])
-    ensures { (i : ℕ) → slice_index_or places.new i no_place
+/// Gives up the tables of the places from an index on and below another.
+fn bare_places(places: &mut [Place], from: usize, to: usize)
+    requires { to ≤ length places.old }
+    ensures inside { (i : ℕ) → from ≤ i → i < to → slice_index_or places.new i no_place
         ≡ bare_place (slice_index_or places.old i no_place) }
+    ensures below { (i : ℕ) → i < from →
+        slice_index_or places.new i no_place ≡ slice_index_or places.old i no_place }
+    ensures above { (i : ℕ) → to ≤ i →
+        slice_index_or places.new i no_place ≡ slice_index_or places.old i no_place }
 {
-    for i in 0..places.len() {
+    for i in from..to {
         let place = &mut places[i];
         place.slot.bare();
     }
@@ -72,6 +80,8 @@ impl Page {
             level,
             prefix,
             places,
+            first: SLOTS,
+            end: 0,
         })
     }
 
@@ -95,6 +105,10 @@ impl Page {
                   (record place { slot = with_kept kept.now place.slot });
             } }
     {
+        if let Kept::Table(_) = kept {
+            self.first = self.first.min(index);
+            self.end = self.end.max(index + 1);
+        }
         let place = &mut self.places[index];
         place.slot.keep(kept);
     }
@@ -117,6 +131,8 @@ impl Page {
     pub fn bare(&mut self)
         ensures { IsBarePage self.old self.new }
     {
-        bare_places(&mut self.places);
+        bare_places(&mut self.places, self.first, self.end);
+        self.first = SLOTS;
+        self.end = 0;
     }
 }
