@@ -1,8 +1,10 @@
 pub mod Results
 pub mod Levels
-pub mod Retained
 pub mod Slots
 pub mod Pages
 pub mod Spaces
 pub mod Ranges
+pub mod Scopes
 pub mod Shadows
+pub mod Lookups
+pub mod Classified

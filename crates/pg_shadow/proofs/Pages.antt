@@ -5,17 +5,17 @@ use Rattle.std.proofs.lemmas.List.{get_or-set_other, get_or_default, get_or_past
 use Rattle.std.proofs.lemmas.Grind.{get_or-set_at}
 use Rattle.pg_entry.specs.declared.Level.{Level}
 use Rattle.pg_entry.specs.declared.Level.TheVariants.{Four, Three, Two, One}
-use Rattle.pg_event.specs.declared.event.Event.{Event}
-use Rattle.pg_event.specs.declared.control.Control.{Control}
 use Rattle.pg_event.specs.Invalidation.{level_shift, bits_from}
 use Rattle.pg_event.specs.Walk.{below}
 use Rattle.pg_shadow.specs.declared.slot.Kept.{Kept}
+use Rattle.pg_shadow.specs.declared.slot.Kept.TheVariants.{Neither}
+use Rattle.pg_shadow.specs.declared.slot.Slot.{Slot}
 use Rattle.pg_shadow.specs.declared.page.Place.{Place}
-use Rattle.pg_shadow.specs.Slots.{with_kept, left_in}
-use Rattle.pg_shadow.specs.Pages.{Sheet, no_place, no_page, page_in, place_in, place_of, page_four, page_three, page_two, page_one, page_at, empty_page, left_place, IsLeftPage, IsChild, IsTree}
-use Rattle.pg_shadow.specs.Spaces.{slot_in, path_in, is_slot, Keeps, IsSame, IsLeft, IsPageFor, IsAbove, HasPage}
-use Rattle.pg_shadow.proofs.Slots.{left_in-nothing}
-use Rattle.pg_shadow.proofs.Levels.{level_same}
+use Rattle.pg_shadow.specs.Slots.{no_slot, with_kept, bare}
+use Rattle.pg_shadow.specs.Pages.{Sheet, no_place, no_page, page_in, place_in, place_of, page_four, page_three, page_two, page_one, page_at, empty_page, IsBarePage, IsChild, IsTree}
+use Rattle.pg_shadow.specs.Scopes.{is_on_path}
+use Rattle.pg_shadow.specs.Spaces.{slot_in, path_in, is_slot, Keeps, IsSame, IsBared, IsForgotten, IsPageFor, IsAbove, HasPage}
+use Rattle.pg_shadow.proofs.Levels.{level_same, nat_eq-comm}
 
 -- ---- each page found stands where it says
 
@@ -250,35 +250,29 @@ Keeps-kept first pages level number j page kept same tree at r =
     let keeps = Keeps-placed pages (set pages j (kept_in page (number % 512) kept)) level number j kept tree at (kept_in-placed pages j (number % 512) page kept r) in
     record { at = λ l n. keeps.at l n ∙ ap (λ s. cond (is_slot level number l n) (with_kept kept s) s) (same.at l n) }
 
--- ---- what an event leaves of all pages
+-- ---- all pages without their tables
 
-left_page : (c : Control) (e : Event) (pcid : ℕ) (global : Bool) (old new : List Sheet) → ((j : ℕ) → IsLeftPage c e pcid global (page_in old j) (page_in new j)) → length new ≡ length old → SameTree old new
-left_page c e pcid global old new left count = record {
+bare_pages : (old new : List Sheet) → ((j : ℕ) → IsBarePage (page_in old j) (page_in new j)) → length new ≡ length old → SameTree old new
+bare_pages old new bared count = record {
   count = count;
-  levels = λ k. (left k).level;
-  prefixes = λ k. (left k).prefix;
-  links = λ k n. ap (λ (p : Place). p.below) ((left k).places n);
+  levels = λ k. (bared k).level;
+  prefixes = λ k. (bared k).prefix;
+  links = λ k n. ap (λ (p : Place). p.below) ((bared k).places n);
 }
 
-pub IsTree-left : (c : Control) (e : Event) (pcid : ℕ) (global : Bool) (old new : List Sheet) → ((j : ℕ) → IsLeftPage c e pcid global (page_in old j) (page_in new j)) → length new ≡ length old → IsTree old → IsTree new
-IsTree-left c e pcid global old new left count tree = IsTree-same old new (left_page c e pcid global old new left count) tree
+pub IsTree-bare : (old new : List Sheet) → ((j : ℕ) → IsBarePage (page_in old j) (page_in new j)) → length new ≡ length old → IsTree old → IsTree new
+IsTree-bare old new bared count tree = IsTree-same old new (bare_pages old new bared count) tree
 
-left_slot : (c : Control) (e : Event) (pcid : ℕ) (global : Bool) (old new : List Sheet) (l : Level) (x i : ℕ) (o : Option ℕ) → ((j : ℕ) → IsLeftPage c e pcid global (page_in old j) (page_in new j)) → ((j : ℕ) → o ≡ Some j → IsNamed old l x j) → (place_of new o i).slot ≡ left_in c e pcid global l (x * 512 + i) (place_of old o i).slot
-left_slot c e pcid global old new l x i None left names = left_in-nothing c e pcid global l (x * 512 + i)
-left_slot c e pcid global old new l x i (Some j) left names =
-    let name = names j refl in
-    ap (λ (p : Place). p.slot) ((left j).places i)
-    ∙ ap (λ m. left_in c e pcid global m ((page_in old j).prefix * 512 + i) (place_in old j i).slot) name.level_is
-    ∙ ap (λ y. left_in c e pcid global l (y * 512 + i) (place_in old j i).slot) name.prefix_is
+bare_slot : (old new : List Sheet) (i : ℕ) (o : Option ℕ) → ((j : ℕ) → IsBarePage (page_in old j) (page_in new j)) → (place_of new o i).slot ≡ bare (place_of old o i).slot
+bare_slot old new i None bared = refl
+bare_slot old new i (Some j) bared = ap (λ (p : Place). p.slot) ((bared j).places i)
 
-pub IsLeft-pages : (c : Control) (e : Event) (pcid : ℕ) (global : Bool) (old new : List Sheet) → ((j : ℕ) → IsLeftPage c e pcid global (page_in old j) (page_in new j)) → length new ≡ length old → IsTree old → IsLeft c e pcid global old new
+pub IsBared-pages : (old new : List Sheet) → ((j : ℕ) → IsBarePage (page_in old j) (page_in new j)) → length new ≡ length old → IsTree old → IsBared old new
 unfolding slot_in
-IsLeft-pages c e pcid global old new left count tree = record {
+IsBared-pages old new bared count tree = record {
   at = λ l n.
-      let whole : n / 512 * 512 + n % 512 ≡ n = omega arith in
-      ap (λ o. (place_of new o (n % 512)).slot) (page_at-same old new l (n / 512) (left_page c e pcid global old new left count))
-      ∙ left_slot c e pcid global old new l (n / 512) (n % 512) (page_at old l (n / 512)) left (λ j h. named old l (n / 512) j tree h)
-      ∙ ap (λ m. left_in c e pcid global l m (place_of old (page_at old l (n / 512)) (n % 512)).slot) whole;
+      ap (λ o. (place_of new o (n % 512)).slot) (page_at-same old new l (n / 512) (bare_pages old new bared count))
+      ∙ bare_slot old new (n % 512) (page_at old l (n / 512)) bared;
 }
 
 -- ---- one page more
@@ -585,10 +579,48 @@ path_in-walk pages la four three two one a b c d =
     let place_one : place_of pages (page_one pages (bits_from 12 la / 512)) (bits_from 12 la % 512) ≡ one = ap (λ o. place_of pages o (bits_from 12 la % 512)) at_one ∙ sym d in
     λ i. record { four = (sym place_four i).slot; three = (sym place_three i).slot; two = (sym place_two i).slot; one = (sym place_one i).slot }
 
--- ---- nothing is left of no page
+-- ---- no page has a table
 
-pub left_place-nothing : (c : Control) (e : Event) (pcid : ℕ) (global : Bool) (level : Level) (n : ℕ) → no_place ≡ left_place c e pcid global level n no_place
-left_place-nothing c e pcid global level n = λ i. record { slot = left_in-nothing c e pcid global level n i; below = None }
+pub IsBarePage-nothing : IsBarePage no_page no_page
+IsBarePage-nothing = record { level = refl; prefix = refl; places = λ i. refl }
 
-pub IsLeftPage-nothing : (c : Control) (e : Event) (pcid : ℕ) (global : Bool) → IsLeftPage c e pcid global no_page no_page
-IsLeftPage-nothing c e pcid global = record { level = refl; prefix = refl; places = λ i. left_place-nothing c e pcid global Four (0 * 512 + i) }
+-- ---- numbers whose page is not there
+
+pub slot_in-missing : (pages : List Sheet) (level : Level) (number : ℕ) → page_at pages level (number / 512) ≡ None → slot_in pages level number ≡ no_slot
+unfolding slot_in
+slot_in-missing pages level number none = ap (λ o. (place_of pages o (number % 512)).slot) none
+
+pub slot_in-beyond : (pages : List Sheet) (level : Level) (number j : ℕ) → page_at pages level (number / 512) ≡ Some j → length pages ≤ j → slot_in pages level number ≡ no_slot
+unfolding slot_in
+slot_in-beyond pages level number j at beyond =
+    ap (λ o. (place_of pages o (number % 512)).slot) at
+    ∙ ap (λ (page : Sheet). (get_or page.places (number % 512) no_place).slot) (get_or_past pages j no_page beyond)
+
+-- ---- slots emptied
+
+emptied : (b : Bool) (s : Slot) → (b ≡ true → s ≡ no_slot) → s ≡ cond b no_slot s
+emptied true s h = h refl
+emptied false s h = refl
+
+-- a slot that is empty stays so
+pub Keeps-empty : (pages : List Sheet) (level : Level) (number : ℕ) → slot_in pages level number ≡ no_slot → Keeps pages pages level number Neither
+Keeps-empty pages level number none = record {
+  at = λ l n.
+      emptied (is_slot level number l n) (slot_in pages l n)
+      (λ same.
+      let parts = and_parts (nat_eq (level_shift level) (level_shift l)) (nat_eq number n) same in
+      let levels : level ≡ l = level_same level l (eqb-true (level_shift level) (level_shift l) parts.0) in
+      sym (ap (λ m. slot_in pages m number) levels ∙ ap (slot_in pages l) (eqb-true number n parts.1)) ∙ none);
+}
+
+-- the slots on the path of an address are emptied one after another
+pub IsForgotten-steps : (la : ℕ) (a b c d e : List Sheet) → Keeps a b Four (bits_from 39 la) Neither → Keeps b c Three (bits_from 30 la) Neither
+    → Keeps c d Two (bits_from 21 la) Neither → Keeps d e One (bits_from 12 la) Neither → IsForgotten la a e
+IsForgotten-steps la a b c d e four three two one = record {
+  at = λ l. elim l as (λ l. (n : ℕ) → slot_in e l n ≡ cond (is_on_path l n la) no_slot (slot_in a l n)) [
+    | Four ↦ λ n. one.at Four n ∙ two.at Four n ∙ three.at Four n ∙ four.at Four n ∙ ap (λ t. cond t no_slot (slot_in a Four n)) (nat_eq-comm (bits_from 39 la) n)
+    | Three ↦ λ n. one.at Three n ∙ two.at Three n ∙ three.at Three n ∙ ap (λ s. cond (nat_eq (bits_from 30 la) n) no_slot s) (four.at Three n) ∙ ap (λ t. cond t no_slot (slot_in a Three n)) (nat_eq-comm (bits_from 30 la) n)
+    | Two ↦ λ n. one.at Two n ∙ two.at Two n ∙ ap (λ s. cond (nat_eq (bits_from 21 la) n) no_slot s) (three.at Two n ∙ four.at Two n) ∙ ap (λ t. cond t no_slot (slot_in a Two n)) (nat_eq-comm (bits_from 21 la) n)
+    | One ↦ λ n. one.at One n ∙ ap (λ s. cond (nat_eq (bits_from 12 la) n) no_slot s) (two.at One n ∙ three.at One n ∙ four.at One n) ∙ ap (λ t. cond t no_slot (slot_in a One n)) (nat_eq-comm (bits_from 12 la) n)
+  ];
+}

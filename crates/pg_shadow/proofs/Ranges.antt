@@ -5,6 +5,7 @@ use Rattle.std.proofs.lemmas.Bool.{eqb-true, cond_both, and_parts}
 use Rattle.std.proofs.lemmas.Nat.{shl_below, mod_below, pow_pos}
 use Rattle.std.proofs.Math.Nat.{mul-mod_left}
 use Rattle.pg_entry.specs.declared.AccessKind.{AccessKind}
+use Rattle.pg_entry.specs.Bits.{field}
 use Rattle.pg_entry.specs.declared.Level.{Level}
 use Rattle.pg_entry.specs.declared.Level.TheVariants.{Four, Three, Two}
 use Rattle.pg_event.specs.declared.event.Event.{Event}
@@ -26,13 +27,17 @@ use Rattle.pg_shadow.specs.Find.{is_usable, leaf_or, page_or, table_or, structur
 
 -- ---- control registers
 
+-- the bits of a word from a shift up to MAXPHYADDR are the address of a block
+pub field-block : (m word shift : ℕ) → shift ≤ m → IsBlock m shift (field word shift m)
+field-block m word shift low =
+    let bits : ℕ = word / 2 ^ shift % 2 ^ (m - shift) in
+    let few : bits < 2 ^ (m - shift) = mod_below (word / 2 ^ shift) (2 ^ (m - shift)) (pow_pos (m - shift)) in
+    let sum : (m - shift) + shift ≡ m = omega arith in
+    let P : ℕ → Type 0 = λ n. bits * 2 ^ shift < 2 ^ n in
+    record { below = subst P sum (shl_below bits (m - shift) shift few); aligned = mul-mod_left bits (2 ^ shift) }
+
 loaded-block : (m cr3 : ℕ) (pge : Bool) → 12 ≤ m → IsBlock m 12 (loaded m cr3 pge).root
-loaded-block m cr3 pge low =
-    let bits : ℕ = cr3 / 2 ^ 12 % 2 ^ (m - 12) in
-    let few : bits < 2 ^ (m - 12) = mod_below (cr3 / 2 ^ 12) (2 ^ (m - 12)) (pow_pos (m - 12)) in
-    let sum : (m - 12) + 12 ≡ m = omega arith in
-    let P : ℕ → Type 0 = λ n. bits * 2 ^ 12 < 2 ^ n in
-    record { below = subst P sum (shl_below bits (m - 12) 12 few); aligned = mul-mod_left bits (2 ^ 12) }
+loaded-block m cr3 pge low = field-block m cr3 12 low
 
 pub started-block : (m : ℕ) (start : Option (ℕ × Bool)) → 12 ≤ m → IsBlock m 12 (started m start).root
 started-block m None low = record { below = pow_pos m; aligned = refl }

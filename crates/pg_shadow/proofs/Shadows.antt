@@ -1,30 +1,28 @@
 -- What a shadow is seen as, and how that changes with what is kept.
 use Rattle.std.proofs.Common.{◌≡◌, ℕ, Bool, true, false, nat_eq, not, ◌&&◌, ◌||◌, cond, List, [], Option, Some, None, refl, ap, sym, subst, ◌∙◌, inl, inr, eq-eqb}
-use Rattle.std.proofs.lemmas.Bool.{cases_Bool, eqb-true, and_right, cond_both, false_from_ne_true, false≢true}
-use Rattle.std.proofs.Math.Bool.{or-true}
+use Rattle.std.proofs.lemmas.Bool.{cases_Bool, eqb-true, cond_both, false_from_ne_true, false≢true}
 use Rattle.pg_entry.specs.declared.AccessKind.{AccessKind}
 use Rattle.pg_entry.specs.declared.Level.{Level}
 use Rattle.pg_entry.specs.declared.Level.TheVariants.{Three, Two, One}
-use Rattle.pg_entry.specs.Bits.{has_bit}
 use Rattle.pg_event.specs.declared.event.Event.{Event}
-use Rattle.pg_event.specs.declared.event.Event.TheVariants.{Write, Access, Assist, MovCr3, Invlpg, Invpcid, MovCr4Pge}
-use Rattle.pg_event.specs.declared.event.Outcome.TheVariants.{Page, Fault}
+use Rattle.pg_event.specs.declared.event.Event.TheVariants.{MovCr3, MovCr4Pge}
 use Rattle.pg_event.specs.declared.control.Control.{Control}
-use Rattle.pg_event.specs.declared.keys.TranslationKey.{TranslationKey}
 use Rattle.pg_event.specs.Heads.{Head}
 use Rattle.pg_event.specs.Form.{processor_of}
 use Rattle.pg_event.specs.Values.{controlled, loaded}
-use Rattle.pg_event.specs.Invalidation.{level_shift, bits_from, translation_matches, must_drop_translation}
+use Rattle.pg_event.specs.Invalidation.{level_shift, must_drop_translation}
 use Rattle.pg_shadow.specs.declared.entries.KeptTable.{KeptTable}
 use Rattle.pg_shadow.specs.declared.entries.KeptLeaf.{KeptLeaf}
 use Rattle.pg_shadow.specs.declared.slot.Slot.{Slot}
 use Rattle.pg_shadow.specs.declared.slot.Kept.TheVariants.{Table, Leaf}
 use Rattle.pg_shadow.specs.Caches.{Caches, empty, with_table, with_leaf, after, is_page_shift}
 use Rattle.pg_shadow.specs.Find.{chosen, found}
-use Rattle.pg_shadow.specs.Slots.{with_kept}
+use Rattle.pg_shadow.specs.Slots.{no_slot, with_kept, left_in}
+use Rattle.pg_shadow.specs.Scopes.{scope_of, global_goes}
 use Rattle.pg_shadow.specs.Pages.{Sheet}
-use Rattle.pg_shadow.specs.Spaces.{nothing, slot_in, leaf_in, path_in, is_slot, Keeps, IsSame, IsLeft}
-use Rattle.pg_shadow.specs.Held.{Held, space_of, seen, level_of, KeepsOwn, IsSameOwn, IsLeftOwn}
+use Rattle.pg_shadow.specs.Spaces.{nothing, slot_in, leaf_in, path_in, is_slot, Keeps, IsSame}
+use Rattle.pg_shadow.specs.Held.{Held, space_of, seen, level_of, KeepsOwn, IsSameOwn, IsLeftOwn, IsLeftGlobals}
+use Rattle.pg_shadow.proofs.Scopes.{global_goes-scope}
 use Rattle.pg_shadow.proofs.Slots.{none_either}
 use Rattle.pg_shadow.proofs.Spaces.{slot_in-nothing}
 
@@ -69,7 +67,7 @@ leaf_in-nothing shift n =
     (λ _. cond_both (nat_eq shift 30) (translations nothing n Three) None P (λ _. at Three) (λ _. refl)))
 
 -- what holds of each size of a page
-page_cases : (P : ℕ → Type 0) (shift : ℕ) → is_page_shift shift ≡ true → P 12 → P 21 → P 30 → P shift
+pub page_cases : (P : ℕ → Type 0) (shift : ℕ) → is_page_shift shift ≡ true → P 12 → P 21 → P 30 → P shift
 page_cases P shift page small large giant =
     elim (cases_Bool (nat_eq shift 12)) [
       | inl e ↦ subst P (sym (eqb-true shift 12 e)) small
@@ -235,40 +233,51 @@ seen-same_globals h globals same = λ i. record {
   leaves = λ k. same_global_leaf h globals same k.global k.pcid k.shift k.number i;
 }
 
+-- ---- keys that have nothing
+
+leaf_in-none : (s : List Sheet) (shift n : ℕ) → is_page_shift shift ≡ true → slot_in s (level_of shift) n ≡ no_slot → leaf_in s shift n ≡ None
+leaf_in-none s shift n page = page_cases (λ t. slot_in s (level_of t) n ≡ no_slot → leaf_in s t n ≡ None) shift page (λ h. ap translation_of h) (λ h. ap translation_of h) (λ h. ap translation_of h)
+
+pub no_table : (h : Held) (pcid : ℕ) (level : Level) (n : ℕ) → slot_in (space_of h.own pcid) level n ≡ no_slot → (seen h).tables (record { pcid = pcid; level = level; prefix = n }) ≡ None
+unfolding seen
+no_table h pcid level n none = ap structure_of none
+
+pub no_own_leaf : (h : Held) (pcid shift n : ℕ) → is_page_shift shift ≡ true → slot_in (space_of h.own pcid) (level_of shift) n ≡ no_slot
+    → (seen h).leaves (record { pcid = pcid; shift = shift; number = n; global = false }) ≡ None
+unfolding seen
+no_own_leaf h pcid shift n page none = leaf_in-none (space_of h.own pcid) shift n page none
+
+pub no_global_leaf : (h : Held) (pcid shift n : ℕ) → is_page_shift shift ≡ true → slot_in h.globals (level_of shift) n ≡ no_slot
+    → (seen h).leaves (record { pcid = pcid; shift = shift; number = n; global = true }) ≡ None
+unfolding seen
+no_global_leaf h pcid shift n page none = leaf_in-none h.globals shift n page none
+
 -- ---- what an event leaves
 
--- whether a global translation must go does not depend on its PCID
-pub global_goes : (c : Control) (e : Event) (a b shift n : ℕ) → must_drop_translation c e (record { pcid = a; shift = shift; number = n; global = true }) ≡ must_drop_translation c e (record { pcid = b; shift = shift; number = n; global = true })
-global_goes c (Write p addr value) a b shift n = refl
-global_goes c (Access p flags la (Page page) moments) a b shift n = refl
-global_goes c (Access p flags la (Fault code) moments) a b shift n = ap (λ t. nat_eq n (bits_from shift la) && t) (or-true (nat_eq a c.pcid) ∙ sym (or-true (nat_eq b c.pcid)))
-global_goes c (Assist p flags la word moments) a b shift n = refl
-global_goes c (MovCr3 p operand) a b shift n = and_right (not (has_bit operand 63) && nat_eq a _) false refl ∙ sym (and_right (not (has_bit operand 63) && nat_eq b _) false refl)
-global_goes c (Invlpg p la) a b shift n = ap (λ t. nat_eq n (bits_from shift la) && t) (or-true (nat_eq a c.pcid) ∙ sym (or-true (nat_eq b c.pcid)))
-global_goes c (Invpcid p kind pcid la) a b shift n =
-    let key : ℕ → TranslationKey = λ q. record { pcid = q; shift = shift; number = n; global = true } in
-    ap (λ t. cond (nat_eq kind 0) t (cond (nat_eq kind 1) (nat_eq a pcid && false) (cond (nat_eq kind 2) true false)))
-    (and_right (nat_eq a pcid && translation_matches (key a) la) false refl ∙ sym (and_right (nat_eq b pcid && translation_matches (key b) la) false refl))
-    ∙ ap (λ t. cond (nat_eq kind 0) (nat_eq b pcid && translation_matches (key b) la && false) (cond (nat_eq kind 1) t (cond (nat_eq kind 2) true false)))
-    (and_right (nat_eq a pcid) false refl ∙ sym (and_right (nat_eq b pcid) false refl))
-global_goes c (MovCr4Pge p on) a b shift n = refl
-
-left_leaf : (c : Control) (e : Event) (old new : List Sheet) (pcid : ℕ) (global : Bool) → IsLeft c e pcid global old new → (s n : ℕ) → leaf_in new s n ≡ cond (must_drop_translation c e (record { pcid = pcid; shift = s; number = n; global = global })) None (leaf_in old s n)
-left_leaf c e old new pcid global left s n =
-    let goes : ℕ → Bool = λ m. must_drop_translation c e (record { pcid = pcid; shift = m; number = n; global = global }) in
+left_leaf : (c : Control) (e : Event) (old new : List Sheet) (pcid : ℕ) (s n : ℕ) → ((l : Level) → slot_in new l n ≡ left_in c e pcid false l n (slot_in old l n))
+    → leaf_in new s n ≡ cond (must_drop_translation c e (record { pcid = pcid; shift = s; number = n; global = false })) None (leaf_in old s n)
+left_leaf c e old new pcid s n left =
+    let goes : ℕ → Bool = λ m. must_drop_translation c e (record { pcid = pcid; shift = m; number = n; global = false }) in
     by_shift-both (λ m x y. x ≡ cond (goes m) None y) (translations new n) (translations old n) s
-    (λ l. ap translation_of (left.at l n))
+    (λ l. ap translation_of (left l))
     (λ _ _ _. none_either (goes s) None refl)
 
-after_leaf : (h : Held) (e : Event) (own : List (ℕ × List Sheet)) (globals : List Sheet) → IsLeftOwn h.control e h.own own → IsLeft h.control e 0 true h.globals globals
+global_leaf-left : (c : Control) (e : Event) (old new : List Sheet) (s n : ℕ) → IsLeftGlobals c e old new → leaf_in new s n ≡ cond (global_goes (scope_of c e) s n) None (leaf_in old s n)
+global_leaf-left c e old new s n left =
+    let goes : ℕ → Bool = λ m. global_goes (scope_of c e) m n in
+    by_shift-both (λ m x y. x ≡ cond (goes m) None y) (translations new n) (translations old n) s
+    (λ l. left.at l n)
+    (λ _ _ _. none_either (goes s) None refl)
+
+after_leaf : (h : Held) (e : Event) (own : List (ℕ × List Sheet)) (globals : List Sheet) → IsLeftOwn h.control e h.own own → IsLeftGlobals h.control e h.globals globals
     → (global : Bool) (q s n : ℕ) → leaf_in (cond global globals (space_of own q)) s n ≡ cond (must_drop_translation h.control e (record { pcid = q; shift = s; number = n; global = global })) None (leaf_in (space_at h global q) s n)
 after_leaf h e own globals left_own left_globals true q s n =
-    left_leaf h.control e h.globals globals 0 true left_globals s n
-    ∙ ap (λ t. cond t None (leaf_in h.globals s n)) (global_goes h.control e 0 q s n)
+    global_leaf-left h.control e h.globals globals s n left_globals
+    ∙ ap (λ t. cond t None (leaf_in h.globals s n)) (global_goes-scope h.control e q s n)
 after_leaf h e own globals left_own left_globals false q s n =
-    left_leaf h.control e (space_of h.own q) (space_of own q) q false (record { at = left_own.at q }) s n
+    left_leaf h.control e (space_of h.own q) (space_of own q) q s n (λ l. left_own.at q l n)
 
-pub seen-after : (h : Held) (e : Event) (own : List (ℕ × List Sheet)) (globals : List Sheet) → IsLeftOwn h.control e h.own own → IsLeft h.control e 0 true h.globals globals
+pub seen-after : (h : Held) (e : Event) (own : List (ℕ × List Sheet)) (globals : List Sheet) → IsLeftOwn h.control e h.own own → IsLeftGlobals h.control e h.globals globals
     → seen (record { width = h.width; control = controlled h.width (processor_of e) h.control e; own = own; globals = globals }) ≡ after e (seen h)
 unfolding seen
 seen-after h e own globals left_own left_globals = λ i. record {

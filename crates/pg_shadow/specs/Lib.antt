@@ -1,6 +1,8 @@
 pub mod Caches
 pub mod Find
 pub mod Slots
+pub mod Scopes
 pub mod Pages
 pub mod Spaces
 pub mod Held
+pub mod Laws

@@ -1,13 +1,11 @@
 -- A tree of pages: each slot of a page may lead to a page of the level below.
-use Rattle.std.specs.Prelude.{◌≡◌, ℕ, ◌+◌, ◌*◌, ◌/◌, ◌%◌, ◌^◌, ◌<◌, Bool, ◌==◌, List, []}
+use Rattle.std.specs.Prelude.{◌≡◌, ℕ, ◌+◌, ◌*◌, ◌/◌, ◌%◌, ◌^◌, ◌<◌, ◌≤◌, ◌==◌, List, []}
 use Rattle.std.specs.Prelude.{if◌then◌else◌, length, slice_index_or, replicate, Option, Some, None}
 use Rattle.pg_entry.specs.declared.Level.{Level}
 use Rattle.pg_entry.specs.declared.Level.TheVariants.{Four, Three, Two, One}
-use Rattle.pg_event.specs.declared.event.Event.{Event}
-use Rattle.pg_event.specs.declared.control.Control.{Control}
 use Rattle.pg_event.specs.Walk.{below}
 use Rattle.pg_shadow.specs.declared.page.Place.{Place}
-use Rattle.pg_shadow.specs.Slots.{no_slot, left_in}
+use Rattle.pg_shadow.specs.Slots.{no_slot, bare}
 
 -- a page: its level, the bits of linear addresses above that level, and its places
 pub record Sheet : Type 0 where
@@ -15,13 +13,20 @@ pub record Sheet : Type 0 where
   pub prefix : ℕ
   pub places : List Place
 
--- a page has 512 places, and its numbers are in their range
-pub record IsPage (prefix : ℕ) (places : List Place) : Type 0 where
-  pub low : prefix < 2 ^ 40
-  pub full : length places ≡ 512
-
 abbrev pub no_place : Place
 no_place = record { slot = no_slot; below = None }
+
+-- there is no table at a place
+abbrev pub HasNone : List Place → ℕ → Type 0
+HasNone places i = (slice_index_or places i no_place).slot.structure ≡ None
+
+-- a page has 512 places, of which those from one on and below another may have tables
+pub record IsPage (prefix first end : ℕ) (places : List Place) : Type 0 where
+  pub low : prefix < 2 ^ 40
+  pub full : length places ≡ 512
+  pub within : end ≤ 512
+  pub below : (i : ℕ) → i < first → HasNone places i
+  pub above : (i : ℕ) → end ≤ i → HasNone places i
 
 abbrev pub no_page : Sheet
 no_page = record { level = Four; prefix = 0; places = [] }
@@ -61,19 +66,16 @@ page_at pages Three prefix = page_three pages prefix
 page_at pages Two prefix = page_two pages prefix
 page_at pages One prefix = page_one pages prefix
 
--- what an event leaves of a place
-abbrev pub left_place : Control → Event → ℕ → Bool → Level → ℕ → Place → Place
-left_place c e pcid global level number p =
-    record p { slot = left_in c e pcid global level number p.slot }
+-- a place without its table
+abbrev pub bare_place : Place → Place
+bare_place p = record p { slot = bare p.slot }
 
--- what an event leaves of a page
-pub record IsLeftPage (c : Control) (e : Event) (pcid : ℕ) (global : Bool) (old new : Sheet) :
-    Type 0 where
+-- a page without its tables
+pub record IsBarePage (old new : Sheet) : Type 0 where
   pub level : new.level ≡ old.level
   pub prefix : new.prefix ≡ old.prefix
   pub places : (i : ℕ) → slice_index_or new.places i no_place
-      ≡ left_place c e pcid global old.level (old.prefix * 512 + i)
-      (slice_index_or old.places i no_place)
+      ≡ bare_place (slice_index_or old.places i no_place)
 
 -- the page k is reached through a place
 pub record IsChild (pages : List Sheet) (j i k : ℕ) : Type 0 where

@@ -7,15 +7,20 @@ use Rattle.pg_event.specs.Invalidation.{level_shift}
 use Rattle.pg_event.specs.Invalidation.{must_drop_structure, must_drop_translation}
 use Rattle.pg_shadow.specs.declared.slot.Slot.{Slot}
 use Rattle.pg_shadow.specs.declared.slot.Kept.{Kept}
-use Rattle.pg_shadow.specs.declared.slot.Kept.TheVariants.{Table, Leaf}
+use Rattle.pg_shadow.specs.declared.slot.Kept.TheVariants.{Table, Leaf, Neither}
 
 abbrev pub no_slot : Slot
 no_slot = record { structure = None; translation = None }
 
--- a slot with one entry more, in place of what it had
+-- a slot with one entry more, in place of what it had; or with none
 abbrev pub with_kept : Kept → Slot → Slot
 with_kept (Table t) s = record s { structure = Some t }
 with_kept (Leaf l) s = record s { translation = Some l }
+with_kept Neither s = no_slot
+
+-- a slot without its table
+abbrev pub bare : Slot → Slot
+bare s = record s { structure = None }
 
 -- what an event leaves of a slot
 abbrev pub left_in : Control → Event → ℕ → Bool → Level → ℕ → Slot → Slot

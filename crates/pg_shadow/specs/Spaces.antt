@@ -4,14 +4,13 @@ use Rattle.std.specs.Prelude.{length, Option, Some, None, Result, IfOk}
 use Rattle.std.specs.declared.alloc.AllocError.{AllocError}
 use Rattle.pg_entry.specs.declared.Level.{Level}
 use Rattle.pg_entry.specs.declared.Level.TheVariants.{Four, Three, Two, One}
-use Rattle.pg_event.specs.declared.event.Event.{Event}
-use Rattle.pg_event.specs.declared.control.Control.{Control}
 use Rattle.pg_event.specs.Invalidation.{level_shift, bits_from}
 use Rattle.pg_shadow.specs.declared.entries.KeptLeaf.{KeptLeaf}
 use Rattle.pg_shadow.specs.declared.slot.Slot.{Slot}
 use Rattle.pg_shadow.specs.declared.slot.Kept.{Kept}
 use Rattle.pg_shadow.specs.declared.slot.Path.{Path}
-use Rattle.pg_shadow.specs.Slots.{with_kept, left_in}
+use Rattle.pg_shadow.specs.Slots.{no_slot, with_kept, bare}
+use Rattle.pg_shadow.specs.Scopes.{is_on_path}
 use Rattle.pg_shadow.specs.Pages.{Sheet, place_of, page_at}
 
 abbrev pub nothing : List Sheet
@@ -51,10 +50,14 @@ pub record Keeps (old new : List Sheet) (level : Level) (number : ℕ) (kept : K
 pub record IsSame (old new : List Sheet) : Type 0 where
   pub at : (l : Level) (n : ℕ) → slot_in new l n ≡ slot_in old l n
 
--- each slot has what an event leaves of it
-pub record IsLeft (c : Control) (e : Event) (pcid : ℕ) (global : Bool) (old new : List Sheet) :
-    Type 0 where
-  pub at : (l : Level) (n : ℕ) → slot_in new l n ≡ left_in c e pcid global l n (slot_in old l n)
+-- each slot is without its table
+pub record IsBared (old new : List Sheet) : Type 0 where
+  pub at : (l : Level) (n : ℕ) → slot_in new l n ≡ bare (slot_in old l n)
+
+-- the slots on the path of an address are empty, and the others are as they were
+pub record IsForgotten (la : ℕ) (old new : List Sheet) : Type 0 where
+  pub at : (l : Level) (n : ℕ) →
+      slot_in new l n ≡ (if is_on_path l n la then no_slot else slot_in old l n)
 
 -- this page holds the places of a level for the linear addresses with these bits above it
 pub record IsPageFor (pages : List Sheet) (level : Level) (prefix j : ℕ) : Type 0 where

@@ -3,8 +3,10 @@
 #![tactic(auto)]
 
 mod entries;
+mod law;
 mod lookup;
 mod page;
+mod scope;
 mod shadow;
 mod slot;
 mod space;
@@ -12,4 +14,5 @@ mod space;
 mod tests;
 
 pub use entries::{Found, KeptLeaf, KeptTable};
+pub use law::entries_may_be_kept;
 pub use shadow::Shadow;

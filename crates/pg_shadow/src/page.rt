@@ -1,11 +1,10 @@
 ghost use Rattle.std.specs.Prelude.{◌≡◌, ◌+◌, ◌*◌, ◌<◌, ◌≤◌, ◌^◌, ℕ, IfOk, length, slice_set};
 ghost use Rattle.std.specs.Prelude.{slice_index_or};
-ghost use Rattle.pg_shadow.specs.Slots.{left_in, with_kept};
-ghost use Rattle.pg_shadow.specs.Pages.{no_place, left_place, empty_page, IsLeftPage};
+ghost use Rattle.pg_shadow.specs.Slots.{with_kept};
+ghost use Rattle.pg_shadow.specs.Pages.{no_place, bare_place, empty_page, IsBarePage};
 
 use crate::slot::{Kept, Slot};
 use pg_entry::Level;
-use pg_event::{Control, Event};
 use pg_timeline::Probes;
 use std::alloc::{AllocError, Global};
 use std::marker::Model;
@@ -25,24 +24,6 @@ impl Place {
         slot: Slot::EMPTY,
         below: None,
     };
-
-    /// What an event leaves.
-    fn left(
-        &self,
-        control: Control,
-        event: &Event,
-        pcid: u16,
-        global: bool,
-        level: Level,
-        number: u64,
-    ) -> Place
-        ensures { result ≡ left_place control event.now pcid global level number self.now }
-    {
-        Place {
-            slot: self.slot.left(control, event, pcid, global, level, number),
-            below: self.below,
-        }
-    }
 }
 
 /// The slots of one level for the linear addresses that agree in the bits above it.
@@ -52,6 +33,9 @@ pub(crate) struct Page {
     /// The bits above the level.
     prefix: u64,
     places: Vec<Place>,
+    /// Tables stand from this index on, and below the other, alone.
+    first: usize,
+    end: usize,
 }
 
 impl Model for Page {
@@ -65,27 +49,22 @@ impl Model for Page {
       places = a.places.items;
     } };
 
-    ghost invariant = { λ a. IsPage a.prefix a.places.items };
+    ghost invariant = { λ a. IsPage a.prefix a.first a.end a.places.items };
 }
 
-/// Takes out of slots what an event must drop, where the first has this number.
-fn leave_places(
-    places: &mut [Place],
-    control: Control,
-    event: &Event,
-    pcid: u16,
-    global: bool,
-    level: Level,
-    first: u64,
-)
-    requires { first + length places.old < 2 ^ 64 }
-    ensures { (i : ℕ) → slice_index_or places.new i no_place
-        ≡ left_place control event.now pcid global level (first + i)
-        (slice_index_or places.old i no_place) }
+/// Gives up the tables of the places from an index on and below another.
+fn bare_places(places: &mut [Place], from: usize, to: usize)
+    requires { to ≤ length places.old }
+    ensures inside { (i : ℕ) → from ≤ i → i < to → slice_index_or places.new i no_place
+        ≡ bare_place (slice_index_or places.old i no_place) }
+    ensures below { (i : ℕ) → i < from →
+        slice_index_or places.new i no_place ≡ slice_index_or places.old i no_place }
+    ensures above { (i : ℕ) → to ≤ i →
+        slice_index_or places.new i no_place ≡ slice_index_or places.old i no_place }
 {
-    for i in 0..places.len() {
-        let left = places[i].left(control, event, pcid, global, level, first + i as u64);
-        places[i] = left;
+    for i in from..to {
+        let place = &mut places[i];
+        place.slot.bare();
     }
 }
 
@@ -101,6 +80,8 @@ impl Page {
             level,
             prefix,
             places,
+            first: SLOTS,
+            end: 0,
         })
     }
 
@@ -108,7 +89,7 @@ impl Page {
     pub fn read(&self, index: usize, probes: &mut Probes) -> Place
         requires { index < 512 }
         ensures value { result ≡ slice_index_or self.now.places index no_place }
-        ensures probes { probes.new ≤ probes.old + 1 }
+        ensures probes { (probes.old ≤ probes.new) × (probes.new ≤ probes.old + 1) }
     {
         probes.tick();
         self.places[index]
@@ -124,6 +105,10 @@ impl Page {
                   (record place { slot = with_kept kept.now place.slot });
             } }
     {
+        if let Kept::Table(_) = kept {
+            self.first = self.first.min(index);
+            self.end = self.end.max(index + 1);
+        }
         let place = &mut self.places[index];
         place.slot.keep(kept);
     }
@@ -142,19 +127,12 @@ impl Page {
         place.below = Some(below);
     }
 
-    /// Takes out what an event must drop.
-    pub fn leave(&mut self, control: Control, event: &Event, pcid: u16, global: bool)
-        ensures { IsLeftPage control event.now pcid global self.old self.new }
+    /// Gives up all tables.
+    pub fn bare(&mut self)
+        ensures { IsBarePage self.old self.new }
     {
-        let first = self.prefix * SLOTS as u64;
-        leave_places(
-            &mut self.places,
-            control,
-            event,
-            pcid,
-            global,
-            self.level,
-            first,
-        );
+        bare_places(&mut self.places, self.first, self.end);
+        self.first = SLOTS;
+        self.end = 0;
     }
 }

@@ -1,5 +1,5 @@
 ghost use Rattle.std.specs.Prelude.{◌≡◌, ◌+◌, ◌-◌, ◌^◌, ◌<◌, ◌≤◌, ◌&&◌, ℕ, List, length};
-ghost use Rattle.std.specs.Prelude.{slice_get, OnOk, OnErr};
+ghost use Rattle.std.specs.Prelude.{slice_get, OnOk, OnErr, None, if◌then◌else◌};
 ghost use Rattle.pg_entry.specs.declared.Level.{Level};
 ghost use Rattle.pg_event.specs.declared.event.Event.TheVariants as events;
 ghost use Rattle.pg_event.specs.declared.event.Outcome.TheVariants as outcomes;
@@ -10,12 +10,16 @@ ghost use Rattle.pg_event.specs.Invalidation.{level_shift, structure_key};
 ghost use Rattle.pg_event.specs.Invalidation.{translation_key};
 ghost use Rattle.pg_shadow.specs.Caches.{empty, with_table, with_leaf, after, AreInRange};
 ghost use Rattle.pg_shadow.specs.Caches.{IsTableAt, IsPageAt, is_page_shift};
-ghost use Rattle.pg_shadow.specs.Find.{found, IsInRange};
-ghost use Rattle.pg_shadow.specs.Spaces.{path_in};
+ghost use Rattle.pg_shadow.specs.Find.{found, IsFound, IsInRange};
+ghost use Rattle.pg_shadow.specs.Spaces.{slot_in, path_in};
+ghost use Rattle.pg_shadow.specs.Slots.{no_slot, bare};
+ghost use Rattle.pg_shadow.specs.Scopes.{is_on_path};
 ghost use Rattle.pg_shadow.specs.Held.{seen, space_of, level_of, KeepsOwn, IsSameOwn, IsLeftOwn};
+ghost use Rattle.pg_shadow.specs.Held.{IsLeftGlobals, IsChangedOwn};
 
 use crate::entries::{Found, KeptLeaf, KeptTable};
 use crate::lookup::chosen;
+use crate::scope::{Scope, scope_of};
 use crate::slot::{Kept, Path};
 use crate::space::Space;
 use pg_entry::{AccessKind, Level};
@@ -101,6 +105,8 @@ fn keep_own(
     requires { number < 2 ^ (48 - level_shift level) }
     ensures ok { OnOk result
         (KeepsOwn own.old.entries own.new.entries pcid level number kept.now) }
+    ensures refused { OnErr result
+        (slot_in (space_of own.old.entries pcid) level number ≡ no_slot) }
     ensures err { OnErr result (IsSameOwn own.old.entries own.new.entries) }
 {
     match own.get_mut(&pcid) {
@@ -114,14 +120,72 @@ fn keep_own(
     }
 }
 
+/// Gives up what stands under a PCID on the path of a linear address.
+fn forget_own(own: &mut HashMap<u16, Space>, pcid: u16, la: u64)
+    ensures { IsChangedOwn (λ l n s. if is_on_path l n la then no_slot else s) pcid
+        own.old.entries own.new.entries }
+{
+    match own.get_mut(&pcid) {
+        Some(space) => space.forget(la),
+        None => {}
+    }
+}
+
+/// Gives up all tables under a PCID.
+fn bare_own(own: &mut HashMap<u16, Space>, pcid: u16)
+    ensures { IsChangedOwn (λ l n s. bare s) pcid own.old.entries own.new.entries }
+{
+    match own.get_mut(&pcid) {
+        Some(space) => space.bare(),
+        None => {}
+    }
+}
+
+/// Gives up all that stands under a PCID, and its memory.
+fn remove_own(own: &mut HashMap<u16, Space>, pcid: u16)
+    ensures { IsChangedOwn (λ l n s. no_slot) pcid own.old.entries own.new.entries }
+{
+    let _ = own.remove(&pcid);
+}
+
 /// Takes out under each PCID what an event must drop.
 fn leave_own(own: &mut HashMap<u16, Space>, control: Control, event: &Event)
     ensures { IsLeftOwn control event.now own.old.entries own.new.entries }
 {
-    own.retain(|pcid, space| {
-        space.leave(control, event, *pcid, false);
-        true
-    });
+    match scope_of(control, event) {
+        Scope::Nowhere => {}
+        Scope::Path { pcid, la, .. } => forget_own(own, pcid, la),
+        Scope::Tables { pcid, la } => {
+            bare_own(own, pcid);
+            forget_own(own, pcid, la);
+        }
+        Scope::Pcid(pcid) => remove_own(own, pcid),
+        Scope::Everywhere { .. } => own.clear(),
+    }
+}
+
+/// Takes out the global translations that an event must drop.
+fn leave_globals(globals: &mut Space, control: Control, event: &Event)
+    ensures { IsLeftGlobals control event.now globals.old globals.new }
+{
+    match scope_of(control, event) {
+        Scope::Nowhere | Scope::Pcid(_) => {}
+        Scope::Path {
+            la,
+            globals: takes,
+            ..
+        } => {
+            if takes {
+                globals.forget(la);
+            }
+        }
+        Scope::Tables { la, .. } => globals.forget(la),
+        Scope::Everywhere { globals: takes } => {
+            if takes {
+                globals.clear();
+            }
+        }
+    }
 }
 
 impl Shadow {
@@ -142,6 +206,15 @@ impl Shadow {
         }
     }
 
+    /// MAXPHYADDR, by which a MOV to CR3 is read and within which all that is kept lies.
+    pub fn width(&self) -> u8
+        ensures value { result ≡ (seen self.now).width }
+        ensures within { (36 ≤ result) × (result ≤ 52) }
+        ensures range { AreInRange (seen self.now) }
+    {
+        self.m
+    }
+
     /// The control registers.
     pub fn control(&self) -> Control
         ensures value { result ≡ (seen self.now).control }
@@ -156,6 +229,7 @@ impl Shadow {
     /// a write that the rights allow passes over translations with D = 0.
     pub fn find(&self, la: u64, kind: AccessKind, header: &Header) -> Found
         ensures value { result ≡ found (seen self.now) la header.now kind }
+        ensures found { IsFound (seen self.now) la header.now kind result }
         ensures range { IsInRange (seen self.now).width result }
     {
         self.find_counted(la, kind, header, &mut Probes::new())
@@ -170,8 +244,9 @@ impl Shadow {
         probes: &mut Probes,
     ) -> Found
         ensures value { result ≡ found (seen self.now) la header.now kind }
+        ensures found { IsFound (seen self.now) la header.now kind result }
         ensures range { IsInRange (seen self.now).width result }
-        ensures probes { probes.new ≤ probes.old + 8 }
+        ensures probes { (probes.old ≤ probes.new) × (probes.new ≤ probes.old + 8) }
     {
         let own = self.own_path(la, probes);
         let globals = self.globals.path(la, probes);
@@ -181,7 +256,7 @@ impl Shadow {
     /// The slots that a walk meets under the current PCID.
     fn own_path(&self, la: u64, probes: &mut Probes) -> Path
         ensures value { result ≡ path_in (space_of self.now.own self.now.control.pcid) la }
-        ensures probes { probes.new ≤ probes.old + 4 }
+        ensures probes { (probes.old ≤ probes.new) × (probes.new ≤ probes.old + 4) }
     {
         match self.own.get(&self.control.pcid) {
             Some(space) => space.path(la, probes),
@@ -191,11 +266,13 @@ impl Shadow {
 
     /// Keeps the table that an entry of level 4, 3 or 2 refers to, for the linear address that the
     /// entry was read for, under the current PCID, in place of what the key had. Fails where memory
-    /// is refused, and then nothing is kept.
+    /// is refused, and then nothing is kept; none is taken where the key has an entry.
     pub fn keep_table(&mut self, la: u64, level: Level, kept: KeptTable) -> Result<(), AllocError>
         requires { IsTableAt (seen self.old).width level kept.table kept.moments }
         ensures ok { OnOk result (let s = seen self.old in
             seen self.new ≡ with_table (structure_key s.control.pcid level la) kept s) }
+        ensures refused { OnErr result (let s = seen self.old in
+            s.tables (structure_key s.control.pcid level la) ≡ None) }
         ensures err { OnErr result (seen self.new ≡ seen self.old) }
     {
         let number = bits_from(level_shift(level), la);
@@ -213,7 +290,7 @@ impl Shadow {
     /// Keeps a page of 2 to the power of `shift` bytes (12, 21 or 30) for the linear address that
     /// its leaf was read for, in place of what the key had: for every PCID where the leaf has G and
     /// CR4.PGE is 1 (Intel SDM, vol. 3, 4.10.2.4), else under the current one. Fails where memory
-    /// is refused, and then nothing is kept.
+    /// is refused, and then nothing is kept; none is taken where the key has an entry.
     pub fn keep_leaf(
         &mut self,
         la: u64,
@@ -225,6 +302,9 @@ impl Shadow {
         ensures ok { OnOk result (let s = seen self.old in
             let key = translation_key s.control.pcid shift (global_bit && s.control.pge) la in
             seen self.new ≡ with_leaf key kept s) }
+        ensures refused { OnErr result (let s = seen self.old in
+            s.leaves (translation_key s.control.pcid shift (global_bit && s.control.pge) la)
+            ≡ None) }
         ensures err { OnErr result (seen self.new ≡ seen self.old) }
     {
         let level = level_of(shift);
@@ -244,14 +324,15 @@ impl Shadow {
         }
     }
 
-    /// An event of the processor itself: takes out what it must drop, under the control registers
-    /// before it, which it then changes.
-    fn happened(&mut self, event: &Event)
+    /// An event of the processor itself, whatever number it has there: takes out what it must drop,
+    /// under the control registers before it, which it then changes. An event that drops nothing
+    /// and changes no register does nothing here. Takes no memory.
+    pub fn happened(&mut self, event: &Event)
         ensures { seen self.new ≡ after event.now (seen self.old) }
     {
         let control = self.control;
         leave_own(&mut self.own, control, event);
-        self.globals.leave(control, event, 0, true);
+        leave_globals(&mut self.globals, control, event);
         self.control = controlled(self.m, processor_of(event), control, event);
     }
 

@@ -1,12 +1,7 @@
 ghost use Rattle.std.specs.Prelude.{◌≡◌};
-ghost use Rattle.pg_shadow.specs.Slots.{left_in, with_kept};
+ghost use Rattle.pg_shadow.specs.Slots.{bare, with_kept};
 
 use crate::entries::{KeptLeaf, KeptTable};
-use pg_entry::Level;
-use pg_event::{
-    Control, Event, StructureKey, TranslationKey, level_shift, must_drop_structure,
-    must_drop_translation,
-};
 
 /// What stands at a level for one number: a paging-structure-cache entry and a translation by a
 /// large page may stand there both.
@@ -21,6 +16,8 @@ pub(crate) struct Slot {
 pub(crate) enum Kept {
     Table(KeptTable),
     Leaf(KeptLeaf),
+    /// Nothing: the slot is emptied.
+    Neither,
 }
 
 /// The slots that a walk for one linear address meets.
@@ -47,50 +44,21 @@ impl Slot {
         translation: None,
     };
 
-    /// Keeps an entry, in place of what there was of its sort.
+    /// Keeps an entry, in place of what there was of its sort; or empties the slot.
     pub fn keep(&mut self, kept: &Kept)
         ensures { self.new ≡ with_kept kept.now self.old }
     {
         match *kept {
             Kept::Table(table) => self.structure = Some(table),
             Kept::Leaf(leaf) => self.translation = Some(leaf),
+            Kept::Neither => *self = Slot::EMPTY,
         }
     }
 
-    /// What an event leaves.
-    pub fn left(
-        &self,
-        control: Control,
-        event: &Event,
-        pcid: u16,
-        global: bool,
-        level: Level,
-        number: u64,
-    ) -> Slot
-        ensures { result ≡ left_in control event.now pcid global level number self.now }
+    /// Gives up the table.
+    pub fn bare(&mut self)
+        ensures { self.new ≡ bare self.old }
     {
-        let structure = StructureKey {
-            pcid,
-            level,
-            prefix: number,
-        };
-        let translation = TranslationKey {
-            pcid,
-            shift: level_shift(level),
-            number,
-            global,
-        };
-        Slot {
-            structure: if must_drop_structure(control, event, structure) {
-                None
-            } else {
-                self.structure
-            },
-            translation: if must_drop_translation(control, event, translation) {
-                None
-            } else {
-                self.translation
-            },
-        }
+        self.structure = None;
     }
 }

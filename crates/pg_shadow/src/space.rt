@@ -2,13 +2,16 @@ ghost use Rattle.std.specs.Prelude.{◌≡◌, ◌+◌, ◌-◌, ◌*◌, ◌/�
 ghost use Rattle.std.specs.Prelude.{OnOk, OnErr, length, slice_index_or, Some, None};
 ghost use Rattle.pg_entry.specs.declared.Level.TheVariants as levels;
 ghost use Rattle.pg_event.specs.Invalidation.{level_shift};
-ghost use Rattle.pg_shadow.specs.Pages.{place_of, no_page, IsLeftPage};
-ghost use Rattle.pg_shadow.specs.Spaces.{path_in, Keeps, IsSame, IsLeft, nothing, IsAbove, HasPage};
+ghost use Rattle.pg_shadow.specs.declared.slot.Kept.TheVariants.{Neither};
+ghost use Rattle.pg_shadow.specs.Pages.{place_of, page_at, no_page, IsBarePage};
+ghost use Rattle.pg_shadow.specs.Spaces.{slot_in, path_in, Keeps, IsSame, IsForgotten};
+ghost use Rattle.pg_shadow.specs.Spaces.{IsBared, nothing, IsAbove, HasPage};
+ghost use Rattle.pg_shadow.specs.Slots.{no_slot};
 
 use crate::page::{Page, Place};
 use crate::slot::{Kept, Path};
 use pg_entry::Level;
-use pg_event::{Control, Event, bits_from};
+use pg_event::bits_from;
 use pg_timeline::Probes;
 use std::alloc::{AllocError, Global};
 use std::marker::Model;
@@ -32,14 +35,14 @@ impl Model for Space {
     ghost invariant = { λ a. IsTree a.pages.items };
 }
 
-/// Takes out of pages what an event must drop.
-fn leave_pages(pages: &mut [Page], control: Control, event: &Event, pcid: u16, global: bool)
-    ensures { (j : ℕ) → IsLeftPage control event.now pcid global
+/// Gives up the tables of pages.
+fn bare_pages(pages: &mut [Page])
+    ensures { (j : ℕ) → IsBarePage
         (slice_index_or pages.old j no_page) (slice_index_or pages.new j no_page) }
 {
     for j in 0..pages.len() {
         let page = &mut pages[j];
-        page.leave(control, event, pcid, global);
+        page.bare();
     }
 }
 
@@ -65,7 +68,7 @@ impl Space {
     /// What stands in a page for a number of its level.
     fn read(&self, page: Option<usize>, number: u64, probes: &mut Probes) -> Place
         ensures value { result ≡ place_of self.now page (number % 512) }
-        ensures probes { probes.new ≤ probes.old + 1 }
+        ensures probes { (probes.old ≤ probes.new) × (probes.new ≤ probes.old + 1) }
     {
         match page {
             Some(j) => match self.pages.get(j) {
@@ -79,7 +82,7 @@ impl Space {
     /// The slots that a walk for a linear address meets.
     pub fn path(&self, la: u64, probes: &mut Probes) -> Path
         ensures value { result ≡ path_in self.now la }
-        ensures probes { probes.new ≤ probes.old + 4 }
+        ensures probes { (probes.old ≤ probes.new) × (probes.new ≤ probes.old + 4) }
     {
         let four = self.read(Some(0), bits_from(39, la), probes);
         let three = self.read(four.below, bits_from(30, la), probes);
@@ -158,22 +161,102 @@ impl Space {
         }
     }
 
-    /// Keeps an entry in a slot. Fails where memory is refused, and then nothing is kept.
+    /// The page that holds a number of a level, if it was made; at level 4 page 0 all the same.
+    fn page_of(&self, level: Level, number: u64) -> Option<usize>
+        requires { number < 2 ^ (48 - level_shift level) }
+        ensures { result ≡ page_at self.now level (number / 512) }
+    {
+        match level {
+            Level::Four => Some(0),
+            Level::Three => self.below(Some(0), number / 512),
+            Level::Two => {
+                let three = self.below(Some(0), number / 512 / 512);
+                self.below(three, number / 512)
+            }
+            Level::One => {
+                let three = self.below(Some(0), number / 512 / 512 / 512);
+                let two = self.below(three, number / 512 / 512);
+                self.below(two, number / 512)
+            }
+        }
+    }
+
+    /// The page that is reached through a page for a number of its level.
+    fn below(&self, page: Option<usize>, number: u64) -> Option<usize>
+        ensures { result ≡ (place_of self.now page (number % 512)).below }
+    {
+        self.read(page, number, &mut Probes::new()).below
+    }
+
+    /// The page that holds a number of a level. Takes memory only where it was not made.
+    fn page_to_keep(&mut self, level: Level, number: u64) -> Result<usize, AllocError>
+        requires { number < 2 ^ (48 - level_shift level) }
+        ensures page { HasPage self.old self.new level (number / 512) result }
+        ensures refused { OnErr result (slot_in self.old level number ≡ no_slot) }
+    {
+        match self.page_of(level, number) {
+            None => self.page_for(level, number),
+            Some(j) => {
+                if j < self.pages.len() {
+                    Ok(j)
+                } else {
+                    self.page_for(level, number)
+                }
+            }
+        }
+    }
+
+    /// Keeps an entry in a slot. Fails where memory is refused, and then nothing is kept; none is
+    /// taken where the slot has an entry.
     pub fn keep(&mut self, level: Level, number: u64, kept: &Kept) -> Result<(), AllocError>
         requires { number < 2 ^ (48 - level_shift level) }
         ensures ok { OnOk result (Keeps self.old self.new level number kept.now) }
+        ensures refused { OnErr result (slot_in self.old level number ≡ no_slot) }
         ensures err { OnErr result (IsSame self.old self.new) }
     {
-        let j = self.page_for(level, number)?;
+        let j = self.page_to_keep(level, number)?;
         let page = &mut self.pages[j];
         page.keep(index_of(number), kept);
         Ok(())
     }
 
-    /// Takes out what an event must drop.
-    pub fn leave(&mut self, control: Control, event: &Event, pcid: u16, global: bool)
-        ensures { IsLeft control event.now pcid global self.old self.new }
+    /// Empties a slot.
+    fn empty(&mut self, level: Level, number: u64)
+        requires { number < 2 ^ (48 - level_shift level) }
+        ensures { Keeps self.old self.new level number Neither }
     {
-        leave_pages(&mut self.pages, control, event, pcid, global);
+        match self.page_of(level, number) {
+            None => {}
+            Some(j) => {
+                if j < self.pages.len() {
+                    let page = &mut self.pages[j];
+                    page.keep(index_of(number), &Kept::Neither);
+                }
+            }
+        }
+    }
+
+    /// Gives up what stands on the path of a linear address.
+    pub fn forget(&mut self, la: u64)
+        ensures { IsForgotten la self.old self.new }
+    {
+        self.empty(Level::Four, bits_from(39, la));
+        self.empty(Level::Three, bits_from(30, la));
+        self.empty(Level::Two, bits_from(21, la));
+        self.empty(Level::One, bits_from(12, la));
+    }
+
+    /// Gives up all tables.
+    pub fn bare(&mut self)
+        ensures { IsBared self.old self.new }
+    {
+        bare_pages(&mut self.pages);
+    }
+
+    /// Gives up everything, and its memory.
+    pub fn clear(&mut self)
+        ensures { self.new ≡ nothing }
+    {
+        self.pages = Vec::new(self.alloc);
     }
 }

@@ -3,7 +3,7 @@ ghost use Rattle.pg_event.specs.Spelling.{IsHead};
 
 use crate::{Found, KeptLeaf, KeptTable, Shadow};
 use pg_entry::{AccessKind, Cfg, CfgFlags, Level, Op, Rights};
-use pg_event::{Header, Moments, Version};
+use pg_event::{Event, Header, Moments, Version};
 use pg_timeline::Probes;
 use std::alloc::{AllocError, Global};
 use std::test::Fail;
@@ -155,7 +155,13 @@ fn an_allowed_write_passes_over_a_page_without_d(rt: HostRuntime) -> Result<(), 
 fn instructions_take_out_what_they_must(rt: HostRuntime) -> Result<(), Fail> {
     let header = header(rt.alloc(), Version::One)?;
     let mut shadow = Shadow::new(rt.alloc(), &header, 0);
+    assert_eq!(rt; shadow.width(), 40);
     keep_page(&mut shadow, true, true, 4)?;
+    shadow.happened(&Event::Write {
+        p: 0,
+        addr: 0x1000,
+        value: 0,
+    });
     shadow.on_invpcid(3, 0, 0);
     assert_eq!(rt; shadow.find(LA, READ, &header), hit(true, true, 4));
     shadow.on_invpcid(2, 0, 0);

@@ -27,8 +27,8 @@ use Rattle.pg_world.specs.declared.error.WorldError.{WorldError}
 use Rattle.pg_world.specs.declared.error.WorldError.TheVariants as errors
 use Rattle.pg_world.specs.declared.receipt.Receipt.{Receipt}
 use Rattle.pg_world.specs.declared.walk.Walk.{Walk}
-use Rattle.pg_world.specs.declared.walk.Found.{Found}
-use Rattle.pg_world.specs.declared.walk.Found.TheVariants as founds
+use Rattle.pg_world.specs.declared.walk.LevelRead.{LevelRead}
+use Rattle.pg_world.specs.declared.walk.LevelRead.TheVariants as founds
 use Rattle.pg_world.specs.Recording.{Recording, receipt_of, is_well_formed, refusal, event_refusal, IsRefusedBy}
 use Rattle.pg_world.specs.Walks.{op_bits, flags_of, is_walk, address_of, word_now, moments_now, lacks_dirty, lacks_flags, fault_of, assist_of, used_entry, found_entry, found_by, found_in, adds_event, read_refusal}
 use Rattle.pg_world.proofs.Tables.{left_of, MayRead, may_read, entry-word}
@@ -103,7 +103,7 @@ assist-formed head p kind is_dirty la word moments processor address within judg
 -- ---- what is found
 
 -- an event that was found is well formed
-abbrev pub IsFormed : Head → Found → Type 0
+abbrev pub IsFormed : Head → LevelRead → Type 0
 IsFormed head (founds.Entry value moment) = Unit {0}
 IsFormed head (founds.Fault receipt) = is_well_formed head receipt.event ≡ true
 IsFormed head (founds.Assisted receipt) = is_well_formed head receipt.event ≡ true
@@ -151,7 +151,7 @@ event-found r p walk receipt may adds formed = record {
   refused = ap (λ (b : Bool). refusal r b (adds_event (found_in r p walk))) may ∙ ap (refusal r true) adds ∙ sym (ap (λ (b : Bool). refusal r b true) formed);
 }
 
-pub found-event : (r : Recording) (p : ℕ) (walk : Walk) (found : Found) (receipt : Receipt) → 36 ≤ r.head.cfg.m → is_walk r.head p walk ≡ true → found ≡ found_in r p walk →
+pub found-event : (r : Recording) (p : ℕ) (walk : Walk) (found : LevelRead) (receipt : Receipt) → 36 ≤ r.head.cfg.m → is_walk r.head p walk ≡ true → found ≡ found_in r p walk →
     (found ≡ founds.Fault receipt) ⊎ (found ≡ founds.Assisted receipt) → IsEventFound r p walk receipt
 found-event r p walk found receipt low may by (inl fault) =
     let e : found_in r p walk ≡ founds.Fault receipt = sym by ∙ fault in
@@ -164,7 +164,7 @@ found-event r p walk found receipt low may by (inr assisted) =
 pub entry-not_refused : (r : Recording) (p : ℕ) (walk : Walk) (value moment : ℕ) → is_walk r.head p walk ≡ true → found_in r p walk ≡ founds.Entry value moment →
     r.finished ≡ false → read_refusal r p walk ≡ None
 entry-not_refused r p walk value moment may e unfinished =
-    ap (λ (b : Bool). refusal r b (adds_event (found_in r p walk))) may ∙ ap (λ (f : Found). refusal r true (adds_event f)) e
+    ap (λ (b : Bool). refusal r b (adds_event (found_in r p walk))) may ∙ ap (λ (f : LevelRead). refusal r true (adds_event f)) e
     ∙ ap (λ (b : Bool). cond b (Some errors.Finished) None) unfinished
 
 pub IsRefusedBy-found : (r : Recording) (p : ℕ) (walk : Walk) (receipt : Receipt) (error : WorldError) → IsEventFound r p walk receipt →

@@ -3,3 +3,4 @@ pub mod Formed
 pub mod Segments
 pub mod Flags
 pub mod Rows
+pub mod Assisted

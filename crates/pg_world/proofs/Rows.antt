@@ -11,7 +11,7 @@ use Rattle.pg_event.specs.declared.event.Event.TheVariants.{Write, Access, Assis
 use Rattle.pg_event.specs.declared.event.Outcome.TheVariants as outcomes
 use Rattle.pg_event.specs.Heads.{Head}
 use Rattle.pg_world.specs.declared.walk.Walk.{Walk}
-use Rattle.pg_world.specs.declared.walk.Found.TheVariants.{Entry, Fault, Assisted}
+use Rattle.pg_world.specs.declared.walk.LevelRead.TheVariants.{Entry, Fault, Assisted}
 use Rattle.pg_world.specs.Walks.{found_by}
 
 -- MAXPHYADDR 40, WP and NXE, and one processor

@@ -1,13 +1,16 @@
 -- Laws of recordings.
 use Rattle.std.specs.Prelude.{◌≡◌, ◌≢◌, ℕ, zero, suc, ◌*◌, ◌%◌, ◌<◌, ◌≤◌, true, List, []}
-use Rattle.std.specs.Prelude.{◌++◌, take}
+use Rattle.std.specs.Prelude.{◌++◌, length, take}
 use Rattle.pg_entry.specs.declared.AccessKind.{AccessKind}
 use Rattle.pg_entry.specs.Kinds.{table_of}
 use Rattle.pg_event.specs.declared.event.Event.{Event}
 use Rattle.pg_event.specs.Form.{access_kind}
 use Rattle.pg_event.specs.Spelling.{IsHead}
-use Rattle.pg_world.specs.Recording.{Recording, segment_of, sealed_count}
-use Rattle.pg_world.specs.Walks.{flags_of, is_table_address}
+use Rattle.pg_world.specs.declared.receipt.Receipt.{Receipt}
+use Rattle.pg_world.specs.declared.walk.LevelRead.TheVariants.{Assisted, Entry}
+use Rattle.pg_world.specs.declared.walk.Walk.{Walk}
+use Rattle.pg_world.specs.Recording.{Recording, segment_of, sealed_count, with_event}
+use Rattle.pg_world.specs.Walks.{flags_of, is_table_address, address_of, word_now, found_in}
 
 -- so many segments, one after another
 abbrev pub joined_segments : Recording → ℕ → List Event
@@ -30,3 +33,10 @@ pub record FlagsAreTold : Type 0 where
 -- what an entry or CR3 refers to is the address of a table
 abbrev pub TablesHaveAddresses : Type 0
 TablesHaveAddresses = (m value : ℕ) → 12 ≤ m → is_table_address m (table_of m value) ≡ true
+
+-- after the assist that a read records, the same read uses the entry
+abbrev pub AnAssistIsEnough : Type 0
+AnAssistIsEnough = (r : Recording) (p : ℕ) (walk : Walk) (receipt : Receipt) → IsHead r.head →
+    found_in r p walk ≡ Assisted receipt →
+    let after = with_event r receipt.event in
+    found_in after p walk ≡ Entry (word_now after.events (address_of walk)) (length after.events)

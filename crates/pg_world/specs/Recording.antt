@@ -9,6 +9,7 @@ use Rattle.pg_event.specs.declared.event.Event.TheVariants.{Write, Access, Assis
 use Rattle.pg_event.specs.declared.event.Event.TheVariants.{Invpcid, MovCr4Pge}
 use Rattle.pg_event.specs.Heads.{Head}
 use Rattle.pg_event.specs.Form.{processor_of, broken_rule}
+use Rattle.pg_event.specs.Spelling.{Recorded}
 use Rattle.pg_world.specs.declared.receipt.Receipt.{Receipt}
 use Rattle.pg_world.specs.declared.error.WorldError.{WorldError}
 use Rattle.pg_world.specs.declared.error.WorldError.TheVariants as errors
@@ -20,6 +21,10 @@ pub record Recording : Type 0 where
   pub events : List Event
   pub taken : ℕ
   pub finished : Bool
+
+-- the record of the events so far
+abbrev pub recorded : Recording → Recorded
+recorded r = record { head = r.head; events = r.events }
 
 -- how many segments are sealed: the full ones, and in a finished record also a last short one
 abbrev pub sealed_count : Recording → ℕ

@@ -25,8 +25,8 @@ use Rattle.pg_event.specs.Walk.{entry_address}
 use Rattle.pg_event.specs.Wants.{may_dirty}
 use Rattle.pg_world.specs.declared.error.WorldError.{WorldError}
 use Rattle.pg_world.specs.declared.walk.Walk.{Walk}
-use Rattle.pg_world.specs.declared.walk.Found.{Found}
-use Rattle.pg_world.specs.declared.walk.Found.TheVariants.{Entry, Fault, Assisted}
+use Rattle.pg_world.specs.declared.walk.LevelRead.{LevelRead}
+use Rattle.pg_world.specs.declared.walk.LevelRead.TheVariants.{Entry, Fault, Assisted}
 use Rattle.pg_world.specs.Recording.{Recording, receipt_of, with_event, refusal}
 
 -- ---- the walk
@@ -106,14 +106,14 @@ assist_of es p walk is_dirty = events.Assist p (flags_of walk.kind + 16 * bit is
     (address_of walk) (moments_now es walk)
 
 -- an entry that is present and has no reserved bit set: it is used, or changed first
-abbrev pub used_entry : Head → List Event → ℕ → Walk → ℕ → Kind → Found
+abbrev pub used_entry : Head → List Event → ℕ → Walk → ℕ → Kind → LevelRead
 used_entry head es p walk value kind =
     if lacks_flags head walk value kind
     then Assisted (receipt_of es (assist_of es p walk (lacks_dirty head.cfg walk value kind)))
     else Entry value (length es)
 
 -- what a read comes to, by the kind of the entry that it reads
-abbrev pub found_entry : Head → List Event → ℕ → Walk → ℕ → Kind → Found
+abbrev pub found_entry : Head → List Event → ℕ → Walk → ℕ → Kind → LevelRead
 found_entry head es p walk value kinds.Absent =
     Fault (receipt_of es (fault_of head.cfg es p walk causes.Absent))
 found_entry head es p walk value kinds.Reserved =
@@ -124,24 +124,24 @@ found_entry head es p walk value (kinds.Leaf frame shift global_bit) =
     used_entry head es p walk value (kinds.Leaf frame shift global_bit)
 
 -- what the read of a level by p comes to
-abbrev pub found_by : Head → List Event → ℕ → Walk → Found
+abbrev pub found_by : Head → List Event → ℕ → Walk → LevelRead
 found_by head es p walk =
     let value = word_now es (address_of walk) in
     found_entry head es p walk value (kind_of head.cfg walk.level value)
 
 -- ---- what the call answers and leaves
 
-abbrev pub found_in : Recording → ℕ → Walk → Found
+abbrev pub found_in : Recording → ℕ → Walk → LevelRead
 found_in r p walk = found_by r.head r.events p walk
 
 -- whether what was found is an event
-abbrev pub adds_event : Found → Bool
+abbrev pub adds_event : LevelRead → Bool
 adds_event (Entry value moment) = false
 adds_event (Fault receipt) = true
 adds_event (Assisted receipt) = true
 
 -- the record after it
-abbrev pub after_found : Recording → Found → Recording
+abbrev pub after_found : Recording → LevelRead → Recording
 after_found r (Entry value moment) = r
 after_found r (Fault receipt) = with_event r receipt.event
 after_found r (Assisted receipt) = with_event r receipt.event

@@ -3,8 +3,8 @@ ghost use Rattle.pg_world.specs.declared.error.WorldError.TheVariants.{Memory};
 
 use std::alloc::AllocError;
 
-/// Why a call is refused: the least of these that applies. A refused call changes nothing, and the
-/// same call later can succeed.
+/// Why a call is refused: the least of these that applies. A refused call changes nothing. The same
+/// call later can succeed where it was refused for want of memory, and nowhere else.
 #[derive(Clone, Copy, PartialEq, Eq, Debug)]
 pub enum WorldError {
     /// The event breaks a rule of records, or is of another processor or kind than the call's. Of a

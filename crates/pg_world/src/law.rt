@@ -1,7 +1,7 @@
 //! Laws of recordings. Each function does nothing: its contract is the law.
 
 ghost use Rattle.pg_world.specs.Laws.{SegmentsBeginTheEvents, FinishedSegmentsAreTheEvents};
-ghost use Rattle.pg_world.specs.Laws.{FlagsAreTold, TablesHaveAddresses};
+ghost use Rattle.pg_world.specs.Laws.{FlagsAreTold, TablesHaveAddresses, AnAssistIsEnough};
 
 /// The first segments, one after another, are the first events.
 pub fn segments_begin_the_events()
@@ -22,4 +22,10 @@ pub fn flags_are_told()
 /// not refused for its table.
 pub fn tables_have_addresses()
     ensures { TablesHaveAddresses }
+{}
+
+/// One assist is enough: the same read after it is no assist again, but gives the entry with its
+/// flags set.
+pub fn an_assist_is_enough()
+    ensures { AnAssistIsEnough }
 {}

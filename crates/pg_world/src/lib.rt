@@ -9,13 +9,14 @@ mod receipt;
 #[cfg(test)]
 mod tests;
 mod walk;
+mod widths;
 mod world;
 
 pub use error::WorldError;
 pub use law::{
-    finished_segments_are_the_events, flags_are_told, segments_begin_the_events,
-    tables_have_addresses,
+    an_assist_is_enough, finished_segments_are_the_events, flags_are_told,
+    segments_begin_the_events, tables_have_addresses,
 };
 pub use receipt::Receipt;
-pub use walk::{Found, Walk};
+pub use walk::{LevelRead, Walk};
 pub use world::World;

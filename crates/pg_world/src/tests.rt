@@ -1,7 +1,7 @@
 ghost use Rattle.std.specs.Prelude.{◌≤◌, IfOk};
 ghost use Rattle.pg_event.specs.Spelling.{IsHead};
 
-use crate::{Found, Receipt, Walk, World, WorldError};
+use crate::{LevelRead, Receipt, Walk, World, WorldError};
 use pg_entry::{AccessKind, Cfg, CfgFlags, Level, Op, Rights};
 use pg_event::{Event, Header, Moments, Outcome, Version};
 use std::alloc::{AllocError, Global};
@@ -79,7 +79,7 @@ fn reads_and_records(rt: HostRuntime) -> Result<(), Fail> {
     let page = walk(Op::Read, Level::One, 0x4000, Some(moments_at(3, 4)?));
     assert_eq!(rt;
         world.read_or_fault(0, &page),
-        Ok(Found::Entry {
+        Ok(LevelRead::Entry {
             value: 0x9007,
             moment: 4
         })
@@ -99,7 +99,10 @@ fn reads_and_records(rt: HostRuntime) -> Result<(), Fail> {
         moment: 5,
         event: fault,
     };
-    assert_eq!(rt; world.read_or_fault(0, &absent), Ok(Found::Fault(receipt)));
+    assert_eq!(rt;
+        world.read_or_fault(0, &absent),
+        Ok(LevelRead::Fault(receipt))
+    );
     assert_eq!(rt; world.len(), 6);
     Ok(())
 }
@@ -118,10 +121,13 @@ fn sets_dirty_in_version_two(rt: HostRuntime) -> Result<(), Fail> {
         moments: moments_at(4, 4)?,
     };
     let receipt = Receipt { moment: 4, event };
-    assert_eq!(rt; world.read_or_fault(0, &page), Ok(Found::Assisted(receipt)));
     assert_eq!(rt;
         world.read_or_fault(0, &page),
-        Ok(Found::Entry {
+        Ok(LevelRead::Assisted(receipt))
+    );
+    assert_eq!(rt;
+        world.read_or_fault(0, &page),
+        Ok(LevelRead::Entry {
             value: 0x9067,
             moment: 5
         })

@@ -26,7 +26,7 @@ pub struct Walk {
 
 /// What the read of a level came to.
 #[derive(Clone, Copy, PartialEq, Eq, Debug)]
-pub enum Found {
+pub enum LevelRead {
     /// An entry that the walk may use, and the moment that it was read at: the number of events.
     Entry { value: u64, moment: u32 },
     /// An absent or reserved entry, and the page fault that was recorded (Intel SDM, vol. 3, 4.7).

@@ -7,7 +7,7 @@ ghost use Rattle.pg_event.specs.Spelling.{IsHead};
 ghost use Rattle.pg_world.specs.Recording.{sealed_count, segment_of, receipt_of, with_event};
 ghost use Rattle.pg_world.specs.Recording.{with_taken, event_refusal, commit_refusal};
 ghost use Rattle.pg_world.specs.Recording.{control_refusal, IsRefusedBy};
-ghost use Rattle.pg_world.specs.Kept.{IsKept};
+ghost use Rattle.pg_world.specs.Kept.{IsKept, IsSegment};
 ghost use Rattle.pg_world.specs.Walks.{moments_of, is_walk, word_now, lacks_dirty, fault_of};
 ghost use Rattle.pg_world.specs.Walks.{assist_of, used_entry, found_in, adds_event, after_found};
 ghost use Rattle.pg_world.specs.Walks.{read_refusal};
@@ -16,7 +16,8 @@ use crate::error::WorldError;
 use crate::kinds::{is_access, is_control};
 use crate::memory::Memory;
 use crate::receipt::Receipt;
-use crate::walk::{Found, Walk, assist_flags, flags_of, is_walk, moments_with};
+use crate::walk::{LevelRead, Walk, assist_flags, flags_of, is_walk, moments_with};
+use crate::widths::event_fits;
 use pg_entry::{Cause, Entry, Kind, Op, accessed, classify, combine, dirty, error_code};
 use pg_event::{
     Event, Header, Outcome, Record, Version, entry_address, may_dirty, processor_of, well_formed,
@@ -110,6 +111,7 @@ impl World {
         if self.finished {
             return Err(WorldError::Finished);
         }
+        event_fits(event);
         let moment = self.events.len() as u32;
         self.events.reserve(1)?;
         self.memory.take(event)?;
@@ -156,7 +158,7 @@ impl World {
     /// in version 2 an entry with A = 0, or a leaf with D = 0 for a write that the rights of the
     /// walk allow, an assist; either is recorded in the same step. Where neither is, no memory is
     /// taken.
-    pub fn read_or_fault(&mut self, p: u16, walk: &Walk) -> Result<Found, WorldError>
+    pub fn read_or_fault(&mut self, p: u16, walk: &Walk) -> Result<LevelRead, WorldError>
         ensures found { IfOk result (λ found. found ≡ found_in self.old p walk.now) }
         ensures recorded { OnOk result
             (self.new ≡ after_found self.old (found_in self.old p walk.now)) }
@@ -171,12 +173,12 @@ impl World {
         }
         let found = self.found(p, walk);
         match &found {
-            Found::Entry { .. } => {
+            LevelRead::Entry { .. } => {
                 if self.finished {
                     return Err(WorldError::Finished);
                 }
             }
-            Found::Fault(receipt) | Found::Assisted(receipt) => {
+            LevelRead::Fault(receipt) | LevelRead::Assisted(receipt) => {
                 match self.record(&receipt.event) {
                     Ok(_) => {}
                     Err(error) => return Err(error),
@@ -187,7 +189,7 @@ impl World {
     }
 
     /// What a read comes to.
-    fn found(&self, p: u16, walk: &Walk) -> Found
+    fn found(&self, p: u16, walk: &Walk) -> LevelRead
         requires table { walk.now.table < 2 ^ 52 }
         requires moments { length (moments_of walk.now.moments) ≤ 3 }
         ensures { result ≡ found_in self.now p walk.now }
@@ -195,23 +197,23 @@ impl World {
         let value = self.word(entry_address(walk.table, walk.level, walk.la));
         let kind = classify(self.header.cfg, walk.level, Entry(value));
         match kind {
-            Kind::Absent => Found::Fault(self.fault(p, walk, Cause::Absent)),
-            Kind::Reserved => Found::Fault(self.fault(p, walk, Cause::Reserved)),
+            Kind::Absent => LevelRead::Fault(self.fault(p, walk, Cause::Absent)),
+            Kind::Reserved => LevelRead::Fault(self.fault(p, walk, Cause::Reserved)),
             Kind::Table { .. } | Kind::Leaf { .. } => self.used_entry(p, walk, value, kind),
         }
     }
 
     /// What the read of an entry comes to that is present and has no reserved bit set.
-    fn used_entry(&self, p: u16, walk: &Walk, value: u64, kind: Kind) -> Found
+    fn used_entry(&self, p: u16, walk: &Walk, value: u64, kind: Kind) -> LevelRead
         requires table { walk.now.table < 2 ^ 52 }
         requires moments { length (moments_of walk.now.moments) ≤ 3 }
         ensures { result ≡ used_entry self.now.head self.now.events p walk.now value kind }
     {
         let is_dirty = self.lacks_dirty(walk, value, kind);
         if self.judges_accessed() && (!accessed(Entry(value)) || is_dirty) {
-            Found::Assisted(self.assist(p, walk, is_dirty))
+            LevelRead::Assisted(self.assist(p, walk, is_dirty))
         } else {
-            Found::Entry {
+            LevelRead::Entry {
                 value,
                 moment: self.events.len() as u32,
             }
@@ -290,15 +292,19 @@ impl World {
         self.memory.word(addr)
     }
 
-    /// A copy of the next sealed segment that was not yet given out, if there is one. Fails where
-    /// memory is refused, and then the same segment is the next.
+    /// A copy of the next sealed segment that was not yet given out, if there is one; else no
+    /// memory is taken. Fails where memory is refused, and then the same segment is the next.
     pub fn take_sealed(&mut self, alloc: Global) -> Result<Option<Vec<Event>>, AllocError>
         ensures none { IfOk result
             (λ taken. IsNone taken ↔ (self.old.taken ≡ sealed_count self.old)) }
         ensures segment { IfOk result (λ taken. IfSome taken
             (λ segment. segment.items ≡ segment_of self.old self.old.taken)) }
+        ensures formed { IfOk result (λ taken. IfSome taken
+            (λ segment. IsSegment self.old segment.items)) }
         ensures taken { IfOk result (λ taken. self.new
             ≡ (if is_some taken then with_taken self.old else self.old)) }
+
+        ensures refused { OnErr result (self.old.taken < sealed_count self.old) }
         ensures err { OnErr result (self.new ≡ self.old) }
     {
         if self.taken >= self.sealed() {
@@ -330,7 +336,8 @@ impl World {
 
     /// How many segments are sealed, given out or not.
     pub fn sealed(&self) -> u64
-        ensures { result ≡ sealed_count self.now }
+        ensures count { result ≡ sealed_count self.now }
+        ensures within { result ≤ length self.now.events }
     {
         let size = self.header.segment as u64;
         let count = self.len();

@@ -1,8 +1,9 @@
 use Rattle.std.proofs.Common.{◌≡◌, ap, sym, subst, ◌∙◌}
 use Rattle.pg_shadow.specs.Caches.{AreInRange}
-use Rattle.pg_shadow.specs.Find.{chosen, IsInRange}
+use Rattle.pg_shadow.specs.Find.{chosen, IsFound, IsInRange}
 use Rattle.pg_shadow.specs.Spaces.{path_in}
 use Rattle.pg_shadow.specs.Held.{Held, seen, space_of}
+use Rattle.pg_shadow.proofs.Lookups.{IsFound-found}
 use Rattle.pg_shadow.proofs.Ranges.{found-range}
 use Rattle.pg_shadow.proofs.Shadows.{chosen-found}
 use Rattle.pg_shadow.proofs.shadow.Shadow.find_counted.Goals as goal
@@ -24,3 +25,8 @@ returns-clause-range c =
     let now : Held = c.args.self.now in
     let inside : AreInRange (seen now) = subst (λ (o : Held). AreInRange (seen o)) c.self.view_is c.self.invariant in
     subst (IsInRange (seen now).width) (sym (returns-clause-value c)) (found-range (seen now) c.args.la c.args.header.now c.args.kind inside)
+
+pub returns-clause-found : goal.returns-clause-found
+returns-clause-found c =
+    let now : Held = c.args.self.now in
+    subst (IsFound (seen now) c.args.la c.args.header.now c.args.kind) (sym (returns-clause-value c)) (IsFound-found (seen now) c.args.la c.args.header.now c.args.kind)

@@ -18,9 +18,9 @@ invariant_of-self c =
     let e = c.args.event.now in
     let registers : c.controlled-self-inside.result ≡ controlled h.width (processor_of e) h.control e =
     c.controlled-self-inside.ensures ∙ ap (λ p. controlled h.width p h.control e) c.processor_of.ensures in
-    let P : Control → Type 0 = λ r. AreInRange (seen (record { width = h.width; control = r; own = c.leave_own.new.own.entries; globals = c.leave.new.self })) in
+    let P : Control → Type 0 = λ r. AreInRange (seen (record { width = h.width; control = r; own = c.leave_own.new.own.entries; globals = c.leave_globals.new.globals })) in
     subst P (sym registers)
-    (subst AreInRange (sym (seen-after h e c.leave_own.new.own.entries c.leave.new.self c.leave_own.ensures c.leave.ensures)) (AreInRange-after e (seen h) c.self.invariant))
+    (subst AreInRange (sym (seen-after h e c.leave_own.new.own.entries c.leave_globals.new.globals c.leave_own.ensures c.leave_globals.ensures)) (AreInRange-after e (seen h) c.self.invariant))
 
 pub returns : goal.returns
 returns c =
@@ -28,6 +28,6 @@ returns c =
     let e = c.args.event.now in
     let registers : c.controlled-self-inside.result ≡ controlled h.width (processor_of e) h.control e =
     c.controlled-self-inside.ensures ∙ ap (λ p. controlled h.width p h.control e) c.processor_of.ensures in
-    let made : Control → Held = λ r. record { width = h.width; control = r; own = c.leave_own.new.own.entries; globals = c.leave.new.self } in
+    let made : Control → Held = λ r. record { width = h.width; control = r; own = c.leave_own.new.own.entries; globals = c.leave_globals.new.globals } in
     rw (← c.self.view_is)
-    (ap (λ r. seen (made r)) registers ∙ seen-after h e c.leave_own.new.own.entries c.leave.new.self c.leave_own.ensures c.leave.ensures)
+    (ap (λ r. seen (made r)) registers ∙ seen-after h e c.leave_own.new.own.entries c.leave_globals.new.globals c.leave_own.ensures c.leave_globals.ensures)

@@ -1,14 +1,16 @@
-use Rattle.std.proofs.Common.{◌≡◌, true, false, ◌&&◌, ap, sym, subst, ◌∙◌}
+use Rattle.std.proofs.Common.{◌≡◌, ℕ, Bool, true, false, ◌&&◌, ap, sym, subst, ◌∙◌}
 use Rattle.std.proofs.lemmas.Result.{on_ok_weaker, on_err_weaker}
 use Rattle.pg_event.specs.Invalidation.{bits_from}
 use Rattle.pg_entry.specs.declared.Level.{Level}
+use Rattle.pg_event.specs.declared.keys.TranslationKey.{TranslationKey}
 use Rattle.pg_shadow.specs.declared.slot.Kept.TheVariants.{Leaf}
-use Rattle.pg_shadow.specs.Spaces.{Keeps}
+use Rattle.pg_shadow.specs.Spaces.{slot_in, Keeps}
 use Rattle.pg_shadow.specs.Caches.{AreInRange, IsPageAt, with_leaf}
-use Rattle.pg_shadow.specs.Held.{Held, seen, KeepsOwn}
+use Rattle.pg_shadow.specs.Held.{Held, seen, space_of, KeepsOwn}
+use Rattle.pg_shadow.specs.Slots.{no_slot}
 use Rattle.pg_shadow.proofs.Ranges.{AreInRange-with_leaf}
 use Rattle.pg_shadow.proofs.Results.{either}
-use Rattle.pg_shadow.proofs.Shadows.{seen-with_own_leaf, seen-with_global_leaf, seen-same_own, seen-same_globals}
+use Rattle.pg_shadow.proofs.Shadows.{seen-with_own_leaf, seen-with_global_leaf, seen-same_own, seen-same_globals, no_own_leaf, no_global_leaf}
 use Rattle.pg_shadow.proofs.shadow.Shadow.keep_leaf.Goals as goal
 
 pub invariant_of-self : goal.invariant_of-self
@@ -76,3 +78,33 @@ pub returns-else-is_global-clause-err : goal.returns-else-is_global-clause-err
 returns-else-is_global-clause-err c =
     let h : Held = record { width = c.self.inside.m; control = c.self.inside.control; own = c.self.inside.own.entries; globals = c.self.inside.globals } in
     rw (← c.self.view_is) (on_err_weaker c.keep_own.result (λ same. seen-same_own h c.keep_own.new.own.entries same) c.keep_own.ensures.err)
+
+pub returns-then-is_global-clause-refused : goal.returns-then-is_global-clause-refused
+unfolding seen
+returns-then-is_global-clause-refused c =
+    let h : Held = record { width = c.self.inside.m; control = c.self.inside.control; own = c.self.inside.own.entries; globals = c.self.inside.globals } in
+    let K : Level → Type 0 = λ l. slot_in h.globals l c.bits_from-number.result ≡ no_slot in
+    let key : ℕ → Bool → TranslationKey = λ n b. record { pcid = h.control.pcid; shift = c.args.shift; number = n; global = b } in
+    let global : true ≡ (c.args.global_bit && h.control.pge) = sym c.if-is_global.true ∙ c.is_global.ensures in
+    rw (← c.self.view_is)
+    (on_err_weaker c.keep.result
+    (λ none.
+    ap (λ n. (seen h).leaves (key n (c.args.global_bit && h.control.pge))) (sym c.bits_from-number.ensures)
+    ∙ ap (λ b. (seen h).leaves (key c.bits_from-number.result b)) (sym global)
+    ∙ no_global_leaf h h.control.pcid c.args.shift c.bits_from-number.result c.requires.size (subst K c.level_of-level.ensures none))
+    c.keep.ensures.refused)
+
+pub returns-else-is_global-clause-refused : goal.returns-else-is_global-clause-refused
+unfolding seen
+returns-else-is_global-clause-refused c =
+    let h : Held = record { width = c.self.inside.m; control = c.self.inside.control; own = c.self.inside.own.entries; globals = c.self.inside.globals } in
+    let K : Level → Type 0 = λ l. slot_in (space_of h.own h.control.pcid) l c.bits_from-number.result ≡ no_slot in
+    let key : ℕ → Bool → TranslationKey = λ n b. record { pcid = h.control.pcid; shift = c.args.shift; number = n; global = b } in
+    let global : false ≡ (c.args.global_bit && h.control.pge) = sym c.if-is_global.false ∙ c.is_global.ensures in
+    rw (← c.self.view_is)
+    (on_err_weaker c.keep_own.result
+    (λ none.
+    ap (λ n. (seen h).leaves (key n (c.args.global_bit && h.control.pge))) (sym c.bits_from-number.ensures)
+    ∙ ap (λ b. (seen h).leaves (key c.bits_from-number.result b)) (sym global)
+    ∙ no_own_leaf h h.control.pcid c.args.shift c.bits_from-number.result c.requires.size (subst K c.level_of-level.ensures none))
+    c.keep_own.ensures.refused)

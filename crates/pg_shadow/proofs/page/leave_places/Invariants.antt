@@ -1,9 +1,0 @@
-use Rattle.std.proofs.Common.{◌≡◌, ℕ, ◌+◌, ◌<◌, ◌≤◌, get_or}
-use Rattle.pg_shadow.specs.Pages.{no_place, left_place}
-use Rattle.pg_shadow.proofs.page.leave_places.Given as goal
-
-abbrev pub invariant-loop-i : goal.invariant-loop-i
-invariant-loop-i l = record {
-  done : (k : ℕ) → k < l.i → get_or l.places k no_place ≡ left_place l.control l.event l.pcid l.global l.level (l.first + k) (get_or l.initial.places k no_place);
-  rest : (k : ℕ) → l.i ≤ k → get_or l.places k no_place ≡ get_or l.initial.places k no_place;
-}
