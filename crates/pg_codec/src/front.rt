@@ -8,7 +8,9 @@ ghost use Rattle.pg_codec.specs.Parts.{settings_at, AreSettings, version_said, i
 use crate::fields::{byte_of, processor_number, u16_of, u32_of, u64_of};
 use crate::settings::Settings;
 use pg_entry::{Cfg, CfgFlags};
-use pg_event::{Refusal, Version, most_processors};
+use pg_event::{
+    LEAST_MAXPHYADDR, MOST_MAXPHYADDR, MOST_SEGMENT, Refusal, Version, most_processors,
+};
 
 fn same_bytes(xs: &[u8], ys: &[u8]) -> bool
     ensures { result ≡ same_bytes xs.now ys.now }
@@ -61,7 +63,7 @@ pub(crate) fn settings_of(bytes: &[u8]) -> Result<(Settings, &[u8]), Refusal>
     let (_, rest) = magic_of(bytes)?;
     let (version, rest) = version_of(rest)?;
     let (m, rest) = byte_of(rest)?;
-    if m < 36 || m > 52 {
+    if m < LEAST_MAXPHYADDR || m > MOST_MAXPHYADDR {
         return Err(Refusal::HeaderField);
     }
     let (flags, rest) = byte_of(rest)?;
@@ -73,7 +75,7 @@ pub(crate) fn settings_of(bytes: &[u8]) -> Result<(Settings, &[u8]), Refusal>
         return Err(Refusal::HeaderField);
     }
     let (segment, rest) = u32_of(rest)?;
-    if segment < 1 || segment > 65536 {
+    if segment < 1 || segment > MOST_SEGMENT {
         return Err(Refusal::HeaderField);
     }
     let flags = CfgFlags(flags);
