@@ -4,7 +4,8 @@ ghost use Rattle.std.specs.Prelude.{◌≡◌, ◌≤◌, ◌<◌, ◌+◌, ◌^
 ghost use Rattle.std.specs.Prelude.{IfOk, IfSome};
 ghost use Rattle.std.specs.List.{AllByRecursion};
 ghost use Rattle.pg_event.specs.Spelling.{IsHead};
-ghost use Rattle.pg_script.specs.Heading.{version_in, machine_in, segment_in, start_in};
+ghost use Rattle.pg_event.specs.Heads.{most_segment};
+ghost use Rattle.pg_script.specs.Heading.{version_in, machine_in, segment_in, start_in, IsCfg};
 ghost use Rattle.pg_script.specs.Tasks.{IsWellFormed};
 ghost use Rattle.pg_script.specs.Reading.{in_line, placed, line_at, heading_at, starts_at};
 ghost use Rattle.pg_script.specs.Reading.{processors_at, head_at, task_after, tasks_at};
@@ -80,8 +81,7 @@ fn version_line<'a>(text: &Text<'a>) -> Result<(Version, Text<'a>), ScriptError>
 fn machine_line<'a>(text: &Text<'a>) -> Result<(Cfg, Text<'a>), ScriptError>
     ensures cfg { Gives (λ x. (x.0, told_in x.1)) result
         (heading_at ScriptRefusal.Machine machine_in (told_in text.now)) }
-    ensures range { IfOk result
-        (λ x. (36 ≤ x.0.m) × (x.0.m ≤ 52) × (x.0.flags.0 < 16)) }
+    ensures range { IfOk result (λ x. IsCfg x.0) }
 {
     let place = ScriptRefusal::Machine;
     let (line, words, rest) = line_of(place, text.told_front()?)?;
@@ -93,7 +93,7 @@ fn machine_line<'a>(text: &Text<'a>) -> Result<(Cfg, Text<'a>), ScriptError>
 fn segment_line<'a>(text: &Text<'a>) -> Result<(u32, Text<'a>), ScriptError>
     ensures size { Gives (λ x. (x.0, told_in x.1)) result
         (heading_at ScriptRefusal.Segment segment_in (told_in text.now)) }
-    ensures range { IfOk result (λ x. (1 ≤ x.0) × (x.0 ≤ 65536)) }
+    ensures range { IfOk result (λ x. (1 ≤ x.0) × (x.0 ≤ most_segment)) }
 {
     let place = ScriptRefusal::Segment;
     let (line, words, rest) = line_of(place, text.told_front()?)?;

@@ -1,7 +1,7 @@
 //! What the words of a line say that is an instruction.
 
 ghost use Rattle.std.specs.Prelude.{◌≡◌, ◌<◌, ◌≤◌, ◌^◌, IfOk};
-ghost use Rattle.pg_script.specs.Instructions.{processor_at, mode_at, write_in, access_in};
+ghost use Rattle.pg_script.specs.Instructions.{processor_at, kind_at, write_in, access_in};
 ghost use Rattle.pg_script.specs.Instructions.{mov_cr3_in, invlpg_in, invpcid_in, mov_cr4_pge_in};
 ghost use Rattle.pg_script.specs.Instructions.{instruction_in, task_in};
 ghost use Rattle.pg_script.specs.Tasks.{event_of, IsWellFormed};
@@ -11,7 +11,8 @@ use crate::instruction::{Instruction, Task};
 use crate::number::dec_of;
 use crate::refusal::ScriptRefusal;
 use crate::words::{Words, bit_word, dec_word, ended, hex_word, same_bytes, word_of};
-use pg_event::{Event, Header, Moments, Outcome, well_formed};
+use pg_entry::{AccessKind, Op};
+use pg_event::{Event, Header, Moments, Outcome, flags_of, well_formed};
 
 /// The number of a processor, which begins the line.
 #[tactic(auto, unfolding(crate::specs::Instructions::processor_at))]
@@ -25,23 +26,22 @@ fn processor_word<'a>(words: &Words<'a>) -> Result<(u64, Words<'a>), ScriptRefus
     }
 }
 
-/// The mode of an access as bits of its flags.
-#[tactic(auto, unfolding(crate::specs::Instructions::mode_at))]
-fn mode_word<'a>(words: &Words<'a>) -> Result<(u8, Words<'a>), ScriptRefusal>
-    ensures mode { Gives (λ x. (x.0, x.1)) result (mode_at words.now) }
-    ensures bound { IfOk result (λ x. x.0 ≤ 8) }
+/// An access of an operation, by the word of its mode.
+#[tactic(auto, unfolding(crate::specs::Instructions::kind_at))]
+fn kind_word<'a>(op: Op, words: &Words<'a>) -> Result<(AccessKind, Words<'a>), ScriptRefusal>
+    ensures { Gives (λ x. (x.0, x.1)) result (kind_at op words.now) }
 {
     let (word, rest) = word_of(words)?;
-    if same_bytes(word, b"user") {
-        return Ok((4, rest));
-    }
-    if same_bytes(word, b"super") {
-        return Ok((0, rest));
-    }
-    if same_bytes(word, b"super-ac") {
-        return Ok((8, rest));
-    }
-    Err(ScriptRefusal::Instruction)
+    let (user, ac) = if same_bytes(word, b"user") {
+        (true, false)
+    } else if same_bytes(word, b"super") {
+        (false, false)
+    } else if same_bytes(word, b"super-ac") {
+        (false, true)
+    } else {
+        return Err(ScriptRefusal::Instruction);
+    };
+    Ok((AccessKind { op, user, ac }, rest))
 }
 
 #[tactic(auto, unfolding(crate::specs::Instructions::write_in))]
@@ -53,15 +53,14 @@ fn write_of(words: &Words) -> Result<Instruction, ScriptRefusal>
     ended(Instruction::Write { addr, value }, &rest)
 }
 
-/// An access of an operation: 0 read, 1 write, 2 fetch.
+/// Address and mode.
 #[tactic(auto, unfolding(crate::specs::Instructions::access_in))]
-fn access_of(op: u8, words: &Words) -> Result<Instruction, ScriptRefusal>
-    requires { op < 4 }
+fn access_of(op: Op, words: &Words) -> Result<Instruction, ScriptRefusal>
     ensures { Gives (λ x. x) result (access_in op words.now) }
 {
     let (la, rest) = hex_word(words)?;
-    let (mode, rest) = mode_word(&rest)?;
-    let flags = op + mode;
+    let (kind, rest) = kind_word(op, &rest)?;
+    let flags = flags_of(kind);
     ended(Instruction::Access { flags, la }, &rest)
 }
 
@@ -114,11 +113,11 @@ fn instruction_of(name: &[u8], words: &Words) -> Result<Instruction, ScriptRefus
     if same_bytes(name, b"write") {
         write_of(words)
     } else if same_bytes(name, b"read") {
-        access_of(0, words)
+        access_of(Op::Read, words)
     } else if same_bytes(name, b"store") {
-        access_of(1, words)
+        access_of(Op::Write, words)
     } else if same_bytes(name, b"fetch") {
-        access_of(2, words)
+        access_of(Op::Fetch, words)
     } else if same_bytes(name, b"cr3") {
         mov_cr3_of(words)
     } else if same_bytes(name, b"invlpg") {
