@@ -6,3 +6,5 @@ mod Deals
 mod Loops
 mod Pushing
 mod Wells
+mod Refusals
+mod Wants

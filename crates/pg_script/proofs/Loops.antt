@@ -10,15 +10,7 @@ use Rattle.pg_script.specs.Words.{Words, ◌>>=◌}
 use Rattle.pg_script.specs.Heading.{names_processor, start_in}
 use Rattle.pg_script.specs.declared.refusal.ScriptRefusal.TheVariants.{Cpu}
 use Rattle.pg_script.specs.Reading.{tasks_at, starts_at, in_line, placed, words_at, task_after}
-use Rattle.pg_script.specs.Answers.{Fails, is_memory, next_task_at, next_start_at}
-
--- a refusal that the definition gives
-pub refused_so : {A : Type 0} (e : ScriptError) (read : Result A ScriptError) → read ≡ Err e → Fails e read
-refused_so e read is = go (is_memory e.refusal)
-  where
-    go : (b : Bool) → MatchBool b (Unit {0}) (read ≡ Err e)
-    go true = tt
-    go false = is
+use Rattle.pg_script.specs.Answers.{next_task_at, next_start_at}
 
 -- ---- instructions
 

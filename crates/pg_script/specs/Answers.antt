@@ -1,7 +1,7 @@
 -- What the functions of this crate answer, seen as the definitions of reading.
-use Rattle.std.specs.Prelude.{◌≡◌, ℕ, ◌+◌, Bool, true, false, List, [], ◌∷◌, ◌++◌}
+use Rattle.std.specs.Prelude.{◌≡◌, ℕ, ◌+◌, Bool, true, false, ◌||◌, List, [], ◌∷◌, ◌++◌, ◌⊎◌}
 use Rattle.std.specs.Prelude.{Option, Some, None, Result, Ok, Err, MatchBool, if◌then◌else◌}
-use Rattle.std.specs.Prelude.{option_map, length, IfSome, ◌<◌}
+use Rattle.std.specs.Prelude.{option_map, length, IfSome, IfErr, MatchResult, is_ok, ◌<◌}
 use Rattle.std.specs.Borrow.{Bor}
 use Rattle.pg_event.specs.Heads.{Head}
 use Rattle.pg_script.specs.declared.refusal.ScriptRefusal.{ScriptRefusal}
@@ -12,7 +12,8 @@ use Rattle.pg_script.specs.Lines.{Lines, Ended, Cut, Line, pieces, lines_of, wor
 use Rattle.pg_script.specs.Lines.{is_plain, told}
 use Rattle.pg_script.specs.Words.{Words, ◌>>=◌}
 use Rattle.pg_script.specs.Heading.{start_in, names_processor}
-use Rattle.pg_script.specs.Reading.{refused, in_line, words_at, placed, task_after}
+use Rattle.pg_script.specs.Instructions.{processor_at}
+use Rattle.pg_script.specs.Reading.{refused, in_line, words_at, placed, task_after, reading}
 
 -- what was answered, seen by view, is what the definition gives
 abbrev pub Gives : {X A E : Type 0} → (X → A) → Result X E → Result A E → Type 0
@@ -32,14 +33,57 @@ is_memory refusals.LineEnd = false
 is_memory refusals.TooMany = false
 is_memory refusals.Memory = true
 
--- a refusal is the first of the text; want of memory says nothing of it
-abbrev pub Fails : {A : Type 0} → ScriptError → Result A ScriptError → Type 0
-Fails e read = MatchBool (is_memory e.refusal) (Unit {0}) (read ≡ Err e)
+-- a line that makes a script longer: it begins with `cpu` or with the number of a processor
+abbrev pub adds : Words → Bool
+adds words = names_processor words || is_ok (processor_at words)
 
--- what was answered is what reading gives, unless memory ran out
-abbrev pub Reads : {X A : Type 0} → (X → A) → Result X ScriptError → Result A ScriptError → Type 0
-Reads view (Ok x) read = read ≡ Ok (view x)
-Reads view (Err e) read = Fails e read
+-- the line of this number makes a script longer
+abbrev pub Adds : Lines → ℕ → Type 0
+Adds (Ended m) n = ⊥
+Adds (Cut m) n = ⊥
+Adds (Line m line more) n = ((m ≡ n) × (adds (words_of line) ≡ true)) ⊎ Adds more n
+
+-- What a text is refused for: its first refusal; or memory was refused, at a line that makes the
+-- script longer, and no line as far as that one is refused.
+abbrev pub IsRefused : List ℕ → ScriptError → Type 0
+IsRefused bytes e =
+    MatchBool (is_memory e.refusal)
+    (Adds (lines_of 1 bytes) e.line × IfErr (reading bytes) (λ first. e.line < first.line))
+    (reading bytes ≡ Err e)
+
+abbrev pub first_number : Lines → ℕ
+first_number (Ended n) = n
+first_number (Cut n) = n
+first_number (Line n line more) = n
+
+-- each line has a greater number than the one before
+abbrev pub AreRising : Lines → Type 0
+AreRising (Ended n) = Unit {0}
+AreRising (Cut n) = Unit {0}
+AreRising (Line n line more) = (n < first_number more) × AreRising more
+
+-- lines behind the one of this number
+abbrev pub AreBehind : ℕ → Lines → Type 0
+AreBehind n lines = (n < first_number lines) × AreRising lines
+
+-- memory was refused at a line, and no line as far as that one is
+abbrev pub Lacks : {A : Type 0} → (A → Type 0) → Lines → Result A ScriptError → ScriptError → Type 0
+Lacks behind lines read e =
+    (e.refusal ≡ refusals.Memory) × Adds lines e.line
+    × MatchResult read behind (λ first. e.line < first.line)
+
+-- what was answered for a part of the lines is what reading gives, unless memory was refused there
+abbrev pub ReadsPart : {X A : Type 0} → (X → A × Lines) → Result X ScriptError → Lines →
+    Result (A × Lines) ScriptError → Type 0
+ReadsPart view (Ok x) lines read = read ≡ Ok (view x)
+ReadsPart view (Err e) lines read =
+    (read ≡ Err e) ⊎ Lacks (λ x. AreBehind e.line x.1) lines read e
+
+-- what was answered for all lines is what reading gives, unless memory was refused there
+abbrev pub ReadsAll : {X A : Type 0} → (X → A) → Result X ScriptError → Lines →
+    Result A ScriptError → Type 0
+ReadsAll view (Ok x) lines read = read ≡ Ok (view x)
+ReadsAll view (Err e) lines read = (read ≡ Err e) ⊎ Lacks (λ x. Unit {0}) lines read e
 
 -- the pieces behind the first separator, if there is one
 abbrev pub pieces_behind : ℕ → Option (List ℕ) → List (List ℕ)

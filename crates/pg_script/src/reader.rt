@@ -5,12 +5,12 @@ ghost use Rattle.std.specs.Prelude.{IfOk, IfSome};
 ghost use Rattle.std.specs.List.{AllByRecursion};
 ghost use Rattle.pg_event.specs.Spelling.{IsHead};
 ghost use Rattle.pg_event.specs.Heads.{most_segment};
-ghost use Rattle.pg_script.specs.Heading.{version_in, machine_in, segment_in, start_in, IsCfg};
+ghost use Rattle.pg_script.specs.Heading.{IsCfg, version_in, machine_in, segment_in, start_in};
 ghost use Rattle.pg_script.specs.Tasks.{IsWellFormed};
 ghost use Rattle.pg_script.specs.Reading.{in_line, placed, line_at, heading_at, starts_at};
 ghost use Rattle.pg_script.specs.Reading.{processors_at, head_at, task_after, tasks_at};
-ghost use Rattle.pg_script.specs.Answers.{Gives, Reads, lines_in, told_in, front_seen};
-ghost use Rattle.pg_script.specs.Answers.{line_or_refusal, next_start_at, next_task_at};
+ghost use Rattle.pg_script.specs.Answers.{Gives, ReadsPart, ReadsAll, lines_in, told_in, front_seen};
+ghost use Rattle.pg_script.specs.Answers.{line_or_refusal, next_start_at, next_task_at, first_number};
 
 use crate::heading::{machine_of, names_processor, segment_of, start_of, version_of};
 use crate::instruction::Task;
@@ -130,6 +130,7 @@ fn first_start<'a>(m: u8, text: &Text<'a>) -> Result<(u32, (u64, bool), Text<'a>
     requires { m ≤ 52 }
     ensures start { Gives (λ x. (x.1, told_in x.2)) result
         (heading_at ScriptRefusal.Cpu (start_in m) (told_in text.now)) }
+    ensures number { IfOk result (λ x. x.0 ≡ first_number (told_in text.now)) }
     ensures range { IfOk result (λ x. x.1.0 < 2 ^ m) }
 {
     let place = ScriptRefusal::Cpu;
@@ -157,7 +158,7 @@ fn processors_of<'a>(
     text: &Text<'a>,
 ) -> Result<(Vec<(u64, bool)>, Text<'a>), ScriptError>
     requires { m ≤ 52 }
-    ensures starts { Reads (λ x. (x.0.items, told_in x.1)) result
+    ensures starts { ReadsPart (λ x. (x.0.items, told_in x.1)) result (told_in text.now)
         (processors_at m most (told_in text.now)) }
     ensures some { IfOk result (λ x. 1 ≤ vec_len x.0) }
     ensures few { IfOk result (λ x. vec_len x.0 ≤ most + 1) }
@@ -186,7 +187,8 @@ pub(crate) fn header_of<'a>(
     alloc: Global,
     text: &Text<'a>,
 ) -> Result<(Header, Text<'a>), ScriptError>
-    ensures header { Reads (λ x. (x.0, told_in x.1)) result (head_at (lines_in text.now)) }
+    ensures header { ReadsPart (λ x. (x.0, told_in x.1)) result (lines_in text.now)
+        (head_at (lines_in text.now)) }
     ensures range { IfOk result (λ x. IsHead x.0) }
 {
     let (version, rest) = version_line(text)?;
@@ -246,7 +248,8 @@ pub(crate) fn tasks_of<'a>(
     text: Text<'a>,
 ) -> Result<Tasks, ScriptError>
     requires { header.now.cfg.m ≤ 52 }
-    ensures tasks { Reads (λ x. x) result (tasks_at header.now 0 (told_in text.entry)) }
+    ensures tasks { ReadsAll (λ x. x) result (told_in text.entry)
+        (tasks_at header.now 0 (told_in text.entry)) }
     ensures well { IfOk result (λ tasks.
         AllByRecursion (λ task. IsWellFormed header.now task.p task.instruction) tasks) }
 {
