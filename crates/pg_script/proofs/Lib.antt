@@ -8,3 +8,8 @@ mod Pushing
 mod Wells
 mod Refusals
 mod Wants
+mod Digits
+mod Spaced
+mod Sayings
+mod Said
+mod RowsOfReading

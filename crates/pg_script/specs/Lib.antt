@@ -7,4 +7,5 @@ pub mod Dealt
 pub mod Heading
 pub mod Instructions
 pub mod Reading
+pub mod Spelling
 pub mod Answers

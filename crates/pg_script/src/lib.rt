@@ -3,6 +3,7 @@
 
 mod heading;
 mod instruction;
+mod laws;
 mod number;
 mod reader;
 mod refusal;
@@ -13,6 +14,7 @@ mod text;
 mod words;
 
 pub use instruction::{Instruction, Task};
+pub use laws::reading_of_text;
 pub use refusal::{ScriptError, ScriptRefusal};
 pub use script::Script;
 

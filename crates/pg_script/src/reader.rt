@@ -9,8 +9,9 @@ ghost use Rattle.pg_script.specs.Heading.{IsCfg, version_in, machine_in, segment
 ghost use Rattle.pg_script.specs.Tasks.{IsWellFormed};
 ghost use Rattle.pg_script.specs.Reading.{in_line, placed, line_at, heading_at, starts_at};
 ghost use Rattle.pg_script.specs.Reading.{processors_at, head_at, task_after, tasks_at};
-ghost use Rattle.pg_script.specs.Answers.{Gives, ReadsPart, ReadsAll, lines_in, told_in, front_seen};
-ghost use Rattle.pg_script.specs.Answers.{line_or_refusal, next_start_at, next_task_at, first_number};
+ghost use Rattle.pg_script.specs.Answers.{Gives, ReadsPart, ReadsAll, lines_in, told_in};
+ghost use Rattle.pg_script.specs.Answers.{front_seen, line_or_refusal, next_start_at};
+ghost use Rattle.pg_script.specs.Answers.{next_task_at, first_number};
 
 use crate::heading::{machine_of, names_processor, segment_of, start_of, version_of};
 use crate::instruction::Task;
