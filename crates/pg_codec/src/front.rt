@@ -1,7 +1,7 @@
 //! The parts of a header at the front of a slice.
 
 ghost use Rattle.std.specs.Prelude.{◌≡◌, ◌≤◌, ◌<◌, ◌^◌, length, IfOk};
-ghost use Rattle.pg_event.specs.Reading.{same_bytes, magic_at, version_at, start_at};
+ghost use Rattle.pg_event.specs.Reading.{magic_at, version_at, start_at};
 ghost use Rattle.pg_codec.specs.Reads.{Gives};
 ghost use Rattle.pg_codec.specs.Parts.{settings_at, AreSettings, version_said, is_two};
 
@@ -12,12 +12,6 @@ use pg_event::{
     LEAST_MAXPHYADDR, MOST_MAXPHYADDR, MOST_SEGMENT, Refusal, Version, most_processors,
 };
 
-fn same_bytes(xs: &[u8], ys: &[u8]) -> bool
-    ensures { result ≡ same_bytes xs.now ys.now }
-{
-    xs == ys
-}
-
 #[tactic(auto, unfolding(pg_event::specs::Reading::magic_at))]
 fn magic_of(bytes: &[u8]) -> Result<(&[u8], &[u8]), Refusal>
     ensures { Gives (λ x. (x.0.now, x.1.now)) result (magic_at bytes.now) }
@@ -26,7 +20,7 @@ fn magic_of(bytes: &[u8]) -> Result<(&[u8], &[u8]), Refusal>
         return Err(Refusal::Truncated);
     }
     let (front, rest) = bytes.split_at(8);
-    if !same_bytes(front, b"PGRECORD") {
+    if front != b"PGRECORD".as_slice() {
         return Err(Refusal::Magic);
     }
     Ok((front, rest))
