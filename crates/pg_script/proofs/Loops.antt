@@ -6,7 +6,8 @@ use Rattle.pg_event.specs.Heads.{Head}
 use Rattle.pg_script.specs.declared.instruction.Task.{Task}
 use Rattle.pg_script.specs.declared.refusal.ScriptError.{ScriptError}
 use Rattle.pg_script.specs.Lines.{Lines, Ended, Cut, Line}
-use Rattle.pg_script.specs.Words.{Words, ◌>>=◌}
+use Rattle.pg_event.specs.Reading.{◌>>=◌}
+use Rattle.pg_script.specs.Words.{Words}
 use Rattle.pg_script.specs.Heading.{names_processor, start_in}
 use Rattle.pg_script.specs.declared.refusal.ScriptRefusal.TheVariants.{Cpu}
 use Rattle.pg_script.specs.Reading.{tasks_at, starts_at, in_line, placed, words_at, task_after}

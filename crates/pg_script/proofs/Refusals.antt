@@ -14,7 +14,8 @@ use Rattle.pg_script.specs.declared.refusal.ScriptRefusal.{ScriptRefusal}
 use Rattle.pg_script.specs.declared.refusal.ScriptRefusal.TheVariants as refusals
 use Rattle.pg_script.specs.Numbers.{dec_of, hex_of}
 use Rattle.pg_script.specs.Lines.{Lines, Ended, Cut, Line, lines_of, words_of, is_plain, told}
-use Rattle.pg_script.specs.Words.{Words, ◌>>=◌, word_at, number_or_refusal, dec_at, hex_at, bit_or_refusal, bit_at, ended}
+use Rattle.pg_event.specs.Reading.{◌>>=◌}
+use Rattle.pg_script.specs.Words.{Words, word_at, number_or_refusal, dec_at, hex_at, bit_or_refusal, bit_at, ended}
 use Rattle.pg_script.specs.Heading.{names_processor, version_in, machine_in, segment_in, start_in}
 use Rattle.pg_script.specs.Instructions.{processor_or_refusal, processor_at, kind_or_refusal, kind_at, write_in, access_in, mov_cr3_in, invlpg_in, fitting_invpcid, invpcid_in, mov_cr4_pge_in, instruction_in, well_formed_or_refusal, fitting_task, task_in}
 use Rattle.pg_script.specs.Tasks.{event_of}

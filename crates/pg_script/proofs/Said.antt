@@ -22,7 +22,8 @@ use Rattle.pg_script.specs.declared.instruction.Instruction.TheVariants.{Write, 
 use Rattle.pg_script.specs.declared.instruction.Task.{Task}
 use Rattle.pg_script.specs.Numbers.{dec_of}
 use Rattle.pg_script.specs.Lines.{Lines, Ended, Cut, Line, lines_of, words_of, is_plain, told}
-use Rattle.pg_script.specs.Words.{Words, ◌>>=◌}
+use Rattle.pg_event.specs.Reading.{◌>>=◌}
+use Rattle.pg_script.specs.Words.{Words}
 use Rattle.pg_script.specs.Heading.{IsCfg, names_processor, version_in, machine_in, segment_in, start_in}
 use Rattle.pg_script.specs.Instructions.{task_in}
 use Rattle.pg_script.specs.Tasks.{IsWellFormed}

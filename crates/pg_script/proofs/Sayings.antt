@@ -21,7 +21,8 @@ use Rattle.pg_script.specs.declared.instruction.Instruction.{Instruction}
 use Rattle.pg_script.specs.declared.instruction.Instruction.TheVariants.{Write, Access, MovCr3, Invlpg, Invpcid, MovCr4Pge}
 use Rattle.pg_script.specs.declared.instruction.Task.{Task}
 use Rattle.pg_script.specs.Numbers.{dec_of, hex_of}
-use Rattle.pg_script.specs.Words.{Words, Part, ◌>>=◌, dec_at, hex_at, bit_at, keyword_at, number_or_refusal, ended}
+use Rattle.pg_event.specs.Reading.{◌>>=◌}
+use Rattle.pg_script.specs.Words.{Words, FromWords, dec_at, hex_at, bit_at, keyword_at, number_or_refusal, ended}
 use Rattle.pg_script.specs.Heading.{IsCfg, version_in, settings_at, cfg_of, machine_in, segment_in, start_in}
 use Rattle.pg_script.specs.Instructions.{processor_at, processor_or_refusal, kind_at, write_in, access_in, mov_cr3_in, invlpg_in, fitting_invpcid, invpcid_in, mov_cr4_pge_in, instruction_in, well_formed_or_refusal, fitting_task, task_in}
 use Rattle.pg_script.specs.Tasks.{event_of, IsWellFormed}

@@ -10,7 +10,8 @@ use Rattle.pg_script.specs.declared.refusal.ScriptError.{ScriptError}
 use Rattle.pg_script.specs.declared.refusal.ScriptRefusal.{ScriptRefusal}
 use Rattle.pg_script.specs.declared.refusal.ScriptRefusal.TheVariants as refusals
 use Rattle.pg_script.specs.Lines.{Lines, Ended, Cut, Line, pieces, lines_from, lines_of, words_of, is_plain, is_skipped, told}
-use Rattle.pg_script.specs.Words.{Words, ◌>>=◌, keyword_at}
+use Rattle.pg_event.specs.Reading.{◌>>=◌}
+use Rattle.pg_script.specs.Words.{Words, keyword_at}
 use Rattle.pg_script.specs.Heading.{names_processor, version_in, machine_in, segment_in, start_in}
 use Rattle.pg_script.specs.Instructions.{processor_at, task_in}
 use Rattle.pg_script.specs.Reading.{Scripted, refused, in_line, placed, words_at, line_at, heading_at, starts_at, processors_at, head_at, task_after, most_instructions, tasks_at, reading}

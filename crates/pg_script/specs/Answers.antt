@@ -10,15 +10,16 @@ use Rattle.pg_script.specs.declared.refusal.ScriptError.{ScriptError}
 use Rattle.pg_script.specs.declared.instruction.Task.{Task}
 use Rattle.pg_script.specs.Lines.{Lines, Ended, Cut, Line, pieces, lines_of, words_of}
 use Rattle.pg_script.specs.Lines.{is_plain, told}
-use Rattle.pg_script.specs.Words.{Words, ◌>>=◌}
+use Rattle.pg_event.specs.Reading.{◌>>=◌}
+use Rattle.pg_script.specs.Words.{Words}
 use Rattle.pg_script.specs.Heading.{start_in, names_processor}
 use Rattle.pg_script.specs.Instructions.{processor_at}
 use Rattle.pg_script.specs.Reading.{refused, in_line, words_at, placed, task_after, reading}
 
 -- what was answered, seen by view, is what the definition gives
-abbrev pub Gives : {X A E : Type 0} → (X → A) → Result X E → Result A E → Type 0
-Gives view (Ok x) read = read ≡ Ok (view x)
-Gives view (Err e) read = read ≡ Err e
+abbrev pub Agrees : {X A E : Type 0} → (X → A) → Result X E → Result A E → Type 0
+Agrees view (Ok x) read = read ≡ Ok (view x)
+Agrees view (Err e) read = read ≡ Err e
 
 -- whether memory ran out
 abbrev pub is_memory : ScriptRefusal → Bool
@@ -73,17 +74,17 @@ Lacks behind lines read e =
     × MatchResult read behind (λ first. e.line < first.line)
 
 -- what was answered for a part of the lines is what reading gives, unless memory was refused there
-abbrev pub ReadsPart : {X A : Type 0} → (X → A × Lines) → Result X ScriptError → Lines →
+abbrev pub AgreesOnPart : {X A : Type 0} → (X → A × Lines) → Result X ScriptError → Lines →
     Result (A × Lines) ScriptError → Type 0
-ReadsPart view (Ok x) lines read = read ≡ Ok (view x)
-ReadsPart view (Err e) lines read =
+AgreesOnPart view (Ok x) lines read = read ≡ Ok (view x)
+AgreesOnPart view (Err e) lines read =
     (read ≡ Err e) ⊎ Lacks (λ x. AreBehind e.line x.1) lines read e
 
 -- what was answered for all lines is what reading gives, unless memory was refused there
-abbrev pub ReadsAll : {X A : Type 0} → (X → A) → Result X ScriptError → Lines →
+abbrev pub AgreesOnAll : {X A : Type 0} → (X → A) → Result X ScriptError → Lines →
     Result A ScriptError → Type 0
-ReadsAll view (Ok x) lines read = read ≡ Ok (view x)
-ReadsAll view (Err e) lines read = (read ≡ Err e) ⊎ Lacks (λ x. Unit {0}) lines read e
+AgreesOnAll view (Ok x) lines read = read ≡ Ok (view x)
+AgreesOnAll view (Err e) lines read = (read ≡ Err e) ⊎ Lacks (λ x. Unit {0}) lines read e
 
 -- the pieces behind the first separator, if there is one
 abbrev pub pieces_behind : ℕ → Option (List ℕ) → List (List ℕ)

@@ -9,9 +9,10 @@ use Rattle.pg_event.specs.declared.version.Version.TheVariants as versions
 use Rattle.pg_event.specs.Heads.{least_maxphyaddr, most_maxphyaddr, most_segment}
 use Rattle.pg_script.specs.declared.refusal.ScriptRefusal.{ScriptRefusal}
 use Rattle.pg_script.specs.declared.refusal.ScriptRefusal.TheVariants as refusals
-use Rattle.pg_script.specs.Numbers.{is_between}
-use Rattle.pg_script.specs.Words.{Words, Part, word_at, dec_at, hex_at, bit_at, keyword_at, ended}
-use Rattle.pg_script.specs.Words.{◌>>=◌}
+use Rattle.pg_event.specs.Reading.{is_between}
+use Rattle.pg_script.specs.Words.{Words, FromWords, word_at, dec_at, hex_at, bit_at, keyword_at}
+use Rattle.pg_script.specs.Words.{ended}
+use Rattle.pg_event.specs.Reading.{◌>>=◌}
 
 abbrev pub version_or_refusal : List ℕ → Result Version ScriptRefusal
 version_or_refusal word =

@@ -14,16 +14,17 @@ use Rattle.pg_script.specs.declared.instruction.Instruction.{Instruction}
 use Rattle.pg_script.specs.declared.instruction.Instruction.TheVariants as instructions
 use Rattle.pg_script.specs.declared.instruction.Task.{Task}
 use Rattle.pg_script.specs.Numbers.{dec_of}
-use Rattle.pg_script.specs.Words.{Words, Part, word_at, dec_at, hex_at, bit_at, keyword_at, ended}
-use Rattle.pg_script.specs.Words.{◌>>=◌}
+use Rattle.pg_script.specs.Words.{Words, FromWords, word_at, dec_at, hex_at, bit_at, keyword_at}
+use Rattle.pg_script.specs.Words.{ended}
+use Rattle.pg_event.specs.Reading.{◌>>=◌}
 use Rattle.pg_script.specs.Tasks.{event_of}
 
 -- the number of a processor, which begins the line
-abbrev pub processor_or_refusal : Option ℕ → Words → Part ℕ
+abbrev pub processor_or_refusal : Option ℕ → Words → FromWords ℕ
 processor_or_refusal None words = Err refusals.Instruction
 processor_or_refusal (Some p) words = Ok (p, words)
 
-unfoldable pub processor_at : Words → Part ℕ
+unfoldable pub processor_at : Words → FromWords ℕ
 processor_at words = do
   word ← word_at words
   processor_or_refusal (dec_of word.0) word.1
@@ -32,7 +33,7 @@ abbrev pub kind_of : Op → Bool → Bool → AccessKind
 kind_of op user ac = record { op = op; user = user; ac = ac }
 
 -- an access by the word of its mode: user mode, or supervisor mode with EFLAGS.AC clear or set
-abbrev pub kind_or_refusal : Op → List ℕ → Words → Part AccessKind
+abbrev pub kind_or_refusal : Op → List ℕ → Words → FromWords AccessKind
 kind_or_refusal op word words =
     if bytes_eq word (codes "user") then Ok (kind_of op true false, words) else
     if bytes_eq word (codes "super") then Ok (kind_of op false false, words) else
@@ -40,7 +41,7 @@ kind_or_refusal op word words =
     Err refusals.Instruction
 
 -- the mode of an access of this operation
-unfoldable pub kind_at : Op → Words → Part AccessKind
+unfoldable pub kind_at : Op → Words → FromWords AccessKind
 kind_at op words = do
   word ← word_at words
   kind_or_refusal op word.0 word.1

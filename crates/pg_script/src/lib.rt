@@ -13,7 +13,7 @@ mod tasks;
 mod text;
 mod words;
 
-pub use instruction::{Instruction, Task};
+pub use instruction::Instruction;
 pub use laws::reading_of_text;
 pub use refusal::{ScriptError, ScriptRefusal};
 pub use script::Script;

@@ -9,7 +9,7 @@ ghost use Rattle.pg_script.specs.Heading.{IsCfg, version_in, machine_in, segment
 ghost use Rattle.pg_script.specs.Tasks.{IsWellFormed};
 ghost use Rattle.pg_script.specs.Reading.{in_line, placed, line_at, heading_at, starts_at};
 ghost use Rattle.pg_script.specs.Reading.{processors_at, head_at, task_after, tasks_at};
-ghost use Rattle.pg_script.specs.Answers.{Gives, ReadsPart, ReadsAll, lines_in, told_in};
+ghost use Rattle.pg_script.specs.Answers.{Agrees, AgreesOnPart, AgreesOnAll, lines_in, told_in};
 ghost use Rattle.pg_script.specs.Answers.{front_seen, line_or_refusal, next_start_at};
 ghost use Rattle.pg_script.specs.Answers.{next_task_at, first_number};
 
@@ -52,9 +52,9 @@ type Told<'a> = (u32, Words<'a>, Text<'a>);
 
 /// A front that must be a line.
 fn line_of<'a>(place: ScriptRefusal, front: Front<'a>) -> Result<Told<'a>, ScriptError>
-    ensures all { Gives (λ x. (x.0, x.1, lines_in x.2)) result
+    ensures all { Agrees (λ x. (x.0, x.1, lines_in x.2)) result
         (line_or_refusal place (front_seen lines_in front.entry)) }
-    ensures told { Gives (λ x. (x.0, x.1, told_in x.2)) result
+    ensures told { Agrees (λ x. (x.0, x.1, told_in x.2)) result
         (line_or_refusal place (front_seen told_in front.entry)) }
 {
     match front {
@@ -69,7 +69,7 @@ fn line_of<'a>(place: ScriptRefusal, front: Front<'a>) -> Result<Told<'a>, Scrip
 /// Line 1.
 #[tactic(auto, unfolding(crate::specs::Reading::heading_at))]
 fn version_line<'a>(text: &Text<'a>) -> Result<(Version, Text<'a>), ScriptError>
-    ensures { Gives (λ x. (x.0, lines_in x.1)) result
+    ensures { Agrees (λ x. (x.0, lines_in x.1)) result
         (heading_at ScriptRefusal.FirstLine version_in (lines_in text.now)) }
 {
     let place = ScriptRefusal::FirstLine;
@@ -80,7 +80,7 @@ fn version_line<'a>(text: &Text<'a>) -> Result<(Version, Text<'a>), ScriptError>
 
 #[tactic(auto, unfolding(crate::specs::Reading::heading_at))]
 fn machine_line<'a>(text: &Text<'a>) -> Result<(Cfg, Text<'a>), ScriptError>
-    ensures cfg { Gives (λ x. (x.0, told_in x.1)) result
+    ensures cfg { Agrees (λ x. (x.0, told_in x.1)) result
         (heading_at ScriptRefusal.Machine machine_in (told_in text.now)) }
     ensures range { IfOk result (λ x. IsCfg x.0) }
 {
@@ -92,7 +92,7 @@ fn machine_line<'a>(text: &Text<'a>) -> Result<(Cfg, Text<'a>), ScriptError>
 
 #[tactic(auto, unfolding(crate::specs::Reading::heading_at))]
 fn segment_line<'a>(text: &Text<'a>) -> Result<(u32, Text<'a>), ScriptError>
-    ensures size { Gives (λ x. (x.0, told_in x.1)) result
+    ensures size { Agrees (λ x. (x.0, told_in x.1)) result
         (heading_at ScriptRefusal.Segment segment_in (told_in text.now)) }
     ensures range { IfOk result (λ x. (1 ≤ x.0) × (x.0 ≤ most_segment)) }
 {
@@ -108,7 +108,7 @@ type NextStart<'a> = Option<(u32, (u64, bool), Text<'a>)>;
 #[tactic(auto, unfolding(crate::specs::Answers::next_start_at))]
 fn next_start<'a>(m: u8, text: &Text<'a>) -> Result<NextStart<'a>, ScriptError>
     requires { m ≤ 52 }
-    ensures start { Gives (option_map (λ x. (x.0, x.1, told_in x.2))) result
+    ensures start { Agrees (option_map (λ x. (x.0, x.1, told_in x.2))) result
         (next_start_at m (told_in text.now)) }
     ensures range { IfOk result (λ next. IfSome next (λ x. x.1.0 < 2 ^ m)) }
 {
@@ -129,7 +129,7 @@ fn next_start<'a>(m: u8, text: &Text<'a>) -> Result<NextStart<'a>, ScriptError>
 #[tactic(auto, unfolding(crate::specs::Reading::heading_at))]
 fn first_start<'a>(m: u8, text: &Text<'a>) -> Result<(u32, (u64, bool), Text<'a>), ScriptError>
     requires { m ≤ 52 }
-    ensures start { Gives (λ x. (x.1, told_in x.2)) result
+    ensures start { Agrees (λ x. (x.1, told_in x.2)) result
         (heading_at ScriptRefusal.Cpu (start_in m) (told_in text.now)) }
     ensures number { IfOk result (λ x. x.0 ≡ first_number (told_in text.now)) }
     ensures range { IfOk result (λ x. x.1.0 < 2 ^ m) }
@@ -159,7 +159,7 @@ fn processors_of<'a>(
     text: &Text<'a>,
 ) -> Result<(Vec<(u64, bool)>, Text<'a>), ScriptError>
     requires { m ≤ 52 }
-    ensures starts { ReadsPart (λ x. (x.0.items, told_in x.1)) result (told_in text.now)
+    ensures starts { AgreesOnPart (λ x. (x.0.items, told_in x.1)) result (told_in text.now)
         (processors_at m most (told_in text.now)) }
     ensures some { IfOk result (λ x. 1 ≤ vec_len x.0) }
     ensures few { IfOk result (λ x. vec_len x.0 ≤ most + 1) }
@@ -188,7 +188,7 @@ pub(crate) fn header_of<'a>(
     alloc: Global,
     text: &Text<'a>,
 ) -> Result<(Header, Text<'a>), ScriptError>
-    ensures header { ReadsPart (λ x. (x.0, told_in x.1)) result (lines_in text.now)
+    ensures header { AgreesOnPart (λ x. (x.0, told_in x.1)) result (lines_in text.now)
         (head_at (lines_in text.now)) }
     ensures range { IfOk result (λ x. IsHead x.0) }
 {
@@ -209,7 +209,7 @@ pub(crate) fn header_of<'a>(
 /// What the words of an instruction say, where so many came before.
 fn task_after(count: usize, header: &Header, words: &Words) -> Result<Task, ScriptRefusal>
     requires { header.now.cfg.m ≤ 52 }
-    ensures task { Gives (λ x. x) result (task_after count header.now words.now) }
+    ensures task { Agrees (λ x. x) result (task_after count header.now words.now) }
     ensures well { IfOk result (λ task. IsWellFormed header.now task.p task.instruction) }
 {
     if count >= MOST_INSTRUCTIONS {
@@ -228,7 +228,7 @@ fn next_task<'a>(
     text: &Text<'a>,
 ) -> Result<NextTask<'a>, ScriptError>
     requires { header.now.cfg.m ≤ 52 }
-    ensures task { Gives (option_map (λ x. (x.0, x.1, told_in x.2))) result
+    ensures task { Agrees (option_map (λ x. (x.0, x.1, told_in x.2))) result
         (next_task_at header.now count (told_in text.now)) }
     ensures well { IfOk result (λ next. IfSome next
         (λ x. IsWellFormed header.now x.1.p x.1.instruction)) }
@@ -249,7 +249,7 @@ pub(crate) fn tasks_of<'a>(
     text: Text<'a>,
 ) -> Result<Tasks, ScriptError>
     requires { header.now.cfg.m ≤ 52 }
-    ensures tasks { ReadsAll (λ x. x) result (told_in text.entry)
+    ensures tasks { AgreesOnAll (λ x. x) result (told_in text.entry)
         (tasks_at header.now 0 (told_in text.entry)) }
     ensures well { IfOk result (λ tasks.
         AllByRecursion (λ task. IsWellFormed header.now task.p task.instruction) tasks) }

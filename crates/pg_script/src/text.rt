@@ -2,7 +2,7 @@
 
 ghost use Rattle.std.specs.Prelude.{◌≡◌, ◌<◌, ◌-◌, ◌^◌, length, IfOk};
 ghost use Rattle.pg_script.specs.Lines.{is_plain, is_skipped};
-ghost use Rattle.pg_script.specs.Answers.{Gives, lines_in, told_in, front_at, front_seen};
+ghost use Rattle.pg_script.specs.Answers.{Agrees, lines_in, told_in, front_at, front_seen};
 ghost use Rattle.pg_script.specs.Answers.{ShortensTo};
 
 use crate::refusal::{ScriptError, ScriptRefusal};
@@ -41,7 +41,7 @@ impl<'a> Text<'a> {
 
     /// The next line.
     pub(crate) fn front(&self) -> Result<Front<'a>, ScriptError>
-        ensures front { Gives (front_seen lines_in) result (front_at (lines_in self.now)) }
+        ensures front { Agrees (front_seen lines_in) result (front_at (lines_in self.now)) }
         ensures less { IfOk result (ShortensTo (length self.now.1)) }
     {
         let number = self.number;
@@ -72,7 +72,7 @@ impl<'a> Text<'a> {
 
     /// The next line that says something.
     pub(crate) fn told_front(&self) -> Result<Front<'a>, ScriptError>
-        ensures front { Gives (front_seen told_in) result (front_at (told_in self.now)) }
+        ensures front { Agrees (front_seen told_in) result (front_at (told_in self.now)) }
         ensures less { IfOk result (ShortensTo (length self.now.1)) }
     {
         let mut text = Text {
