@@ -7,7 +7,6 @@ use Rattle.pg_entry.specs.declared.Op.TheVariants as ops
 use Rattle.pg_event.specs.Heads.{Head, most_processors}
 use Rattle.pg_event.specs.Form.{broken_rule}
 use Rattle.pg_event.specs.declared.event.Malformed.{Malformed}
-use Rattle.pg_script.specs.declared.instruction.Instruction.{Instruction}
 use Rattle.pg_script.specs.declared.instruction.Task.{Task}
 use Rattle.pg_script.specs.declared.refusal.ScriptError.{ScriptError}
 use Rattle.pg_script.specs.declared.refusal.ScriptRefusal.{ScriptRefusal}
@@ -15,11 +14,11 @@ use Rattle.pg_script.specs.declared.refusal.ScriptRefusal.TheVariants as refusal
 use Rattle.pg_script.specs.Numbers.{dec_of, hex_of}
 use Rattle.pg_script.specs.Lines.{Lines, Ended, Cut, Line, lines_of, words_of, is_plain, told}
 use Rattle.pg_event.specs.Reading.{◌>>=◌}
-use Rattle.pg_script.specs.Words.{Words, word_at, number_or_refusal, dec_at, hex_at, bit_or_refusal, bit_at, ended}
+use Rattle.pg_script.specs.Words.{Words, word_at, number_or_refusal, dec_at, hex_at, bit_at, ended}
 use Rattle.pg_script.specs.Heading.{names_processor, version_in, machine_in, segment_in, start_in}
-use Rattle.pg_script.specs.Instructions.{processor_or_refusal, processor_at, kind_or_refusal, kind_at, write_in, access_in, mov_cr3_in, invlpg_in, fitting_invpcid, invpcid_in, mov_cr4_pge_in, instruction_in, well_formed_or_refusal, fitting_task, task_in}
+use Rattle.pg_script.specs.Instructions.{processor_or_refusal, processor_at, kind_at, write_in, access_in, mov_cr3_in, invlpg_in, invpcid_in, mov_cr4_pge_in, instruction_in, well_formed_or_refusal, task_in}
 use Rattle.pg_script.specs.Tasks.{event_of}
-use Rattle.pg_script.specs.Reading.{refused, in_line, placed, words_at, line_at, heading_at, starts_at, processors_at, head_at, task_after, most_instructions, tasks_at, reading}
+use Rattle.pg_script.specs.Reading.{Said, said, refused, in_line, placed, front_at, line_or_refusal, line_at, heading_at, start_or_none, next_start_at, with_start, starts_at, processors_at, head_at, task_after, most_instructions, task_or_none, next_task_at, with_task, tasks_at, reading}
 use Rattle.pg_script.specs.Answers.{is_memory}
 
 -- ---- words
@@ -142,46 +141,50 @@ placed_says : {A : Type 0} (place : ScriptRefusal) (r : Result A ScriptRefusal) 
 placed_says place (Ok x) other = tt
 placed_says place (Err refusal) other = other
 
-words_refuses : (n : ℕ) (line : List ℕ) → Refuses (words_at n line)
-words_refuses n line = go (is_plain line)
+front_refuses : (lines : Lines) → Refuses (front_at lines)
+front_refuses (Ended n) = tt
+front_refuses (Cut n) = refl
+front_refuses (Line n line more) = go (is_plain line)
   where
-    go : (b : Bool) → Refuses (if b then Ok (words_of line) else refused n refusals.LineEnd)
+    go : (b : Bool) → Refuses (if b then Ok (Line n line more) else refused n refusals.LineEnd)
     go true = tt
     go false = refl
 
 line_refuses : (place : ScriptRefusal) (lines : Lines) → is_memory place ≡ false → Refuses (line_at place lines)
-line_refuses place (Ended n) other = other
-line_refuses place (Cut n) other = refl
-line_refuses place (Line n line more) other = refuses_then (words_at n line) _ (words_refuses n line) (λ words. tt)
+line_refuses place lines other = refuses_then (front_at lines) _ (front_refuses lines) go
+  where
+    go : (front : Lines) → Refuses (line_or_refusal place front)
+    go (Ended n) = other
+    go (Cut n) = refl
+    go (Line n line more) = tt
 
 heading_refuses : {A : Type 0} (place : ScriptRefusal) (read : Words → Result A ScriptRefusal) (lines : Lines) → is_memory place ≡ false → Refuses (heading_at place read lines)
 unfolding heading_at
 heading_refuses place read lines other =
     refuses_then (line_at place lines) _ (line_refuses place lines other)
-    (λ line. refuses_then (in_line line.0 (placed place (read line.1))) _ (in_line_refuses line.0 (placed place (read line.1)) (placed_says place (read line.1) other)) (λ value. tt))
+    (λ line. refuses_then (in_line line.number (placed place (read line.value))) _ (in_line_refuses line.number (placed place (read line.value)) (placed_says place (read line.value) other)) (λ value. tt))
+
+next_start_refuses : (m : ℕ) (lines : Lines) → Refuses (next_start_at m lines)
+unfolding next_start_at
+next_start_refuses m lines = refuses_then (front_at lines) _ (front_refuses lines) go
+  where
+    by_name : (n : ℕ) (line : List ℕ) (more : Lines) (c : Bool) → Refuses (if c then (in_line n (placed refusals.Cpu (start_in m (words_of line))) >>= λ start. Ok (Some (said n more start))) else Ok None)
+    by_name n line more true = refuses_then (in_line n (placed refusals.Cpu (start_in m (words_of line)))) _ (in_line_refuses n (placed refusals.Cpu (start_in m (words_of line))) (placed_says refusals.Cpu (start_in m (words_of line)) refl)) (λ start. tt)
+    by_name n line more false = tt
+
+    go : (front : Lines) → Refuses (start_or_none m front)
+    go (Ended n) = tt
+    go (Cut n) = refl
+    go (Line n line more) = by_name n line more (names_processor (words_of line))
 
 starts_refuses : (m most : ℕ) (lines : Lines) → Refuses (starts_at m most lines)
 unfolding starts_at
 starts_refuses m zero lines = tt
-starts_refuses m (suc most) (Ended n) = tt
-starts_refuses m (suc most) (Cut n) = refl
-starts_refuses m (suc most) (Line n line more) = refuses_then (words_at n line) _ (words_refuses n line) (λ words. by_name (names_processor words) words (starts_refuses m most more))
+starts_refuses m (suc most) lines = refuses_then (next_start_at m lines) _ (next_start_refuses m lines) (λ start. go start (starts_refuses m most))
   where
-    Read : Type 0
-    Read = Result (List (ℕ × Bool) × Lines) ScriptError
-
-    here : Read
-    here = Ok ([], Line n line more)
-
-    others : Words → Read
-    others words = in_line n (placed refusals.Cpu (start_in m words)) >>= λ start. starts_at m most more >>= λ others. Ok (start ∷ others.0, others.1)
-
-    by_name : (c : Bool) (words : Words) → Refuses (starts_at m most more)
-        → Refuses (if c then others words else here)
-    by_name true words later =
-        refuses_then (in_line n (placed refusals.Cpu (start_in m words))) _ (in_line_refuses n _ (placed_says refusals.Cpu (start_in m words) refl))
-        (λ start. refuses_then (starts_at m most more) _ later (λ others. tt))
-    by_name false words later = tt
+    go : (start : Option (Said (ℕ × Bool))) → ((ls : Lines) → Refuses (starts_at m most ls)) → Refuses (with_start lines (starts_at m most) start)
+    go None later = tt
+    go (Some start) later = refuses_then (starts_at m most start.more) _ (later start.more) (λ rest. tt)
 
 processors_refuses : (m most : ℕ) (lines : Lines) → Refuses (processors_at m most lines)
 unfolding processors_at
@@ -197,14 +200,26 @@ head_refuses lines =
     (λ cfg. refuses_then (heading_at refusals.Segment segment_in cfg.1) _ (heading_refuses refusals.Segment segment_in cfg.1 refl)
     (λ size. refuses_then (processors_at cfg.0.m (most_processors version.0 - 1) size.1) _ (processors_refuses cfg.0.m (most_processors version.0 - 1) size.1) (λ starts. tt))))
 
+next_task_refuses : (head : Head) (count : ℕ) (lines : Lines) → Refuses (next_task_at head count lines)
+unfolding next_task_at
+next_task_refuses head count lines = refuses_then (front_at lines) _ (front_refuses lines) go
+  where
+    go : (front : Lines) → Refuses (task_or_none head count front)
+    go (Ended n) = tt
+    go (Cut n) = refl
+    go (Line n line more) =
+        refuses_then (in_line n (task_after count head (words_of line))) _ (in_line_refuses n (task_after count head (words_of line)) (task_says count head (words_of line))) (λ task. tt)
+
 tasks_refuses : (head : Head) (count : ℕ) (lines : Lines) → Refuses (tasks_at head count lines)
 unfolding tasks_at
 tasks_refuses head count (Ended n) = tt
 tasks_refuses head count (Cut n) = refl
 tasks_refuses head count (Line n line more) =
-    refuses_then (words_at n line) _ (words_refuses n line)
-    (λ words. refuses_then (in_line n (task_after count head words)) _ (in_line_refuses n (task_after count head words) (task_says count head words))
-    (λ first. refuses_then (tasks_at head (count + 1) more) _ (tasks_refuses head (count + 1) more) (λ others. tt)))
+    refuses_then (next_task_at head count (Line n line more)) _ (next_task_refuses head count (Line n line more)) (λ task. go task (tasks_refuses head (count + 1) more))
+  where
+    go : (task : Option (Said Task)) → Refuses (tasks_at head (count + 1) more) → Refuses (with_task (tasks_at head (count + 1) more) task)
+    go None later = tt
+    go (Some task) later = refuses_then (tasks_at head (count + 1) more) _ later (λ tasks. tt)
 
 reading_refuses : (bytes : List ℕ) → Refuses (reading bytes)
 unfolding reading

@@ -1,6 +1,6 @@
 -- The canonical text of a script is read as that script.
-use Rattle.std.proofs.Common.{◌≡◌, ◌∙◌, ◌<◌, ◌≤◌, ◌+◌, ◌-◌, ◌^◌, ℕ, zero, suc, Bool, true, false, List, [], ◌∷◌, ◌++◌, Option, Some, None, length, map, refl, sym, ap, subst, arith, ltb}
-use Rattle.std.specs.Prelude.{Result, Ok, Err, if◌then◌else◌, nat_lt, codes}
+use Rattle.std.proofs.Common.{◌≡◌, ◌∙◌, ◌<◌, ◌≤◌, ◌+◌, ◌-◌, ◌^◌, ℕ, zero, suc, Bool, true, false, List, [], ◌∷◌, ◌++◌, Some, None, length, map, refl, sym, ap, arith}
+use Rattle.std.specs.Prelude.{Result, Ok, Err, if◌then◌else◌, codes}
 use Rattle.std.specs.List.{AllByRecursion}
 use Rattle.std.specs.Str.{bytes_eq}
 use Rattle.std.proofs.lemmas.Bool.{lt-ltb}
@@ -8,7 +8,6 @@ use Rattle.std.proofs.lemmas.Slice.Eq.{bytes_eq-Decides}
 use Rattle.pg_entry.specs.declared.AccessKind.{AccessKind}
 use Rattle.pg_entry.specs.declared.Op.{Op}
 use Rattle.pg_entry.specs.declared.Op.TheVariants as ops
-use Rattle.pg_entry.specs.declared.Cfg.{Cfg}
 use Rattle.pg_entry.specs.Bits.{has_bit}
 use Rattle.pg_event.specs.declared.version.Version.{Version}
 use Rattle.pg_event.specs.declared.version.Version.TheVariants as versions
@@ -16,20 +15,18 @@ use Rattle.pg_event.specs.Heads.{Head, most_processors}
 use Rattle.pg_event.specs.Form.{access_kind}
 use Rattle.pg_script.specs.declared.refusal.ScriptRefusal.{ScriptRefusal}
 use Rattle.pg_script.specs.declared.refusal.ScriptRefusal.TheVariants as refusals
-use Rattle.pg_script.specs.declared.refusal.ScriptError.{ScriptError}
 use Rattle.pg_script.specs.declared.instruction.Instruction.{Instruction}
 use Rattle.pg_script.specs.declared.instruction.Instruction.TheVariants.{Write, Access, MovCr3, Invlpg, Invpcid, MovCr4Pge}
 use Rattle.pg_script.specs.declared.instruction.Task.{Task}
 use Rattle.pg_script.specs.Numbers.{dec_of}
-use Rattle.pg_script.specs.Lines.{Lines, Ended, Cut, Line, lines_of, words_of, is_plain, told}
-use Rattle.pg_event.specs.Reading.{◌>>=◌}
+use Rattle.pg_script.specs.Lines.{Lines, Line}
 use Rattle.pg_script.specs.Words.{Words}
-use Rattle.pg_script.specs.Heading.{IsCfg, names_processor, version_in, machine_in, segment_in, start_in}
+use Rattle.pg_script.specs.Heading.{IsCfg, version_in, machine_in, segment_in, start_in}
 use Rattle.pg_script.specs.Instructions.{task_in}
 use Rattle.pg_script.specs.Tasks.{IsWellFormed}
-use Rattle.pg_script.specs.Reading.{Scripted, IsScript, refused, in_line, placed, words_at, heading_at, starts_at, processors_at, head_at, task_after, most_instructions, tasks_at, reading}
-use Rattle.pg_script.specs.Spelling.{dec_word, hex_word, bit_word, version_word, setting_words, settings_words, start_words, op_word, mode_word, access_words, instruction_words, task_words, script_lines, spaced, text_of_lines, text_of, FitsInstruction, IsSayable, ReadingOfText}
-use Rattle.pg_script.proofs.Digits.{IsVisible, IsWord, dec_is_word, hex_is_word, dec_said}
+use Rattle.pg_script.specs.Reading.{Scripted, refused, front_at, heading_at, next_start_at, next_task_at, starts_at, processors_at, head_at, task_after, most_instructions, tasks_at, reading}
+use Rattle.pg_script.specs.Spelling.{dec_word, bit_word, version_word, setting_words, settings_words, start_words, op_word, mode_word, instruction_words, task_words, script_lines, spaced, FitsInstruction, IsSayable, ReadingOfText}
+use Rattle.pg_script.proofs.Digits.{IsWord, dec_is_word, hex_is_word, dec_said}
 use Rattle.pg_script.proofs.Spaced.{AreWords, IsSpoken, AreSpoken, words_said, plain_said, numbered, lines_said, told_said}
 use Rattle.pg_event.specs.Spelling.{IsHead}
 use Rattle.pg_script.proofs.Wells.{within}
@@ -112,14 +109,13 @@ script_spoken s =
 
 -- ---- each line is read
 
-words_are : (n : ℕ) (words : Words) → IsSpoken words → words_at n (spaced words) ≡ Ok words
-words_are n words is =
-    ap (λ b. if b then Ok (words_of (spaced words)) else refused n refusals.LineEnd) (plain_said words is) ∙ ap Ok (words_said words is)
+front_said : (n : ℕ) (words : Words) (more : Lines) → IsSpoken words → front_at (Line n (spaced words) more) ≡ Ok (Line n (spaced words) more)
+front_said n words more is = ap (λ b. if b then Ok (Line n (spaced words) more) else refused n refusals.LineEnd) (plain_said words is)
 
 heading_said : {A : Type 0} (place : ScriptRefusal) (read : Words → Result A ScriptRefusal) (n : ℕ) (words : Words) (lines : List Words) (x : A) → IsSpoken words → read words ≡ Ok x
     → heading_at place read (numbered n (words ∷ lines)) ≡ Ok (x, numbered (n + 1) lines)
 unfolding heading_at
-heading_said place read n words lines x is e = rw (words_are n words is) (rw e refl)
+heading_said place read n words lines x is e = rw (front_said n words (numbered (n + 1) lines) is) (rw (words_said words is) (rw e refl))
 
 cpu_is_no_number : (p : ℕ) → p < 10 ^ 10 → bytes_eq (dec_word p) (codes "cpu") ≡ false
 unfolding dec_of
@@ -134,32 +130,35 @@ cpu_is_no_number p lt = go (bytes_eq (dec_word p) (codes "cpu")) refl
 
 -- no processor more: the next line is an instruction, or the text has ended
 starts_end_said : (m most n : ℕ) (tasks : List Task) → AllByRecursion (λ task. task.p < 10 ^ 10) tasks → starts_at m most (numbered n (map task_words tasks)) ≡ Ok ([], numbered n (map task_words tasks))
-unfolding starts_at
+unfolding starts_at next_start_at
 starts_end_said m zero n tasks small = refl
 starts_end_said m (suc most) n [] small = refl
 starts_end_said m (suc most) n (task ∷ tasks) small =
-    rw (words_are n (task_words task) (tasks_spoken (task ∷ tasks)).0) (rw (cpu_is_no_number task.p small.0) refl)
+    let spoken = (tasks_spoken (task ∷ tasks)).0 in
+    rw (front_said n (task_words task) (numbered (n + 1) (map task_words tasks)) spoken) (rw (words_said (task_words task) spoken) (rw (cpu_is_no_number task.p small.0) refl))
 
 starts_said : (m most n : ℕ) (starts : List (ℕ × Bool)) (tasks : List Task) → m ≤ 52 → length starts ≤ most → AllByRecursion (λ start. start.0 < 2 ^ m) starts → AllByRecursion (λ task. task.p < 10 ^ 10) tasks
     → (k : ℕ) × (starts_at m most (numbered n (map start_words starts ++ map task_words tasks)) ≡ Ok (starts, numbered k (map task_words tasks)))
-unfolding starts_at
+unfolding starts_at next_start_at
 starts_said m most n [] tasks le few below small = (n, starts_end_said m most n tasks small)
 starts_said m zero n (start ∷ starts) tasks le few below small = absurd (omega arith)
 starts_said m (suc most) n (start ∷ starts) tasks le few below small =
     let rest = starts_said m most (n + 1) starts tasks le (omega arith) below.1 small in
     let read = start_read m start le below.0 in
-    (rest.0, rw (words_are n (start_words start) (starts_spoken (start ∷ starts) tasks).0) (rw read (rw rest.1 refl)))
+    let spoken = (starts_spoken (start ∷ starts) tasks).0 in
+    (rest.0, rw (front_said n (start_words start) (numbered (n + 1) (map start_words starts ++ map task_words tasks)) spoken) (rw (words_said (start_words start) spoken) (rw read (rw rest.1 refl))))
 
 tasks_said : (head : Head) (count n : ℕ) (tasks : List Task) → length head.processors ≤ most_processors head.version → count + length tasks ≤ most_instructions
     → AllByRecursion (λ task. FitsInstruction task.instruction) tasks → AllByRecursion (λ task. IsWellFormed head task.p task.instruction) tasks
     → tasks_at head count (numbered n (map task_words tasks)) ≡ Ok tasks
-unfolding tasks_at
+unfolding tasks_at next_task_at
 tasks_said head count n [] few enough fits well = refl
 tasks_said head count n (task ∷ tasks) few enough fits well =
     let read : task_after count head (task_words task) ≡ Ok task =
     ap (λ b. if b then task_in head (task_words task) else Err refusals.TooMany) (lt-ltb count most_instructions (omega arith)) ∙ task_read head task few fits.0 well.0 in
     let rest = tasks_said head (count + 1) (n + 1) tasks few (omega arith) fits.1 well.1 in
-    rw (words_are n (task_words task) (tasks_spoken (task ∷ tasks)).0) (rw read (rw rest refl))
+    let spoken = (tasks_spoken (task ∷ tasks)).0 in
+    rw (front_said n (task_words task) (numbered (n + 1) (map task_words tasks)) spoken) (rw (words_said (task_words task) spoken) (rw read (rw rest refl)))
 
 -- ---- the whole text
 

@@ -1,13 +1,12 @@
 -- What the words of each canonical line say.
-use Rattle.std.proofs.Common.{◌≡◌, ◌∙◌, ◌≢◌, ◌<◌, ◌≤◌, ◌+◌, ◌-◌, ◌%◌, ◌^◌, ◌/◌, ◌||◌, ℕ, zero, suc, Bool, true, false, not, List, [], ◌∷◌, ◌++◌, Option, Some, None, length, refl, sym, ap, subst, arith, leb, ltb, eqb, lit<}
-use Rattle.std.specs.Prelude.{Result, Ok, Err, if◌then◌else◌, ◌==◌, nat_le, nat_lt, ◌&&◌, codes}
+use Rattle.std.proofs.Common.{◌≡◌, ◌∙◌, ◌≢◌, ◌<◌, ◌≤◌, ◌%◌, ◌^◌, ◌/◌, ◌||◌, ℕ, zero, suc, Bool, true, false, not, [], ◌∷◌, Option, Some, None, length, refl, ap, arith, leb, ltb, eqb, lit<}
+use Rattle.std.specs.Prelude.{Result, Ok, Err, if◌then◌else◌, nat_lt, ◌&&◌, codes}
 use Rattle.std.proofs.Math.Nat.{pow-le-pow_right}
-use Rattle.std.proofs.lemmas.Bool.{le-leb, lt-ltb, ltb-true, eqb-true, eqb-false}
+use Rattle.std.proofs.lemmas.Bool.{le-leb, lt-ltb, eqb-true, eqb-false}
 use Rattle.pg_entry.specs.declared.Op.{Op}
 use Rattle.pg_entry.specs.declared.Op.TheVariants as ops
 use Rattle.pg_entry.specs.declared.AccessKind.{AccessKind}
 use Rattle.pg_entry.specs.declared.Cfg.{Cfg}
-use Rattle.pg_entry.specs.Bits.{has_bit}
 use Rattle.pg_event.specs.declared.version.Version.{Version}
 use Rattle.pg_event.specs.declared.version.Version.TheVariants as versions
 use Rattle.pg_event.specs.declared.event.Malformed.{Malformed}
@@ -20,13 +19,11 @@ use Rattle.pg_script.specs.declared.refusal.ScriptRefusal.TheVariants as refusal
 use Rattle.pg_script.specs.declared.instruction.Instruction.{Instruction}
 use Rattle.pg_script.specs.declared.instruction.Instruction.TheVariants.{Write, Access, MovCr3, Invlpg, Invpcid, MovCr4Pge}
 use Rattle.pg_script.specs.declared.instruction.Task.{Task}
-use Rattle.pg_script.specs.Numbers.{dec_of, hex_of}
-use Rattle.pg_event.specs.Reading.{◌>>=◌}
-use Rattle.pg_script.specs.Words.{Words, FromWords, dec_at, hex_at, bit_at, keyword_at, number_or_refusal, ended}
+use Rattle.pg_script.specs.Words.{Words, dec_at, hex_at, bit_at, keyword_at, number_or_refusal}
 use Rattle.pg_script.specs.Heading.{IsCfg, version_in, settings_at, cfg_of, machine_in, segment_in, start_in}
-use Rattle.pg_script.specs.Instructions.{processor_at, processor_or_refusal, kind_at, write_in, access_in, mov_cr3_in, invlpg_in, fitting_invpcid, invpcid_in, mov_cr4_pge_in, instruction_in, well_formed_or_refusal, fitting_task, task_in}
+use Rattle.pg_script.specs.Instructions.{processor_at, processor_or_refusal, kind_at, write_in, access_in, mov_cr3_in, invlpg_in, invpcid_in, mov_cr4_pge_in, instruction_in, well_formed_or_refusal, fitting_task, task_in}
 use Rattle.pg_script.specs.Tasks.{event_of, IsWellFormed}
-use Rattle.pg_script.specs.Spelling.{dec_word, hex_word, bit_word, version_word, settings_words, start_words, op_word, mode_word, access_words, instruction_words, task_words, FitsInstruction}
+use Rattle.pg_script.specs.Spelling.{dec_word, hex_word, bit_word, version_word, settings_words, start_words, op_word, mode_word, instruction_words, task_words, FitsInstruction}
 use Rattle.pg_script.proofs.Digits.{dec_said, hex_said, both_true}
 use Rattle.pg_script.proofs.Wells.{processor_is, shape_is, within}
 

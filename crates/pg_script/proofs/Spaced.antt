@@ -1,12 +1,12 @@
 -- Words with spaces between them are those words, and lines that LFs end are those lines.
-use Rattle.std.proofs.Common.{◌≡◌, ◌∙◌, ◌<◌, ◌≤◌, ◌+◌, ℕ, zero, suc, Bool, true, false, List, [], ◌∷◌, ◌++◌, length, refl, sym, ap, subst, arith, leb, eqb, append_assoc}
-use Rattle.std.specs.Prelude.{if◌then◌else◌, ◌==◌, nat_le, ◌&&◌}
-use Rattle.std.specs.List.{AllByRecursion, All, list_all, slice_split}
+use Rattle.std.proofs.Common.{◌≡◌, ◌∙◌, ◌<◌, ◌≤◌, ◌+◌, ℕ, Bool, true, false, List, [], ◌∷◌, ◌++◌, length, refl, ap, subst, arith, eqb}
+use Rattle.std.specs.Prelude.{if◌then◌else◌, ◌==◌, ◌&&◌}
+use Rattle.std.specs.List.{AllByRecursion}
 use Rattle.std.proofs.lemmas.Bool.{le-leb, eqb-true}
 use Rattle.std.proofs.lemmas.List.{append-nil}
 use Rattle.std.proofs.lemmas.List.Elements.{All-from_recursion}
 use Rattle.std.proofs.lemmas.List.Splits.{slice_split_none, slice_split_at}
-use Rattle.pg_script.specs.Lines.{Lines, Ended, Cut, Line, pieces, lines_of, words_of, is_plain, is_skipped, told}
+use Rattle.pg_script.specs.Lines.{Lines, Ended, Line, pieces, lines_of, words_of, is_plain, is_skipped, told}
 use Rattle.pg_script.specs.Words.{Words}
 use Rattle.pg_script.specs.Spelling.{spaced, text_of_lines}
 use Rattle.pg_script.proofs.Digits.{IsVisible, IsWord}

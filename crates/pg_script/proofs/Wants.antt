@@ -1,6 +1,6 @@
 -- Where memory may be wanted, and that what follows there has greater numbers.
 use Rattle.std.proofs.Common.{◌≡◌, ◌∙◌, ◌++◌, ◌+◌, ◌-◌, ◌<◌, ◌≤◌, ◌⊎◌, inl, inr, ℕ, zero, suc, Bool, true, false, List, [], ◌∷◌, Option, Some, None, length, refl, sym, ap, subst, arith}
-use Rattle.std.specs.Prelude.{Result, Ok, Err, MatchResult, IfErr, if◌then◌else◌, ◌==◌, ◌||◌, ◌&&◌, nat_lt, is_ok, codes}
+use Rattle.std.specs.Prelude.{Result, Ok, Err, MatchResult, IfErr, if◌then◌else◌, ◌==◌, ◌||◌, ◌&&◌, nat_lt, codes}
 use Rattle.std.specs.Str.{bytes_eq}
 use Rattle.pg_event.specs.Heads.{Head, most_processors}
 use Rattle.pg_event.specs.declared.version.Version.{Version}
@@ -14,10 +14,10 @@ use Rattle.pg_event.specs.Reading.{◌>>=◌}
 use Rattle.pg_script.specs.Words.{Words, keyword_at}
 use Rattle.pg_script.specs.Heading.{names_processor, version_in, machine_in, segment_in, start_in}
 use Rattle.pg_script.specs.Instructions.{processor_at, task_in}
-use Rattle.pg_script.specs.Reading.{Scripted, refused, in_line, placed, words_at, line_at, heading_at, starts_at, processors_at, head_at, task_after, most_instructions, tasks_at, reading}
-use Rattle.pg_script.specs.Answers.{Rest, lines_in, told_in, adds, Adds, first_number, AreRising, AreBehind, Lacks, IsRefused, next_task_at, next_start_at}
+use Rattle.pg_script.specs.Reading.{Said, said, refused, in_line, placed, line_or_refusal, heading_at, start_or_none, next_start_at, Starts, with_start, starts_at, processors_at, head_at, task_after, most_instructions, task_or_none, next_task_at, with_task, tasks_at, reading}
+use Rattle.pg_script.specs.Answers.{Rest, lines_in, told_in, adds, Adds, first_number, AreRising, AreBehind, Lacks, IsRefused}
 use Rattle.pg_script.proofs.Refusals.{never_memory}
-use Rattle.pg_script.proofs.Loops.{tasks_behind, tasks_go_on, Starts, starts_behind, starts_go_on}
+use Rattle.pg_script.proofs.Loops.{tasks_behind, tasks_go_on, starts_behind, starts_go_on}
 
 -- ---- steps
 
@@ -84,79 +84,72 @@ heading_line place read (Ended n) x more e = cc
 heading_line place read (Cut n) x more e = cc
 heading_line {A} place read (Line n line rest) x more e = go (is_plain line) e
   where
-    here : Words → Result (ℕ × Words × Lines) ScriptError
-    here words = Ok (n, words, rest)
+    given : A → Result (A × Lines) ScriptError
+    given v = Ok (v, rest)
 
-    said : A → Result (A × Lines) ScriptError
-    said v = Ok (v, rest)
-
-    by_value : (r : Result A ScriptRefusal) → read (words_of line) ≡ r → (in_line n (placed place r) >>= said) ≡ Ok (x, more)
+    by_value : (r : Result A ScriptRefusal) → read (words_of line) ≡ r → (in_line n (placed place r) >>= given) ≡ Ok (x, more)
         → (k : ℕ) × (l : List ℕ) × (Line n line rest ≡ Line k l more) × (read (words_of l) ≡ Ok x)
     by_value (Ok y) is h =
-        let here_is : A × Lines = (y, rest) in
+        let here : A × Lines = (y, rest) in
         let wanted : A × Lines = (x, more) in
-        let same : here_is ≡ wanted = cc in
+        let same : here ≡ wanted = cc in
         (n, line, ap (λ (p : A × Lines). Line n line p.1) same, is ∙ ap (λ (p : A × Lines). Ok p.0) same)
     by_value (Err r) is h = cc
 
-    value : ℕ × Words × Lines → Result (A × Lines) ScriptError
-    value l = in_line l.0 (placed place (read l.1)) >>= λ v. Ok (v, l.2)
+    value : Said Words → Result (A × Lines) ScriptError
+    value l = in_line l.number (placed place (read l.value)) >>= λ v. Ok (v, l.more)
 
-    go : (b : Bool) → (((if b then Ok (words_of line) else refused n refusals.LineEnd) >>= here) >>= value) ≡ Ok (x, more)
+    go : (b : Bool) → (((if b then Ok (Line n line rest) else refused n refusals.LineEnd) >>= line_or_refusal place) >>= value) ≡ Ok (x, more)
         → (k : ℕ) × (l : List ℕ) × (Line n line rest ≡ Line k l more) × (read (words_of l) ≡ Ok x)
     go true h = by_value (read (words_of line)) refl h
     go false h = cc
 
-task_line : (head : Head) (count : ℕ) (lines : Lines) (n : ℕ) (task : Task) (more : Lines) → next_task_at head count lines ≡ Ok (Some (n, task, more))
-    → (line : List ℕ) × (lines ≡ Line n line more) × (task_after count head (words_of line) ≡ Ok task)
+task_line : (head : Head) (count : ℕ) (lines : Lines) (task : Said Task) → next_task_at head count lines ≡ Ok (Some task)
+    → (line : List ℕ) × (lines ≡ Line task.number line task.more) × (task_after count head (words_of line) ≡ Ok task.value)
 unfolding next_task_at
-task_line head count (Ended m) n task more e = cc
-task_line head count (Cut m) n task more e = cc
-task_line head count (Line m line rest) n task more e = go (is_plain line) e
+task_line head count (Ended m) task e = cc
+task_line head count (Cut m) task e = cc
+task_line head count (Line m line rest) task e = go (is_plain line) e
   where
-    said : Task → Result (Option (ℕ × Task × Lines)) ScriptError
-    said t = Ok (Some (m, t, rest))
+    given : Task → Result (Option (Said Task)) ScriptError
+    given t = Ok (Some (said m rest t))
 
-    by_task : (r : Result Task ScriptRefusal) → task_after count head (words_of line) ≡ r → (in_line m r >>= said) ≡ Ok (Some (n, task, more))
-        → (l : List ℕ) × (Line m line rest ≡ Line n l more) × (task_after count head (words_of l) ≡ Ok task)
+    by_task : (r : Result Task ScriptRefusal) → task_after count head (words_of line) ≡ r → (in_line m r >>= given) ≡ Ok (Some task)
+        → (l : List ℕ) × (Line m line rest ≡ Line task.number l task.more) × (task_after count head (words_of l) ≡ Ok task.value)
     by_task (Ok t) is h =
-        let here_is : ℕ × Task × Lines = (m, t, rest) in
-        let wanted : ℕ × Task × Lines = (n, task, more) in
-        let same : here_is ≡ wanted = cc in
-        (line, ap (λ (p : ℕ × Task × Lines). Line p.0 line p.2) same, is ∙ ap (λ (p : ℕ × Task × Lines). Ok p.1) same)
+        let same : said m rest t ≡ task = cc in
+        (line, ap (λ (p : Said Task). Line p.number line p.more) same, is ∙ ap (λ (p : Said Task). Ok p.value) same)
     by_task (Err r) is h = cc
 
-    go : (b : Bool) → ((if b then Ok (words_of line) else refused m refusals.LineEnd) >>= λ words. in_line m (task_after count head words) >>= said) ≡ Ok (Some (n, task, more))
-        → (l : List ℕ) × (Line m line rest ≡ Line n l more) × (task_after count head (words_of l) ≡ Ok task)
+    go : (b : Bool) → ((if b then Ok (Line m line rest) else refused m refusals.LineEnd) >>= task_or_none head count) ≡ Ok (Some task)
+        → (l : List ℕ) × (Line m line rest ≡ Line task.number l task.more) × (task_after count head (words_of l) ≡ Ok task.value)
     go true h = by_task (task_after count head (words_of line)) refl h
     go false h = cc
 
-start_line : (m : ℕ) (lines : Lines) (n : ℕ) (start : ℕ × Bool) (more : Lines) → next_start_at m lines ≡ Ok (Some (n, start, more))
-    → (line : List ℕ) × (lines ≡ Line n line more) × (names_processor (words_of line) ≡ true)
+start_line : (m : ℕ) (lines : Lines) (start : Said (ℕ × Bool)) → next_start_at m lines ≡ Ok (Some start)
+    → (line : List ℕ) × (lines ≡ Line start.number line start.more) × (names_processor (words_of line) ≡ true)
 unfolding next_start_at
-start_line m (Ended k) n start more e = cc
-start_line m (Cut k) n start more e = cc
-start_line m (Line k line rest) n start more e = go (is_plain line) e
+start_line m (Ended k) start e = cc
+start_line m (Cut k) start e = cc
+start_line m (Line k line rest) start e = go (is_plain line) e
   where
-    Said : Type 0
-    Said = (l : List ℕ) × (Line k line rest ≡ Line n l more) × (names_processor (words_of l) ≡ true)
+    IsLine : Type 0
+    IsLine = (l : List ℕ) × (Line k line rest ≡ Line start.number l start.more) × (names_processor (words_of l) ≡ true)
 
-    said : ℕ × Bool → Result (Option (ℕ × (ℕ × Bool) × Lines)) ScriptError
-    said s = Ok (Some (k, s, rest))
+    given : ℕ × Bool → Result (Option (Said (ℕ × Bool))) ScriptError
+    given s = Ok (Some (said k rest s))
 
-    by_start : (r : Result (ℕ × Bool) ScriptError) → names_processor (words_of line) ≡ true → (r >>= said) ≡ Ok (Some (n, start, more)) → Said
+    by_start : (r : Result (ℕ × Bool) ScriptError) → names_processor (words_of line) ≡ true → (r >>= given) ≡ Ok (Some start) → IsLine
     by_start (Ok s) named h =
-        let here_is : ℕ × (ℕ × Bool) × Lines = (k, s, rest) in
-        let wanted : ℕ × (ℕ × Bool) × Lines = (n, start, more) in
-        let same : here_is ≡ wanted = cc in
-        (line, ap (λ (p : ℕ × (ℕ × Bool) × Lines). Line p.0 line p.2) same, named)
+        let same : said k rest s ≡ start = cc in
+        (line, ap (λ (p : Said (ℕ × Bool)). Line p.number line p.more) same, named)
     by_start (Err r) named h = cc
 
-    by_name : (b : Bool) → names_processor (words_of line) ≡ b → (if b then (in_line k (placed refusals.Cpu (start_in m (words_of line))) >>= said) else Ok None) ≡ Ok (Some (n, start, more)) → Said
+    by_name : (b : Bool) → names_processor (words_of line) ≡ b → (if b then (in_line k (placed refusals.Cpu (start_in m (words_of line))) >>= given) else Ok None) ≡ Ok (Some start) → IsLine
     by_name true named h = by_start _ named h
     by_name false named h = cc
 
-    go : (b : Bool) → ((if b then Ok (words_of line) else refused k refusals.LineEnd) >>= λ words. if names_processor words then (in_line k (placed refusals.Cpu (start_in m words)) >>= said) else Ok None) ≡ Ok (Some (n, start, more)) → Said
+    go : (b : Bool) → ((if b then Ok (Line k line rest) else refused k refusals.LineEnd) >>= start_or_none m) ≡ Ok (Some start) → IsLine
     go true h = by_name (names_processor (words_of line)) refl h
     go false h = cc
 
@@ -195,16 +188,20 @@ named_adds words named = rw named refl
 abbrev IsLater : {A : Type 0} → ℕ → Result A ScriptError → Type 0
 IsLater n read = MatchResult read (λ x. Unit {0}) (λ first. n < first.line)
 
-words_later : (k n : ℕ) (line : List ℕ) → k < n → IsLater k (words_at n line)
-words_later k n line lt = go (is_plain line)
-  where
-    go : (b : Bool) → IsLater k (if b then Ok (words_of line) else refused n refusals.LineEnd)
-    go true = tt
-    go false = lt
-
 in_line_later : {A : Type 0} (k n : ℕ) (r : Result A ScriptRefusal) → k < n → IsLater k (in_line n r)
 in_line_later k n (Ok x) lt = tt
 in_line_later k n (Err r) lt = lt
+
+next_task_later : (k : ℕ) (head : Head) (count : ℕ) (lines : Lines) → AreBehind k lines → IsLater k (next_task_at head count lines)
+unfolding next_task_at
+next_task_later k head count (Ended n) b = tt
+next_task_later k head count (Cut n) b = b.0
+next_task_later k head count (Line n line more) b = go (is_plain line)
+  where
+    go : (c : Bool) → IsLater k ((if c then Ok (Line n line more) else refused n refusals.LineEnd) >>= task_or_none head count)
+    go true =
+        bind_all (λ x. Unit {0}) (λ x. Unit {0}) (λ first. k < first.line) (in_line n (task_after count head (words_of line))) _ (in_line_later k n (task_after count head (words_of line)) b.0) (λ task u. tt)
+    go false = b.0
 
 pub tasks_later : (k : ℕ) (head : Head) (count : ℕ) (lines : Lines) → AreBehind k lines → IsLater k (tasks_at head count lines)
 unfolding tasks_at
@@ -214,30 +211,51 @@ tasks_later k head count (Line n line more) b =
     let lt = b.0 in
     let next = b.1.0 in
     let further : k < first_number more = omega arith in
-    bind_all (λ x. Unit {0}) (λ x. Unit {0}) (λ first. k < first.line) (words_at n line) _ (words_later k n line b.0)
-    (λ words u. bind_all (λ x. Unit {0}) (λ x. Unit {0}) (λ first. k < first.line) (in_line n (task_after count head words)) _ (in_line_later k n (task_after count head words) b.0)
-    (λ first v. bind_all (λ x. Unit {0}) (λ x. Unit {0}) (λ e. k < e.line) (tasks_at head (count + 1) more) _ (tasks_later k head (count + 1) more (further, b.1.1)) (λ others w. tt)))
+    bind_all (λ x. Unit {0}) (λ x. Unit {0}) (λ first. k < first.line) (next_task_at head count (Line n line more)) _ (next_task_later k head count (Line n line more) b)
+    (λ task u. go task (tasks_later k head (count + 1) more (further, b.1.1)))
+  where
+    go : (task : Option (Said Task)) → IsLater k (tasks_at head (count + 1) more) → IsLater k (with_task (tasks_at head (count + 1) more) task)
+    go None later = tt
+    go (Some task) later = bind_all (λ x. Unit {0}) (λ x. Unit {0}) (λ first. k < first.line) (tasks_at head (count + 1) more) _ later (λ tasks u. tt)
 
 abbrev PartIsLater : {A : Type 0} → ℕ → Result (A × Lines) ScriptError → Type 0
 PartIsLater n read = MatchResult read (λ x. AreBehind n x.1) (λ first. n < first.line)
 
+abbrev MayFollow : ℕ → Option (Said (ℕ × Bool)) → Type 0
+MayFollow k None = Unit {0}
+MayFollow k (Some start) = AreBehind k start.more
+
+next_start_later : (k m : ℕ) (lines : Lines) → AreBehind k lines → MatchResult (next_start_at m lines) (MayFollow k) (λ first. k < first.line)
+unfolding next_start_at
+next_start_later k m (Ended n) b = tt
+next_start_later k m (Cut n) b = b.0
+next_start_later k m (Line n line more) b = go (is_plain line)
+  where
+    given : ℕ × Bool → Result (Option (Said (ℕ × Bool))) ScriptError
+    given start = Ok (Some (said n more start))
+
+    by_name : (c : Bool) → MatchResult (if c then (in_line n (placed refusals.Cpu (start_in m (words_of line))) >>= given) else Ok None) (MayFollow k) (λ first. k < first.line)
+    by_name true =
+        let lt = b.0 in
+        let next = b.1.0 in
+        let further : k < first_number more = omega arith in
+        bind_all (λ x. Unit {0}) (MayFollow k) (λ first. k < first.line) (in_line n (placed refusals.Cpu (start_in m (words_of line)))) given (in_line_later k n (placed refusals.Cpu (start_in m (words_of line))) b.0)
+        (λ start u. (further, b.1.1))
+    by_name false = tt
+
+    go : (c : Bool) → MatchResult ((if c then Ok (Line n line more) else refused n refusals.LineEnd) >>= start_or_none m) (MayFollow k) (λ first. k < first.line)
+    go true = by_name (names_processor (words_of line))
+    go false = b.0
+
 pub starts_later : (k m most : ℕ) (lines : Lines) → AreBehind k lines → PartIsLater k (starts_at m most lines)
 unfolding starts_at
 starts_later k m zero lines b = b
-starts_later k m (suc most) (Ended n) b = b
-starts_later k m (suc most) (Cut n) b = b.0
-starts_later k m (suc most) (Line n line more) b =
-    let lt = b.0 in
-    let next = b.1.0 in
-    let further : k < first_number more = omega arith in
-    bind_all (λ x. Unit {0}) (λ x. AreBehind k x.1) (λ first. k < first.line) (words_at n line) _ (words_later k n line b.0) (λ words u. by_name (names_processor words) words (starts_later k m most more (further, b.1.1)))
+starts_later k m (suc most) lines b =
+    bind_all (MayFollow k) (λ x. AreBehind k x.1) (λ first. k < first.line) (next_start_at m lines) _ (next_start_later k m lines b) (λ start follows. go start follows (starts_later k m most))
   where
-    by_name : (c : Bool) (words : Words) → PartIsLater k (starts_at m most more)
-        → PartIsLater k (if c then (in_line n (placed refusals.Cpu (start_in m words)) >>= λ start. starts_at m most more >>= λ others. Ok (start ∷ others.0, others.1)) else Ok ([], Line n line more))
-    by_name true words others_later =
-        bind_all (λ x. Unit {0}) (λ x. AreBehind k x.1) (λ first. k < first.line) (in_line n (placed refusals.Cpu (start_in m words))) _ (in_line_later k n (placed refusals.Cpu (start_in m words)) b.0)
-        (λ start v. bind_all (λ x. AreBehind k x.1) (λ x. AreBehind k x.1) (λ e. k < e.line) (starts_at m most more) _ others_later (λ others w. w))
-    by_name false words others_later = b
+    go : (start : Option (Said (ℕ × Bool))) → MayFollow k start → ((ls : Lines) → AreBehind k ls → PartIsLater k (starts_at m most ls)) → PartIsLater k (with_start lines (starts_at m most) start)
+    go None follows later = b
+    go (Some start) follows later = bind_all (λ x. AreBehind k x.1) (λ x. AreBehind k x.1) (λ first. k < first.line) (starts_at m most start.more) _ (later start.more follows) (λ rest u. u)
 
 -- ---- memory that is wanted
 
@@ -245,29 +263,33 @@ adds_heading : {A : Type 0} (place : ScriptRefusal) (read : Words → Result A S
 adds_heading place read lines x more n e a = let p = heading_line place read lines x more e in subst (λ ls. Adds ls n) (sym p.2) (inr a)
 
 -- at the line of an instruction
-pub lacks_task : (head : Head) (tasks : List Task) (all lines more : Lines) (n : ℕ) (task : Task) (read : Result (List Task) ScriptError) → next_task_at head (length tasks) lines ≡ Ok (Some (n, task, more))
+pub lacks_task : (head : Head) (tasks : List Task) (all lines : Lines) (task : Said Task) (read : Result (List Task) ScriptError) → next_task_at head (length tasks) lines ≡ Ok (Some task)
     → AreRising lines → ((k : ℕ) → Adds lines k → Adds all k) → tasks_behind tasks (tasks_at head (length tasks) lines) ≡ read
-    → Lacks (λ x. Unit {0}) all read (record { line = n; refusal = refusals.Memory })
-lacks_task head tasks all lines more n task read next rising within is =
-    let p = task_line head (length tasks) lines n task more next in
-    let behind : AreBehind n more = rw p.1 at rising in
-    let adding : Adds lines n = subst (λ ls. Adds ls n) (sym p.1) (inl (refl, task_adds (length tasks) head (words_of p.0) task p.2)) in
-    let on = tasks_go_on head tasks lines more n task next in
-    let late : IsLater n (tasks_behind (tasks ++ task ∷ []) (tasks_at head (length (tasks ++ task ∷ [])) more)) =
-    bind_all (λ x. Unit {0}) (λ x. Unit {0}) (λ e. n < e.line) (tasks_at head (length (tasks ++ task ∷ [])) more) _ (tasks_later n head (length (tasks ++ task ∷ [])) more behind) (λ x u. tt) in
+    → Lacks (λ x. Unit {0}) all read (record { line = task.number; refusal = refusals.Memory })
+lacks_task head tasks all lines task read next rising within is =
+    let n = task.number in
+    let with_it = tasks ++ task.value ∷ [] in
+    let p = task_line head (length tasks) lines task next in
+    let behind : AreBehind n task.more = rw p.1 at rising in
+    let adding : Adds lines n = subst (λ ls. Adds ls n) (sym p.1) (inl (refl, task_adds (length tasks) head (words_of p.0) task.value p.2)) in
+    let on = tasks_go_on head tasks lines task next in
+    let late : IsLater n (tasks_behind with_it (tasks_at head (length with_it) task.more)) =
+    bind_all (λ x. Unit {0}) (λ x. Unit {0}) (λ e. n < e.line) (tasks_at head (length with_it) task.more) _ (tasks_later n head (length with_it) task.more behind) (λ x u. tt) in
     (refl, within n adding, subst (λ r. IsLater n r) (on ∙ is) late)
 
 -- at the line of a processor more
-pub lacks_start : (m most counter : ℕ) (starts : Starts) (all lines more : Lines) (n : ℕ) (start : ℕ × Bool) (read : Result (Starts × Lines) ScriptError) → counter < most → next_start_at m lines ≡ Ok (Some (n, start, more))
+pub lacks_start : (m most counter : ℕ) (starts : Starts) (all lines : Lines) (start : Said (ℕ × Bool)) (read : Result (Starts × Lines) ScriptError) → counter < most → next_start_at m lines ≡ Ok (Some start)
     → AreRising lines → ((k : ℕ) → Adds lines k → Adds all k) → starts_behind starts (starts_at m (most - counter) lines) ≡ read
-    → Lacks (λ x. AreBehind n x.1) all read (record { line = n; refusal = refusals.Memory })
-lacks_start m most counter starts all lines more n start read lt next rising within is =
-    let p = start_line m lines n start more next in
-    let behind : AreBehind n more = rw p.1 at rising in
+    → Lacks (λ x. AreBehind start.number x.1) all read (record { line = start.number; refusal = refusals.Memory })
+lacks_start m most counter starts all lines start read lt next rising within is =
+    let n = start.number in
+    let k = most - (counter + 1) in
+    let p = start_line m lines start next in
+    let behind : AreBehind n start.more = rw p.1 at rising in
     let adding : Adds lines n = subst (λ ls. Adds ls n) (sym p.1) (inl (refl, named_adds (words_of p.0) p.2)) in
-    let on = starts_go_on m most counter starts lines more n start lt next in
-    let late : PartIsLater n (starts_behind (starts ++ start ∷ []) (starts_at m (most - (counter + 1)) more)) =
-    bind_all (λ x. AreBehind n x.1) (λ x. AreBehind n x.1) (λ e. n < e.line) (starts_at m (most - (counter + 1)) more) _ (starts_later n m (most - (counter + 1)) more behind) (λ x u. u) in
+    let on = starts_go_on m most counter starts lines start lt next in
+    let late : PartIsLater n (starts_behind (starts ++ start.value ∷ []) (starts_at m k start.more)) =
+    bind_all (λ x. AreBehind n x.1) (λ x. AreBehind n x.1) (λ e. n < e.line) (starts_at m k start.more) _ (starts_later n m k start.more behind) (λ x u. u) in
     (refl, within n adding, subst (λ r. PartIsLater n r) (on ∙ is) late)
 
 -- at the line of the first processor
@@ -317,30 +339,18 @@ ok_second {A} {B} a c b d r e f =
 adds_starts : (m most : ℕ) (lines : Lines) (starts : Starts) (more : Lines) (n : ℕ) → starts_at m most lines ≡ Ok (starts, more) → Adds more n → Adds lines n
 unfolding starts_at
 adds_starts m zero lines starts more n e a = subst (λ ls. Adds ls n) (sym (ok_second [] starts lines more (Ok ([], lines)) refl e)) a
-adds_starts m (suc most) (Ended k) starts more n e a = subst (λ ls. Adds ls n) (sym (ok_second [] starts (Ended k) more (Ok ([], Ended k)) refl e)) a
-adds_starts m (suc most) (Cut k) starts more n e a = cc
-adds_starts m (suc most) (Line k line rest) starts more n e a =
-    let p = bind_ok (words_at k line) _ (starts, more) e in
-    by_name (names_processor p.0) p.0 p.2 (adds_starts m most rest)
+adds_starts m (suc most) lines starts more n e a =
+    let p = bind_ok (next_start_at m lines) _ (starts, more) e in
+    go p.0 p.1 p.2 (adds_starts m most)
   where
-    Read : Type 0
-    Read = Result (Starts × Lines) ScriptError
-
-    here : Read
-    here = Ok ([], Line k line rest)
-
-    others : Words → Read
-    others words = in_line k (placed refusals.Cpu (start_in m words)) >>= λ start. starts_at m most rest >>= λ others. Ok (start ∷ others.0, others.1)
-
-    by_name : (c : Bool) (words : Words)
-        → (if c then others words else here) ≡ Ok (starts, more)
-        → ((ss : Starts) (ls : Lines) (j : ℕ) → starts_at m most rest ≡ Ok (ss, ls) → Adds ls j → Adds rest j) → Adds (Line k line rest) n
-    by_name true words h later =
-        let q = bind_ok (in_line k (placed refusals.Cpu (start_in m words))) _ (starts, more) h in
-        let r = bind_ok (starts_at m most rest) _ (starts, more) q.2 in
-        let same = ok_second (q.0 ∷ r.0.0) starts r.0.1 more (Ok (q.0 ∷ r.0.0, r.0.1)) refl r.2 in
-        inr (later r.0.0 r.0.1 n r.1 (subst (λ ls. Adds ls n) (sym same) a))
-    by_name false words h later = subst (λ ls. Adds ls n) (sym (ok_second [] starts (Line k line rest) more (Ok ([], Line k line rest)) refl h)) a
+    go : (next : Option (Said (ℕ × Bool))) → next_start_at m lines ≡ Ok next → with_start lines (starts_at m most) next ≡ Ok (starts, more)
+        → ((ls : Lines) (ss : Starts) (rest : Lines) (j : ℕ) → starts_at m most ls ≡ Ok (ss, rest) → Adds rest j → Adds ls j) → Adds lines n
+    go None is h later = subst (λ ls. Adds ls n) (sym (ok_second [] starts lines more (Ok ([], lines)) refl h)) a
+    go (Some start) is h later =
+        let q = bind_ok (starts_at m most start.more) _ (starts, more) h in
+        let same = ok_second (start.value ∷ q.0.0) starts q.0.1 more (Ok (start.value ∷ q.0.0, q.0.1)) refl q.2 in
+        let p = start_line m lines start is in
+        subst (λ ls. Adds ls n) (sym p.1) (inr (later start.more q.0.0 q.0.1 n q.1 (subst (λ ls. Adds ls n) (sym same) a)))
 
 adds_processors : (m most : ℕ) (lines : Lines) (starts : Starts) (more : Lines) (n : ℕ) → processors_at m most lines ≡ Ok (starts, more) → Adds more n → Adds lines n
 unfolding processors_at
@@ -399,8 +409,8 @@ refused_in_tasks bytes head more e is (inr lacks) =
 pub adds_behind_first : (m : ℕ) (lines : Lines) (start : ℕ × Bool) (more : Lines) (n : ℕ) → heading_at refusals.Cpu (start_in m) lines ≡ Ok (start, more) → Adds more n → Adds lines n
 adds_behind_first m lines start more n e a = adds_heading refusals.Cpu (start_in m) lines start more n e a
 
-pub adds_behind_start : (m : ℕ) (lines : Lines) (k : ℕ) (start : ℕ × Bool) (more : Lines) (n : ℕ) → next_start_at m lines ≡ Ok (Some (k, start, more)) → Adds more n → Adds lines n
-adds_behind_start m lines k start more n e a = let p = start_line m lines k start more e in subst (λ ls. Adds ls n) (sym p.1) (inr a)
+pub adds_behind_start : (m : ℕ) (lines : Lines) (start : Said (ℕ × Bool)) (n : ℕ) → next_start_at m lines ≡ Ok (Some start) → Adds start.more n → Adds lines n
+adds_behind_start m lines start n e a = let p = start_line m lines start e in subst (λ ls. Adds ls n) (sym p.1) (inr a)
 
-pub adds_behind_task : (head : Head) (count : ℕ) (lines : Lines) (k : ℕ) (task : Task) (more : Lines) (n : ℕ) → next_task_at head count lines ≡ Ok (Some (k, task, more)) → Adds more n → Adds lines n
-adds_behind_task head count lines k task more n e a = let p = task_line head count lines k task more e in subst (λ ls. Adds ls n) (sym p.1) (inr a)
+pub adds_behind_task : (head : Head) (count : ℕ) (lines : Lines) (task : Said Task) (n : ℕ) → next_task_at head count lines ≡ Ok (Some task) → Adds task.more n → Adds lines n
+adds_behind_task head count lines task n e a = let p = task_line head count lines task e in subst (λ ls. Adds ls n) (sym p.1) (inr a)

@@ -1,5 +1,5 @@
 -- What the lines before the instructions say by their words.
-use Rattle.std.specs.Prelude.{ℕ, ◌<◌, ◌≤◌, ◌+◌, ◌^◌, Bool, true, false, ◌==◌, nat_lt}
+use Rattle.std.specs.Prelude.{ℕ, ◌<◌, ◌≤◌, ◌+◌, ◌^◌, Bool, false, nat_lt}
 use Rattle.std.specs.Prelude.{if◌then◌else◌}
 use Rattle.std.specs.Prelude.{List, [], ◌∷◌, codes, Result, Ok, Err}
 use Rattle.std.specs.Str.{bytes_eq}
@@ -10,7 +10,7 @@ use Rattle.pg_event.specs.Heads.{least_maxphyaddr, most_maxphyaddr, most_segment
 use Rattle.pg_script.specs.declared.refusal.ScriptRefusal.{ScriptRefusal}
 use Rattle.pg_script.specs.declared.refusal.ScriptRefusal.TheVariants as refusals
 use Rattle.pg_event.specs.Reading.{is_between}
-use Rattle.pg_script.specs.Words.{Words, FromWords, word_at, dec_at, hex_at, bit_at, keyword_at}
+use Rattle.pg_script.specs.Words.{Words, word_at, dec_at, hex_at, bit_at, keyword_at}
 use Rattle.pg_script.specs.Words.{ended}
 use Rattle.pg_event.specs.Reading.{◌>>=◌}
 

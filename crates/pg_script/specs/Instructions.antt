@@ -1,6 +1,6 @@
 -- What a line says that is an instruction: its processor, its name and its fields, word by word.
 use Rattle.std.specs.Prelude.{ℕ, ◌^◌, Bool, true, false, ◌&&◌, nat_lt, if◌then◌else◌}
-use Rattle.std.specs.Prelude.{List, [], ◌∷◌, codes, Option, Some, None, Result, Ok, Err}
+use Rattle.std.specs.Prelude.{List, codes, Option, Some, None, Result, Ok, Err}
 use Rattle.std.specs.Str.{bytes_eq}
 use Rattle.pg_entry.specs.declared.Op.{Op}
 use Rattle.pg_entry.specs.declared.Op.TheVariants as ops
@@ -14,7 +14,7 @@ use Rattle.pg_script.specs.declared.instruction.Instruction.{Instruction}
 use Rattle.pg_script.specs.declared.instruction.Instruction.TheVariants as instructions
 use Rattle.pg_script.specs.declared.instruction.Task.{Task}
 use Rattle.pg_script.specs.Numbers.{dec_of}
-use Rattle.pg_script.specs.Words.{Words, FromWords, word_at, dec_at, hex_at, bit_at, keyword_at}
+use Rattle.pg_script.specs.Words.{Words, FromWords, word_at, dec_at, hex_at, bit_at}
 use Rattle.pg_script.specs.Words.{ended}
 use Rattle.pg_event.specs.Reading.{◌>>=◌}
 use Rattle.pg_script.specs.Tasks.{event_of}

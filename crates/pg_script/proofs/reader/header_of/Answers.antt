@@ -1,4 +1,3 @@
-use Rattle.std.proofs.Common.{◌≡◌, ◌∙◌}
 use Rattle.std.proofs.lemmas.Result.{err_from_is_err_and}
 use Rattle.pg_script.specs.Answers.{lines_in, told_in}
 use Rattle.pg_script.proofs.Wants.{lacks_head}
