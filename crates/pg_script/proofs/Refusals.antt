@@ -19,7 +19,7 @@ use Rattle.pg_script.specs.Heading.{names_processor, version_in, machine_in, seg
 use Rattle.pg_script.specs.Instructions.{processor_or_refusal, processor_at, kind_at, write_in, access_in, mov_cr3_in, invlpg_in, invpcid_in, mov_cr4_pge_in, instruction_in, well_formed_or_refusal, task_in}
 use Rattle.pg_script.specs.Tasks.{event_of}
 use Rattle.pg_script.specs.Reading.{Said, said, refused, in_line, placed, front_at, line_or_refusal, line_at, heading_at, start_or_none, next_start_at, with_start, starts_at, processors_at, head_at, task_after, most_instructions, task_or_none, next_task_at, with_task, tasks_at, reading}
-use Rattle.pg_script.specs.Answers.{is_memory}
+use Rattle.pg_script.specs.Refusals.{is_memory}
 
 -- ---- words
 

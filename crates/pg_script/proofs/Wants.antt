@@ -15,7 +15,8 @@ use Rattle.pg_script.specs.Words.{Words, keyword_at}
 use Rattle.pg_script.specs.Heading.{names_processor, version_in, machine_in, segment_in, start_in}
 use Rattle.pg_script.specs.Instructions.{processor_at, task_in}
 use Rattle.pg_script.specs.Reading.{Said, said, refused, in_line, placed, line_or_refusal, heading_at, start_or_none, next_start_at, Starts, with_start, starts_at, processors_at, head_at, task_after, most_instructions, task_or_none, next_task_at, with_task, tasks_at, reading}
-use Rattle.pg_script.specs.Answers.{Rest, lines_in, told_in, adds, Adds, first_number, AreRising, AreBehind, Lacks, IsRefused}
+use Rattle.pg_script.specs.Answers.{Rest, lines_in, told_in, first_number, AreRising, AreBehind, Lacks}
+use Rattle.pg_script.specs.Refusals.{adds, Adds, IsRefused}
 use Rattle.pg_script.proofs.Refusals.{never_memory}
 use Rattle.pg_script.proofs.Loops.{tasks_behind, tasks_go_on, starts_behind, starts_go_on}
 

@@ -13,43 +13,13 @@ use Rattle.pg_script.specs.Lines.{told}
 use Rattle.pg_script.specs.Words.{Words}
 use Rattle.pg_script.specs.Heading.{names_processor}
 use Rattle.pg_script.specs.Instructions.{processor_at}
-use Rattle.pg_script.specs.Reading.{Said, said, reading}
+use Rattle.pg_script.specs.Reading.{Said, said}
+use Rattle.pg_script.specs.Refusals.{Adds}
 
 -- what was answered, seen by view, is what the definition gives
 abbrev pub Agrees : {X A E : Type 0} → (X → A) → Result X E → Result A E → Type 0
 Agrees view (Ok x) read = read ≡ Ok (view x)
 Agrees view (Err e) read = read ≡ Err e
-
--- whether memory ran out
-abbrev pub is_memory : ScriptRefusal → Bool
-is_memory refusals.FirstLine = false
-is_memory refusals.Machine = false
-is_memory refusals.Segment = false
-is_memory refusals.Cpu = false
-is_memory refusals.Instruction = false
-is_memory refusals.Number = false
-is_memory refusals.Malformed = false
-is_memory refusals.LineEnd = false
-is_memory refusals.TooMany = false
-is_memory refusals.Memory = true
-
--- a line that makes a script longer: it begins with `cpu` or with the number of a processor
-abbrev pub adds : Words → Bool
-adds words = names_processor words || is_ok (processor_at words)
-
--- the line of this number makes a script longer
-abbrev pub Adds : Lines → ℕ → Type 0
-Adds (Ended m) n = ⊥
-Adds (Cut m) n = ⊥
-Adds (Line m line more) n = ((m ≡ n) × (adds (words_of line) ≡ true)) ⊎ Adds more n
-
--- What a text is refused for: its first refusal; or memory was refused, at a line that makes the
--- script longer, and no line as far as that one is refused.
-abbrev pub IsRefused : List ℕ → ScriptError → Type 0
-IsRefused bytes e =
-    MatchBool (is_memory e.refusal)
-    (Adds (lines_of 1 bytes) e.line × IfErr (reading bytes) (λ first. e.line < first.line))
-    (reading bytes ≡ Err e)
 
 abbrev pub first_number : Lines → ℕ
 first_number (Ended n) = n

@@ -1,4 +1,3 @@
-pub mod Refusals
 pub mod Lines
 pub mod Numbers
 pub mod Words
@@ -7,5 +6,6 @@ pub mod Dealt
 pub mod Heading
 pub mod Instructions
 pub mod Reading
+pub mod Refusals
 pub mod Spelling
 pub mod Answers

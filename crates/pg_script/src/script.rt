@@ -3,7 +3,7 @@ ghost use Rattle.std.specs.List.{AllByRecursion};
 ghost use Rattle.pg_event.specs.Spelling.{IsHead};
 ghost use Rattle.pg_script.specs.Tasks.{IsWellFormed, instructions_of, order_of};
 ghost use Rattle.pg_script.specs.Reading.{reading, IsScript};
-ghost use Rattle.pg_script.specs.Answers.{IsRefused};
+ghost use Rattle.pg_script.specs.Refusals.{IsRefused};
 
 use crate::instruction::Instruction;
 use crate::reader::{header_of, tasks_of};

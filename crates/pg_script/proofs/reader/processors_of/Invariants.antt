@@ -1,7 +1,8 @@
 use Rattle.std.proofs.Common.{ℕ, ◌≡◌, ◌<◌, ◌^◌, ◌+◌, ◌-◌, length}
 use Rattle.std.specs.List.{AllByRecursion}
 use Rattle.pg_script.specs.Reading.{starts_at, processors_at}
-use Rattle.pg_script.specs.Answers.{told_in, Adds}
+use Rattle.pg_script.specs.Answers.{told_in}
+use Rattle.pg_script.specs.Refusals.{Adds}
 use Rattle.pg_script.proofs.Loops.{starts_behind}
 use Rattle.pg_script.proofs.reader.processors_of.Given as goal
 

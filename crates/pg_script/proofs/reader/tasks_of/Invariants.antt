@@ -2,7 +2,8 @@ use Rattle.std.proofs.Common.{ℕ, ◌≡◌, length}
 use Rattle.std.specs.List.{AllByRecursion}
 use Rattle.pg_script.specs.Tasks.{IsWellFormed}
 use Rattle.pg_script.specs.Reading.{tasks_at}
-use Rattle.pg_script.specs.Answers.{told_in, Adds}
+use Rattle.pg_script.specs.Answers.{told_in}
+use Rattle.pg_script.specs.Refusals.{Adds}
 use Rattle.pg_script.proofs.Loops.{tasks_behind}
 use Rattle.pg_script.proofs.reader.tasks_of.Given as goal
 
