@@ -14,7 +14,8 @@ use Rattle.pg_event.specs.declared.version.Version.{Version}
 use Rattle.pg_event.specs.declared.version.Version.TheVariants as versions
 use Rattle.pg_event.specs.Heads.{Head, most_processors}
 use Rattle.pg_event.specs.Form.{broken_rule}
-use Rattle.pg_event.specs.Reading.{◌>>=◌, byte_at, number_at, passing, same_bytes, magic_at, start_at, outcome_at, numbers_at, moments_at, write_at, access_at, mov_cr3_at, invlpg_at, invpcid_at, mov_cr4_pge_at, assist_at, fields_at, last_tag, well_formed_at, event_at, is_between, version_at, version_of, processor_at}
+use Rattle.std.specs.Str.{bytes_eq}
+use Rattle.pg_event.specs.Reading.{◌>>=◌, byte_at, number_at, passing, magic_at, start_at, outcome_at, numbers_at, moments_at, write_at, access_at, mov_cr3_at, invlpg_at, invpcid_at, mov_cr4_pge_at, assist_at, fields_at, last_tag, well_formed_at, event_at, is_between, version_at, version_of, processor_at}
 use Rattle.pg_codec.specs.Parts.{settings_at}
 use Rattle.pg_codec.proofs.Local.{IsLocal, extended, byte_local, number_local, done_local, refused_local, then_local, wider, cond_local, bounded_local, made_local, done, ok_is}
 
@@ -128,11 +129,11 @@ unfolding magic_at
 magic_same front more h =
     let long : ltb (length (front ++ more)) 8 ≡ false = le-ltb _ _ (omega (arith, length-append front more)) in
     let enough : ltb (length front) 8 ≡ false = le-ltb _ _ h in
-    rw (long, enough, take-append-le 8 front more h, drop-append-le 8 front more h) (tested (same_bytes (take 8 front) (codes "PGRECORD")) (take 8 front) (drop 8 front) more)
+    rw (long, enough, take-append-le 8 front more h, drop-append-le 8 front more h) (tested (bytes_eq (take 8 front) (codes "PGRECORD")) (take 8 front) (drop 8 front) more)
 
 magic_used : (bytes : List ℕ) (x : List ℕ × List ℕ) → magic_at bytes ≡ Ok x → (text : List ℕ) × (bytes ≡ text ++ x.1) × (length text ≤ 8)
 unfolding magic_at
-magic_used bytes x e = (take 8 bytes, sym (take-append-drop 8 bytes) ∙ ap (λ l. take 8 bytes ++ l) (found (ltb (length bytes) 8) (same_bytes (take 8 bytes) (codes "PGRECORD")) (take 8 bytes, drop 8 bytes) x e), omega (arith, length-take 8 bytes))
+magic_used bytes x e = (take 8 bytes, sym (take-append-drop 8 bytes) ∙ ap (λ l. take 8 bytes ++ l) (found (ltb (length bytes) 8) (bytes_eq (take 8 bytes) (codes "PGRECORD")) (take 8 bytes, drop 8 bytes) x e), omega (arith, length-take 8 bytes))
 
 pub magic_local : IsLocal 8 magic_at
 magic_local = record { same = magic_same; used = magic_used }

@@ -6,7 +6,8 @@ use Rattle.pg_event.specs.declared.refusal.Refusal.TheVariants as refusals
 use Rattle.pg_event.specs.declared.event.Event.{Event}
 use Rattle.pg_event.specs.declared.version.Version.{Version}
 use Rattle.pg_event.specs.declared.version.Version.TheVariants as versions
-use Rattle.pg_event.specs.Heads.{Head, most_processors}
+use Rattle.pg_event.specs.Heads.{Head, most_processors, least_maxphyaddr, most_maxphyaddr}
+use Rattle.pg_event.specs.Heads.{most_segment}
 use Rattle.pg_event.specs.Reading.{◌>>=◌, Part, byte_at, number_at, passing, is_between}
 use Rattle.pg_event.specs.Reading.{magic_at, version_at, processor_at, header_at, chunk_at, closed}
 use Rattle.pg_codec.specs.declared.settings.Settings.{Settings}
@@ -20,12 +21,12 @@ unfoldable pub settings_at : List ℕ → Part Settings
 settings_at bytes = do
   magic ← magic_at bytes
   version ← version_at magic.1
-  m ← passing (is_between 36 52) refusals.HeaderField (byte_at version.1)
+  m ← passing (is_between least_maxphyaddr most_maxphyaddr) refusals.HeaderField (byte_at version.1)
   flags ← passing (λ n. nat_lt n 16) refusals.HeaderField (byte_at m.1)
   count ←
       passing (is_between 1 (most_processors version.0)) refusals.HeaderField
       (processor_at version.0 flags.1)
-  size ← passing (is_between 1 65536) refusals.HeaderField (number_at w32 count.1)
+  size ← passing (is_between 1 most_segment) refusals.HeaderField (number_at w32 count.1)
   Ok (
     record {
       version = version.0;
@@ -52,13 +53,13 @@ old_header_at bytes =
 
 -- each field is within its range
 pub record AreSettings (s : Settings) : Type 0 where
-  pub low : 36 ≤ s.cfg.m
-  pub high : s.cfg.m ≤ 52
+  pub low : least_maxphyaddr ≤ s.cfg.m
+  pub high : s.cfg.m ≤ most_maxphyaddr
   pub flags : s.cfg.flags.0 < 16
   pub some : 1 ≤ s.count
   pub few : s.count ≤ most_processors s.version
   pub size : 1 ≤ s.segment
-  pub limit : s.segment ≤ 65536
+  pub limit : s.segment ≤ most_segment
 
 -- the header that settings and the processors make
 abbrev pub head_of : Settings → List (ℕ × Bool) → Head

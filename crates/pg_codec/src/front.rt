@@ -1,20 +1,16 @@
 //! The parts of a header at the front of a slice.
 
 ghost use Rattle.std.specs.Prelude.{◌≡◌, ◌≤◌, ◌<◌, ◌^◌, length, IfOk};
-ghost use Rattle.pg_event.specs.Reading.{same_bytes, magic_at, version_at, start_at};
+ghost use Rattle.pg_event.specs.Reading.{magic_at, version_at, start_at};
 ghost use Rattle.pg_codec.specs.Reads.{Gives};
 ghost use Rattle.pg_codec.specs.Parts.{settings_at, AreSettings, version_said, is_two};
 
 use crate::fields::{byte_of, processor_number, u16_of, u32_of, u64_of};
 use crate::settings::Settings;
 use pg_entry::{Cfg, CfgFlags};
-use pg_event::{Refusal, Version, most_processors};
-
-fn same_bytes(xs: &[u8], ys: &[u8]) -> bool
-    ensures { result ≡ same_bytes xs.now ys.now }
-{
-    xs == ys
-}
+use pg_event::{
+    LEAST_MAXPHYADDR, MOST_MAXPHYADDR, MOST_SEGMENT, Refusal, Version, most_processors,
+};
 
 #[tactic(auto, unfolding(pg_event::specs::Reading::magic_at))]
 fn magic_of(bytes: &[u8]) -> Result<(&[u8], &[u8]), Refusal>
@@ -24,7 +20,7 @@ fn magic_of(bytes: &[u8]) -> Result<(&[u8], &[u8]), Refusal>
         return Err(Refusal::Truncated);
     }
     let (front, rest) = bytes.split_at(8);
-    if !same_bytes(front, b"PGRECORD") {
+    if front != b"PGRECORD".as_slice() {
         return Err(Refusal::Magic);
     }
     Ok((front, rest))
@@ -61,7 +57,7 @@ pub(crate) fn settings_of(bytes: &[u8]) -> Result<(Settings, &[u8]), Refusal>
     let (_, rest) = magic_of(bytes)?;
     let (version, rest) = version_of(rest)?;
     let (m, rest) = byte_of(rest)?;
-    if m < 36 || m > 52 {
+    if m < LEAST_MAXPHYADDR || m > MOST_MAXPHYADDR {
         return Err(Refusal::HeaderField);
     }
     let (flags, rest) = byte_of(rest)?;
@@ -73,7 +69,7 @@ pub(crate) fn settings_of(bytes: &[u8]) -> Result<(Settings, &[u8]), Refusal>
         return Err(Refusal::HeaderField);
     }
     let (segment, rest) = u32_of(rest)?;
-    if segment < 1 || segment > 65536 {
+    if segment < 1 || segment > MOST_SEGMENT {
         return Err(Refusal::HeaderField);
     }
     let flags = CfgFlags(flags);

@@ -1,8 +1,7 @@
 -- The tasks are those that the processors and their lists say, and stay so with one more.
-use Rattle.std.proofs.Common.{◌≡◌, ◌∙◌, ◌++◌, ℕ, Bool, true, false, List, [], ◌∷◌, drop, map, refl, sym, ap, eqb}
-use Rattle.std.specs.Prelude.{◌==◌, if◌then◌else◌}
-use Rattle.std.proofs.lemmas.List.{map-append, append-nil}
-use Rattle.std.proofs.lemmas.Bool.{eqb-true, eq-eqb}
+use Rattle.std.proofs.Common.{◌≡◌, ◌∙◌, ◌++◌, ℕ, Bool, true, false, List, [], ◌∷◌, drop, refl, sym, ap, eqb}
+use Rattle.std.proofs.lemmas.List.{map-append}
+use Rattle.std.proofs.lemmas.Bool.{eq-eqb}
 use Rattle.pg_script.specs.declared.instruction.Instruction.{Instruction}
 use Rattle.pg_script.specs.declared.instruction.Task.{Task}
 use Rattle.pg_script.specs.Tasks.{instructions_of, order_of}

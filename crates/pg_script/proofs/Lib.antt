@@ -6,3 +6,10 @@ mod Deals
 mod Loops
 mod Pushing
 mod Wells
+mod Refusals
+mod Wants
+mod Digits
+mod Spaced
+mod Sayings
+mod Said
+mod RowsOfReading

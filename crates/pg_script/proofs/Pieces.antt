@@ -1,7 +1,7 @@
 -- A text is cut at the first separator, and goes on behind it.
-use Rattle.std.proofs.Common.{◌≡◌, ◌<◌, ◌≤◌, ◌+◌, ◌∙◌, ℕ, Bool, true, false, List, [], ◌∷◌, Option, Some, None, length, take, drop, get_or, refl, sym, ap, subst, arith, eqb, ltb}
+use Rattle.std.proofs.Common.{◌≡◌, ◌+◌, ℕ, Bool, true, false, List, [], ◌∷◌, Some, None, length, take, drop, refl, subst, arith, ltb}
 use Rattle.std.specs.Prelude.{position, ◌==◌}
-use Rattle.std.specs.List.{position_or_len, slice_split, All}
+use Rattle.std.specs.List.{position_or_len}
 use Rattle.std.proofs.lemmas.Option.{cond_some}
 use Rattle.std.proofs.lemmas.Bool.{ltb-true, ltb-false}
 use Rattle.std.proofs.lemmas.List.Splits.{slice_split_first, slice_split_none}

@@ -12,7 +12,7 @@ use Rattle.pg_script.specs.declared.instruction.Instruction.TheVariants.{Write, 
 use Rattle.pg_script.specs.declared.instruction.Task.{Task}
 use Rattle.pg_script.specs.Tasks.{IsWellFormed, event_of, shape, instructions_of, order_of}
 
-processor_is : (p : ℕ) (i : Instruction) → processor_of (event_of p i) ≡ p
+pub processor_is : (p : ℕ) (i : Instruction) → processor_of (event_of p i) ≡ p
 processor_is p (Write addr value) = refl
 processor_is p (Access flags la) = refl
 processor_is p (MovCr3 operand) = refl
@@ -20,7 +20,7 @@ processor_is p (Invlpg la) = refl
 processor_is p (Invpcid kind pcid la) = refl
 processor_is p (MovCr4Pge on) = refl
 
-shape_is : (p : ℕ) (i : Instruction) → shape (event_of p i) ≡ Some i
+pub shape_is : (p : ℕ) (i : Instruction) → shape (event_of p i) ≡ Some i
 shape_is p (Write addr value) = refl
 shape_is p (Access flags la) = refl
 shape_is p (MovCr3 operand) = refl
@@ -34,7 +34,7 @@ first_kept true others none = refl
 first_kept false others none = cc
 
 -- the processor is one of the header's
-within : (head : Head) (p : ℕ) (i : Instruction) → IsWellFormed head p i → p < length head.processors
+pub within : (head : Head) (p : ℕ) (i : Instruction) → IsWellFormed head p i → p < length head.processors
 within head p i well =
     let e = event_of p i in
     let none : broken_rule head e ≡ None = well e (processor_is p i) (shape_is p i) in

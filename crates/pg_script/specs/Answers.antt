@@ -1,45 +1,59 @@
 -- What the functions of this crate answer, seen as the definitions of reading.
-use Rattle.std.specs.Prelude.{◌≡◌, ℕ, ◌+◌, Bool, true, false, List, [], ◌∷◌, ◌++◌}
-use Rattle.std.specs.Prelude.{Option, Some, None, Result, Ok, Err, MatchBool, if◌then◌else◌}
-use Rattle.std.specs.Prelude.{option_map, length, IfSome, ◌<◌}
-use Rattle.std.specs.Borrow.{Bor}
-use Rattle.pg_event.specs.Heads.{Head}
+use Rattle.std.specs.Prelude.{◌≡◌, ℕ, Bool, true, false, ◌||◌, List, [], ◌⊎◌}
+use Rattle.std.specs.Prelude.{Option, Some, None, Result, Ok, Err, MatchBool}
+use Rattle.std.specs.Prelude.{length, IfErr, MatchResult, is_ok, ◌<◌}
 use Rattle.pg_script.specs.declared.refusal.ScriptRefusal.{ScriptRefusal}
 use Rattle.pg_script.specs.declared.refusal.ScriptRefusal.TheVariants as refusals
 use Rattle.pg_script.specs.declared.refusal.ScriptError.{ScriptError}
-use Rattle.pg_script.specs.declared.instruction.Task.{Task}
+use Rattle.pg_script.specs.declared.text.Told.{Told}
+use Rattle.pg_script.specs.declared.text.Front.{Front}
+use Rattle.pg_script.specs.declared.text.Front.TheVariants as fronts
 use Rattle.pg_script.specs.Lines.{Lines, Ended, Cut, Line, pieces, lines_of, words_of}
-use Rattle.pg_script.specs.Lines.{is_plain, told}
-use Rattle.pg_script.specs.Words.{Words, ◌>>=◌}
-use Rattle.pg_script.specs.Heading.{start_in, names_processor}
-use Rattle.pg_script.specs.Reading.{refused, in_line, words_at, placed, task_after}
+use Rattle.pg_script.specs.Lines.{told}
+use Rattle.pg_script.specs.Words.{Words}
+use Rattle.pg_script.specs.Heading.{names_processor}
+use Rattle.pg_script.specs.Instructions.{processor_at}
+use Rattle.pg_script.specs.Reading.{Said, said}
+use Rattle.pg_script.specs.Refusals.{Adds}
 
 -- what was answered, seen by view, is what the definition gives
-abbrev pub Gives : {X A E : Type 0} → (X → A) → Result X E → Result A E → Type 0
-Gives view (Ok x) read = read ≡ Ok (view x)
-Gives view (Err e) read = read ≡ Err e
+abbrev pub Agrees : {X A E : Type 0} → (X → A) → Result X E → Result A E → Type 0
+Agrees view (Ok x) read = read ≡ Ok (view x)
+Agrees view (Err e) read = read ≡ Err e
 
--- whether memory ran out
-abbrev pub is_memory : ScriptRefusal → Bool
-is_memory refusals.FirstLine = false
-is_memory refusals.Machine = false
-is_memory refusals.Segment = false
-is_memory refusals.Cpu = false
-is_memory refusals.Instruction = false
-is_memory refusals.Number = false
-is_memory refusals.Malformed = false
-is_memory refusals.LineEnd = false
-is_memory refusals.TooMany = false
-is_memory refusals.Memory = true
+abbrev pub first_number : Lines → ℕ
+first_number (Ended n) = n
+first_number (Cut n) = n
+first_number (Line n line more) = n
 
--- a refusal is the first of the text; want of memory says nothing of it
-abbrev pub Fails : {A : Type 0} → ScriptError → Result A ScriptError → Type 0
-Fails e read = MatchBool (is_memory e.refusal) (Unit {0}) (read ≡ Err e)
+-- each line has a greater number than the one before
+abbrev pub AreRising : Lines → Type 0
+AreRising (Ended n) = Unit {0}
+AreRising (Cut n) = Unit {0}
+AreRising (Line n line more) = (n < first_number more) × AreRising more
 
--- what was answered is what reading gives, unless memory ran out
-abbrev pub Reads : {X A : Type 0} → (X → A) → Result X ScriptError → Result A ScriptError → Type 0
-Reads view (Ok x) read = read ≡ Ok (view x)
-Reads view (Err e) read = Fails e read
+-- lines behind the one of this number
+abbrev pub AreBehind : ℕ → Lines → Type 0
+AreBehind n lines = (n < first_number lines) × AreRising lines
+
+-- memory was refused at a line, and no line as far as that one is
+abbrev pub Lacks : {A : Type 0} → (A → Type 0) → Lines → Result A ScriptError → ScriptError → Type 0
+Lacks behind lines read e =
+    (e.refusal ≡ refusals.Memory) × Adds lines e.line
+    × MatchResult read behind (λ first. e.line < first.line)
+
+-- what was answered for a part of the lines is what reading gives, unless memory was refused there
+abbrev pub AgreesOnPart : {X A : Type 0} → (X → A × Lines) → Result X ScriptError → Lines →
+    Result (A × Lines) ScriptError → Type 0
+AgreesOnPart view (Ok x) lines read = read ≡ Ok (view x)
+AgreesOnPart view (Err e) lines read =
+    (read ≡ Err e) ⊎ Lacks (λ x. AreBehind e.line x.1) lines read e
+
+-- what was answered for all lines is what reading gives, unless memory was refused there
+abbrev pub AgreesOnAll : {X A : Type 0} → (X → A) → Result X ScriptError → Lines →
+    Result A ScriptError → Type 0
+AgreesOnAll view (Ok x) lines read = read ≡ Ok (view x)
+AgreesOnAll view (Err e) lines read = (read ≡ Err e) ⊎ Lacks (λ x. Unit {0}) lines read e
 
 -- the pieces behind the first separator, if there is one
 abbrev pub pieces_behind : ℕ → Option (List ℕ) → List (List ℕ)
@@ -50,16 +64,6 @@ pieces_behind separator (Some bytes) = pieces separator bytes
 abbrev pub words_left : Option (List ℕ) → Words
 words_left None = []
 words_left (Some line) = words_of line
-
--- the number of the next line; and its bytes and the lines behind it, if the text has not ended
-abbrev pub Front : Type 0
-Front = ℕ × Option (List ℕ × Lines)
-
-abbrev pub front_at : Lines → Result Front ScriptError
-front_at (Ended n) = Ok (n, None)
-front_at (Cut n) = refused n refusals.LineEnd
-front_at (Line n line more) =
-    if is_plain line then Ok (n, Some (line, more)) else refused n refusals.LineEnd
 
 -- what is left of a text: the number of the next line, and the bytes from there on
 abbrev pub Rest : Type 0
@@ -72,34 +76,16 @@ lines_in rest = lines_of rest.0 rest.1
 abbrev pub told_in : Rest → Lines
 told_in rest = told (lines_in rest)
 
--- the front of a text as it is answered, with the lines behind it
-abbrev pub front_seen : (Rest → Lines) → ℕ × Option (Bor (List ℕ) × Rest) → Front
-front_seen lines front = (front.0, option_map (λ x. (x.0.now, lines x.1)) front.1)
+-- what a line says, as it is answered
+abbrev pub said_in : {X : Type 0} → (Rest → Lines) → Told X → Said X
+said_in lines told = said told.number (lines told.rest) told.value
+
+-- the front of a text as it is answered
+abbrev pub front_in : (Rest → Lines) → Front → Lines
+front_in lines (fronts.Ended n) = Ended n
+front_in lines (fronts.Line told) = Line told.number told.value.now (lines told.rest)
 
 -- behind the front fewer bytes are left than these
-abbrev pub ShortensTo : ℕ → ℕ × Option (Bor (List ℕ) × Rest) → Type 0
-ShortensTo left front = IfSome front.1 (λ x. length x.1.1 < left)
-
--- a front that must be a line, as words
-abbrev pub line_or_refusal : ScriptRefusal → Front → Result (ℕ × Words × Lines) ScriptError
-line_or_refusal place (n, None) = refused n place
-line_or_refusal place (n, Some x) = Ok (n, words_of x.0, x.1)
-
--- the line of a processor more, if one comes: its number, what it says, and the lines behind it
-unfoldable pub next_start_at : ℕ → Lines → Result (Option (ℕ × (ℕ × Bool) × Lines)) ScriptError
-next_start_at m (Ended n) = Ok None
-next_start_at m (Cut n) = refused n refusals.LineEnd
-next_start_at m (Line n line more) = do
-  words ← words_at n line
-  if names_processor words then (do
-    start ← in_line n (placed refusals.Cpu (start_in m words))
-    Ok (Some (n, start, more))) else Ok None
-
--- the line of an instruction, if one comes, where so many came before
-unfoldable pub next_task_at : Head → ℕ → Lines → Result (Option (ℕ × Task × Lines)) ScriptError
-next_task_at head count (Ended n) = Ok None
-next_task_at head count (Cut n) = refused n refusals.LineEnd
-next_task_at head count (Line n line more) = do
-  words ← words_at n line
-  task ← in_line n (task_after count head words)
-  Ok (Some (n, task, more))
+abbrev pub ShortensTo : ℕ → Front → Type 0
+ShortensTo left (fronts.Ended n) = Unit {0}
+ShortensTo left (fronts.Line told) = length told.rest.1 < left

@@ -1,15 +1,18 @@
 -- What the lines before the instructions say by their words.
-use Rattle.std.specs.Prelude.{ℕ, ◌+◌, ◌^◌, Bool, true, false, ◌==◌, nat_lt, if◌then◌else◌}
+use Rattle.std.specs.Prelude.{ℕ, ◌<◌, ◌≤◌, ◌+◌, ◌^◌, Bool, false, nat_lt}
+use Rattle.std.specs.Prelude.{if◌then◌else◌}
 use Rattle.std.specs.Prelude.{List, [], ◌∷◌, codes, Result, Ok, Err}
 use Rattle.std.specs.Str.{bytes_eq}
 use Rattle.pg_entry.specs.declared.Cfg.{Cfg}
 use Rattle.pg_event.specs.declared.version.Version.{Version}
 use Rattle.pg_event.specs.declared.version.Version.TheVariants as versions
+use Rattle.pg_event.specs.Heads.{least_maxphyaddr, most_maxphyaddr, most_segment}
 use Rattle.pg_script.specs.declared.refusal.ScriptRefusal.{ScriptRefusal}
 use Rattle.pg_script.specs.declared.refusal.ScriptRefusal.TheVariants as refusals
-use Rattle.pg_script.specs.Numbers.{is_between}
-use Rattle.pg_script.specs.Words.{Words, Part, word_at, dec_at, hex_at, bit_at, keyword_at, ended}
-use Rattle.pg_script.specs.Words.{◌>>=◌}
+use Rattle.pg_event.specs.Reading.{is_between}
+use Rattle.pg_script.specs.Words.{Words, word_at, dec_at, hex_at, bit_at, keyword_at}
+use Rattle.pg_script.specs.Words.{ended}
+use Rattle.pg_event.specs.Reading.{◌>>=◌}
 
 abbrev pub version_or_refusal : List ℕ → Result Version ScriptRefusal
 version_or_refusal word =
@@ -39,6 +42,12 @@ settings_at words =
     let smap = setting_at (codes "smap") 8 smep.1 in
     (wp.0 + nxe.0 + smep.0 + smap.0, smap.1)
 
+-- settings in their ranges
+pub record IsCfg (cfg : Cfg) : Type 0 where
+  pub low : least_maxphyaddr ≤ cfg.m
+  pub high : cfg.m ≤ most_maxphyaddr
+  pub flags : cfg.flags.0 < 16
+
 abbrev pub cfg_of : ℕ → ℕ × Words → Result Cfg ScriptRefusal
 cfg_of m settings = ended (record { flags = record { 0 = settings.0 }; m = m }, settings.1)
 
@@ -47,14 +56,15 @@ unfoldable pub machine_in : Words → Result Cfg ScriptRefusal
 machine_in words = do
   numbers ← keyword_at (codes "machine") words
   m ← dec_at numbers
-  if is_between 36 52 m.0 then cfg_of m.0 (settings_at m.1) else Err refusals.Instruction
+  if is_between least_maxphyaddr most_maxphyaddr m.0 then cfg_of m.0 (settings_at m.1) else
+      Err refusals.Instruction
 
 -- `segment` and the events of a full segment
 unfoldable pub segment_in : Words → Result ℕ ScriptRefusal
 segment_in words = do
   numbers ← keyword_at (codes "segment") words
   size ← dec_at numbers
-  if is_between 1 65536 size.0 then ended size else Err refusals.Instruction
+  if is_between 1 most_segment size.0 then ended size else Err refusals.Instruction
 
 -- `cpu`, the processor's CR3 at the start, and whether it has global pages
 unfoldable pub start_in : ℕ → Words → Result (ℕ × Bool) ScriptRefusal

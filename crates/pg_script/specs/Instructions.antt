@@ -1,42 +1,50 @@
 -- What a line says that is an instruction: its processor, its name and its fields, word by word.
-use Rattle.std.specs.Prelude.{ℕ, ◌+◌, ◌^◌, Bool, true, false, ◌&&◌, nat_lt, if◌then◌else◌}
-use Rattle.std.specs.Prelude.{List, [], ◌∷◌, codes, Option, Some, None, Result, Ok, Err}
+use Rattle.std.specs.Prelude.{ℕ, ◌^◌, Bool, true, false, ◌&&◌, nat_lt, if◌then◌else◌}
+use Rattle.std.specs.Prelude.{List, codes, Option, Some, None, Result, Ok, Err}
 use Rattle.std.specs.Str.{bytes_eq}
+use Rattle.pg_entry.specs.declared.Op.{Op}
+use Rattle.pg_entry.specs.declared.Op.TheVariants as ops
+use Rattle.pg_entry.specs.declared.AccessKind.{AccessKind}
 use Rattle.pg_event.specs.declared.event.Malformed.{Malformed}
 use Rattle.pg_event.specs.Heads.{Head}
-use Rattle.pg_event.specs.Form.{broken_rule}
+use Rattle.pg_event.specs.Form.{flags_of, broken_rule}
 use Rattle.pg_script.specs.declared.refusal.ScriptRefusal.{ScriptRefusal}
 use Rattle.pg_script.specs.declared.refusal.ScriptRefusal.TheVariants as refusals
 use Rattle.pg_script.specs.declared.instruction.Instruction.{Instruction}
 use Rattle.pg_script.specs.declared.instruction.Instruction.TheVariants as instructions
 use Rattle.pg_script.specs.declared.instruction.Task.{Task}
 use Rattle.pg_script.specs.Numbers.{dec_of}
-use Rattle.pg_script.specs.Words.{Words, Part, word_at, dec_at, hex_at, bit_at, keyword_at, ended}
-use Rattle.pg_script.specs.Words.{◌>>=◌}
+use Rattle.pg_script.specs.Words.{Words, FromWords, word_at, dec_at, hex_at, bit_at}
+use Rattle.pg_script.specs.Words.{ended}
+use Rattle.pg_event.specs.Reading.{◌>>=◌}
 use Rattle.pg_script.specs.Tasks.{event_of}
 
 -- the number of a processor, which begins the line
-abbrev pub processor_or_refusal : Option ℕ → Words → Part ℕ
+abbrev pub processor_or_refusal : Option ℕ → Words → FromWords ℕ
 processor_or_refusal None words = Err refusals.Instruction
 processor_or_refusal (Some p) words = Ok (p, words)
 
-unfoldable pub processor_at : Words → Part ℕ
+unfoldable pub processor_at : Words → FromWords ℕ
 processor_at words = do
   word ← word_at words
   processor_or_refusal (dec_of word.0) word.1
 
--- bits of an access's flags: bit 2 is user mode, bit 3 EFLAGS.AC
-abbrev pub mode_or_refusal : List ℕ → Words → Part ℕ
-mode_or_refusal word words =
-    if bytes_eq word (codes "user") then Ok (4, words) else
-    if bytes_eq word (codes "super") then Ok (0, words) else
-    if bytes_eq word (codes "super-ac") then Ok (8, words) else Err refusals.Instruction
+abbrev pub kind_of : Op → Bool → Bool → AccessKind
+kind_of op user ac = record { op = op; user = user; ac = ac }
 
--- the mode of an access
-unfoldable pub mode_at : Words → Part ℕ
-mode_at words = do
+-- an access by the word of its mode: user mode, or supervisor mode with EFLAGS.AC clear or set
+abbrev pub kind_or_refusal : Op → List ℕ → Words → FromWords AccessKind
+kind_or_refusal op word words =
+    if bytes_eq word (codes "user") then Ok (kind_of op true false, words) else
+    if bytes_eq word (codes "super") then Ok (kind_of op false false, words) else
+    if bytes_eq word (codes "super-ac") then Ok (kind_of op false true, words) else
+    Err refusals.Instruction
+
+-- the mode of an access of this operation
+unfoldable pub kind_at : Op → Words → FromWords AccessKind
+kind_at op words = do
   word ← word_at words
-  mode_or_refusal word.0 word.1
+  kind_or_refusal op word.0 word.1
 
 unfoldable pub write_in : Words → Result Instruction ScriptRefusal
 write_in words = do
@@ -44,12 +52,12 @@ write_in words = do
   value ← hex_at addr.1
   ended (instructions.Write addr.0 value.0, value.1)
 
--- an access of operation 0 (read), 1 (write) or 2 (fetch)
-unfoldable pub access_in : ℕ → Words → Result Instruction ScriptRefusal
+-- address and mode
+unfoldable pub access_in : Op → Words → Result Instruction ScriptRefusal
 access_in op words = do
   la ← hex_at words
-  mode ← mode_at la.1
-  ended (instructions.Access (op + mode.0) la.0, mode.1)
+  kind ← kind_at op la.1
+  ended (instructions.Access (flags_of kind.0) la.0, kind.1)
 
 unfoldable pub mov_cr3_in : Words → Result Instruction ScriptRefusal
 mov_cr3_in words = do
@@ -85,9 +93,9 @@ mov_cr4_pge_in words = do
 unfoldable pub instruction_in : List ℕ → Words → Result Instruction ScriptRefusal
 instruction_in name words =
     if bytes_eq name (codes "write") then write_in words else
-    if bytes_eq name (codes "read") then access_in 0 words else
-    if bytes_eq name (codes "store") then access_in 1 words else
-    if bytes_eq name (codes "fetch") then access_in 2 words else
+    if bytes_eq name (codes "read") then access_in ops.Read words else
+    if bytes_eq name (codes "store") then access_in ops.Write words else
+    if bytes_eq name (codes "fetch") then access_in ops.Fetch words else
     if bytes_eq name (codes "cr3") then mov_cr3_in words else
     if bytes_eq name (codes "invlpg") then invlpg_in words else
     if bytes_eq name (codes "invpcid") then invpcid_in words else

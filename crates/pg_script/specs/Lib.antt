@@ -6,4 +6,6 @@ pub mod Dealt
 pub mod Heading
 pub mod Instructions
 pub mod Reading
+pub mod Refusals
+pub mod Spelling
 pub mod Answers

@@ -1,12 +1,9 @@
 -- Numbers as words: DEC is 1 to 10 decimal digits, HEX is `0x` and 1 to 16 hexadecimal ones.
-use Rattle.std.specs.Prelude.{ℕ, ◌+◌, ◌-◌, ◌*◌, Bool, ◌&&◌, nat_lt, nat_le, if◌then◌else◌}
+use Rattle.std.specs.Prelude.{ℕ, ◌+◌, ◌-◌, ◌*◌, ◌&&◌, nat_lt, if◌then◌else◌}
 use Rattle.std.specs.Prelude.{List, [], ◌∷◌, length, take, drop, codes, Option, Some, None}
 use Rattle.std.specs.Prelude.{option_and_then}
 use Rattle.std.specs.Str.{bytes_eq}
-
--- a number from one bound up to another
-abbrev pub is_between : ℕ → ℕ → ℕ → Bool
-is_between low high n = nat_le low n && nat_le n high
+use Rattle.pg_event.specs.Reading.{is_between}
 
 -- what a byte is worth: `0` to `9`, and `a` to `f` in either case
 abbrev pub worth : ℕ → Option ℕ

@@ -1,49 +1,44 @@
 -- What the words of a line say, from left to right: a value and the words behind it, or the refusal
 -- of the first word that is wrong or missing.
-use Rattle.std.specs.Prelude.{ℕ, Bool, true, false, ◌==◌, if◌then◌else◌, List, [], ◌∷◌, length}
+use Rattle.std.specs.Prelude.{ℕ, Bool, true, false, if◌then◌else◌, List, [], ◌∷◌}
 use Rattle.std.specs.Prelude.{codes, Option, Some, None, Result, Ok, Err}
 use Rattle.std.specs.Str.{bytes_eq}
+use Rattle.pg_event.specs.Reading.{◌>>=◌}
 use Rattle.pg_script.specs.declared.refusal.ScriptRefusal.{ScriptRefusal}
 use Rattle.pg_script.specs.declared.refusal.ScriptRefusal.TheVariants as refusals
 use Rattle.pg_script.specs.Numbers.{dec_of, hex_of}
 
--- one step after another, as far as none is refused
-infixl 10 ◌>>=◌
-abbrev pub ◌>>=◌ : {A B E : Type 0} → Result A E → (A → Result B E) → Result B E
-(Ok x) >>= f = f x
-(Err e) >>= f = Err e
-
 abbrev pub Words : Type 0
 Words = List (List ℕ)
 
-abbrev pub Part : Type 0 → Type 0
-Part A = Result (A × Words) ScriptRefusal
+abbrev pub FromWords : Type 0 → Type 0
+FromWords A = Result (A × Words) ScriptRefusal
 
-abbrev pub word_at : Words → Part (List ℕ)
+abbrev pub word_at : Words → FromWords (List ℕ)
 word_at [] = Err refusals.Instruction
 word_at (word ∷ words) = Ok (word, words)
 
-abbrev pub number_or_refusal : Option ℕ → Words → Part ℕ
+abbrev pub number_or_refusal : Option ℕ → Words → FromWords ℕ
 number_or_refusal None words = Err refusals.Number
 number_or_refusal (Some n) words = Ok (n, words)
 
-unfoldable pub dec_at : Words → Part ℕ
+unfoldable pub dec_at : Words → FromWords ℕ
 dec_at words = do
   word ← word_at words
   number_or_refusal (dec_of word.0) word.1
 
-unfoldable pub hex_at : Words → Part ℕ
+unfoldable pub hex_at : Words → FromWords ℕ
 hex_at words = do
   word ← word_at words
   number_or_refusal (hex_of word.0) word.1
 
-abbrev pub bit_or_refusal : List ℕ → Words → Part Bool
+abbrev pub bit_or_refusal : List ℕ → Words → FromWords Bool
 bit_or_refusal word words =
     if bytes_eq word (codes "0") then Ok (false, words) else
     if bytes_eq word (codes "1") then Ok (true, words) else Err refusals.Instruction
 
 -- the word `0` or `1`
-unfoldable pub bit_at : Words → Part Bool
+unfoldable pub bit_at : Words → FromWords Bool
 bit_at words = do
   word ← word_at words
   bit_or_refusal word.0 word.1

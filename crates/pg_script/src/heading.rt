@@ -1,21 +1,22 @@
 //! What the lines before the instructions say by their words.
 
 ghost use Rattle.std.specs.Prelude.{◌≡◌, ◌<◌, ◌≤◌, ◌^◌, IfOk};
-ghost use Rattle.pg_script.specs.Heading.{version_in, setting_at, settings_at, machine_in};
+ghost use Rattle.pg_event.specs.Heads.{most_segment};
+ghost use Rattle.pg_script.specs.Heading.{version_in, setting_at, settings_at, machine_in, IsCfg};
 ghost use Rattle.pg_script.specs.Heading.{segment_in, start_in, names_processor};
-ghost use Rattle.pg_script.specs.Answers.{Gives};
+ghost use Rattle.pg_script.specs.Answers.{Agrees};
 
 use crate::refusal::ScriptRefusal;
 use crate::words::{
     Words, after_keyword, bit_word, dec_word, ended, hex_word, same_bytes, word_of,
 };
 use pg_entry::{Cfg, CfgFlags};
-use pg_event::Version;
+use pg_event::{LEAST_MAXPHYADDR, MOST_MAXPHYADDR, MOST_SEGMENT, Version};
 
 /// `pcid-guest 1` or `pcid-guest 2`.
 #[tactic(auto, unfolding(crate::specs::Heading::version_in))]
 pub(crate) fn version_of(words: &Words) -> Result<Version, ScriptRefusal>
-    ensures { Gives (λ x. x) result (version_in words.now) }
+    ensures { Agrees (λ x. x) result (version_in words.now) }
 {
     let rest = after_keyword(b"pcid-guest", words)?;
     let (word, rest) = word_of(&rest)?;
@@ -58,12 +59,12 @@ fn settings_of<'a>(words: Words<'a>) -> (u8, Words<'a>)
 /// `machine` and MAXPHYADDR, and any of `wp nxe smep smap` in this order.
 #[tactic(auto, unfolding(crate::specs::Heading::machine_in))]
 pub(crate) fn machine_of(words: &Words) -> Result<Cfg, ScriptRefusal>
-    ensures value { Gives (λ x. x) result (machine_in words.now) }
-    ensures range { IfOk result (λ cfg. (36 ≤ cfg.m) × (cfg.m ≤ 52) × (cfg.flags.0 < 16)) }
+    ensures value { Agrees (λ x. x) result (machine_in words.now) }
+    ensures range { IfOk result (λ cfg. IsCfg cfg) }
 {
     let rest = after_keyword(b"machine", words)?;
     let (m, rest) = dec_word(&rest)?;
-    if m < 36 || m > 52 {
+    if m < LEAST_MAXPHYADDR as u64 || m > MOST_MAXPHYADDR as u64 {
         return Err(ScriptRefusal::Instruction);
     }
     let (flags, rest) = settings_of(rest);
@@ -75,12 +76,12 @@ pub(crate) fn machine_of(words: &Words) -> Result<Cfg, ScriptRefusal>
 /// `segment` and the events of a full segment.
 #[tactic(auto, unfolding(crate::specs::Heading::segment_in))]
 pub(crate) fn segment_of(words: &Words) -> Result<u32, ScriptRefusal>
-    ensures value { Gives (λ x. x) result (segment_in words.now) }
-    ensures range { IfOk result (λ size. (1 ≤ size) × (size ≤ 65536)) }
+    ensures value { Agrees (λ x. x) result (segment_in words.now) }
+    ensures range { IfOk result (λ size. (1 ≤ size) × (size ≤ most_segment)) }
 {
     let rest = after_keyword(b"segment", words)?;
     let (size, rest) = dec_word(&rest)?;
-    if size < 1 || size > 65_536 {
+    if size < 1 || size > MOST_SEGMENT as u64 {
         return Err(ScriptRefusal::Instruction);
     }
     ended(size as u32, &rest)
@@ -90,7 +91,7 @@ pub(crate) fn segment_of(words: &Words) -> Result<u32, ScriptRefusal>
 #[tactic(auto, unfolding(crate::specs::Heading::start_in))]
 pub(crate) fn start_of(m: u8, words: &Words) -> Result<(u64, bool), ScriptRefusal>
     requires { m ≤ 52 }
-    ensures value { Gives (λ x. x) result (start_in m words.now) }
+    ensures value { Agrees (λ x. x) result (start_in m words.now) }
     ensures range { IfOk result (λ start. start.0 < 2 ^ m) }
 {
     let rest = after_keyword(b"cpu", words)?;

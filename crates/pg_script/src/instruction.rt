@@ -18,7 +18,7 @@ pub enum Instruction {
 
 /// An instruction and the number, from 0, of the processor that carries it out.
 #[derive(Clone, Copy, PartialEq, Eq, Debug)]
-pub struct Task {
-    pub p: u16,
-    pub instruction: Instruction,
+pub(crate) struct Task {
+    pub(crate) p: u16,
+    pub(crate) instruction: Instruction,
 }

@@ -3,6 +3,7 @@
 
 mod heading;
 mod instruction;
+mod laws;
 mod number;
 mod reader;
 mod refusal;
@@ -12,7 +13,8 @@ mod tasks;
 mod text;
 mod words;
 
-pub use instruction::{Instruction, Task};
+pub use instruction::Instruction;
+pub use laws::reading_of_text;
 pub use refusal::{ScriptError, ScriptRefusal};
 pub use script::Script;
 

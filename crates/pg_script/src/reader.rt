@@ -4,19 +4,21 @@ ghost use Rattle.std.specs.Prelude.{◌≡◌, ◌≤◌, ◌<◌, ◌+◌, ◌^
 ghost use Rattle.std.specs.Prelude.{IfOk, IfSome};
 ghost use Rattle.std.specs.List.{AllByRecursion};
 ghost use Rattle.pg_event.specs.Spelling.{IsHead};
-ghost use Rattle.pg_script.specs.Heading.{version_in, machine_in, segment_in, start_in};
+ghost use Rattle.pg_event.specs.Heads.{most_segment};
+ghost use Rattle.pg_script.specs.Heading.{IsCfg, version_in, machine_in, segment_in, start_in};
 ghost use Rattle.pg_script.specs.Tasks.{IsWellFormed};
 ghost use Rattle.pg_script.specs.Reading.{in_line, placed, line_at, heading_at, starts_at};
 ghost use Rattle.pg_script.specs.Reading.{processors_at, head_at, task_after, tasks_at};
-ghost use Rattle.pg_script.specs.Answers.{Gives, Reads, lines_in, told_in, front_seen};
-ghost use Rattle.pg_script.specs.Answers.{line_or_refusal, next_start_at, next_task_at};
+ghost use Rattle.pg_script.specs.Reading.{line_or_refusal, next_start_at, next_task_at};
+ghost use Rattle.pg_script.specs.Answers.{Agrees, AgreesOnPart, AgreesOnAll, lines_in, told_in};
+ghost use Rattle.pg_script.specs.Answers.{said_in, front_in, first_number};
 
 use crate::heading::{machine_of, names_processor, segment_of, start_of, version_of};
 use crate::instruction::Task;
 use crate::refusal::{ScriptError, ScriptRefusal};
 use crate::task::task_of;
 use crate::tasks::Tasks;
-use crate::text::{Front, Text};
+use crate::text::{Front, Text, Told};
 use crate::words::Words;
 use pg_entry::Cfg;
 use pg_event::{Header, Version, most_processors};
@@ -45,20 +47,27 @@ fn placed<T: Copy>(place: ScriptRefusal, read: Result<T, ScriptRefusal>) -> Resu
     }
 }
 
-/// A line by its number and its words, and the lines behind it.
-type Told<'a> = (u32, Words<'a>, Text<'a>);
-
 /// A front that must be a line.
-fn line_of<'a>(place: ScriptRefusal, front: Front<'a>) -> Result<Told<'a>, ScriptError>
-    ensures all { Gives (λ x. (x.0, x.1, lines_in x.2)) result
-        (line_or_refusal place (front_seen lines_in front.entry)) }
-    ensures told { Gives (λ x. (x.0, x.1, told_in x.2)) result
-        (line_or_refusal place (front_seen told_in front.entry)) }
+fn line_of<'a>(place: ScriptRefusal, front: Front<'a>) -> Result<Told<'a, Words<'a>>, ScriptError>
+    ensures all { Agrees (said_in lines_in) result
+        (line_or_refusal place (front_in lines_in front.entry)) }
+    ensures told { Agrees (said_in told_in) result
+        (line_or_refusal place (front_in told_in front.entry)) }
 {
     match front {
-        (number, Some((line, rest))) => Ok((number, Words::new(line), rest)),
-        (number, None) => Err(ScriptError {
-            line: number,
+        Front::Line(
+            Told {
+                number,
+                value,
+                rest,
+            },
+        ) => Ok(Told {
+            number,
+            value: Words::new(value),
+            rest,
+        }),
+        Front::Ended(line) => Err(ScriptError {
+            line,
             refusal: place,
         }),
     }
@@ -67,52 +76,55 @@ fn line_of<'a>(place: ScriptRefusal, front: Front<'a>) -> Result<Told<'a>, Scrip
 /// Line 1.
 #[tactic(auto, unfolding(crate::specs::Reading::heading_at))]
 fn version_line<'a>(text: &Text<'a>) -> Result<(Version, Text<'a>), ScriptError>
-    ensures { Gives (λ x. (x.0, lines_in x.1)) result
+    ensures { Agrees (λ x. (x.0, lines_in x.1)) result
         (heading_at ScriptRefusal.FirstLine version_in (lines_in text.now)) }
 {
     let place = ScriptRefusal::FirstLine;
-    let (line, words, rest) = line_of(place, text.front()?)?;
-    let version = in_line(line, placed(place, version_of(&words)))?;
-    Ok((version, rest))
+    let line = line_of(place, text.front()?)?;
+    let version = in_line(line.number, placed(place, version_of(&line.value)))?;
+    Ok((version, line.rest))
 }
 
 #[tactic(auto, unfolding(crate::specs::Reading::heading_at))]
 fn machine_line<'a>(text: &Text<'a>) -> Result<(Cfg, Text<'a>), ScriptError>
-    ensures cfg { Gives (λ x. (x.0, told_in x.1)) result
+    ensures cfg { Agrees (λ x. (x.0, told_in x.1)) result
         (heading_at ScriptRefusal.Machine machine_in (told_in text.now)) }
-    ensures range { IfOk result
-        (λ x. (36 ≤ x.0.m) × (x.0.m ≤ 52) × (x.0.flags.0 < 16)) }
+    ensures range { IfOk result (λ x. IsCfg x.0) }
 {
     let place = ScriptRefusal::Machine;
-    let (line, words, rest) = line_of(place, text.told_front()?)?;
-    let cfg = in_line(line, placed(place, machine_of(&words)))?;
-    Ok((cfg, rest))
+    let line = line_of(place, text.told_front()?)?;
+    let cfg = in_line(line.number, placed(place, machine_of(&line.value)))?;
+    Ok((cfg, line.rest))
 }
 
 #[tactic(auto, unfolding(crate::specs::Reading::heading_at))]
 fn segment_line<'a>(text: &Text<'a>) -> Result<(u32, Text<'a>), ScriptError>
-    ensures size { Gives (λ x. (x.0, told_in x.1)) result
+    ensures size { Agrees (λ x. (x.0, told_in x.1)) result
         (heading_at ScriptRefusal.Segment segment_in (told_in text.now)) }
-    ensures range { IfOk result (λ x. (1 ≤ x.0) × (x.0 ≤ 65536)) }
+    ensures range { IfOk result (λ x. (1 ≤ x.0) × (x.0 ≤ most_segment)) }
 {
     let place = ScriptRefusal::Segment;
-    let (line, words, rest) = line_of(place, text.told_front()?)?;
-    let size = in_line(line, placed(place, segment_of(&words)))?;
-    Ok((size, rest))
+    let line = line_of(place, text.told_front()?)?;
+    let size = in_line(line.number, placed(place, segment_of(&line.value)))?;
+    Ok((size, line.rest))
 }
 
-/// The line of a processor more, if one comes: its number, what it says, and the lines behind it.
-type NextStart<'a> = Option<(u32, (u64, bool), Text<'a>)>;
-
-#[tactic(auto, unfolding(crate::specs::Answers::next_start_at))]
-fn next_start<'a>(m: u8, text: &Text<'a>) -> Result<NextStart<'a>, ScriptError>
+/// A processor more, if the next line is one's.
+#[tactic(auto, unfolding(crate::specs::Reading::next_start_at))]
+fn next_start<'a>(m: u8, text: &Text<'a>) -> Result<Option<Told<'a, (u64, bool)>>, ScriptError>
     requires { m ≤ 52 }
-    ensures start { Gives (option_map (λ x. (x.0, x.1, told_in x.2))) result
+    ensures start { Agrees (option_map (said_in told_in)) result
         (next_start_at m (told_in text.now)) }
-    ensures range { IfOk result (λ next. IfSome next (λ x. x.1.0 < 2 ^ m)) }
+    ensures range { IfOk result (λ next. IfSome next (λ x. x.value.0 < 2 ^ m)) }
 {
-    let (number, next) = text.told_front()?;
-    let Some((line, rest)) = next else {
+    let Front::Line(
+        Told {
+            number,
+            value: line,
+            rest,
+        },
+    ) = text.told_front()?
+    else {
         return Ok(None);
     };
     let words = Words::new(line);
@@ -120,22 +132,35 @@ fn next_start<'a>(m: u8, text: &Text<'a>) -> Result<NextStart<'a>, ScriptError>
         return Ok(None);
     }
     let place = ScriptRefusal::Cpu;
-    let start = in_line(number, placed(place, start_of(m, &words)))?;
-    Ok(Some((number, start, rest)))
+    let value = in_line(number, placed(place, start_of(m, &words)))?;
+    Ok(Some(Told {
+        number,
+        value,
+        rest,
+    }))
 }
 
 /// The first processor.
 #[tactic(auto, unfolding(crate::specs::Reading::heading_at))]
-fn first_start<'a>(m: u8, text: &Text<'a>) -> Result<(u32, (u64, bool), Text<'a>), ScriptError>
+fn first_start<'a>(m: u8, text: &Text<'a>) -> Result<Told<'a, (u64, bool)>, ScriptError>
     requires { m ≤ 52 }
-    ensures start { Gives (λ x. (x.1, told_in x.2)) result
+    ensures start { Agrees (λ x. (x.value, told_in x.rest)) result
         (heading_at ScriptRefusal.Cpu (start_in m) (told_in text.now)) }
-    ensures range { IfOk result (λ x. x.1.0 < 2 ^ m) }
+    ensures number { IfOk result (λ x. x.number ≡ first_number (told_in text.now)) }
+    ensures range { IfOk result (λ x. x.value.0 < 2 ^ m) }
 {
     let place = ScriptRefusal::Cpu;
-    let (line, words, rest) = line_of(place, text.told_front()?)?;
-    let start = in_line(line, placed(place, start_of(m, &words)))?;
-    Ok((line, start, rest))
+    let Told {
+        number,
+        value: words,
+        rest,
+    } = line_of(place, text.told_front()?)?;
+    let value = in_line(number, placed(place, start_of(m, &words)))?;
+    Ok(Told {
+        number,
+        value,
+        rest,
+    })
 }
 
 /// Want of memory in a line.
@@ -157,24 +182,28 @@ fn processors_of<'a>(
     text: &Text<'a>,
 ) -> Result<(Vec<(u64, bool)>, Text<'a>), ScriptError>
     requires { m ≤ 52 }
-    ensures starts { Reads (λ x. (x.0.items, told_in x.1)) result
+    ensures starts { AgreesOnPart (λ x. (x.0.items, told_in x.1)) result (told_in text.now)
         (processors_at m most (told_in text.now)) }
     ensures some { IfOk result (λ x. 1 ≤ vec_len x.0) }
     ensures few { IfOk result (λ x. vec_len x.0 ≤ most + 1) }
     ensures range { IfOk result (λ x. AllByRecursion (λ start. start.0 < 2 ^ m) x.0.items) }
 {
-    let (line, start, mut rest) = first_start(m, text)?;
+    let Told {
+        number,
+        value,
+        mut rest,
+    } = first_start(m, text)?;
     let mut starts = Vec::new(alloc);
-    if starts.push(start).is_err() {
-        return Err(out_of_memory(line));
+    if starts.push(value).is_err() {
+        return Err(out_of_memory(number));
     }
     for _ in 0..most {
-        let Some((line, start, more)) = next_start(m, &rest)? else {
+        let Some(start) = next_start(m, &rest)? else {
             break;
         };
-        match starts.push(start) {
-            Ok(()) => rest = more,
-            Err(_) => return Err(out_of_memory(line)),
+        match starts.push(start.value) {
+            Ok(()) => rest = start.rest,
+            Err(_) => return Err(out_of_memory(start.number)),
         }
     }
     Ok((starts, rest))
@@ -186,7 +215,8 @@ pub(crate) fn header_of<'a>(
     alloc: Global,
     text: &Text<'a>,
 ) -> Result<(Header, Text<'a>), ScriptError>
-    ensures header { Reads (λ x. (x.0, told_in x.1)) result (head_at (lines_in text.now)) }
+    ensures header { AgreesOnPart (λ x. (x.0, told_in x.1)) result (lines_in text.now)
+        (head_at (lines_in text.now)) }
     ensures range { IfOk result (λ x. IsHead x.0) }
 {
     let (version, rest) = version_line(text)?;
@@ -206,7 +236,7 @@ pub(crate) fn header_of<'a>(
 /// What the words of an instruction say, where so many came before.
 fn task_after(count: usize, header: &Header, words: &Words) -> Result<Task, ScriptRefusal>
     requires { header.now.cfg.m ≤ 52 }
-    ensures task { Gives (λ x. x) result (task_after count header.now words.now) }
+    ensures task { Agrees (λ x. x) result (task_after count header.now words.now) }
     ensures well { IfOk result (λ task. IsWellFormed header.now task.p task.instruction) }
 {
     if count >= MOST_INSTRUCTIONS {
@@ -215,28 +245,37 @@ fn task_after(count: usize, header: &Header, words: &Words) -> Result<Task, Scri
     task_of(header, words)
 }
 
-/// The line of an instruction, if one comes: its number, what it says, and the lines behind it.
-type NextTask<'a> = Option<(u32, Task, Text<'a>)>;
-
-#[tactic(auto, unfolding(crate::specs::Answers::next_task_at))]
+/// The next instruction, if a line comes.
+#[tactic(auto, unfolding(crate::specs::Reading::next_task_at))]
 fn next_task<'a>(
     header: &Header,
     count: usize,
     text: &Text<'a>,
-) -> Result<NextTask<'a>, ScriptError>
+) -> Result<Option<Told<'a, Task>>, ScriptError>
     requires { header.now.cfg.m ≤ 52 }
-    ensures task { Gives (option_map (λ x. (x.0, x.1, told_in x.2))) result
+    ensures task { Agrees (option_map (said_in told_in)) result
         (next_task_at header.now count (told_in text.now)) }
     ensures well { IfOk result (λ next. IfSome next
-        (λ x. IsWellFormed header.now x.1.p x.1.instruction)) }
-    ensures less { IfOk result (λ next. IfSome next (λ x. length x.2.1 < length text.now.1)) }
+        (λ x. IsWellFormed header.now x.value.p x.value.instruction)) }
+    ensures less { IfOk result (λ next. IfSome next
+        (λ x. length x.rest.1 < length text.now.1)) }
 {
-    let (number, next) = text.told_front()?;
-    let Some((line, rest)) = next else {
+    let Front::Line(
+        Told {
+            number,
+            value: line,
+            rest,
+        },
+    ) = text.told_front()?
+    else {
         return Ok(None);
     };
-    let task = in_line(number, task_after(count, header, &Words::new(line)))?;
-    Ok(Some((number, task, rest)))
+    let value = in_line(number, task_after(count, header, &Words::new(line)))?;
+    Ok(Some(Told {
+        number,
+        value,
+        rest,
+    }))
 }
 
 /// The instructions, one a line.
@@ -246,19 +285,20 @@ pub(crate) fn tasks_of<'a>(
     text: Text<'a>,
 ) -> Result<Tasks, ScriptError>
     requires { header.now.cfg.m ≤ 52 }
-    ensures tasks { Reads (λ x. x) result (tasks_at header.now 0 (told_in text.entry)) }
+    ensures tasks { AgreesOnAll (λ x. x) result (told_in text.entry)
+        (tasks_at header.now 0 (told_in text.entry)) }
     ensures well { IfOk result (λ tasks.
         AllByRecursion (λ task. IsWellFormed header.now task.p task.instruction) tasks) }
 {
     let mut tasks = Tasks::new(alloc);
     let mut rest = text;
     'lines: loop {
-        let Some((line, task, more)) = next_task(header, tasks.len(), &rest)? else {
+        let Some(task) = next_task(header, tasks.len(), &rest)? else {
             return Ok(tasks);
         };
-        match tasks.push(alloc, &task) {
-            Ok(()) => rest = more,
-            Err(_) => return Err(out_of_memory(line)),
+        match tasks.push(alloc, &task.value) {
+            Ok(()) => rest = task.rest,
+            Err(_) => return Err(out_of_memory(task.number)),
         }
     }
 }

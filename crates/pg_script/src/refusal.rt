@@ -1,3 +1,6 @@
+ghost use Rattle.std.specs.Prelude.{◌≡◌};
+ghost use Rattle.pg_script.specs.Refusals.{number_of, name_of};
+
 use thiserror::Error;
 
 /// Why a text is no script: what is wrong with its first line that is.
@@ -26,6 +29,44 @@ pub enum ScriptRefusal {
     TooMany,
     /// A growth was refused in this call.
     Memory,
+}
+
+impl ScriptRefusal {
+    /// Its number in a refusal line: 1 to 10, in the order of the variants.
+    pub fn number(&self) -> u8
+        ensures { result ≡ number_of self.now }
+    {
+        match *self {
+            ScriptRefusal::FirstLine => 1,
+            ScriptRefusal::Machine => 2,
+            ScriptRefusal::Segment => 3,
+            ScriptRefusal::Cpu => 4,
+            ScriptRefusal::Instruction => 5,
+            ScriptRefusal::Number => 6,
+            ScriptRefusal::Malformed => 7,
+            ScriptRefusal::LineEnd => 8,
+            ScriptRefusal::TooMany => 9,
+            ScriptRefusal::Memory => 10,
+        }
+    }
+
+    /// Its name, as a refusal line gives it after the number.
+    pub fn name(&self) -> &'static str
+        ensures { result.now ≡ name_of self.now }
+    {
+        match *self {
+            ScriptRefusal::FirstLine => "first line",
+            ScriptRefusal::Machine => "machine",
+            ScriptRefusal::Segment => "segment",
+            ScriptRefusal::Cpu => "cpu",
+            ScriptRefusal::Instruction => "instruction",
+            ScriptRefusal::Number => "number",
+            ScriptRefusal::Malformed => "malformed",
+            ScriptRefusal::LineEnd => "line end",
+            ScriptRefusal::TooMany => "too many instructions",
+            ScriptRefusal::Memory => "memory",
+        }
+    }
 }
 
 /// A refusal and the line that it is of, from 1. Where a line lacks at the end of the text, it is

@@ -3,7 +3,7 @@ ghost use Rattle.std.specs.List.{AllByRecursion};
 ghost use Rattle.pg_event.specs.Spelling.{IsHead};
 ghost use Rattle.pg_script.specs.Tasks.{IsWellFormed, instructions_of, order_of};
 ghost use Rattle.pg_script.specs.Reading.{reading, IsScript};
-ghost use Rattle.pg_script.specs.Answers.{Fails};
+ghost use Rattle.pg_script.specs.Refusals.{IsRefused};
 
 use crate::instruction::Instruction;
 use crate::reader::{header_of, tasks_of};
@@ -32,13 +32,14 @@ impl Model for Script {
 }
 
 impl Script {
-    /// Reads a text. It answers the first line that is wrong, and want of memory only where a
-    /// growth was refused; memory is taken as lines come.
+    /// Reads a text. It answers the first line that is wrong. Memory is taken as the lines of
+    /// processors and of instructions come: want of it is answered only where a growth was
+    /// refused, with the line that made it.
     #[tactic(auto, unfolding(crate::specs::Reading::reading))]
     pub fn read(alloc: Global, bytes: &[u8]) -> Result<Script, ScriptError>
         requires { length bytes.now < 2 ^ 32 - 1 }
         ensures said { IfOk result (λ script. reading bytes.now ≡ Ok script) }
-        ensures refused { IfErr result (λ e. Fails e (reading bytes.now)) }
+        ensures refused { IfErr result (λ e. IsRefused bytes.now e) }
         ensures kept { IfOk result (λ script. IsScript script) }
     {
         let (header, text) = header_of(alloc, &Text::new(bytes))?;

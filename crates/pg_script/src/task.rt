@@ -1,22 +1,23 @@
 //! What the words of a line say that is an instruction.
 
 ghost use Rattle.std.specs.Prelude.{◌≡◌, ◌<◌, ◌≤◌, ◌^◌, IfOk};
-ghost use Rattle.pg_script.specs.Instructions.{processor_at, mode_at, write_in, access_in};
+ghost use Rattle.pg_script.specs.Instructions.{processor_at, kind_at, write_in, access_in};
 ghost use Rattle.pg_script.specs.Instructions.{mov_cr3_in, invlpg_in, invpcid_in, mov_cr4_pge_in};
 ghost use Rattle.pg_script.specs.Instructions.{instruction_in, task_in};
 ghost use Rattle.pg_script.specs.Tasks.{event_of, IsWellFormed};
-ghost use Rattle.pg_script.specs.Answers.{Gives};
+ghost use Rattle.pg_script.specs.Answers.{Agrees};
 
 use crate::instruction::{Instruction, Task};
 use crate::number::dec_of;
 use crate::refusal::ScriptRefusal;
 use crate::words::{Words, bit_word, dec_word, ended, hex_word, same_bytes, word_of};
-use pg_event::{Event, Header, Moments, Outcome, well_formed};
+use pg_entry::{AccessKind, Op};
+use pg_event::{Event, Header, Moments, Outcome, flags_of, well_formed};
 
 /// The number of a processor, which begins the line.
 #[tactic(auto, unfolding(crate::specs::Instructions::processor_at))]
 fn processor_word<'a>(words: &Words<'a>) -> Result<(u64, Words<'a>), ScriptRefusal>
-    ensures { Gives (λ x. (x.0, x.1)) result (processor_at words.now) }
+    ensures { Agrees (λ x. (x.0, x.1)) result (processor_at words.now) }
 {
     let (word, rest) = word_of(words)?;
     match dec_of(word) {
@@ -25,49 +26,47 @@ fn processor_word<'a>(words: &Words<'a>) -> Result<(u64, Words<'a>), ScriptRefus
     }
 }
 
-/// The mode of an access as bits of its flags.
-#[tactic(auto, unfolding(crate::specs::Instructions::mode_at))]
-fn mode_word<'a>(words: &Words<'a>) -> Result<(u8, Words<'a>), ScriptRefusal>
-    ensures mode { Gives (λ x. (x.0, x.1)) result (mode_at words.now) }
-    ensures bound { IfOk result (λ x. x.0 ≤ 8) }
+/// An access of an operation, by the word of its mode.
+#[tactic(auto, unfolding(crate::specs::Instructions::kind_at))]
+fn kind_word<'a>(op: Op, words: &Words<'a>) -> Result<(AccessKind, Words<'a>), ScriptRefusal>
+    ensures { Agrees (λ x. (x.0, x.1)) result (kind_at op words.now) }
 {
     let (word, rest) = word_of(words)?;
-    if same_bytes(word, b"user") {
-        return Ok((4, rest));
-    }
-    if same_bytes(word, b"super") {
-        return Ok((0, rest));
-    }
-    if same_bytes(word, b"super-ac") {
-        return Ok((8, rest));
-    }
-    Err(ScriptRefusal::Instruction)
+    let (user, ac) = if same_bytes(word, b"user") {
+        (true, false)
+    } else if same_bytes(word, b"super") {
+        (false, false)
+    } else if same_bytes(word, b"super-ac") {
+        (false, true)
+    } else {
+        return Err(ScriptRefusal::Instruction);
+    };
+    Ok((AccessKind { op, user, ac }, rest))
 }
 
 #[tactic(auto, unfolding(crate::specs::Instructions::write_in))]
 fn write_of(words: &Words) -> Result<Instruction, ScriptRefusal>
-    ensures { Gives (λ x. x) result (write_in words.now) }
+    ensures { Agrees (λ x. x) result (write_in words.now) }
 {
     let (addr, rest) = hex_word(words)?;
     let (value, rest) = hex_word(&rest)?;
     ended(Instruction::Write { addr, value }, &rest)
 }
 
-/// An access of an operation: 0 read, 1 write, 2 fetch.
+/// Address and mode.
 #[tactic(auto, unfolding(crate::specs::Instructions::access_in))]
-fn access_of(op: u8, words: &Words) -> Result<Instruction, ScriptRefusal>
-    requires { op < 4 }
-    ensures { Gives (λ x. x) result (access_in op words.now) }
+fn access_of(op: Op, words: &Words) -> Result<Instruction, ScriptRefusal>
+    ensures { Agrees (λ x. x) result (access_in op words.now) }
 {
     let (la, rest) = hex_word(words)?;
-    let (mode, rest) = mode_word(&rest)?;
-    let flags = op + mode;
+    let (kind, rest) = kind_word(op, &rest)?;
+    let flags = flags_of(kind);
     ended(Instruction::Access { flags, la }, &rest)
 }
 
 #[tactic(auto, unfolding(crate::specs::Instructions::mov_cr3_in))]
 fn mov_cr3_of(words: &Words) -> Result<Instruction, ScriptRefusal>
-    ensures { Gives (λ x. x) result (mov_cr3_in words.now) }
+    ensures { Agrees (λ x. x) result (mov_cr3_in words.now) }
 {
     let (operand, rest) = hex_word(words)?;
     ended(Instruction::MovCr3 { operand }, &rest)
@@ -75,7 +74,7 @@ fn mov_cr3_of(words: &Words) -> Result<Instruction, ScriptRefusal>
 
 #[tactic(auto, unfolding(crate::specs::Instructions::invlpg_in))]
 fn invlpg_of(words: &Words) -> Result<Instruction, ScriptRefusal>
-    ensures { Gives (λ x. x) result (invlpg_in words.now) }
+    ensures { Agrees (λ x. x) result (invlpg_in words.now) }
 {
     let (la, rest) = hex_word(words)?;
     ended(Instruction::Invlpg { la }, &rest)
@@ -84,7 +83,7 @@ fn invlpg_of(words: &Words) -> Result<Instruction, ScriptRefusal>
 /// Type, PCID and address.
 #[tactic(auto, unfolding(crate::specs::Instructions::invpcid_in))]
 fn invpcid_of(words: &Words) -> Result<Instruction, ScriptRefusal>
-    ensures { Gives (λ x. x) result (invpcid_in words.now) }
+    ensures { Agrees (λ x. x) result (invpcid_in words.now) }
 {
     let (kind, rest) = dec_word(words)?;
     let (pcid, rest) = hex_word(&rest)?;
@@ -100,7 +99,7 @@ fn invpcid_of(words: &Words) -> Result<Instruction, ScriptRefusal>
 
 #[tactic(auto, unfolding(crate::specs::Instructions::mov_cr4_pge_in))]
 fn mov_cr4_pge_of(words: &Words) -> Result<Instruction, ScriptRefusal>
-    ensures { Gives (λ x. x) result (mov_cr4_pge_in words.now) }
+    ensures { Agrees (λ x. x) result (mov_cr4_pge_in words.now) }
 {
     let (on, rest) = bit_word(words)?;
     ended(Instruction::MovCr4Pge { on }, &rest)
@@ -109,16 +108,16 @@ fn mov_cr4_pge_of(words: &Words) -> Result<Instruction, ScriptRefusal>
 /// The fields of an instruction by its name.
 #[tactic(auto, unfolding(crate::specs::Instructions::instruction_in))]
 fn instruction_of(name: &[u8], words: &Words) -> Result<Instruction, ScriptRefusal>
-    ensures { Gives (λ x. x) result (instruction_in name.now words.now) }
+    ensures { Agrees (λ x. x) result (instruction_in name.now words.now) }
 {
     if same_bytes(name, b"write") {
         write_of(words)
     } else if same_bytes(name, b"read") {
-        access_of(0, words)
+        access_of(Op::Read, words)
     } else if same_bytes(name, b"store") {
-        access_of(1, words)
+        access_of(Op::Write, words)
     } else if same_bytes(name, b"fetch") {
-        access_of(2, words)
+        access_of(Op::Fetch, words)
     } else if same_bytes(name, b"cr3") {
         mov_cr3_of(words)
     } else if same_bytes(name, b"invlpg") {
@@ -156,7 +155,7 @@ fn event_of(p: u16, instruction: &Instruction) -> Event
 #[tactic(auto, unfolding(crate::specs::Instructions::task_in))]
 pub(crate) fn task_of(header: &Header, words: &Words) -> Result<Task, ScriptRefusal>
     requires { header.now.cfg.m ≤ 52 }
-    ensures task { Gives (λ x. x) result (task_in header.now words.now) }
+    ensures task { Agrees (λ x. x) result (task_in header.now words.now) }
     ensures well { IfOk result (λ task. IsWellFormed header.now task.p task.instruction) }
 {
     let (p, rest) = processor_word(words)?;

@@ -274,3 +274,14 @@ fn refuses_too_many_lines(rt: HostRuntime) -> Result<(), Fail> {
     );
     Ok(())
 }
+
+#[test]
+fn numbers_and_names_refusals(rt: HostRuntime) -> Result<(), Fail> {
+    let alloc = rt.alloc();
+    let refused = refusal_of(alloc, &joined(alloc, HEAD, b"0 write zz\n")?);
+    assert_eq!(rt; refused.map(|(_, refusal)| refusal.number()), Some(6));
+    assert!(rt; ScriptRefusal::Number.name() == "number");
+    assert_eq!(rt; ScriptRefusal::Memory.number(), 10);
+    assert!(rt; ScriptRefusal::TooMany.name() == "too many instructions");
+    Ok(())
+}

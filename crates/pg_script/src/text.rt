@@ -2,7 +2,8 @@
 
 ghost use Rattle.std.specs.Prelude.{◌≡◌, ◌<◌, ◌-◌, ◌^◌, length, IfOk};
 ghost use Rattle.pg_script.specs.Lines.{is_plain, is_skipped};
-ghost use Rattle.pg_script.specs.Answers.{Gives, lines_in, told_in, front_at, front_seen};
+ghost use Rattle.pg_script.specs.Reading.{front_at};
+ghost use Rattle.pg_script.specs.Answers.{Agrees, lines_in, told_in, front_in};
 ghost use Rattle.pg_script.specs.Answers.{ShortensTo};
 
 use crate::refusal::{ScriptError, ScriptRefusal};
@@ -27,8 +28,22 @@ impl<'a> Model for Text<'a> {
     ghost invariant = { λ t. t.number + length t.bytes.now < 2 ^ 32 };
 }
 
-/// The number of the next line; and its bytes and the lines behind it, if the text has not ended.
-pub(crate) type Front<'a> = (u32, Option<(&'a [u8], Text<'a>)>);
+/// What a line says, under its number, and the lines behind it.
+#[derive(Drop)]
+pub(crate) struct Told<'a, T> {
+    pub(crate) number: u32,
+    pub(crate) value: T,
+    pub(crate) rest: Text<'a>,
+}
+
+/// What comes next in a text.
+#[derive(Drop)]
+pub(crate) enum Front<'a> {
+    /// No line more: the next would have this number.
+    Ended(u32),
+    /// The bytes of a line.
+    Line(Told<'a, &'a [u8]>),
+}
 
 impl<'a> Text<'a> {
     /// All lines of a text.
@@ -41,7 +56,7 @@ impl<'a> Text<'a> {
 
     /// The next line.
     pub(crate) fn front(&self) -> Result<Front<'a>, ScriptError>
-        ensures front { Gives (front_seen lines_in) result (front_at (lines_in self.now)) }
+        ensures front { Agrees (front_in lines_in) result (front_at (lines_in self.now)) }
         ensures less { IfOk result (ShortensTo (length self.now.1)) }
     {
         let number = self.number;
@@ -55,7 +70,7 @@ impl<'a> Text<'a> {
                 if !line.is_empty() {
                     return Err(unended);
                 }
-                Ok((number, None))
+                Ok(Front::Ended(number))
             }
             Some(bytes) => {
                 if !is_plain(line) {
@@ -65,14 +80,18 @@ impl<'a> Text<'a> {
                     bytes,
                     number: number + 1,
                 };
-                Ok((number, Some((line, rest))))
+                Ok(Front::Line(Told {
+                    number,
+                    value: line,
+                    rest,
+                }))
             }
         }
     }
 
     /// The next line that says something.
     pub(crate) fn told_front(&self) -> Result<Front<'a>, ScriptError>
-        ensures front { Gives (front_seen told_in) result (front_at (told_in self.now)) }
+        ensures front { Agrees (front_in told_in) result (front_at (told_in self.now)) }
         ensures less { IfOk result (ShortensTo (length self.now.1)) }
     {
         let mut text = Text {
@@ -80,14 +99,13 @@ impl<'a> Text<'a> {
             number: self.number,
         };
         'lines: loop {
-            let (number, next) = text.front()?;
-            match next {
-                None => return Ok((number, None)),
-                Some((line, rest)) => {
-                    if !is_skipped(line) {
-                        return Ok((number, Some((line, rest))));
+            match text.front()? {
+                Front::Ended(number) => return Ok(Front::Ended(number)),
+                Front::Line(line) => {
+                    if !is_skipped(line.value) {
+                        return Ok(Front::Line(line));
                     }
-                    text = rest;
+                    text = line.rest;
                 }
             }
         }

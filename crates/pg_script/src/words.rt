@@ -6,7 +6,7 @@ ghost use Rattle.std.specs.Option.{option_copied};
 ghost use Rattle.std.specs.Str.{bytes_eq};
 ghost use Rattle.pg_script.specs.Lines.{pieces, words_of};
 ghost use Rattle.pg_script.specs.Words.{word_at, dec_at, hex_at, bit_at, keyword_at, ended};
-ghost use Rattle.pg_script.specs.Answers.{Gives, pieces_behind};
+ghost use Rattle.pg_script.specs.Answers.{Agrees, pieces_behind};
 
 use crate::number::{dec_of, hex_of};
 use crate::refusal::ScriptRefusal;
@@ -76,7 +76,7 @@ pub(crate) fn same_bytes(xs: &[u8], ys: &[u8]) -> bool
 }
 
 pub(crate) fn word_of<'a>(words: &Words<'a>) -> Result<(&'a [u8], Words<'a>), ScriptRefusal>
-    ensures { Gives (λ x. (x.0.now, x.1)) result (word_at words.now) }
+    ensures { Agrees (λ x. (x.0.now, x.1)) result (word_at words.now) }
 {
     match words.split_first() {
         Some((word, rest)) => Ok((word, rest)),
@@ -86,7 +86,7 @@ pub(crate) fn word_of<'a>(words: &Words<'a>) -> Result<(&'a [u8], Words<'a>), Sc
 
 #[tactic(auto, unfolding(crate::specs::Words::dec_at))]
 pub(crate) fn dec_word<'a>(words: &Words<'a>) -> Result<(u64, Words<'a>), ScriptRefusal>
-    ensures { Gives (λ x. (x.0, x.1)) result (dec_at words.now) }
+    ensures { Agrees (λ x. (x.0, x.1)) result (dec_at words.now) }
 {
     let (word, rest) = word_of(words)?;
     match dec_of(word) {
@@ -97,7 +97,7 @@ pub(crate) fn dec_word<'a>(words: &Words<'a>) -> Result<(u64, Words<'a>), Script
 
 #[tactic(auto, unfolding(crate::specs::Words::hex_at))]
 pub(crate) fn hex_word<'a>(words: &Words<'a>) -> Result<(u64, Words<'a>), ScriptRefusal>
-    ensures { Gives (λ x. (x.0, x.1)) result (hex_at words.now) }
+    ensures { Agrees (λ x. (x.0, x.1)) result (hex_at words.now) }
 {
     let (word, rest) = word_of(words)?;
     match hex_of(word) {
@@ -108,7 +108,7 @@ pub(crate) fn hex_word<'a>(words: &Words<'a>) -> Result<(u64, Words<'a>), Script
 
 #[tactic(auto, unfolding(crate::specs::Words::bit_at))]
 pub(crate) fn bit_word<'a>(words: &Words<'a>) -> Result<(bool, Words<'a>), ScriptRefusal>
-    ensures { Gives (λ x. (x.0, x.1)) result (bit_at words.now) }
+    ensures { Agrees (λ x. (x.0, x.1)) result (bit_at words.now) }
 {
     let (word, rest) = word_of(words)?;
     if same_bytes(word, b"0") {
@@ -126,7 +126,7 @@ pub(crate) fn after_keyword<'a>(
     keyword: &[u8],
     words: &Words<'a>,
 ) -> Result<Words<'a>, ScriptRefusal>
-    ensures { Gives (λ x. x) result (keyword_at keyword.now words.now) }
+    ensures { Agrees (λ x. x) result (keyword_at keyword.now words.now) }
 {
     let (word, rest) = word_of(words)?;
     if !same_bytes(word, keyword) {
@@ -137,7 +137,7 @@ pub(crate) fn after_keyword<'a>(
 
 /// A value that stands where the words end.
 pub(crate) fn ended<T: Copy>(value: T, words: &Words) -> Result<T, ScriptRefusal>
-    ensures { Gives (λ x. x) result (ended (value, words.now)) }
+    ensures { Agrees (λ x. x) result (ended (value, words.now)) }
 {
     match words.split_first() {
         None => Ok(value),

@@ -1,14 +1,16 @@
-use Rattle.std.proofs.Common.{◌≡◌, length}
+use Rattle.std.proofs.Common.{ℕ, ◌≡◌, length}
 use Rattle.std.specs.List.{AllByRecursion}
 use Rattle.pg_script.specs.Tasks.{IsWellFormed}
 use Rattle.pg_script.specs.Reading.{tasks_at}
 use Rattle.pg_script.specs.Answers.{told_in}
+use Rattle.pg_script.specs.Refusals.{Adds}
 use Rattle.pg_script.proofs.Loops.{tasks_behind}
 use Rattle.pg_script.proofs.reader.tasks_of.Given as goal
 
 abbrev pub invariant-lines : goal.invariant-lines
 invariant-lines l = record {
   so_far : tasks_behind l.tasks (tasks_at l.header (length l.tasks) (told_in l.rest)) ≡ tasks_at l.header 0 (told_in l.fn.text);
+  within : (n : ℕ) → Adds (told_in l.rest) n → Adds (told_in l.fn.text) n;
   well : AllByRecursion (λ task. IsWellFormed l.header task.p task.instruction) l.tasks;
 }
 

@@ -1,6 +1,7 @@
-use Rattle.std.proofs.Common.{refl, sym, ap, ◌∙◌, rules}
+use Rattle.std.proofs.Common.{refl, sym, ap, ◌∙◌}
 use Rattle.pg_script.proofs.Fronts.{lines_of_cut}
-use Rattle.pg_script.specs.Answers.{front_at, lines_in, pieces_behind}
+use Rattle.pg_script.specs.Reading.{front_at}
+use Rattle.pg_script.specs.Answers.{lines_in, pieces_behind}
 use Rattle.std.specs.Option.{option_copied}
 use Rattle.std.specs.Prelude.{◌∷◌}
 use Rattle.pg_script.proofs.text.Text.front.Goals as goal

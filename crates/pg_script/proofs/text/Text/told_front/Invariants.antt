@@ -1,5 +1,6 @@
 use Rattle.std.proofs.Common.{◌≡◌, ◌≤◌, length}
-use Rattle.pg_script.specs.Answers.{told_in, front_at}
+use Rattle.pg_script.specs.Reading.{front_at}
+use Rattle.pg_script.specs.Answers.{told_in}
 use Rattle.pg_script.proofs.text.Text.told_front.Given as goal
 
 abbrev pub invariant-lines : goal.invariant-lines
