@@ -68,8 +68,8 @@ impl Judged {
         &self.header
     }
 
-    /// Notes the events that come next, which then wait to be judged. Fails where memory is refused,
-    /// and then they have not come.
+    /// Notes the events that come next, which then wait to be judged. Fails where memory is
+    /// refused, and then they have not come.
     pub fn note(&mut self, events: &[Event]) -> Result<(), AllocError>
         requires { MayFollow self.old events.now }
         ensures ok { (head : Head) (before : List Event) → IsJudged self.old head before →

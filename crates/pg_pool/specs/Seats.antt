@@ -11,8 +11,8 @@ use Rattle.pg_pool.specs.Shares.{times}
 abbrev pub DequeId : Type 0
 DequeId = ℕ × ℕ
 
--- a seat's part of a deque: which deque it is, the numbers that were pushed, and those that the seat
--- took
+-- a seat's part of a deque: which deque it is, the numbers that were pushed, and those that the
+-- seat took
 pub record Part : Type 0 where
   pub deque : DequeId
   pub pushed : List ℕ

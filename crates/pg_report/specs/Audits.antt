@@ -41,8 +41,8 @@ WritesText output text (Err errors.Checkers) = ⊥
 -- record that the bytes spell, the text of its report was written and nothing else, and where the
 -- verdict is yes some run of the manual's machine has exactly its events in that order; a refusal
 -- is the first of the bytes, which spell no record, and nothing was written; nor was it for want of
--- memory or a thread, for a number of checkers that can't be, nor where the reader failed; where the
--- writer failed a beginning of the report was.
+-- memory or a thread, for a number of checkers that can't be, nor where the reader failed; where
+-- the writer failed a beginning of the report was.
 abbrev pub Audits : List ℕ → Change → Change → Result Verdict AuditError → Type 0
 Audits bytes input output (Ok verdict) =
     (r : Recorded) × SpellsOne bytes r × (verdict ≡ (report_of r).verdict)

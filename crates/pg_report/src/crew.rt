@@ -101,8 +101,8 @@ impl<'a, T: Threads + Wait + Sync, G: Gate> Crew<'a, T, G> {
         requires waits { (head : Head) × (before : List Event)
             × Awaits judged.now head before events.now }
         requires whole { BeginsSegment judged.now events.now }
-        ensures ok { (head : Head) (before : List Event) → Awaits judged.now head before events.now →
-            IfOk result (λ found. found
+        ensures ok { (head : Head) (before : List Event) →
+            Awaits judged.now head before events.now → IfOk result (λ found. found
             ≡ first_bad_from head (before ++ events.now) (length before) events.now) }
         ensures err { IfErr result StopsJudging }
     {

@@ -51,8 +51,8 @@ pub fn rule_number(rule: Malformed) -> u8
 }
 
 impl AuditError {
-    /// Its number: 1 to 10 a refusal of the bytes, 11 a device, 12 memory, 14 a thread, 15 the number
-    /// of checkers. 13 is a reader's that has refused before, which an audit does not ask again.
+    /// Its number: 1 to 10 a refusal of the bytes, 11 a device, 12 memory, 14 a thread, 15 the
+    /// number of checkers. 13 is a reader's that has refused before, which is not asked again.
     pub fn number(&self) -> u8
         ensures { result ≡ error_number self.now }
     {
