@@ -15,7 +15,16 @@
 #include <stdlib.h>
 #include <string.h>
 
-enum { PROCESSORS = 4, PAGES = 4096, HOT = 256, PCIDS = 64, SEGMENT = 4096 };
+#ifndef SEGMENT
+#define SEGMENT 4096
+#endif
+
+/* 1 makes the first answer wrong. */
+#ifndef SLIP
+#define SLIP 0
+#endif
+
+enum { PROCESSORS = 4, PAGES = 4096, HOT = 256, PCIDS = 64 };
 
 #define ROOT UINT64_C(0x1000)
 #define UPPER UINT64_C(0x2000)
@@ -46,6 +55,7 @@ struct processor {
 static struct processor processors[PROCESSORS];
 static uint64_t entries[PAGES];
 static struct pcid_record record;
+static uint64_t slip = SLIP;
 static uint64_t state = UINT64_C(0x9e3779b97f4a7c15);
 
 static uint32_t random_below(uint32_t n)
@@ -124,7 +134,8 @@ static void read_page(uint32_t p, uint32_t number)
     }
     taken(pcid_record_answer(&record, p, PCID_RECORD_READ | PCID_RECORD_USER,
                              address_of(number) + 0x123,
-                             (page->entry & ~UINT64_C(0xfff)) + 0x123, page->moments, 4));
+                             (page->entry & ~UINT64_C(0xfff)) + 0x123 + slip, page->moments, 4));
+    slip = 0;
 }
 
 /* Drops the page's translation, and all structure entries of the PCID. */

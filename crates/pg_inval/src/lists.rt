@@ -125,7 +125,8 @@ fn below(found: Option<u32>, to: u32) -> Option<u32>
     }
 }
 
-/// The least moment of some keys from one up to, not with, another.
+/// The least moment of some keys from one up to, not with, another. Where no moment lies between,
+/// as between levels that were read at once, no list is searched.
 pub fn first_between(
     by_key: &HashMap<DropKey, Timeline<()>>,
     keys: &[DropKey],
@@ -137,5 +138,8 @@ pub fn first_between(
     ensures probes { (probes.old ≤ probes.new)
         × (probes.new ≤ probes.old + 34 * length keys.now) }
 {
+    if from >= to {
+        return None;
+    }
     below(first_among(by_key, keys, from, probes), to)
 }

@@ -1,4 +1,2 @@
-mod Words
-mod Lines
-mod Parses
-mod Rows
+pub mod Parses
+pub mod Rows

@@ -1,11 +1,12 @@
--- Which kinds `clap` gives these lines: none where it takes them.
+-- Which kinds `clap` gives these lines: none where it takes them; and what lines ask for.
 use Rattle.std.proofs.Common.{◌≡◌, List, [], ◌∷◌, codes, refl}
 use Rattle.clap.specs.Faults.{fault_of}
 use Rattle.clap.specs.Walk.{Text}
 use Rattle.clap.specs.Kinds.{Kinds}
-use Rattle.clap.specs.declared.error.kind.ErrorKind.TheVariants.{DisplayHelp, DisplayVersion, InvalidSubcommand, MissingSubcommand, UnknownArgument}
+use Rattle.clap.specs.declared.error.kind.ErrorKind.TheVariants.{DisplayHelp, DisplayVersion, InvalidSubcommand, MissingSubcommand, UnknownArgument, ValueValidation}
 use Rattle.clap.proofs.OnLiterals.{clap_on_literals}
-use Rattle.pg_plan.specs.Commands.{command_line}
+use Rattle.pg_plan.specs.Commands.{Asks, command_line}
+use Rattle.pg_plan.specs.declared.request.Command.TheVariants.{Check}
 
 abbrev Gives : List Text → Kinds → Type 0
 Gives words kinds = fault_of command_line words ≡ kinds
@@ -85,3 +86,25 @@ check_twice = refl
 version_of_check : Gives (codes "check" ∷ codes "--version" ∷ []) (UnknownArgument ∷ [])
 unfolding clap_on_literals
 version_of_check = refl
+
+-- ---- the number of checkers
+
+checkers : Gives (codes "check" ∷ codes "--checkers" ∷ codes "2" ∷ []) []
+unfolding clap_on_literals
+checkers = refl
+
+no_checkers : Gives (codes "check" ∷ codes "--checkers" ∷ codes "0" ∷ []) (ValueValidation ∷ [])
+unfolding clap_on_literals
+no_checkers = refl
+
+sixty_five : Gives (codes "check" ∷ codes "--checkers" ∷ codes "65" ∷ []) (ValueValidation ∷ [])
+unfolding clap_on_literals
+sixty_five = refl
+
+checkers_of_run_of : Gives (codes "run-of" ∷ codes "--checkers" ∷ codes "2" ∷ []) (UnknownArgument ∷ [])
+unfolding clap_on_literals
+checkers_of_run_of = refl
+
+asks_one : Asks (codes "check" ∷ []) (record { command = Check; checkers = 1 })
+unfolding clap_on_literals
+asks_one = (refl, record { rows = []; command = refl; checkers = refl })

@@ -1,9 +1,17 @@
--- The commands of the program, by the words that ask for them, and the flags that ask for a text.
-use Rattle.std.specs.Prelude.{◌≡◌, ◌⊎◌, ℕ, true, List, [], ◌∷◌, ◌++◌, Some, codes, slice_get}
-use Rattle.std.specs.Str.{chars}
-use Rattle.clap.specs.Simple.{App, on_top, new_app, new_shape, with_subcommand}
+-- What the words of a command line ask for, by what `clap` makes of them.
+use Rattle.std.specs.Prelude.{◌≡◌, ℕ, ◌≤◌, true, pos, List, [], ◌∷◌, Option, Some, None, codes}
+use Rattle.std.specs.Str.Parse.{IsNumeral, digits_value}
+use Rattle.clap.specs.Faults.{fault_of}
+use Rattle.clap.specs.Kinds.{IsAmong, Kinds}
+use Rattle.clap.specs.Simple.{App, new_app, new_rule, on_top, subcommand_of, with_rule}
+use Rattle.clap.specs.Simple.{with_subcommand}
+use Rattle.clap.specs.Walk.{Row, Rule, Text, first_of}
+use Rattle.clap.specs.declared.builder.action.ArgAction.TheVariants.{Set}
+use Rattle.clap.specs.declared.builder.value_parser.ValueParser.TheVariants as parsers
+use Rattle.clap.specs.declared.error.kind.ErrorKind.TheVariants.{DisplayHelp, DisplayVersion}
 use Rattle.pg_plan.specs.declared.request.Command.{Command}
 use Rattle.pg_plan.specs.declared.request.Command.TheVariants.{Check, RunOf, Upgrade}
+use Rattle.pg_plan.specs.declared.request.Plan.{Plan}
 use Rattle.pg_plan.specs.declared.request.Usage.{Usage}
 use Rattle.pg_plan.specs.declared.request.Usage.TheVariants.{Help, Version, Fault}
 pub use Rattle.clap.specs.Walk.{texts}
@@ -13,66 +21,78 @@ command_word Check = codes "check"
 command_word RunOf = codes "run-of"
 command_word Upgrade = codes "upgrade"
 
--- the words are the command's own, with at most a `--` behind it
-abbrev pub Asks : List (List ℕ) → Command → Type 0
-Asks words command =
-    (words ≡ command_word command ∷ []) ⊎ (words ≡ command_word command ∷ codes "--" ∷ [])
+-- ---- the command line: one of the commands, of which `check` has an option
+
+abbrev pub bare_line : App
+bare_line = on_top (λ s. record s {
+  no_binary_name = true;
+  has_version = true;
+  subcommand_required = true;
+}) (new_app (codes "pcid-audit"))
+
+-- a number from 1 to 64 behind `--checkers`
+abbrev pub checkers_rule : Rule
+checkers_rule = record (new_rule (codes "checkers")) {
+  long = Some (codes "checkers");
+  action = Some Set;
+  value_names = 1;
+  parser = Some (parsers.Signed (pos 1) (pos 64));
+}
+
+abbrev pub check_line : App
+check_line = with_rule (new_app (command_word Check)) checkers_rule
+
+abbrev pub command_line : App
+command_line =
+    with_subcommand
+    (with_subcommand (with_subcommand bare_line check_line.top) (new_app (command_word RunOf)).top)
+    (new_app (command_word Upgrade)).top
+
+-- the kinds of error that `clap` gives for the words: none where they are taken
+abbrev pub faults : List Text → Kinds
+faults words = fault_of command_line words
+
+-- ---- what words ask for
+
+abbrev pub AreFrom1To64 : ℕ → Type 0
+AreFrom1To64 n = (1 ≤ n) × (n ≤ 64)
+
+-- so many checkers: one where no number is given, and else what its digits say, without a sign
+abbrev pub AreAsked : Option Text → ℕ → Type 0
+AreAsked None n = n ≡ 1
+AreAsked (Some text) n = IsNumeral 10 text × (digits_value 10 text ≡ n) × AreFrom1To64 n
+
+-- this is the plan of a command and its options
+pub record IsPlanOf (found : Option (Text × List Row)) (plan : Plan) : Type 0 where
+  pub rows : List Row
+  pub command : found ≡ Some (command_word plan.command, rows)
+  pub checkers : AreAsked (first_of (codes "checkers") rows) plan.checkers
+
+-- the words are taken, and this is their plan
+abbrev pub Asks : List Text → Plan → Type 0
+Asks words plan = (faults words ≡ []) × IsPlanOf (subcommand_of command_line words) plan
+
+-- this plan, and no other
+abbrev pub AsksOnly : List Text → Plan → Type 0
+AsksOnly words plan = Asks words plan × ((other : Plan) → Asks words other → other ≡ plan)
 
 -- the words ask for no command
-abbrev pub AsksNone : List (List ℕ) → Type 0
-AsksNone words = (command : Command) → Asks words command → ⊥
+abbrev pub AsksNone : List Text → Type 0
+AsksNone words = (plan : Plan) → Asks words plan → ⊥
 
--- ---- flags that ask for a text
+-- the words ask for help, or for the version, alone
+abbrev pub AsksHelp : List Text → Type 0
+AsksHelp words = faults words ≡ DisplayHelp ∷ []
 
-pub data Flag : Type 0 where
-  help : Flag
-  version : Flag
+abbrev pub AsksVersion : List Text → Type 0
+AsksVersion words = faults words ≡ DisplayVersion ∷ []
 
-abbrev pub long_flag : Flag → List ℕ
-long_flag help = codes "--help"
-long_flag version = codes "--version"
+-- help, or the version, may be the answer
+abbrev pub NamesHelp : List Text → Type 0
+NamesHelp words = IsAmong DisplayHelp (faults words)
 
-abbrev pub short_flag : Flag → List ℕ
-short_flag help = codes "-h"
-short_flag version = codes "-V"
-
--- `h` and `V`
-abbrev pub letter : Flag → ℕ
-letter help = 104
-letter version = 86
-
--- the word is the long flag, or short flags of which this is the first
-abbrev pub IsFlag : Flag → List ℕ → Type 0
-IsFlag flag word =
-    (word ≡ long_flag flag) ⊎ ((letters : List ℕ) × (word ≡ codes "-" ++ letters)
-    × (slice_get (chars letters) 0 ≡ Some (letter flag)))
-
-abbrev pub BeginsWith : Flag → List (List ℕ) → Type 0
-BeginsWith flag [] = ⊥
-BeginsWith flag (word ∷ rest) = IsFlag flag word
-
--- help may be the answer: `help` or a flag for it comes first, or such a flag behind a command
-abbrev pub NamesHelp : List (List ℕ) → Type 0
-NamesHelp [] = ⊥
-NamesHelp (word ∷ rest) = (word ≡ codes "help") ⊎ (IsFlag help word
-    ⊎ ((command : Command) × (word ≡ command_word command) × BeginsWith help rest))
-
--- the version may be the answer: a flag for it comes first
-abbrev pub NamesVersion : List (List ℕ) → Type 0
-NamesVersion words = BeginsWith version words
-
--- the word is the flag alone, long or short
-abbrev pub IsJust : Flag → List ℕ → Type 0
-IsJust flag word = (word ≡ long_flag flag) ⊎ (word ≡ short_flag flag)
-
--- the words are just a flag for help, with or without a command before it
-abbrev pub AsksHelp : List (List ℕ) → Type 0
-AsksHelp words = (word : List ℕ) × IsJust help word
-    × ((words ≡ word ∷ []) ⊎ ((command : Command) × (words ≡ command_word command ∷ word ∷ [])))
-
--- the words are just a flag for the version
-abbrev pub AsksVersion : List (List ℕ) → Type 0
-AsksVersion words = (word : List ℕ) × IsJust version word × (words ≡ word ∷ [])
+abbrev pub NamesVersion : List Text → Type 0
+NamesVersion words = IsAmong DisplayVersion (faults words)
 
 -- ---- answers that are no plan
 
@@ -87,18 +107,3 @@ IsVersion _ = ⊥
 abbrev pub IsFault : Usage → Type 0
 IsFault (Fault text) = Unit {0}
 IsFault _ = ⊥
-
--- ---- the command line as `clap` reads it: one of the commands, with no argument
-
-abbrev pub bare_line : App
-bare_line = on_top (λ s. record s {
-  no_binary_name = true;
-  has_version = true;
-  subcommand_required = true;
-}) (new_app (codes "pcid-audit"))
-
-abbrev pub with_command : App → Command → App
-with_command line command = with_subcommand line (new_shape (command_word command))
-
-abbrev pub command_line : App
-command_line = with_command (with_command (with_command bare_line Check) RunOf) Upgrade

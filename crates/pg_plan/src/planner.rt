@@ -1,14 +1,21 @@
-ghost use Rattle.std.specs.Prelude.{◌≡◌, IfOk, IfErr, option_map};
+ghost use Rattle.std.specs.Prelude.{◌≡◌, ◌↔◌, ◌⊎◌, ℕ, List, IfOk, IfErr, Some, false};
+ghost use Rattle.std.specs.Prelude.{option_map};
 ghost use Rattle.clap.specs.Values.{kind_of};
-ghost use Rattle.clap.specs.Simple.{app_of};
-ghost use Rattle.pg_plan.specs.Commands.{texts, bare_line, command_line, command_word, Asks};
+ghost use Rattle.clap.specs.Simple.{app_of, subcommand_rows_of};
+ghost use Rattle.clap.specs.Matches.{first_value, found_of};
+ghost use Rattle.clap.specs.Walk.{rule_of};
+ghost use Rattle.clap.specs.declared.builder.command.Command.TheViews.{out-Command as fields_of};
+ghost use Rattle.pg_plan.specs.Commands.{texts, bare_line, check_line, checkers_rule, command_line};
+ghost use Rattle.pg_plan.specs.Commands.{command_word, AreAsked, AreFrom1To64};
+ghost use Rattle.pg_plan.specs.Commands.{Asks, AsksOnly, IsPlanOf};
 ghost use Rattle.pg_plan.specs.Commands.{AsksHelp, AsksVersion, NamesHelp, NamesVersion};
 ghost use Rattle.pg_plan.specs.Commands.{IsHelp, IsVersion, IsFault};
 ghost use Rattle.pg_plan.specs.declared.request.Command.{Command as Asked};
+ghost use Rattle.pg_plan.specs.declared.request.Plan.{Plan as Planned};
 
 use crate::request::{Command, Plan, Usage};
 use clap::error::ErrorKind;
-use clap::{Command as CommandLine, Error};
+use clap::{Arg, ArgAction, ArgMatches, Command as CommandLine, Error, value_parser};
 use std::alloc::{AllocError, Global};
 
 const CHECK: &str = "check";
@@ -28,6 +35,13 @@ const UPGRADE_ABOUT: &str = "Reads a version 1 record from standard input, and w
 /// The version of the program, and of the records that it reads.
 const VERSION: &str = "0.2.0 (record versions 1 and 2)";
 
+const CHECKERS: &str = "checkers";
+
+const CHECKERS_ABOUT: &str = "How many checkers judge the record, from 1 to 64; 1 where left out";
+
+const NO_NUMBER: &str = "error: the number of checkers is given by digits alone\n\n\
+    For more information, try '--help'.\n";
+
 fn bare_line<'a>(alloc: Global) -> CommandLine<'a>
     ensures { app_of result ≡ bare_line }
 {
@@ -38,11 +52,32 @@ fn bare_line<'a>(alloc: Global) -> CommandLine<'a>
         .subcommand_required(true)
 }
 
+fn checkers_option<'a>(alloc: Global) -> Arg<'a>
+    ensures rule { rule_of result ≡ checkers_rule }
+    ensures local { result.global ≡ false }
+{
+    Arg::new(alloc, CHECKERS)
+        .long(CHECKERS)
+        .value_name("N")
+        .help(CHECKERS_ABOUT)
+        .action(ArgAction::Set)
+        .value_parser(value_parser!(u16).range(1..=64))
+}
+
+fn check_line<'a>(alloc: Global) -> Result<CommandLine<'a>, AllocError>
+    ensures line { IfOk result (λ line. app_of line ≡ check_line) }
+    ensures local { IfOk result (λ line. (fields_of line).has_globals ≡ false) }
+{
+    CommandLine::new(alloc, CHECK)
+        .about(CHECK_ABOUT)
+        .arg(checkers_option(alloc))
+}
+
 fn command_line<'a>(alloc: Global) -> Result<CommandLine<'a>, AllocError>
     ensures { IfOk result (λ line. app_of line ≡ command_line) }
 {
     bare_line(alloc)
-        .subcommand(CommandLine::new(alloc, CHECK).about(CHECK_ABOUT))?
+        .subcommand(check_line(alloc)?)?
         .subcommand(CommandLine::new(alloc, RUN_OF).about(RUN_OF_ABOUT))?
         .subcommand(CommandLine::new(alloc, UPGRADE).about(UPGRADE_ABOUT))
 }
@@ -68,21 +103,59 @@ fn usage_of(alloc: Global, error: Error) -> Usage
 }
 
 /// The command of that name.
-fn command_of(name: Option<&str>) -> Command
-    ensures { (command : Asked) → option_map (λ s. s.now) name.entry ≡ Some (command_word command)
-        → result ≡ command }
+fn command_of(name: &str) -> Option<Command>
+    ensures { (command : Asked) → (result ≡ Some command) ↔ (name.now ≡ command_word command) }
 {
     match name {
-        Some(RUN_OF) => Command::RunOf,
-        Some(UPGRADE) => Command::Upgrade,
-        _ => Command::Check,
+        CHECK => Some(Command::Check),
+        RUN_OF => Some(Command::RunOf),
+        UPGRADE => Some(Command::Upgrade),
+        _ => None,
+    }
+}
+
+/// So many checkers, if the text spells their number by digits alone.
+fn checkers_of(text: Option<&str>) -> Option<u16>
+    ensures { (n : ℕ) → (result ≡ Some n) ↔ AreAsked (option_map (λ s. s.now) text.entry) n }
+{
+    let Some(text) = text else {
+        return Some(1);
+    };
+    // `parse` takes a plus sign too.
+    if text.as_bytes().first() == Some(&b'+') {
+        return None;
+    }
+    match text.parse::<u16>() {
+        Ok(checkers) if checkers >= 1 && checkers <= 64 => Some(checkers),
+        _ => None,
+    }
+}
+
+/// What the matches ask for.
+fn plan_of(matches: &ArgMatches<'_>) -> Option<Plan>
+    ensures { (plan : Planned) → (result ≡ Some plan)
+        ↔ IsPlanOf (subcommand_rows_of matches.now) plan }
+{
+    let (name, own) = matches.subcommand()?;
+    let command = command_of(name)?;
+    let checkers = checkers_of(own.get_str(CHECKERS))?;
+    Some(Plan { command, checkers })
+}
+
+fn no_number(alloc: Global) -> Usage
+    ensures { IsFault result ⊎ (result ≡ Usage.Memory) }
+{
+    match String::from_str(alloc, NO_NUMBER) {
+        Ok(text) => Usage::Fault(text),
+        Err(_) => Usage::Memory,
     }
 }
 
 /// Reads the words after the program's name.
 pub fn plan<'a>(alloc: Global, words: &'a [&'a str]) -> Result<Plan, Usage>
-    ensures asked { IfOk result (λ plan. Asks (texts words.now) plan.command) }
-    ensures taken { IfErr result (λ why. (command : Asked) → Asks (texts words.now) command
+    ensures asked { IfOk result (λ plan. AsksOnly (texts words.now) plan) }
+    ensures checkers { IfOk result (λ plan. AreFrom1To64 plan.checkers) }
+    ensures taken { IfErr result (λ why. (plan : Planned) → Asks (texts words.now) plan
         → why ≡ Usage.Memory) }
     ensures help { IfErr result (λ why. AsksHelp (texts words.now) → ¬ IsFault why) }
     ensures help_named { IfErr result (λ why. IsHelp why → NamesHelp (texts words.now)) }
@@ -94,10 +167,10 @@ pub fn plan<'a>(alloc: Global, words: &'a [&'a str]) -> Result<Plan, Usage>
         Err(_) => return Err(Usage::Memory),
     };
     match line.try_get_matches_from(words) {
-        Ok(matches) => {
-            let command = command_of(matches.subcommand_name());
-            Ok(Plan { command })
-        }
+        Ok(matches) => match plan_of(&matches) {
+            Some(plan) => Ok(plan),
+            None => Err(no_number(alloc)),
+        },
         Err(error) => Err(usage_of(alloc, error)),
     }
 }
@@ -107,26 +180,46 @@ mod tests {
     use super::*;
     use std::test::Fail;
 
+    fn planned(command: Command, checkers: u16) -> Option<Plan> {
+        Some(Plan { command, checkers })
+    }
+
     #[test]
     fn plans(rt: HostRuntime) -> Result<(), Fail> {
         let alloc = rt.alloc();
-        assert_eq!(rt;
-            plan(alloc, &["check"]).ok(),
-            Some(Plan {
-                command: Command::Check
-            })
-        );
-        assert_eq!(rt;
-            plan(alloc, &["run-of"]).ok(),
-            Some(Plan {
-                command: Command::RunOf
-            })
-        );
+        assert_eq!(rt; plan(alloc, &["check"]).ok(), planned(Command::Check, 1));
+        assert_eq!(rt; plan(alloc, &["run-of"]).ok(), planned(Command::RunOf, 1));
         assert_eq!(rt;
             plan(alloc, &["upgrade"]).ok(),
-            Some(Plan {
-                command: Command::Upgrade
-            })
+            planned(Command::Upgrade, 1)
+        );
+        Ok(())
+    }
+
+    #[test]
+    fn reads_the_number_of_checkers(rt: HostRuntime) -> Result<(), Fail> {
+        let alloc = rt.alloc();
+        let two = planned(Command::Check, 2);
+        assert_eq!(rt; plan(alloc, &["check", "--checkers", "2"]).ok(), two);
+        assert_eq!(rt; plan(alloc, &["check", "--checkers=02"]).ok(), two);
+        let most = planned(Command::Check, 64);
+        assert_eq!(rt; plan(alloc, &["check", "--checkers", "64"]).ok(), most);
+        Ok(())
+    }
+
+    #[test]
+    fn refuses_other_numbers_of_checkers(rt: HostRuntime) -> Result<(), Fail> {
+        let alloc = rt.alloc();
+        for number in ["0", "65", "+2", "-1", "", "two", "4294967298"] {
+            let planned = plan(alloc, &["check", "--checkers", number]);
+            assert!(rt; matches!(planned, Err(Usage::Fault(_))));
+        }
+        assert!(rt; matches!(plan(alloc, &["check", "--checkers"]), Err(Usage::Fault(_))));
+        assert!(rt;
+            matches!(
+                plan(alloc, &["run-of", "--checkers", "2"]),
+                Err(Usage::Fault(_))
+            )
         );
         Ok(())
     }

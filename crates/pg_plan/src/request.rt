@@ -15,6 +15,8 @@ pub enum Command {
 pub struct Plan {
     /// The command.
     pub command: Command,
+    /// How many checkers `check` has, 1 to 64. It is 1 where the words say nothing.
+    pub checkers: u16,
 }
 
 /// Why the words of a command line give no plan.

@@ -5,7 +5,9 @@ use crate::row::{Row, run_on};
 use pg_codec::Watched;
 use std::alloc::{AllocError, AllocGlobal, Global};
 use std::process::Abort;
+use std::sync::Wait;
 use std::test::Fail;
+use std::thread::Threads;
 
 const NXE: u8 = 2;
 
@@ -137,7 +139,11 @@ const NO: Row = Row {
     status: 1,
 };
 
-fn run_cell<T: AllocGlobal + Abort>(rt: &T, case: usize, cell: &Cell) -> Result<(), Fail> {
+fn run_cell<T: AllocGlobal + Abort + Threads + Wait + Sync>(
+    rt: &T,
+    case: usize,
+    cell: &Cell,
+) -> Result<(), Fail> {
     let denied = cell.3;
     let told = record(rt.alloc(), cell, denied)?;
     run_on(rt, &YES, case, &mut Watched::new(told.as_slice()))?;

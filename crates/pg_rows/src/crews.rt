@@ -6,6 +6,7 @@ use pg_codec::Watched;
 use pg_event::Reason;
 use pg_pool::Gate;
 use pg_report::{AuditError, Verdict, audit, audit_watched};
+use pg_tool::pcid_audit;
 use std::sync::atomic::{AtomicU64, Ordering};
 use std::test::Fail;
 use std::thread;
@@ -28,6 +29,22 @@ fn the_same_by_any_number_of_checkers(rt: HostRuntime) -> Result<(), Fail> {
             })
         );
         assert_eq!(rt; output.inner.as_slice(), TEN_SEGMENTS.output.as_bytes());
+    }
+    Ok(())
+}
+
+#[test]
+fn the_same_by_the_program(rt: HostRuntime) -> Result<(), Fail> {
+    for checkers in ["1", "2", "7", "64"] {
+        let bytes = bytes_of(rt.alloc(), TEN_SEGMENTS.input)?;
+        let mut input = Watched::new(bytes.as_slice());
+        let mut output = Watched::new(Vec::new(rt.alloc()));
+        let mut errors = Watched::new(Vec::new(rt.alloc()));
+        let words = ["check", "--checkers", checkers];
+        let status = pcid_audit(&rt, &words, &mut input, &mut output, &mut errors);
+        assert_eq!(rt; status, 1, "{checkers}");
+        assert_eq!(rt; output.inner.as_slice(), TEN_SEGMENTS.output.as_bytes(), "{checkers}");
+        assert!(rt; errors.inner.is_empty(), "{checkers}");
     }
     Ok(())
 }

@@ -6,7 +6,9 @@ use crate::row::{Row, run_on};
 use pg_codec::Watched;
 use std::alloc::{AllocError, AllocGlobal, Global};
 use std::process::Abort;
+use std::sync::Wait;
 use std::test::Fail;
+use std::thread::Threads;
 
 /// The settings but for the segment size.
 const SETTINGS: [u8; 13] = [
@@ -107,7 +109,7 @@ fn push_record(alloc: Global, events: u32, segment: u32, bad: u32) -> Result<Vec
 }
 
 /// A record of so many events in segments of so many, and what the program says of it.
-fn run_record<T: AllocGlobal + Abort>(
+fn run_record<T: AllocGlobal + Abort + Threads + Wait + Sync>(
     rt: &T,
     events: u32,
     segment: u32,

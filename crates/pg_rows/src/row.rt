@@ -2,7 +2,9 @@ use pg_codec::{Source, Watched};
 use pg_tool::pcid_audit;
 use std::alloc::{AllocGlobal, Global};
 use std::process::Abort;
+use std::sync::Wait;
 use std::test::Fail;
+use std::thread::Threads;
 
 /// What the program is given, and what it must answer.
 #[derive(Clone, Copy)]
@@ -32,7 +34,7 @@ pub fn bytes_of(alloc: Global, pieces: &[&str]) -> Result<Vec<u8>, Fail> {
 }
 
 /// Runs the program on a source in the place of a row's input. The case is named where it fails.
-pub fn run_on<T: AllocGlobal + Abort, R: Source>(
+pub fn run_on<T: AllocGlobal + Abort + Threads + Wait + Sync, R: Source>(
     rt: &T,
     row: &Row,
     case: usize,
@@ -57,7 +59,7 @@ pub fn run_on<T: AllocGlobal + Abort, R: Source>(
 }
 
 /// Runs the program on a row, over memory.
-pub fn run<T: AllocGlobal + Abort>(rt: &T, row: &Row) -> Result<(), Fail> {
+pub fn run<T: AllocGlobal + Abort + Threads + Wait + Sync>(rt: &T, row: &Row) -> Result<(), Fail> {
     let bytes = bytes_of(rt.alloc(), row.input)?;
     let mut input = Watched::new(bytes.as_slice());
     run_on(rt, row, 0, &mut input)

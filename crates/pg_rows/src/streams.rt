@@ -9,7 +9,9 @@ use pg_tool::pcid_audit;
 use std::alloc::AllocGlobal;
 use std::io::ErrorKind;
 use std::process::Abort;
+use std::sync::Wait;
 use std::test::Fail;
+use std::thread::Threads;
 
 const TRUNCATED: Row = Row {
     name: "proper_beginning",
@@ -59,7 +61,10 @@ pub const TEN_SEGMENTS: Row = Row {
     status: 1,
 };
 
-fn run_by_bytes<T: AllocGlobal + Abort>(rt: &T, row: &Row) -> Result<(), Fail> {
+fn run_by_bytes<T: AllocGlobal + Abort + Threads + Wait + Sync>(
+    rt: &T,
+    row: &Row,
+) -> Result<(), Fail> {
     let bytes = bytes_of(rt.alloc(), row.input)?;
     let mut input = Watched::new(Pieces::new(bytes.as_slice(), 1));
     run_on(rt, row, 1, &mut input)
@@ -78,7 +83,10 @@ fn one_byte_a_read(rt: HostRuntime) -> Result<(), Fail> {
     Ok(())
 }
 
-fn write_by_bytes<T: AllocGlobal + Abort>(rt: &T, row: &Row) -> Result<(), Fail> {
+fn write_by_bytes<T: AllocGlobal + Abort + Threads + Wait + Sync>(
+    rt: &T,
+    row: &Row,
+) -> Result<(), Fail> {
     let bytes = bytes_of(rt.alloc(), row.input)?;
     let mut input = Watched::new(bytes.as_slice());
     let mut output = Watched::new(Crumbs::new(rt.alloc(), None)?);
@@ -141,7 +149,7 @@ fn each_read_failing(rt: HostRuntime) -> Result<(), Fail> {
     Ok(())
 }
 
-fn fail_write<T: AllocGlobal + Abort>(
+fn fail_write<T: AllocGlobal + Abort + Threads + Wait + Sync>(
     rt: &T,
     bytes: &[u8],
     report: &[u8],

@@ -5,7 +5,9 @@ use pg_codec::Watched;
 use pg_tool::pcid_audit;
 use std::alloc::AllocGlobal;
 use std::process::Abort;
+use std::sync::Wait;
 use std::test::Fail;
+use std::thread::Threads;
 
 /// A record to upgrade, and what the program must answer.
 #[derive(Clone, Copy)]
@@ -59,7 +61,7 @@ const ROWS: [Upgrade; 3] = [
     },
 ];
 
-fn run<T: AllocGlobal + Abort>(rt: &T, row: &Upgrade) -> Result<(), Fail> {
+fn run<T: AllocGlobal + Abort + Threads + Wait + Sync>(rt: &T, row: &Upgrade) -> Result<(), Fail> {
     let bytes = bytes_of(rt.alloc(), row.input)?;
     let wanted = bytes_of(rt.alloc(), row.output)?;
     let mut input = Watched::new(bytes.as_slice());

@@ -4,11 +4,16 @@ use pg_codec::Watched;
 use pg_tool::pcid_audit;
 use std::alloc::AllocGlobal;
 use std::process::Abort;
+use std::sync::Wait;
 use std::test::Fail;
+use std::thread::Threads;
 
 const NO_RECORD: [u8; 0] = [];
 
-fn expect_usage<'a, T: AllocGlobal + Abort>(rt: &T, words: &'a [&'a str]) -> Result<(), Fail> {
+fn expect_usage<'a, T: AllocGlobal + Abort + Threads + Wait + Sync>(
+    rt: &T,
+    words: &'a [&'a str],
+) -> Result<(), Fail> {
     let mut input = Watched::new(NO_RECORD.as_slice());
     let mut output = Watched::new(Vec::new(rt.alloc()));
     let mut errors = Watched::new(Vec::new(rt.alloc()));
@@ -23,11 +28,18 @@ fn expect_usage<'a, T: AllocGlobal + Abort>(rt: &T, words: &'a [&'a str]) -> Res
 fn words_of_no_command(rt: HostRuntime) -> Result<(), Fail> {
     expect_usage(&rt, &["judge"])?;
     expect_usage(&rt, &[])?;
-    expect_usage(&rt, &["check", "--single"])
+    expect_usage(&rt, &["check", "--single"])?;
+    expect_usage(&rt, &["check", "--checkers", "0"])?;
+    expect_usage(&rt, &["check", "--checkers", "65"])?;
+    expect_usage(&rt, &["check", "--checkers", "+2"])?;
+    expect_usage(&rt, &["run-of", "--checkers", "2"])
 }
 
 /// Words that ask for a text, which goes to standard output.
-fn expect_text<'a, T: AllocGlobal + Abort>(rt: &T, words: &'a [&'a str]) -> Result<(), Fail> {
+fn expect_text<'a, T: AllocGlobal + Abort + Threads + Wait + Sync>(
+    rt: &T,
+    words: &'a [&'a str],
+) -> Result<(), Fail> {
     let mut input = Watched::new(NO_RECORD.as_slice());
     let mut output = Watched::new(Vec::new(rt.alloc()));
     let mut errors = Watched::new(Vec::new(rt.alloc()));

@@ -1,5 +1,5 @@
-ghost use Rattle.std.specs.Prelude.{◌≡◌, ◌+◌, ◌-◌, ◌<◌, ◌≤◌, ◌^◌, min, List, [], ◌∷◌, ◌++◌, length};
-ghost use Rattle.std.specs.Prelude.{Some, OnOk, OnErr};
+ghost use Rattle.std.specs.Prelude.{◌≡◌, ◌+◌, ◌-◌, ◌<◌, ◌≤◌, ◌^◌, ℕ, min, List, [], ◌∷◌, ◌++◌};
+ghost use Rattle.std.specs.Prelude.{length, Some, OnOk, OnErr};
 ghost use Rattle.pg_timeline.specs.Timelines.{end_of, last_before, first_from, cut_at, count_below};
 ghost use Rattle.pg_timeline.specs.Timelines.{IsRising, IsLeastFrom, moment_in, has_moment};
 
@@ -46,16 +46,24 @@ fn moment_at<V: Copy>(stamps: &[Stamp<V>], i: usize, probes: &mut Probes) -> u32
     stamps[i].moment
 }
 
-/// How many stamps lie below a moment, by halving.
-fn count_before<V: Copy>(stamps: &[Stamp<V>], moment: u32, probes: &mut Probes) -> usize
+/// How many stamps lie below a moment, by halving, where the count lies between two.
+fn count_between<V: Copy>(
+    stamps: &[Stamp<V>],
+    from: usize,
+    to: usize,
+    moment: u32,
+    probes: &mut Probes,
+) -> usize
     requires rising { IsRising stamps.now }
-    requires short { length stamps.now ≤ 2 ^ 32 }
-    ensures within { result ≤ length stamps.now }
+    requires low { from ≤ count_below moment stamps.now }
+    requires high { count_below moment stamps.now ≤ to }
+    requires within { to ≤ length stamps.now }
     ensures count { result ≡ count_below moment stamps.now }
-    ensures probes { (probes.old ≤ probes.new) × (probes.new ≤ probes.old + 33) }
+    ensures more { probes.old ≤ probes.new }
+    ensures probes { (n : ℕ) → to < from + 2 ^ n → probes.new ≤ probes.old + n }
 {
-    let mut low = 0;
-    let mut high = stamps.len();
+    let mut low = from;
+    let mut high = to;
     while low < high {
         let middle = low + (high - low) / 2;
         if moment_at(stamps, middle, probes) < moment {
@@ -65,6 +73,29 @@ fn count_before<V: Copy>(stamps: &[Stamp<V>], moment: u32, probes: &mut Probes) 
         }
     }
     low
+}
+
+/// So many of the last stamps are looked at first: most look-ups ask of a moment near the end.
+const LAST: usize = 64;
+
+/// How many stamps lie below a moment.
+fn count_before<V: Copy>(stamps: &[Stamp<V>], moment: u32, probes: &mut Probes) -> usize
+    requires rising { IsRising stamps.now }
+    requires short { length stamps.now ≤ 2 ^ 32 }
+    ensures within { result ≤ length stamps.now }
+    ensures count { result ≡ count_below moment stamps.now }
+    ensures probes { (probes.old ≤ probes.new) × (probes.new ≤ probes.old + 33) }
+{
+    let count = stamps.len();
+    if count <= LAST {
+        return count_between(stamps, 0, count, moment, probes);
+    }
+    let near = count - LAST;
+    if moment_at(stamps, near, probes) < moment {
+        count_between(stamps, near + 1, count, moment, probes)
+    } else {
+        count_between(stamps, 0, near, moment, probes)
+    }
 }
 
 impl<V: Copy + Default> Timeline<V> {

@@ -1,6 +1,8 @@
 -- What the whole program answers, by its words.
 use Rattle.std.specs.Prelude.{◌≡◌, ◌⊎◌, ℕ, List, string_bytes}
+use Rattle.pg_plan.specs.declared.request.Command.{Command}
 use Rattle.pg_plan.specs.declared.request.Command.TheVariants.{Check, RunOf, Upgrade}
+use Rattle.pg_plan.specs.declared.request.Plan.{Plan}
 use Rattle.pg_plan.specs.declared.request.Usage.{Usage}
 use Rattle.pg_plan.specs.declared.request.Usage.TheVariants.{Help, Version, Fault, Memory}
 use Rattle.pg_plan.specs.Commands.{Asks, AsksNone, AsksHelp, AsksVersion, NamesHelp}
@@ -41,6 +43,16 @@ pub record AnswersUsage (words : List (List ℕ)) (s : Streams) (status : ℕ) :
   pub asked_version : AsksVersion words → ¬ IsFault why
   pub gives : GivesUsage why s.output s.errors status
 
+-- what a command does, `check` with so many checkers
+abbrev pub DoesCommand : Command → ℕ → Streams → ℕ → Type 0
+DoesCommand Check checkers s status = Checks checkers s status
+DoesCommand RunOf checkers s status = ShowsRun s status
+DoesCommand Upgrade checkers s status = Upgrades s status
+
+-- what a plan's command does
+abbrev pub Does : Plan → Streams → ℕ → Type 0
+Does plan = DoesCommand plan.command plan.checkers
+
 -- memory was refused before any input was read
 abbrev pub RefusesMemory : Type 0 → Streams → ℕ → Type 0
 RefusesMemory Unread s status = Unread × GivesUsage Memory s.output s.errors status
@@ -50,8 +62,7 @@ RefusesMemory Unread s status = Unread × GivesUsage Memory s.output s.errors st
 -- input was not read, and why there is no plan.
 pub record Answers (words : List (List ℕ)) (Unread : Type 0) (s : Streams) (status : ℕ) :
     Type 0 where
-  pub check : Asks words Check → Checks s status ⊎ RefusesMemory Unread s status
-  pub run_of : Asks words RunOf → ShowsRun s status ⊎ RefusesMemory Unread s status
-  pub upgrade : Asks words Upgrade → Upgrades s status ⊎ RefusesMemory Unread s status
+  pub asked : (plan : Plan) → Asks words plan →
+      Does plan s status ⊎ RefusesMemory Unread s status
   pub unread : AsksNone words → Unread
   pub usage : AsksNone words → AnswersUsage words s status

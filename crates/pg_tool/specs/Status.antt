@@ -38,16 +38,16 @@ abbrev pub status_of : Result Verdict AuditError → ℕ
 status_of (Ok verdict) = verdict_status verdict
 status_of (Err e) = error_status e
 
--- an audit on the calling thread alone answers so: it wants no thread and no checkers
-abbrev pub IsAlone : Result Verdict AuditError → Type 0
-IsAlone answer = (answer ≢ Err Thread) × (answer ≢ Err Checkers)
+-- so many checkers can be had, and one wants no thread
+abbrev pub IsAbleBy : ℕ → Result Verdict AuditError → Type 0
+IsAbleBy checkers answer = (answer ≢ Err Checkers) × (checkers ≡ 1 → answer ≢ Err Thread)
 
--- The status is that of an audit of what the reader had left, and the line on standard error is
--- that of the same answer.
-abbrev pub Checks : Streams → ℕ → Type 0
-Checks s status =
+-- The status is that of an audit of what the reader had left by so many checkers, and the line on
+-- standard error is that of the same answer.
+abbrev pub Checks : ℕ → Streams → ℕ → Type 0
+Checks checkers s status =
     (answer : Result Verdict AuditError) × (status ≡ status_of answer)
-    × IsAudit s.input s.output answer × IsAlone answer × TellsError s.errors answer
+    × IsAudit s.input s.output answer × IsAbleBy checkers answer × TellsError s.errors answer
 
 -- the bytes spell one record, these steps are its planned run, and this holds of their text
 abbrev pub HasRunText : List ℕ → (List ℕ → Type 0) → Type 0

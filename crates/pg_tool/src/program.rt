@@ -1,9 +1,11 @@
 ghost use Rattle.std.specs.Prelude.{◌≡◌, IfOk};
-ghost use Rattle.pg_plan.specs.Commands.{texts};
-ghost use Rattle.pg_report.specs.Changes.{filled};
-ghost use Rattle.pg_tool.specs.Answers.{GivesText, Answers};
+ghost use Rattle.pg_plan.specs.Commands.{AreFrom1To64, texts};
+ghost use Rattle.pg_pool.specs.Rounds.{AreCheckers};
+ghost use Rattle.pg_report.specs.Audits.{IsAudit};
+ghost use Rattle.pg_report.specs.Changes.{drawn, filled};
+ghost use Rattle.pg_tool.specs.Answers.{Answers, Does, GivesText};
 ghost use Rattle.pg_tool.specs.Status.{error_status, verdict_status, status_of, run_status};
-ghost use Rattle.pg_tool.specs.Status.{Checks, ShowsRun};
+ghost use Rattle.pg_tool.specs.Status.{Checks, IsAbleBy, ShowsRun};
 ghost use Rattle.pg_tool.specs.Streams.{streams};
 ghost use Rattle.pg_tool.specs.Upgrades.{IsReportText, report_in, TellsReport, Upgrades};
 
@@ -13,8 +15,10 @@ use crate::shown::{ReportText, Shown};
 use crate::upgrader::write_upgrade;
 use pg_codec::{Sink, Source, put_all};
 use pg_plan::{Command, Plan, Usage, plan};
-use pg_report::{AuditError, Verdict, audit_one};
+use pg_report::{AuditError, Verdict, audit, audit_one};
 use std::alloc::{AllocGlobal, Global};
+use std::sync::Wait;
+use std::thread::Threads;
 
 const YES: u8 = 0;
 
@@ -64,18 +68,40 @@ fn run_status(answer: Result<Shown, AuditError>) -> u8
     }
 }
 
-/// Audits the record on `input`, and writes its report to `output`, or one line to `errors` that
-/// says why there is none. It gives the exit status: 0 yes, 1 no, 2 refused, 3 memory.
-pub fn check<R: Source, O: Sink, E: Sink>(
-    alloc: Global,
+/// The audit by so many checkers: by one, on the calling thread.
+fn audit_by<T: AllocGlobal + Threads + Wait + Sync, R: Source, O: Sink>(
+    rt: &T,
+    checkers: u16,
+    input: &mut R,
+    output: &mut O,
+) -> Result<Verdict, AuditError>
+    requires { AreCheckers checkers }
+    ensures audit { IsAudit
+        (drawn R.Source input.old input.new) (filled O.Sink output.old output.new) result }
+    ensures able { IsAbleBy checkers result }
+{
+    if checkers == 1 {
+        audit_one(rt.alloc(), input, output)
+    } else {
+        audit(rt, rt.alloc(), input, output, checkers as u32)
+    }
+}
+
+/// Audits the record on `input` by so many checkers, and writes its report to `output`, or one line
+/// to `errors` that says why there is none. It gives the exit status: 0 yes, 1 no, 2 refused, 3
+/// memory or a thread. One checker is the calling thread.
+pub fn check<T: AllocGlobal + Threads + Wait + Sync, R: Source, O: Sink, E: Sink>(
+    rt: &T,
+    checkers: u16,
     input: &mut R,
     output: &mut O,
     errors: &mut E,
 ) -> u8
-    ensures { Checks (streams R.Source O.Sink E.Sink
+    requires { AreCheckers checkers }
+    ensures { Checks checkers (streams R.Source O.Sink E.Sink
         (input.old, output.old, errors.old) (input.new, output.new, errors.new)) result }
 {
-    let answer = audit_one(alloc, input, output);
+    let answer = audit_by(rt, checkers, input, output);
     tell_error(errors, &answer);
     status_of(answer)
 }
@@ -144,9 +170,28 @@ fn give_text<O: Sink, E: Sink>(text: &str, output: &mut O, errors: &mut E) -> u8
     }
 }
 
+/// Does what a plan says.
+fn perform<T: AllocGlobal + Threads + Wait + Sync, R: Source, O: Sink, E: Sink>(
+    rt: &T,
+    plan: Plan,
+    input: &mut R,
+    output: &mut O,
+    errors: &mut E,
+) -> u8
+    requires { AreFrom1To64 plan.checkers }
+    ensures { Does plan (streams R.Source O.Sink E.Sink
+        (input.old, output.old, errors.old) (input.new, output.new, errors.new)) result }
+{
+    match plan.command {
+        Command::Check => check(rt, plan.checkers, input, output, errors),
+        Command::RunOf => run_of(rt.alloc(), input, output, errors),
+        Command::Upgrade => upgrade(rt.alloc(), input, output, errors),
+    }
+}
+
 /// The whole program, over any streams: the words after its name, what it reads, and what it writes
 /// to. It gives the exit status, which is 64 where the words are no command of it.
-pub fn pcid_audit<'a, T: AllocGlobal, R: Source, O: Sink, E: Sink>(
+pub fn pcid_audit<'a, T: AllocGlobal + Threads + Wait + Sync, R: Source, O: Sink, E: Sink>(
     rt: &T,
     words: &'a [&'a str],
     input: &mut R,
@@ -157,11 +202,7 @@ pub fn pcid_audit<'a, T: AllocGlobal, R: Source, O: Sink, E: Sink>(
         (input.old, output.old, errors.old) (input.new, output.new, errors.new)) result }
 {
     match plan(rt.alloc(), words) {
-        Ok(Plan { command }) => match command {
-            Command::Check => check(rt.alloc(), input, output, errors),
-            Command::RunOf => run_of(rt.alloc(), input, output, errors),
-            Command::Upgrade => upgrade(rt.alloc(), input, output, errors),
-        },
+        Ok(plan) => perform(rt, plan, input, output, errors),
         Err(Usage::Help(text)) => give_text(text.as_str(), output, errors),
         Err(Usage::Version(text)) => give_text(text.as_str(), output, errors),
         Err(Usage::Fault(text)) => {

@@ -1,45 +1,45 @@
-use Rattle.std.proofs.Common.{⊎_elim, sym, subst, ◌∙◌}
-use Rattle.clap.specs.Simple.{app_of}
-use Rattle.pg_plan.specs.Commands.{Asks, IsFault, help, texts, version}
-use Rattle.pg_plan.specs.declared.request.Command.{Command}
+use Rattle.std.proofs.Common.{⊎_elim, codes, refl, sym, subst, ◌≡◌, None, Some}
+use Rattle.clap.specs.Walk.{first_of}
+use Rattle.clap.specs.Simple.{app_of, subcommand_rows_of}
+use Rattle.clap.specs.declared.error.kind.ErrorKind.TheVariants.{DisplayHelp, DisplayVersion}
+use Rattle.pg_plan.specs.Commands.{IsFault, texts}
 use Rattle.pg_plan.specs.declared.request.Usage.{Usage}
-use Rattle.pg_plan.proofs.Parses.{fails_by_memory, gives_text, names_asked, text_named}
+use Rattle.pg_plan.proofs.Parses.{asked_range, gives_text, is_asked, parsed_taken, parsed_rows, plans_of}
 use Rattle.pg_plan.proofs.planner.plan.Goals as goal
 
-pub returns-in-Ok-try_get_matches_from-clause-asked : goal.returns-in-Ok-try_get_matches_from-clause-asked
-returns-in-Ok-try_get_matches_from-clause-asked c =
-    let words = texts c.args.words.now in
+pub returns-in-Some-clause-asked : goal.returns-in-Some-clause-asked
+returns-in-Some-clause-asked c =
     let parsed = c.in-Ok-try_get_matches_from in
-    let asked = names_asked (app_of c.in-Ok.line) words parsed.matches c.in-Ok.ensures parsed.ensures.kinds parsed.ensures.matches in
-    let P : Command → Type 0 = Asks words in
-    subst P (sym (c.command_of-command.ensures asked.0 (c.subcommand_name.ensures ∙ asked.2))) asked.1
+    let words = texts c.args.words.now in
+    let app = app_of c.in-Ok.line in
+    let taken = parsed_taken app words c.in-Ok.ensures parsed.ensures.kinds in
+    let rows = parsed_rows app words parsed.matches c.in-Ok.ensures parsed.ensures.matches in
+    is_asked words c.in-Some.plan taken (plans_of (Some c.in-Some.plan) (subcommand_rows_of parsed.matches) words rows c.in-Some.ensures)
 
-pub returns-in-Err-try_get_matches_from-clause-taken :
-    goal.returns-in-Err-try_get_matches_from-clause-taken
-returns-in-Err-try_get_matches_from-clause-taken c = λ command asks.
-    let failed = c.in-Err-try_get_matches_from in
-    c.usage_of.ensures.memory (fails_by_memory (app_of c.in-Ok.line) (texts c.args.words.now) failed.error command c.in-Ok.ensures failed.ensures.kinds asks)
+pub returns-in-Some-clause-checkers : goal.returns-in-Some-clause-checkers
+returns-in-Some-clause-checkers c =
+    let planned = (c.in-Some.ensures c.in-Some.plan).0 refl in
+    asked_range (first_of (codes "checkers") planned.rows) c.in-Some.plan.checkers planned.checkers
 
-pub returns-in-Err-try_get_matches_from-clause-help : goal.returns-in-Err-try_get_matches_from-clause-help
-returns-in-Err-try_get_matches_from-clause-help c = λ asks.
+pub returns-in-Ok-try_get_matches_from-clause-taken :
+    goal.returns-in-Ok-try_get_matches_from-clause-taken
+returns-in-Ok-try_get_matches_from-clause-taken c = λ plan asks.
+    let parsed = c.in-Ok-try_get_matches_from in
+    let words = texts c.args.words.now in
+    let rows = parsed_rows (app_of c.in-Ok.line) words parsed.matches c.in-Ok.ensures parsed.ensures.matches in
+    let none : None ≡ Some plan = (plans_of None (subcommand_rows_of parsed.matches) words rows c.in-None.ensures plan).1 asks.1 in
+    cc
+
+pub returns-clause-help : goal.returns-clause-help
+returns-clause-help c = λ asks.
     let failed = c.in-Err-try_get_matches_from in
-    let kind = gives_text help (app_of c.in-Ok.line) (texts c.args.words.now) failed.error c.in-Ok.ensures failed.ensures.kinds asks in
+    let kind = gives_text DisplayHelp (app_of c.in-Ok.line) (texts c.args.words.now) failed.error c.in-Ok.ensures failed.ensures.kinds asks in
     let P : Usage → Type 0 = λ why. ¬ IsFault why in
     ⊎_elim (λ e. subst P (sym (c.usage_of.ensures.memory e)) (λ f. f)) (λ e. c.usage_of.ensures.help e) kind
 
-pub returns-in-Err-try_get_matches_from-clause-version : goal.returns-in-Err-try_get_matches_from-clause-version
-returns-in-Err-try_get_matches_from-clause-version c = λ asks.
+pub returns-clause-version : goal.returns-clause-version
+returns-clause-version c = λ asks.
     let failed = c.in-Err-try_get_matches_from in
-    let kind = gives_text version (app_of c.in-Ok.line) (texts c.args.words.now) failed.error c.in-Ok.ensures failed.ensures.kinds asks in
+    let kind = gives_text DisplayVersion (app_of c.in-Ok.line) (texts c.args.words.now) failed.error c.in-Ok.ensures failed.ensures.kinds asks in
     let P : Usage → Type 0 = λ why. ¬ IsFault why in
     ⊎_elim (λ e. subst P (sym (c.usage_of.ensures.memory e)) (λ f. f)) (λ e. c.usage_of.ensures.version e) kind
-
-pub returns-in-Err-try_get_matches_from-clause-help_named : goal.returns-in-Err-try_get_matches_from-clause-help_named
-returns-in-Err-try_get_matches_from-clause-help_named c = λ is_help.
-    let failed = c.in-Err-try_get_matches_from in
-    text_named help (app_of c.in-Ok.line) (texts c.args.words.now) failed.error c.in-Ok.ensures failed.ensures.kinds (c.usage_of.ensures.help_named is_help)
-
-pub returns-in-Err-try_get_matches_from-clause-version_named : goal.returns-in-Err-try_get_matches_from-clause-version_named
-returns-in-Err-try_get_matches_from-clause-version_named c = λ is_version.
-    let failed = c.in-Err-try_get_matches_from in
-    text_named version (app_of c.in-Ok.line) (texts c.args.words.now) failed.error c.in-Ok.ensures failed.ensures.kinds (c.usage_of.ensures.version_named is_version)

@@ -1,6 +1,5 @@
 use Rattle.std.proofs.Common.{refl, sym, subst, ◌∙◌}
 use Rattle.std.proofs.KnownBytes.{Keeps-refl}
-use Rattle.pg_plan.specs.declared.request.Command.TheVariants.{Check, RunOf, Upgrade}
 use Rattle.pg_plan.specs.declared.request.Usage.TheVariants.{Fault}
 use Rattle.pg_report.specs.Changes.{filled}
 use Rattle.pg_tool.specs.Refusals.{Tells}
@@ -15,9 +14,7 @@ returns-in-Err-Fault g c =
     let output = filled g.O.Sink c.args.output.now c.args.output.now in
     let errors = filled g.E.Sink c.args.errors.now c.tell_text.new.errors in
     record {
-      check = λ asks. let bad = sym is ∙ said.taken Check asks in absurd cc;
-      run_of = λ asks. let bad = sym is ∙ said.taken RunOf asks in absurd cc;
-      upgrade = λ asks. let bad = sym is ∙ said.taken Upgrade asks in absurd cc;
+      asked = λ plan asks. let bad = sym is ∙ said.taken plan asks in absurd cc;
       unread = λ none. refl;
       usage = λ none. record {
         why = fault.field-0;
