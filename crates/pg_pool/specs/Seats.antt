@@ -117,10 +117,6 @@ nobody = record { number = 0; round = round 0 0; parts = [] }
 abbrev pub seat_of : List Checker → ℕ → Checker
 seat_of seats place = slice_index_or seats place nobody
 
--- the own deque of the seat at a place
-abbrev pub own_deque : List Checker → Deques
-own_deque seats place = (part_at (seat_of seats place).parts 0).deque
-
 -- a part of which nothing was taken, of the same deque
 abbrev pub way_to_part : Part → Part
 way_to_part d = untouched d.deque d.pushed

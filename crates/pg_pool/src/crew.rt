@@ -1,5 +1,6 @@
 //! The checkers' threads.
-ghost use Rattle.std.specs.Prelude.{◌≡◌, ◌≢◌, ◌≤◌, ◌<◌, ℕ, true, All, IfOk, IfErr, vec_len};
+ghost use Rattle.std.specs.Prelude.{◌≡◌, ◌≢◌, ◌≤◌, ◌<◌, ℕ, true, false, All, IfOk, IfErr};
+ghost use Rattle.std.specs.Prelude.{vec_len};
 ghost use Rattle.pg_pool.specs.Work.{IsDone, IsFresh, IsFreshIn, is_refused};
 
 use crate::checker::{Done, work};
@@ -30,14 +31,27 @@ impl<'a, J: Judge> Promise<Done> for Promised<'a, J> {
     ghost kept_by = { λ p d. IsDone (J.finds p.judge.now) p.round d };
 }
 
+/// Whether one of these checkers was refused memory.
+fn is_refused(done: &[Done]) -> bool
+    ensures { result ≡ is_refused done.now }
+{
+    for one in done {
+        if one.refused {
+            return true;
+        }
+    }
+    false
+}
+
 /// What all threads did, if as many worked as were asked for and none was refused memory.
 fn settled(done: Vec<Done>, asked: usize) -> Result<Vec<Done>, PoolError>
     ensures ok { IfOk result (λ all. (all.items ≡ done.items) × (asked ≤ vec_len all)) }
     ensures memory { result ≡ Err PoolError.Memory → is_refused done.items ≡ true }
-    ensures thread { result ≡ Err PoolError.Thread → vec_len done < asked }
+    ensures thread { result ≡ Err PoolError.Thread →
+        (vec_len done < asked) × (is_refused done.items ≡ false) }
     ensures err { IfErr result (λ e. e ≢ PoolError.Checkers) }
 {
-    if done.iter().any(|one| one.refused) {
+    if is_refused(&done) {
         return Err(PoolError::Memory);
     }
     if done.len() < asked {

@@ -222,7 +222,8 @@ fn two_checkers_at_the_same_time(rt: HostRuntime) -> Result<(), Fail> {
     assert_eq!(rt; gate.comings.load(Ordering::SeqCst), 2);
     let first = gate.workers[0].load(Ordering::SeqCst);
     let second = gate.workers[1].load(Ordering::SeqCst);
-    assert!(rt; first > 0 && second > 0 && first != second);
+    // Checker 1 begins with segment 1, and waits in it for segment 0.
+    assert_eq!(rt; (first, second), (1, 2));
     Ok(())
 }
 

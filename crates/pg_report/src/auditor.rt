@@ -79,12 +79,15 @@ pub fn audit_one<R: Source, W: Sink>(
     }
 }
 
-/// The same by so many checkers, each in a thread of its own: they take the segments of a window
-/// of events from one another, and each segment goes through the gate with the number of the
-/// checker that judges it. Segments after a bad event are read, and not judged.
+/// Reads the record that the reader has left, has it judged by so many checkers, and writes its
+/// report, as `audit_one` does. Each checker has a thread of its own, but for those that would find
+/// no segment: they take the segments of a window of events from one another, and each segment
+/// goes through the gate with the number of the checker that judges it. Windows after one with a
+/// bad event are read, and not judged.
 ///
-/// Where the number of checkers is none of 1 to 64 nothing is read. The threads of a window have
-/// ended before the next is read, and before an error is told.
+/// Where the number of checkers is none of 1 to 64 nothing is read. Where a thread is refused the
+/// audit stops by that. The threads of a window have ended before the next is read, and before an
+/// error is told.
 pub fn audit_watched<T: Threads + Wait + Sync, R: Source, W: Sink, G: Gate>(
     rt: &T,
     alloc: Global,
@@ -118,7 +121,8 @@ pub fn audit_watched<T: Threads + Wait + Sync, R: Source, W: Sink, G: Gate>(
     }
 }
 
-/// The same, with a gate that does nothing.
+/// Reads the record that the reader has left, has it judged by so many checkers, and writes its
+/// report: `audit_watched` with a gate that does nothing.
 pub fn audit<T: Threads + Wait + Sync, R: Source, W: Sink>(
     rt: &T,
     alloc: Global,

@@ -54,7 +54,9 @@ fn bad_of(verdict: Verdict) -> Option<(u64, Reason)>
 /// Why a round was not judged, as an audit gives it.
 fn pool_error(error: PoolError) -> AuditError
     requires { error ≢ PoolError.Checkers }
-    ensures { StopsJudging result }
+    ensures stops { StopsJudging result }
+    ensures memory { error ≡ PoolError.Memory → result ≡ AuditError.Memory }
+    ensures thread { error ≡ PoolError.Thread → result ≡ AuditError.Thread }
 {
     match error {
         PoolError::Memory => AuditError::Memory,
@@ -67,7 +69,8 @@ fn pool_error(error: PoolError) -> AuditError
 /// Why the verdicts of a round came to nothing, as an audit gives it.
 fn merge_error(error: MergeError) -> AuditError
     requires { error ≡ MergeError.Memory }
-    ensures { StopsJudging result }
+    ensures stops { StopsJudging result }
+    ensures memory { result ≡ AuditError.Memory }
 {
     match error {
         MergeError::Memory => AuditError::Memory,
@@ -91,6 +94,16 @@ fn waiting_round(judged: &Judged, events: &[Event]) -> Round
     }
 }
 
+impl<'a, T, G> Crew<'a, T, G> {
+    /// So many checkers have something to do in a round: not more than there are segments.
+    fn workers(&self, round: Round) -> u32
+        ensures { AreCheckers result }
+    {
+        let segments = round.last.saturating_sub(round.first);
+        self.checkers.min(segments.max(1))
+    }
+}
+
 impl<'a, T: Threads + Wait + Sync, G: Gate> Crew<'a, T, G> {
     /// The first bad event of those that wait, segment by segment.
     fn first_bad_of(
@@ -106,6 +119,9 @@ impl<'a, T: Threads + Wait + Sync, G: Gate> Crew<'a, T, G> {
             ≡ first_bad_from head (before ++ events.now) (length before) events.now) }
         ensures err { IfErr result StopsJudging }
     {
+        if events.is_empty() {
+            return Ok(None);
+        }
         let round = waiting_round(judged, events);
         let stretch = judged.stretch(events);
         let verdicts = match audit_round(
@@ -113,7 +129,7 @@ impl<'a, T: Threads + Wait + Sync, G: Gate> Crew<'a, T, G> {
             self.alloc,
             stretch,
             round,
-            self.checkers,
+            self.workers(round),
             self.gate,
         ) {
             Ok(verdicts) => verdicts,
@@ -125,7 +141,8 @@ impl<'a, T: Threads + Wait + Sync, G: Gate> Crew<'a, T, G> {
         }
     }
 
-    /// Judges the events that come next, whole segments but for the last of the run.
+    /// Judges the events that come next, whole segments but for the last of the run. After an error
+    /// `judged` may have noted events that it does not count, and is not to be used.
     pub fn judge(&self, judged: &mut Judged, events: &[Event]) -> Result<(), AuditError>
         requires next { MayFollow judged.old events.now }
         requires whole { BeginsSegment judged.old events.now }

@@ -21,11 +21,12 @@ use pg_pool::Gate;
 use std::sync::Wait;
 use std::thread::Threads;
 
-/// Events are judged once so many wait, and then let go; the last segment may bring more. A new
-/// thread starts late, so rounds are few and long.
+/// Events are judged once so many wait, and then let go; the last segment may bring more. To start
+/// threads takes time, so rounds are few and long.
 const WINDOW: usize = 1 << 18;
 
-/// Judges the events of a window once they are many, and lets them go.
+/// Judges the events of a window once they are many, and lets them go. After an error `judged` is
+/// not to be used.
 fn judge_many<T: Threads + Wait + Sync, G: Gate>(
     crew: &Crew<'_, T, G>,
     judged: &mut Judged,

@@ -120,7 +120,9 @@ fn first_bad_in(verdicts: &[SegmentVerdict]) -> Option<(u64, Reason)>
 }
 
 /// Puts the verdicts of a round's segments together, in whatever order they came: yes where no
-/// segment has a bad event, and else the first bad event of the lowest segment that has one.
+/// segment has a bad event, and else the first bad event of the lowest segment that has one. It
+/// fails by a segment that has two verdicts, else by a verdict of no segment of the round, else by
+/// a segment that has none, each the least; or where memory is refused.
 pub fn merge(
     alloc: Global,
     verdicts: &[SegmentVerdict],

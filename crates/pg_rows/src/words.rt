@@ -32,6 +32,7 @@ fn words_of_no_command(rt: HostRuntime) -> Result<(), Fail> {
     expect_usage(&rt, &["check", "--checkers", "0"])?;
     expect_usage(&rt, &["check", "--checkers", "65"])?;
     expect_usage(&rt, &["check", "--checkers", "+2"])?;
+    expect_usage(&rt, &["check", "--checkers", "2", "--checkers", "2"])?;
     expect_usage(&rt, &["run-of", "--checkers", "2"])
 }
 
