@@ -1,0 +1,14 @@
+pub mod Longer
+pub mod Pushed
+pub mod Entries
+pub mod Witnesses
+pub mod Stays
+pub mod Keys
+pub mod Sound
+pub mod AssistFlags
+pub mod Places
+pub mod Hits
+pub mod Turns
+pub mod Runs
+pub mod Cases
+pub mod Transcripts

@@ -1,0 +1,64 @@
+//! Laws of the turns of processors. Each function does nothing: its contract is the law.
+
+ghost use Rattle.pg_home.specs.Laws.{FreshAreAtHome, TurnsKeepHome, OthersStayAtHome};
+ghost use Rattle.pg_home.specs.Laws.{TurnsKeepQuiet, CoreRunsKeepQuiet, CoreRunsAreAccepted};
+ghost use Rattle.pg_home.specs.Laws.{CoreRunsGoOn};
+ghost use Rattle.pg_home.specs.Transcripts.{FreshAreTold, TurnsAreTold, CoreRunsAreTold};
+ghost use Rattle.pg_home.specs.Transcripts.{EndedHaveToldAll};
+
+/// New processors are at home in a new record.
+pub fn fresh_are_at_home()
+    ensures { FreshAreAtHome }
+{}
+
+/// A turn of a processor at home, in an accepted record, keeps both, and keeps every other
+/// processor at home. It records one event at most. This holds also of a turn that is stopped.
+pub fn turns_keep_home()
+    ensures { TurnsKeepHome }
+{}
+
+/// An event of another processor keeps a processor at home.
+pub fn others_stay_at_home()
+    ensures { OthersStayAtHome }
+{}
+
+/// A turn of one of many processors keeps the record accepted and all of them at home.
+pub fn turns_keep_quiet()
+    ensures { TurnsKeepQuiet }
+{}
+
+/// Every core run keeps the record accepted and all processors at home.
+pub fn core_runs_keep_quiet()
+    ensures { CoreRunsKeepQuiet }
+{}
+
+/// Never a false alarm: the record of every core run of new processors is accepted.
+pub fn core_runs_are_accepted()
+    ensures { CoreRunsAreAccepted }
+{}
+
+/// A core run and a turn more are a core run.
+pub fn core_runs_go_on()
+    ensures { CoreRunsGoOn }
+{}
+
+/// New processors have nothing to tell.
+pub fn fresh_are_told()
+    ensures { FreshAreTold }
+{}
+
+/// A turn keeps the transcript of each processor the record's events of it, with their numbers,
+/// which carried out its instructions up to its place.
+pub fn turns_are_told()
+    ensures { TurnsAreTold }
+{}
+
+/// So does every core run.
+pub fn core_runs_are_told()
+    ensures { CoreRunsAreTold }
+{}
+
+/// A processor that has ended has all its instructions in its transcript.
+pub fn ended_have_told_all()
+    ensures { EndedHaveToldAll }
+{}

@@ -1,0 +1,12 @@
+//! What the turns of recorded processors are, and that no run of them is refused by the auditor.
+#![tactic(auto)]
+
+mod advance;
+mod laws;
+
+pub use advance::{Advance, Stop};
+pub use laws::{
+    core_runs_are_accepted, core_runs_are_told, core_runs_go_on, core_runs_keep_quiet,
+    ended_have_told_all, fresh_are_at_home, fresh_are_told, others_stay_at_home, turns_are_told,
+    turns_keep_home, turns_keep_quiet,
+};
