@@ -12,3 +12,6 @@ pub mod Turns
 pub mod Runs
 pub mod Cases
 pub mod Transcripts
+pub mod Rows
+pub mod Further
+pub mod Counts

@@ -17,7 +17,7 @@ set_same [] p x y z h k = absurd (cc)
 set_same (a ∷ xs) zero x y z h k = cc
 set_same (a ∷ xs) (suc p) x y z h k = set_same xs p x y z h k
 
-set_other : (xs : List Processor) (p q : ℕ) (y : Processor) → q ≢ p → slice_get (slice_set xs p y) q ≡ slice_get xs q
+pub set_other : (xs : List Processor) (p q : ℕ) (y : Processor) → q ≢ p → slice_get (slice_set xs p y) q ≡ slice_get xs q
 set_other [] p q y away = refl
 set_other (a ∷ xs) zero zero y away = absurd (away refl)
 set_other (a ∷ xs) zero (suc q) y away = refl

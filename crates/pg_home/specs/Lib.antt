@@ -3,3 +3,4 @@ pub mod CoreRun
 pub mod Home
 pub mod Laws
 pub mod Transcripts
+pub mod Progress

@@ -3,6 +3,8 @@
 ghost use Rattle.pg_home.specs.Laws.{FreshAreAtHome, TurnsKeepHome, OthersStayAtHome};
 ghost use Rattle.pg_home.specs.Laws.{TurnsKeepQuiet, CoreRunsKeepQuiet, CoreRunsAreAccepted};
 ghost use Rattle.pg_home.specs.Laws.{CoreRunsGoOn};
+ghost use Rattle.pg_home.specs.Progress.{EntriesArePresent, ReadsGoFurther, FiveTurnsCarryOut};
+ghost use Rattle.pg_home.specs.Progress.{NineTurnsCarryOut};
 ghost use Rattle.pg_home.specs.Transcripts.{FreshAreTold, TurnsAreTold, CoreRunsAreTold};
 ghost use Rattle.pg_home.specs.Transcripts.{EndedHaveToldAll};
 
@@ -61,4 +63,27 @@ pub fn core_runs_are_told()
 /// A processor that has ended has all its instructions in its transcript.
 pub fn ended_have_told_all()
     ensures { EndedHaveToldAll }
+{}
+
+/// An entry that a read gives to be used is present and has no reserved bit: it refers to a table,
+/// or maps a page.
+pub fn entries_are_present()
+    ensures { EntriesArePresent }
+{}
+
+/// A turn that only reads brings the walk of a processor at home further, and at most to its page.
+pub fn reads_go_further()
+    ensures { ReadsGoFurther }
+{}
+
+/// In version 1 five turns of a processor carry its instruction out, unless one is stopped,
+/// whatever the others do between.
+pub fn five_turns_carry_out()
+    ensures { FiveTurnsCarryOut }
+{}
+
+/// In both versions nine turns of a processor carry its instruction out, unless one is stopped,
+/// where no other processor has a turn between.
+pub fn nine_turns_carry_out()
+    ensures { NineTurnsCarryOut }
 {}
