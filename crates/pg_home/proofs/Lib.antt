@@ -15,3 +15,4 @@ pub mod Transcripts
 pub mod Rows
 pub mod Further
 pub mod Counts
+pub mod Numbers

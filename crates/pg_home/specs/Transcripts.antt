@@ -1,6 +1,6 @@
 -- What the receipts of a processor say: its own events of the record, with their numbers.
 use Rattle.std.specs.Prelude.{◌≡◌, ◌≢◌, ℕ, ◌+◌, ◌==◌, if◌then◌else◌, List, [], ◌∷◌, take}
-use Rattle.std.specs.Prelude.{Some, Option, None, slice_get}
+use Rattle.std.specs.Prelude.{Some, Option, None, slice_get, ◌<◌, length}
 use Rattle.std.specs.List.{AllByRecursion, flat_map}
 use Rattle.pg_event.specs.declared.event.Event.{Event}
 use Rattle.pg_event.specs.Form.{processor_of}
@@ -72,3 +72,16 @@ abbrev pub EndedHaveToldAll : Type 0
 EndedHaveToldAll = (p : ℕ) (r : Recording) (x : Processor) (t : Turned) →
     IsTold r.events p x → IsTurn p r x t → t.answer ≡ Ended →
     shapes_of x.transcript ≡ x.instructions
+
+-- each event is of one of so many processors
+abbrev pub AreOf : ℕ → List Event → Type 0
+AreOf count events = AllByRecursion (λ e. processor_of e < count) events
+
+-- the receipts of all processors, one after another
+abbrev pub all_receipts : List Processor → List Receipt
+all_receipts xs = flat_map (λ x. x.transcript) xs
+
+-- transcripts that are told hold all events of their processors, and no other: they are as many
+abbrev pub TranscriptsHoldAll : Type 0
+TranscriptsHoldAll = (r : Recording) (xs : List Processor) →
+    AreTold r xs → AreOf (length xs) r.events → length (all_receipts xs) ≡ length r.events

@@ -6,7 +6,7 @@ ghost use Rattle.pg_home.specs.Laws.{CoreRunsGoOn};
 ghost use Rattle.pg_home.specs.Progress.{EntriesArePresent, ReadsGoFurther, FiveTurnsCarryOut};
 ghost use Rattle.pg_home.specs.Progress.{NineTurnsCarryOut};
 ghost use Rattle.pg_home.specs.Transcripts.{FreshAreTold, TurnsAreTold, CoreRunsAreTold};
-ghost use Rattle.pg_home.specs.Transcripts.{EndedHaveToldAll};
+ghost use Rattle.pg_home.specs.Transcripts.{EndedHaveToldAll, TranscriptsHoldAll};
 
 /// New processors are at home in a new record.
 pub fn fresh_are_at_home()
@@ -58,6 +58,12 @@ pub fn turns_are_told()
 /// So does every core run.
 pub fn core_runs_are_told()
     ensures { CoreRunsAreTold }
+{}
+
+/// All transcripts together are as long as the record, where each event is of a processor: so they
+/// hold no other event.
+pub fn transcripts_hold_all()
+    ensures { TranscriptsHoldAll }
 {}
 
 /// A processor that has ended has all its instructions in its transcript.
