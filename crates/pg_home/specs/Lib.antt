@@ -1,0 +1,6 @@
+pub mod Turn
+pub mod CoreRun
+pub mod Home
+pub mod Laws
+pub mod Transcripts
+pub mod Progress

@@ -1,0 +1,13 @@
+//! What the turns of recorded processors are, and that no run of them is refused by the auditor.
+#![tactic(auto)]
+
+mod advance;
+mod laws;
+
+pub use advance::{Advance, Stop};
+pub use laws::{
+    core_runs_are_accepted, core_runs_are_told, core_runs_go_on, core_runs_keep_quiet,
+    ended_have_told_all, entries_are_present, five_turns_carry_out, fresh_are_at_home,
+    fresh_are_told, nine_turns_carry_out, others_stay_at_home, reads_go_further,
+    transcripts_hold_all, turns_are_told, turns_keep_home, turns_keep_quiet,
+};
