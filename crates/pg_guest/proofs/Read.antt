@@ -1,0 +1,40 @@
+-- What was read, by what the calls on the way gave.
+use Rattle.std.proofs.Common.{◌≡◌, ℕ, Bool, List, [], ◌∷◌, ◌++◌, sym, ◌∙◌, ap, subst}
+use Rattle.pg_entry.specs.declared.Cfg.{Cfg}
+use Rattle.pg_entry.specs.declared.Kind.{Kind}
+use Rattle.pg_entry.specs.declared.Kind.TheVariants.{Leaf}
+use Rattle.pg_entry.specs.declared.Rights.{Rights}
+use Rattle.pg_entry.specs.Kinds.{dirty, kind_of}
+use Rattle.pg_entry.specs.Permission.{joined}
+use Rattle.pg_shadow.specs.declared.entries.Found.{Found}
+use Rattle.pg_world.specs.declared.walk.LevelRead.{LevelRead}
+use Rattle.pg_world.specs.declared.walk.LevelRead.TheVariants.{Entry}
+use Rattle.pg_world.specs.declared.walk.Walk.{Walk}
+use Rattle.pg_world.specs.Recording.{Recording}
+use Rattle.pg_world.specs.Walks.{moments_of, found_in, after_found}
+use Rattle.pg_home.specs.declared.advance.Advance.{Advance}
+use Rattle.pg_home.specs.Turn.{Processor, Turned, keeps, after_read, reads}
+use Rattle.pg_guest.specs.Steps.{ComesTo, has_page}
+
+pub leaf_so : (r : Recording) (x : Processor) (walk : Walk) (t : Turned) (value frame shift : ℕ) (global_bit is_dirty : Bool) (rights : Rights) (moments all : List ℕ) (kind : Kind) →
+    rights ≡ joined walk.rights value → is_dirty ≡ dirty value → moments ≡ all → Leaf frame shift global_bit ≡ kind →
+    ComesTo r x (has_page r x walk shift global_bit (record { frame = frame; rights = rights; dirty = is_dirty; moments = moments })) t → ComesTo r x (keeps r x walk value all kind) t
+leaf_so r x walk t value frame shift global_bit is_dirty rights moments all kind a b c d h =
+    subst (λ k. ComesTo r x (keeps r x walk value all k) t) d
+    (subst (λ ms. ComesTo r x (has_page r x walk shift global_bit (record { frame = frame; rights = joined walk.rights value; dirty = dirty value; moments = ms })) t) c
+    (subst (λ b. ComesTo r x (has_page r x walk shift global_bit (record { frame = frame; rights = joined walk.rights value; dirty = b; moments = moments })) t) b
+    (subst (λ rs. ComesTo r x (has_page r x walk shift global_bit (record { frame = frame; rights = rs; dirty = is_dirty; moments = moments })) t) a h)))
+
+-- a turn that keeps what was read is the read, whose entry was given
+pub entry_so : (n p : ℕ) (r end : Recording) (x z y : Processor) (way : Found) (walk : Walk) (a : Advance) (value moment : ℕ) (cfg : Cfg) →
+    n ≡ p → x ≡ z → cfg ≡ r.head.cfg → found_in r n walk ≡ Entry value moment → end ≡ after_found r (found_in r n walk) →
+    ((s : Recording) → ComesTo s x (keeps s x walk value (moments_of walk.moments ++ moment ∷ []) (kind_of cfg walk.level value)) (record { answer = a; world = s; processor = y })) →
+    ComesTo r z (reads p r z way walk) (record { answer = a; world = end; processor = y })
+entry_so n p r end x z y way walk a value moment cfg numbers same settings found left kept =
+    let end_is : end ≡ r = left ∙ ap (after_found r) found in
+    let t : Recording → Turned = λ w. record { answer = a; world = w; processor = y } in
+    let here = subst (λ (c : Cfg). ComesTo r x (keeps r x walk value (moments_of walk.moments ++ moment ∷ []) (kind_of c walk.level value)) (t r)) settings (kept r) in
+    let read = subst (λ (f : LevelRead). ComesTo r x (after_read r x way walk f) (t r)) (sym found) here in
+    let ended = subst (λ (w : Recording). ComesTo r x (reads n r x way walk) (t w)) (sym end_is) read in
+    let own = subst (λ m. ComesTo r x (reads m r x way walk) (t end)) numbers ended in
+    subst (λ (q : Processor). ComesTo r q (reads p r q way walk) (t end)) same own

@@ -1,0 +1,22 @@
+use Rattle.std.proofs.Common.{◌≡◌, ◌+◌, ◌∷◌, [], length, ◌∙◌, ap, arith, length-append}
+use Rattle.pg_event.specs.Heads.{Head}
+use Rattle.pg_guest.proofs.Placed.{one_more}
+use Rattle.pg_guest.proofs.driver.processors.Goals as goal
+
+pub loop-p-preserved : goal.loop-p-preserved
+loop-p-preserved c =
+    let made = c.loop-p.invariant in
+    let hs = c.loop-p.processors.items in
+    rw c.in_ok-push.ensures.items (record {
+      count = length-append hs (c.in_ok-processor_of.field-0 ∷ []) ∙ ap (λ n. n + 1) made.count;
+      each = one_more c.args.script.now c.loop-p.p hs c.in_ok-processor_of.field-0 made c.in_ok-processor_of.ensures;
+    })
+
+pub returns : goal.returns
+returns c =
+    let made = c.loop-p.invariant in
+    let header : length c.header.inside.processors.items ≡ length c.args.script.now.head.processors = ap (λ (head : Head). length head.processors) (c.header.view_is ∙ c.header-header.ensures.header) in
+    record {
+      count = omega (arith, made.count, header, c.len-count.ensures, c.header.inside.processors.ok.0);
+      each = made.each;
+    }

@@ -1,0 +1,38 @@
+use Rattle.std.proofs.Common.{◌≡◌, List, true, sym, ◌∙◌, ap, subst}
+use Rattle.pg_entry.specs.declared.Cfg.{Cfg}
+use Rattle.pg_entry.specs.Kinds.{kind_of}
+use Rattle.pg_event.specs.declared.event.Want.TheVariants.{Present}
+use Rattle.pg_event.specs.Wants.{is_wanted}
+use Rattle.pg_shadow.specs.Held.{seen as cached}
+use Rattle.pg_world.specs.declared.receipt.Receipt.{Receipt}
+use Rattle.pg_world.specs.declared.walk.LevelRead.TheVariants.{Entry}
+use Rattle.pg_world.specs.Walks.{found_in}
+use Rattle.pg_home.specs.Turn.{Processor}
+use Rattle.pg_home.proofs.Further.{entries_are_present}
+use Rattle.pg_guest.specs.Held.{Held, seen}
+use Rattle.pg_guest.proofs.Read.{entry_so}
+use Rattle.pg_guest.proofs.processor.Processor.read.Goals as goal
+
+pub keep-requires-clause-present : goal.keep-requires-clause-present
+keep-requires-clause-present c =
+    let r = c.args.world.now in
+    let found : found_in r c.self.inside.number c.args.walk.now ≡ Entry c.in-Ok-Entry.value c.in-Ok-Entry.moment = sym c.in-Ok-Entry.ensures.found ∙ c.in-Ok-Entry.field-0-is in
+    subst (λ (cfg : Cfg). is_wanted Present (kind_of cfg c.args.walk.now.level c.in-Ok-Entry.value) ≡ true) (sym c.cfg_of-cfg.ensures)
+    (entries_are_present r c.self.inside.number c.args.walk.now c.in-Ok-Entry.value c.in-Ok-Entry.moment found)
+
+pub returns-in-Ok-Entry-clause-turn : goal.returns-in-Ok-Entry-clause-turn
+returns-in-Ok-Entry-clause-turn c =
+    let r = c.args.world.now in
+    let was = c.self.inside in
+    let with_room : List Receipt → Processor = λ transcript. record {
+      instructions = was.instructions.items;
+      place = was.place;
+      way = was.way;
+      transcript = transcript;
+      caches = cached was.shadow;
+    } in
+    let number : was.number ≡ c.args.self.now.number = ap (λ (h : Held). h.number) c.self.view_is in
+    let same : with_room c.reserve.new.self.items ≡ seen c.args.self.now = ap with_room c.reserve.ensures.items ∙ ap seen c.self.view_is in
+    let found : found_in r was.number c.args.walk.now ≡ Entry c.in-Ok-Entry.value c.in-Ok-Entry.moment = sym c.in-Ok-Entry.ensures.found ∙ c.in-Ok-Entry.field-0-is in
+    entry_so was.number c.args.self.now.number r c.read_level.new.world _ _ (seen c.keep.new.self) c.args.way c.args.walk.now c.keep.result c.in-Ok-Entry.value c.in-Ok-Entry.moment c.cfg_of-cfg.result
+    number same c.cfg_of-cfg.ensures found c.in-Ok-Entry.ensures.recorded c.keep.ensures.turn

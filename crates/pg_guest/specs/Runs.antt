@@ -1,0 +1,35 @@
+-- Runs of processors in memory.
+use Rattle.std.specs.Prelude.{◌≡◌, ℕ, List, length, Some, slice_get}
+use Rattle.pg_event.specs.Heads.{Head}
+use Rattle.pg_event.specs.Witness.{Accepted}
+use Rattle.pg_script.specs.Reading.{Scripted}
+use Rattle.pg_script.specs.Tasks.{instructions_of}
+use Rattle.pg_world.specs.Recording.{Recording}
+use Rattle.pg_home.specs.Turn.{Processor, fresh}
+use Rattle.pg_home.specs.Home.{IsAtHome}
+use Rattle.pg_home.specs.Laws.{KeepsHome}
+use Rattle.pg_guest.specs.Held.{Held, seen}
+use Rattle.pg_guest.specs.Steps.{IsOfRun}
+
+-- where the record is accepted and p is at home, both hold afterwards, and all others stay at home
+abbrev pub StaysAtHome : ℕ → Recording → Recording → Processor → Processor → Type 0
+StaysAtHome p old new before after =
+    Accepted old.head old.events → IsAtHome old.head old.events p before → KeepsHome p old new after
+
+-- each processor stands at the place that is its number, and is of the run
+pub record IsPlaced (head : Head) (p : ℕ) (h : Held) : Type 0 where
+  pub number : h.number ≡ p
+  pub run : IsOfRun head p (seen h)
+
+abbrev pub ArePlaced : Head → List Held → Type 0
+ArePlaced head hs = (p : ℕ) (h : Held) → slice_get hs p ≡ Some h → IsPlaced head p h
+
+-- processor p of a script before the first of its instructions
+pub record IsNew (script : Scripted) (p : ℕ) (h : Held) : Type 0 where
+  pub placed : IsPlaced script.head p h
+  pub fresh_is : seen h ≡ fresh script.head p (instructions_of p script.tasks)
+
+-- so are all of them
+pub record AreNew (script : Scripted) (hs : List Held) : Type 0 where
+  pub count : length hs ≡ length script.head.processors
+  pub each : (p : ℕ) (h : Held) → slice_get hs p ≡ Some h → IsNew script p h

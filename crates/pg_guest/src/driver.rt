@@ -1,0 +1,63 @@
+//! Runs of processors, turn by turn.
+
+ghost use Rattle.std.specs.Prelude.{◌≡◌, ◌<◌, length, map, IfOk, OnErr};
+ghost use Rattle.std.specs.List.{AllByRecursion};
+ghost use Rattle.pg_home.specs.CoreRun.{IsCoreRun};
+ghost use Rattle.pg_home.specs.Laws.{IsQuiet};
+ghost use Rattle.pg_guest.specs.Held.{seen};
+ghost use Rattle.pg_guest.specs.Runs.{ArePlaced, IsNew, AreNew};
+
+use crate::processor::Processor;
+use pg_home::Advance;
+use pg_script::Script;
+use pg_world::World;
+use std::alloc::{AllocError, Global};
+
+/// Processor `p` of a script, before the first of its instructions.
+fn processor_of(alloc: Global, script: &Script, p: u16) -> Result<Processor, AllocError>
+    requires { p < length script.now.head.processors }
+    ensures { IfOk result (λ processor. IsNew script.now p processor) }
+{
+    let instructions = Vec::from_slice(alloc, script.instructions(p))?;
+    Ok(Processor::new(alloc, script.header(), p, instructions))
+}
+
+/// The processors of a script, each before the first of its instructions.
+pub fn processors(alloc: Global, script: &Script) -> Result<Vec<Processor>, AllocError>
+    ensures { IfOk result (λ processors. AreNew script.now processors.items) }
+{
+    let header = script.header();
+    let count = header.processors.len();
+    let mut processors = Vec::new(alloc);
+    for p in 0..count as u16 {
+        processors.push(processor_of(alloc, script, p)?)?;
+    }
+    Ok(processors)
+}
+
+/// Gives one turn after another to the processors with these numbers, and tells what each turn came
+/// to. Room for the answers is taken first: where it is refused nothing is changed.
+pub fn drive(
+    alloc: Global,
+    world: &mut World,
+    processors: &mut [Processor],
+    turns: &[u16],
+) -> Result<Vec<Advance>, AllocError>
+    requires placed { ArePlaced world.old.head processors.old }
+    requires turns { AllByRecursion (λ p. p < length processors.old) turns.now }
+    ensures run { IfOk result (λ answers. IsCoreRun
+        world.old (map seen processors.old) turns.now answers.items
+        world.new (map seen processors.new)) }
+    ensures placed { ArePlaced world.new.head processors.new }
+    ensures quiet { IsQuiet world.old (map seen processors.old) →
+        IsQuiet world.new (map seen processors.new) }
+    ensures err { OnErr result ((world.new ≡ world.old) × (processors.new ≡ processors.old)) }
+{
+    let mut answers = Vec::with_capacity(alloc, turns.len())?;
+    for p in turns {
+        let processor = &mut processors[*p as usize];
+        let answer = processor.advance(world);
+        answers.push_reserved(answer);
+    }
+    Ok(answers)
+}
