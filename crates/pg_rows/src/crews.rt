@@ -43,7 +43,11 @@ fn the_same_by_the_program(rt: HostRuntime) -> Result<(), Fail> {
         let words = ["check", "--checkers", checkers];
         let status = pcid_audit(&rt, &words, &mut input, &mut output, &mut errors);
         assert_eq!(rt; status, 1, "{checkers}");
-        assert_eq!(rt; output.inner.as_slice(), TEN_SEGMENTS.output.as_bytes(), "{checkers}");
+        assert_eq!(rt;
+            output.inner.as_slice(),
+            TEN_SEGMENTS.output.as_bytes(),
+            "{checkers}"
+        );
         assert!(rt; errors.inner.is_empty(), "{checkers}");
     }
     Ok(())
