@@ -10,11 +10,14 @@ use Rattle.pg_script.specs.Reading.{Scripted}
 use Rattle.pg_script.specs.Tasks.{IsWellFormed, instructions_of}
 use Rattle.pg_world.specs.Recording.{Recording}
 use Rattle.pg_home.specs.declared.advance.Advance.{Advance}
-use Rattle.pg_home.specs.CoreRun.{IsCoreRun}
+use Rattle.pg_home.specs.CoreRun.{unwritten, IsCoreRun}
+use Rattle.pg_home.specs.Laws.{IsQuiet}
+use Rattle.pg_home.specs.Transcripts.{IsTold, AreWellFormed, AreTold}
 use Rattle.pg_home.specs.Turn.{Processor, Turned, fresh, IsTurn}
-use Rattle.pg_home.proofs.Runs.{core_runs_go_on}
+use Rattle.pg_home.proofs.Runs.{core_runs_go_on, fresh_are_quiet}
+use Rattle.pg_home.proofs.Transcripts.{fresh_are_told}
 use Rattle.pg_guest.specs.Held.{Held, seen}
-use Rattle.pg_guest.specs.Runs.{IsPlaced, ArePlaced, IsNew}
+use Rattle.pg_guest.specs.Runs.{IsPlaced, ArePlaced, IsNew, AreNew}
 use Rattle.pg_guest.specs.Steps.{IsOfRun}
 use Rattle.pg_guest.proofs.Runs.{stays_of_run, others_of_run}
 
@@ -63,6 +66,28 @@ is_new script p h own number made is well =
 pub one_more : (script : Scripted) (p : ℕ) (hs : List Held) (h : Held) → AreMade script p hs → IsNew script p h → (k : ℕ) (x : Held) → slice_get (hs ++ h ∷ []) k ≡ Some x → IsNew script k x
 one_more script p hs h made new =
     pushed (IsNew script) hs h made.each (subst (λ n. IsNew script n h) (sym made.count) new)
+
+-- the processors as their turns see them
+seen_at : (hs : List Held) (p : ℕ) (x : Processor) → slice_get (map seen hs) p ≡ Some x → (h : Held) × (slice_get hs p ≡ Some h) × (seen h ≡ x)
+seen_at [] p x is = absurd (cc)
+seen_at (h ∷ hs) zero x is = (h, refl, same_Some (seen h) x is)
+seen_at (h ∷ hs) (suc p) x is = seen_at hs p x is
+
+seen_new : (script : Scripted) (hs : List Held) → AreNew script hs → (p : ℕ) (x : Processor) → slice_get (map seen hs) p ≡ Some x →
+    AreWellFormed script.head p x × (x ≡ fresh script.head p (instructions_of p script.tasks))
+seen_new script hs new p x is =
+    let at = seen_at hs p x is in
+    let here : IsNew script p at.0 = new.each p at.0 at.1 in
+    (subst (AreWellFormed script.head p) at.2 here.placed.run.well, sym at.2 ∙ here.fresh_is)
+
+pub new_are_quiet : (script : Scripted) (hs : List Held) → AreNew script hs → IsQuiet (unwritten script.head) (map seen hs)
+new_are_quiet script hs new = fresh_are_quiet script.head (map seen hs) (λ p x is. (instructions_of p script.tasks, (seen_new script hs new p x is).1))
+
+pub new_are_told : (script : Scripted) (hs : List Held) → AreNew script hs → AreTold (unwritten script.head) (map seen hs)
+new_are_told script hs new = record {
+  well = λ p x is. (seen_new script hs new p x is).0;
+  told = λ p x is. subst (IsTold [] p) (sym (seen_new script hs new p x is).1) (fresh_are_told script.head p (instructions_of p script.tasks));
+}
 
 -- ---- turns
 

@@ -1,20 +1,21 @@
 //! Calls of the world by a turn.
 
-ghost use Rattle.std.specs.Prelude.{◌≡◌, ◌≢◌, true, OnOk, OnErr, IfOk, IfErr, IsErrAnd, Err};
-ghost use Rattle.std.specs.Prelude.{MatchResult};
+ghost use Rattle.std.specs.Prelude.{◌≡◌, ◌≢◌, ◌≤◌, true, OnOk, OnErr, IfOk, IfErr, IsErrAnd};
+ghost use Rattle.std.specs.Prelude.{MatchResult, Err, None};
 ghost use Rattle.pg_world.specs.Recording.{receipt_of, with_event};
 ghost use Rattle.pg_world.specs.Walks.{is_walk, found_in, after_found};
-ghost use Rattle.pg_home.specs.Turn.{MayStop};
-ghost use Rattle.pg_guest.specs.Steps.{IsOwnEvent, IsStopOf};
+ghost use Rattle.pg_home.specs.Turn.{MayStop, refused_event, refused_by};
+ghost use Rattle.pg_guest.specs.Steps.{IsOwnEvent, IsStopOf, answer_of};
 
 use pg_entry::Cfg;
 use pg_event::Event;
-use pg_home::Stop;
+use pg_home::{Advance, Stop};
 use pg_world::{LevelRead, Receipt, Walk, World, WorldError};
 
 /// What paging depends on in this world.
 pub(crate) fn cfg_of(world: &World) -> Cfg
-    ensures { result ≡ world.now.head.cfg }
+    ensures value { result ≡ world.now.head.cfg }
+    ensures range { (36 ≤ result.m) × (result.m ≤ 52) }
 {
     world.header().cfg
 }
@@ -49,7 +50,10 @@ pub(crate) fn record(world: &mut World, p: u16, event: &Event) -> Result<Receipt
     ensures receipt { IfOk result
         (λ receipt. receipt ≡ receipt_of world.old.events event.now) }
     ensures recorded { OnOk result (world.new ≡ with_event world.old event.now) }
-    ensures refused { IfErr result (MayStop world.old) }
+    ensures ok { OnOk result (refused_event world.old ≡ None) }
+
+    ensures refused { IfErr result
+        (MayStop world.old (Advance.Done (receipt_of world.old.events event.now))) }
     ensures err { OnErr result (world.new ≡ world.old) }
 {
     match *event {
@@ -69,7 +73,11 @@ pub(crate) fn read_level(world: &mut World, p: u16, walk: &Walk) -> Result<Level
     ensures found { IfOk result (λ found. found ≡ found_in world.old p walk.now) }
     ensures recorded { OnOk result
         (world.new ≡ after_found world.old (found_in world.old p walk.now)) }
-    ensures refused { IfErr result (MayStop world.old) }
+    ensures ok { IfOk result
+        (λ found. refused_by world.old (answer_of walk.now.level found) ≡ None) }
+
+    ensures refused { IfErr result
+        (MayStop world.old (answer_of walk.now.level (found_in world.old p walk.now))) }
     ensures err { OnErr result (world.new ≡ world.old) }
 {
     match world.read_or_fault(p, walk) {

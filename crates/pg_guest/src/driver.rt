@@ -2,8 +2,10 @@
 
 ghost use Rattle.std.specs.Prelude.{◌≡◌, ◌<◌, length, map, IfOk, OnErr};
 ghost use Rattle.std.specs.List.{AllByRecursion};
-ghost use Rattle.pg_home.specs.CoreRun.{IsCoreRun};
+ghost use Rattle.pg_home.specs.CoreRun.{unwritten, IsCoreRun};
 ghost use Rattle.pg_home.specs.Laws.{IsQuiet};
+ghost use Rattle.pg_home.specs.Leaves.{LeaveAll};
+ghost use Rattle.pg_home.specs.Transcripts.{AreTold};
 ghost use Rattle.pg_guest.specs.Held.{seen};
 ghost use Rattle.pg_guest.specs.Runs.{ArePlaced, IsNew, AreNew};
 
@@ -24,7 +26,11 @@ fn processor_of(alloc: Global, script: &Script, p: u16) -> Result<Processor, All
 
 /// The processors of a script, each before the first of its instructions.
 pub fn processors(alloc: Global, script: &Script) -> Result<Vec<Processor>, AllocError>
-    ensures { IfOk result (λ processors. AreNew script.now processors.items) }
+    ensures made { IfOk result (λ processors. AreNew script.now processors.items) }
+    ensures quiet { IfOk result
+        (λ processors. IsQuiet (unwritten script.now.head) (map seen processors.items)) }
+    ensures told { IfOk result
+        (λ processors. AreTold (unwritten script.now.head) (map seen processors.items)) }
 {
     let header = script.header();
     let count = header.processors.len();
@@ -37,6 +43,10 @@ pub fn processors(alloc: Global, script: &Script) -> Result<Vec<Processor>, Allo
 
 /// Gives one turn after another to the processors with these numbers, and tells what each turn came
 /// to. Room for the answers is taken first: where it is refused nothing is changed.
+///
+/// Each processor has to stand at the place that is its number, and to be of this world's run, as
+/// those that `processors` makes of the script whose header the world has; and each number has to
+/// be a place among them. All stay so.
 pub fn drive(
     alloc: Global,
     world: &mut World,
@@ -49,8 +59,12 @@ pub fn drive(
         world.old (map seen processors.old) turns.now answers.items
         world.new (map seen processors.new)) }
     ensures placed { ArePlaced world.new.head processors.new }
+    ensures leaves { LeaveAll
+        world.old world.new (map seen processors.old) (map seen processors.new) }
     ensures quiet { IsQuiet world.old (map seen processors.old) →
         IsQuiet world.new (map seen processors.new) }
+    ensures told { AreTold world.old (map seen processors.old) →
+        AreTold world.new (map seen processors.new) }
     ensures err { OnErr result ((world.new ≡ world.old) × (processors.new ≡ processors.old)) }
 {
     let mut answers = Vec::with_capacity(alloc, turns.len())?;

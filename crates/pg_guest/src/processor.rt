@@ -1,4 +1,4 @@
-ghost use Rattle.std.specs.Prelude.{◌≡◌, ◌<◌, ◌++◌, ◌∷◌, [], true, length, Some};
+ghost use Rattle.std.specs.Prelude.{◌≡◌, ◌+◌, ◌<◌, ◌≤◌, ◌++◌, ◌∷◌, [], true, false, length, Some};
 ghost use Rattle.std.specs.Prelude.{vec_len, vec_capacity};
 ghost use Rattle.pg_entry.specs.Kinds.{kind_of};
 ghost use Rattle.pg_event.specs.Spelling.{IsHead};
@@ -12,15 +12,17 @@ ghost use Rattle.pg_shadow.specs.Find.{IsInRange};
 ghost use Rattle.pg_world.specs.Recording.{Recording};
 ghost use Rattle.pg_world.specs.Walks.{is_walk, moments_of, levels_above};
 ghost use Rattle.pg_home.specs.Turn.{fresh, carried_out, begun, goes_on, reads, keeps, IsTurn};
-ghost use Rattle.pg_home.specs.Turn.{turned_by};
+ghost use Rattle.pg_home.specs.Turn.{turned_by, has_table, has_page, ComesTo};
+ghost use Rattle.pg_home.specs.Leaves.{Leaves};
+ghost use Rattle.pg_home.specs.Transcripts.{KeepsTold};
 ghost use Rattle.pg_guest.specs.Held.{seen};
 ghost use Rattle.pg_guest.specs.Runs.{StaysAtHome};
-ghost use Rattle.pg_guest.specs.Steps.{IsOfRun, IsOwnEvent, ComesTo, has_table, has_page};
+ghost use Rattle.pg_guest.specs.Steps.{IsOfRun, IsOwnEvent};
 
 use crate::calls::{cfg_of, read_level, record};
-use crate::walks::{address_in, from_root, from_table, moments_with, outcome_of};
+use crate::walks::{address_in, from_root, from_table, outcome_of};
 use pg_entry::{AccessKind, Cfg, Entry, Kind, classify, combine, dirty};
-use pg_event::{Event, Header, access_kind};
+use pg_event::{Event, Header, Moments, Outcome, access_kind};
 use pg_home::{Advance, Stop};
 use pg_script::Instruction;
 use pg_shadow::{Found, KeptLeaf, KeptTable, Shadow};
@@ -94,6 +96,13 @@ impl Processor {
         }
     }
 
+    /// Its number in the run.
+    pub fn number(&self) -> u16
+        ensures { result ≡ self.now.number }
+    {
+        self.number
+    }
+
     /// Its instructions.
     pub fn instructions(&self) -> &[Instruction]
         ensures { result.now ≡ self.now.instructions }
@@ -124,6 +133,18 @@ impl Processor {
         Advance::Stopped(why)
     }
 
+    /// Goes on to the next instruction, as this event carried one out.
+    fn done(&mut self, receipt: Receipt) -> Advance
+        requires { self.old.place < length self.old.instructions }
+        ensures answer { result ≡ Advance.Done receipt }
+        ensures left { self.new
+            ≡ record self.old { place = self.old.place + 1; way = Found.Miss } }
+    {
+        self.place += 1;
+        self.way = Found::Miss;
+        Advance::Done(receipt)
+    }
+
     /// Carries the instruction out by an event that is known.
     fn carry_out(&mut self, world: &mut World, event: &Event) -> Advance
         requires event { IsOwnEvent world.old.head self.old.number event.now }
@@ -139,9 +160,7 @@ impl Processor {
         match record(world, self.number, event) {
             Ok(receipt) => {
                 note(&mut self.transcript, &mut self.shadow, &receipt);
-                self.place += 1;
-                self.way = Found::Miss;
-                Advance::Done(receipt)
+                self.done(receipt)
             }
             Err(why) => self.stopped(why),
         }
@@ -153,7 +172,7 @@ impl Processor {
             kept.moments }
         requires due { self.old.place < length self.old.instructions }
         ensures number { self.new.number ≡ self.old.number }
-        ensures turn { (r : Recording) → let x = seen self.old in
+        ensures turn { (r : Recording) → r.finished ≡ false → let x = seen self.old in
             ComesTo r x (has_table r x walk.now kept)
             (record { answer = result; world = r; processor = seen self.new }) }
     {
@@ -182,7 +201,7 @@ impl Processor {
         requires page { IsPageAt (cached self.old.shadow).width shift kept.frame kept.moments }
         requires due { self.old.place < length self.old.instructions }
         ensures number { self.new.number ≡ self.old.number }
-        ensures turn { (r : Recording) → let x = seen self.old in
+        ensures turn { (r : Recording) → r.finished ≡ false → let x = seen self.old in
             ComesTo r x (has_page r x walk.now shift global_bit kept)
             (record { answer = result; world = r; processor = seen self.new }) }
     {
@@ -211,19 +230,18 @@ impl Processor {
     /// Keeps what an entry that was read refers to or maps.
     fn keep(&mut self, cfg: Cfg, walk: &Walk, value: u64, moment: u32) -> Advance
         requires width { (cached self.old.shadow).width ≡ cfg.m }
+        requires range { (36 ≤ cfg.m) × (cfg.m ≤ 52) }
         requires due { self.old.place < length self.old.instructions }
         requires moments { length (moments_of walk.now.moments) ≡ levels_above walk.now.level }
         requires present { is_wanted wants.Present (kind_of cfg walk.now.level value) ≡ true }
         ensures number { self.new.number ≡ self.old.number }
-        ensures turn { (r : Recording) → let x = seen self.old in
+        ensures turn { (r : Recording) → r.finished ≡ false → let x = seen self.old in
             let moments = moments_of walk.now.moments ++ moment ∷ [] in
             ComesTo r x (keeps r x walk.now value moments (kind_of cfg walk.now.level value))
             (record { answer = result; world = r; processor = seen self.new }) }
     {
         let rights = combine(walk.rights, Entry(value));
-        let moments = moments_with(&walk.moments, moment);
-        // For what it says of the range of physical addresses.
-        let _width = self.shadow.width();
+        let moments = walk.moments_with(moment);
         match classify(cfg, walk.level, Entry(value)) {
             Kind::Absent | Kind::Reserved => unreachable!(),
             Kind::Table { addr } => {
@@ -269,9 +287,7 @@ impl Processor {
             Ok(LevelRead::Entry { value, moment }) => self.keep(cfg, walk, value, moment),
             Ok(LevelRead::Fault(receipt)) => {
                 note(&mut self.transcript, &mut self.shadow, &receipt);
-                self.place += 1;
-                self.way = Found::Miss;
-                Advance::Done(receipt)
+                self.done(receipt)
             }
             Ok(LevelRead::Assisted(receipt)) => {
                 note(&mut self.transcript, &mut self.shadow, &receipt);
@@ -291,6 +307,33 @@ impl Processor {
             Found::Hit { .. } | Found::Partial { .. } => self.way,
             Found::Miss => self.shadow.find(la, kind, header),
         }
+    }
+
+    /// Carries an access out that found a page by these moments.
+    fn access(
+        &mut self,
+        world: &mut World,
+        flags: u8,
+        la: u64,
+        outcome: Outcome,
+        moments: Moments,
+    ) -> Advance
+        requires well { IsWellFormed world.old.head self.old.number (instructions.Access flags la) }
+        requires due { self.old.place < length self.old.instructions }
+        ensures number { self.new.number ≡ self.old.number }
+        ensures turn { let x = seen self.old in
+            ComesTo world.old x
+            (carried_out world.old x (Event.Access self.old.number flags la outcome moments))
+            (record { answer = result; world = world.new; processor = seen self.new }) }
+    {
+        let access = Event::Access {
+            p: self.number,
+            flags,
+            la,
+            outcome,
+            moments,
+        };
+        self.carry_out(world, &access)
     }
 
     /// Goes on with an access whose walk stands so far.
@@ -315,14 +358,8 @@ impl Processor {
                 ..
             } => {
                 let address = address_in(frame, shift, la);
-                let access = Event::Access {
-                    p: self.number,
-                    flags,
-                    la,
-                    outcome: outcome_of(cfg_of(world), kind, rights, address),
-                    moments,
-                };
-                self.carry_out(world, &access)
+                let outcome = outcome_of(cfg_of(world), kind, rights, address);
+                self.access(world, flags, la, outcome, moments)
             }
             Found::Partial {
                 level,
@@ -388,15 +425,21 @@ impl Processor {
     ///
     /// Where it is stopped nothing was recorded, what was cached stays, and the next turn begins
     /// the instruction again.
+    ///
+    /// The processor has to be one of this world's run: made by `processors` from the script whose
+    /// header the world has, or by `new` with that header and with instructions that are well
+    /// formed under it. Its turns in that world and those of the others keep it so.
     pub fn advance(&mut self, world: &mut World) -> Advance
         requires { IsOfRun world.old.head self.old.number (seen self.old) }
         ensures number { self.new.number ≡ self.old.number }
         ensures turn { IsTurn self.old.number world.old (seen self.old)
             (record { answer = result; world = world.new; processor = seen self.new }) }
 
-        ensures settings { world.new.head ≡ world.old.head }
+        ensures leaves { Leaves world.old world.new (seen self.old) (seen self.new) }
         ensures run { IsOfRun world.new.head self.new.number (seen self.new) }
         ensures home { StaysAtHome self.old.number world.old world.new (seen self.old)
+            (seen self.new) }
+        ensures told { KeepsTold self.old.number world.old world.new (seen self.old)
             (seen self.new) }
     {
         self.turn(world)

@@ -2,7 +2,7 @@ ghost use Rattle.std.specs.Prelude.{◌≡◌, ◌<◌, ◌-◌, ◌^◌, length
 ghost use Rattle.std.specs.List.{AllByRecursion};
 ghost use Rattle.pg_guest.specs.Runs.{ArePlaced};
 
-use crate::{Advance, Processor, drive, processors};
+use crate::{Advance, Processor, Stop, drive, processors};
 use pg_event::{Event, Moments, Outcome};
 use pg_script::Script;
 use pg_world::{Receipt, World};
@@ -49,10 +49,15 @@ fn moments(at: [u32; 4]) -> Result<Moments, &'static str> {
 
 /// The receipt of a user read of 0x5123.
 fn read_of(moment: u32, outcome: Outcome, at: [u32; 4]) -> Result<Receipt, &'static str> {
+    read_at(0x5123, moment, outcome, at)
+}
+
+/// The receipt of a user read.
+fn read_at(la: u64, moment: u32, outcome: Outcome, at: [u32; 4]) -> Result<Receipt, &'static str> {
     let event = Event::Access {
         p: 0,
         flags: 4,
-        la: 0x5123,
+        la,
         outcome,
         moments: moments(at)?,
     };
@@ -170,5 +175,94 @@ cpu 0x1001 1
     assert_eq!(rt; receipts.get(8).copied(), Some(answered));
     assert_eq!(rt; receipts.get(12).copied(), Some(faulted));
     assert_eq!(rt; last, Some(Advance::Ended));
+    Ok(())
+}
+
+/// A finished record takes nothing more; a processor that has ended asks for nothing.
+#[test]
+fn turns_in_a_finished_world(rt: HostRuntime) -> Result<(), Fail> {
+    let text = b"pcid-guest 1
+machine 40 wp nxe
+segment 16
+cpu 0x1001 1
+cpu 0x1001 1
+0 invlpg 0x5000
+";
+    let script = Script::read(rt.alloc(), text)?;
+    let (mut world, mut guests) = started(rt.alloc(), &script)?;
+    assert_eq!(rt; guests.len(), 2);
+    world.finish();
+    let answers = drive(rt.alloc(), &mut world, &mut guests, &[0, 1])?;
+    let refused = Advance::Stopped(Stop::Finished);
+    assert_eq!(rt; answers.first().copied(), Some(refused));
+    assert_eq!(rt; answers.last().copied(), Some(Advance::Ended));
+    assert_eq!(rt; world.len(), 0);
+    Ok(())
+}
+
+/// What the one processor of a script records in 17 turns.
+fn receipts_by_turns(alloc: Global, text: &[u8]) -> Result<Vec<Receipt>, Fail>
+    requires { length text.now < 2 ^ 32 - 1 }
+{
+    let script = Script::read(alloc, text)?;
+    let (mut world, mut guests) = started(alloc, &script)?;
+    if guests.len() != 1 {
+        return Err(Fail::from("not one processor"));
+    }
+    let _ = last_of(&mut world, &mut guests, &[0; 17]);
+    let guest = guests.pop().ok_or("no processor")?;
+    Ok(guest.into_transcript())
+}
+
+/// What is cached under a PCID answers under no other, and MOV to CR3 with bit 63 keeps it (Intel
+/// SDM, vol. 3, 4.10.2, 4.10.4.1).
+#[test]
+fn two_pcids(rt: HostRuntime) -> Result<(), Fail> {
+    let text = b"pcid-guest 1
+machine 40 wp nxe
+segment 16
+cpu 0x1001 1
+0 write 0x1000 0x2007
+0 write 0x2000 0x3007
+0 write 0x3000 0x4007
+0 write 0x4028 0x9007
+0 read 0x5123 user
+0 cr3 0x8000000000001002
+0 read 0x5123 user
+0 cr3 0x8000000000001001
+0 read 0x5123 user
+";
+    let receipts = receipts_by_turns(rt.alloc(), text)?;
+    let first = read_of(4, Outcome::Page(0x9123), [4, 4, 4, 4])?;
+    let other = read_of(6, Outcome::Page(0x9123), [6, 6, 6, 6])?;
+    let again = read_of(8, Outcome::Page(0x9123), [4, 4, 4, 4])?;
+    assert_eq!(rt; receipts.len(), 9);
+    assert_eq!(rt; receipts.get(4).copied(), Some(first));
+    assert_eq!(rt; receipts.get(6).copied(), Some(other));
+    assert_eq!(rt; receipts.get(8).copied(), Some(again));
+    Ok(())
+}
+
+/// A walk goes on from a table that was cached for another address of the same 2 MB (4.10.3).
+#[test]
+fn table_of_another_walk(rt: HostRuntime) -> Result<(), Fail> {
+    let text = b"pcid-guest 1
+machine 40 wp nxe
+segment 16
+cpu 0x1001 1
+0 write 0x1000 0x2007
+0 write 0x2000 0x3007
+0 write 0x3000 0x4007
+0 write 0x4028 0x9007
+0 write 0x4030 0xa007
+0 read 0x5123 user
+0 read 0x6123 user
+";
+    let receipts = receipts_by_turns(rt.alloc(), text)?;
+    let first = read_of(5, Outcome::Page(0x9123), [5, 5, 5, 5])?;
+    let second = read_at(0x6123, 6, Outcome::Page(0xa123), [5, 5, 5, 6])?;
+    assert_eq!(rt; receipts.len(), 7);
+    assert_eq!(rt; receipts.get(5).copied(), Some(first));
+    assert_eq!(rt; receipts.get(6).copied(), Some(second));
     Ok(())
 }

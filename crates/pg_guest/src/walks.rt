@@ -1,7 +1,6 @@
 //! Where a walk reads next, and what an access comes to.
 
-ghost use Rattle.std.specs.Prelude.{◌≡◌, ◌≤◌, ◌<◌, ◌%◌, ◌^◌, ◌++◌, ◌∷◌, [], ◌+◌, length};
-ghost use Rattle.pg_world.specs.Walks.{moments_of};
+ghost use Rattle.std.specs.Prelude.{◌≡◌, ◌≤◌, ◌<◌, ◌%◌, ◌^◌, ◌+◌};
 ghost use Rattle.pg_home.specs.Turn.{from_root, from_table, outcome_of};
 
 use pg_entry::{AccessKind, Cause, Cfg, Level, Rights, allowed, error_code};
@@ -41,17 +40,6 @@ pub(crate) fn from_table(
         table,
         rights,
         moments: Some(moments),
-    }
-}
-
-/// The moments of the levels above, and one more.
-pub(crate) fn moments_with(moments: &Option<Moments>, moment: u32) -> Moments
-    requires { length (moments_of moments.now) ≤ 3 }
-    ensures { result ≡ moments_of moments.now ++ moment ∷ [] }
-{
-    match moments {
-        None => Moments::first(moment),
-        Some(moments) => moments.with(moment).unwrap(),
     }
 }
 

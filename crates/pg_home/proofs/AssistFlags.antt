@@ -3,9 +3,8 @@ use Rattle.std.proofs.Common.{◌≡◌, ◌+◌, ◌*◌, Bool, true, false, re
 use Rattle.pg_entry.specs.declared.Op.{Op}
 use Rattle.pg_entry.specs.declared.Op.TheVariants as ops
 use Rattle.pg_entry.specs.declared.AccessKind.{AccessKind}
-use Rattle.pg_event.specs.Form.{access_kind, says_dirty}
+use Rattle.pg_event.specs.Form.{access_kind, says_dirty, flags_of}
 use Rattle.pg_event.specs.Spelling.{bit}
-use Rattle.pg_world.specs.Walks.{flags_of}
 
 abbrev access_by : Op → Bool → Bool → AccessKind
 access_by op user ac = record { op = op; user = user; ac = ac }

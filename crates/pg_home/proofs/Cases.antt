@@ -13,7 +13,7 @@ use Rattle.pg_entry.specs.Permission.{fault_code}
 use Rattle.pg_event.specs.declared.event.Event.TheVariants as events
 use Rattle.pg_event.specs.declared.event.Outcome.{Outcome}
 use Rattle.pg_event.specs.declared.event.Outcome.TheVariants as outcomes
-use Rattle.pg_event.specs.Form.{access_kind}
+use Rattle.pg_event.specs.Form.{access_kind, flags_of}
 use Rattle.pg_event.specs.Spelling.{bit}
 use Rattle.pg_event.specs.Walk.{below, entry_address, root_of}
 use Rattle.pg_event.specs.declared.walk.Parent.{Parent}
@@ -23,7 +23,7 @@ use Rattle.pg_shadow.specs.Caches.{Caches}
 use Rattle.pg_world.specs.declared.walk.LevelRead.TheVariants.{Entry, Assisted}
 use Rattle.pg_world.specs.declared.walk.Walk.{Walk}
 use Rattle.pg_world.specs.Recording.{Recording, receipt_of}
-use Rattle.pg_world.specs.Walks.{flags_of, address_of, word_now, moments_now, moments_of, lacks_dirty, lacks_flags, assist_of, used_entry, found_entry}
+use Rattle.pg_world.specs.Walks.{address_of, word_now, moments_now, moments_of, lacks_dirty, lacks_flags, assist_of, used_entry, found_entry}
 use Rattle.pg_home.specs.Turn.{Processor, Turned, done, carried_out, assisted, has_read, keeps, after_read, goes_on}
 
 -- what holds of the turns of an access, whichever it is

@@ -32,39 +32,18 @@ use Rattle.pg_home.specs.Turn.{Processor, Turned, goes_on, begun, turned_by, tur
 use Rattle.pg_home.specs.CoreRun.{IsCoreRun}
 use Rattle.pg_home.specs.Home.{IsUnderWay, IsAtHome}
 use Rattle.pg_home.specs.Laws.{IsQuiet}
-use Rattle.pg_home.specs.Progress.{depth, progress, is_stopped, NoneIsStopped, turns_of, FiveTurnsCarryOut, NineTurnsCarryOut}
+use Rattle.pg_home.specs.Progress.{depth, progress, ready, measure_from, measure_by, measure, is_stopped, turns_of, answers_of, NoneIsStopped, TurnsComeNearer, FiveTurnsCarryOut, NineTurnsCarryOut}
 use Rattle.pg_home.proofs.Cases.{goes_on_any}
 use Rattle.pg_home.proofs.Further.{CarriesOr, read_comes, turned_comes, under_of, not_one, deeper, depth_most, progress_most, one_goes_further}
-use Rattle.pg_home.proofs.Runs.{set_other, turns_keep_quiet}
-use Rattle.pg_home.proofs.Turns.{turns_keep_home}
+use Rattle.pg_home.proofs.Runs.{set_here, set_other, turns_keep_quiet}
+use Rattle.pg_home.proofs.Turns.{turns_keep_home, stays_at_home}
 
 -- ---- a measure of a walk, where no other processor comes between
-
--- whether the next read is no assist
-abbrev ready : LevelRead → ℕ
-ready (Entry value moment) = 1
-ready (Fault receipt) = 1
-ready (Assisted receipt) = 0
 
 ready_most : (read : LevelRead) → ready read ≤ 1
 ready_most (Entry value moment) = omega arith
 ready_most (Fault receipt) = omega arith
 ready_most (Assisted receipt) = omega arith
-
--- two for each level that was read, and one more where the next level's flags are set
-abbrev measure_from : ℕ → Recording → Caches → ℕ → ℕ → Found → ℕ
-measure_from p r s flags la (Hit frame shift rights global moments) = 8
-measure_from p r s flags la (Partial level table rights moments) = 2 * depth level + ready (found_in r p (from_table (access_kind flags) la level table rights moments))
-measure_from p r s flags la Miss = ready (found_in r p (from_root s.control (access_kind flags) la))
-
-abbrev measure : ℕ → Recording → Processor → Option Instruction → ℕ
-measure p r x None = 8
-measure p r x (Some (Write addr value)) = 8
-measure p r x (Some (Access flags la)) = measure_from p r x.caches flags la (begun r.head x.caches la (access_kind flags) x.way)
-measure p r x (Some (MovCr3 operand)) = 8
-measure p r x (Some (Invlpg la)) = 8
-measure p r x (Some (Invpcid kind pcid la)) = 8
-measure p r x (Some (MovCr4Pge on)) = 8
 
 -- no table is read at level 1
 measure_from_most : (p : ℕ) (r : Recording) (x : Processor) (flags la : ℕ) → IsAtHome r.head r.events p x → (way : Found) → IsUnderWay r.head x.caches la (access_kind flags) way →
@@ -86,7 +65,7 @@ measure_from_most p r x flags la home Miss under =
     one_of_eight : (a : ℕ) → a ≤ 1 → a ≤ 8
     one_of_eight a h = omega arith
 
-measure_most : (p : ℕ) (r : Recording) (x : Processor) → IsAtHome r.head r.events p x → (o : Option Instruction) → slice_get x.instructions x.place ≡ o → measure p r x o ≤ 8
+measure_most : (p : ℕ) (r : Recording) (x : Processor) → IsAtHome r.head r.events p x → (o : Option Instruction) → slice_get x.instructions x.place ≡ o → measure_by p r x o ≤ 8
 measure_most p r x home None at = omega arith
 measure_most p r x home (Some (Write addr value)) at = omega arith
 measure_most p r x home (Some (Access flags la)) at =
@@ -112,7 +91,7 @@ found_missed head s la kind (Partial level table rights moments) h = absurd (cc)
 found_missed head s la kind Miss h = h
 
 abbrev Counts : ℕ → ℕ → ℕ → ℕ → Turned → Type 0
-Counts p flags la m t = m < measure p t.world t.processor (Some (Access flags la))
+Counts p flags la m t = m < measure_by p t.world t.processor (Some (Access flags la))
 
 access_counts : (p : ℕ) (r : Recording) (x : Processor) (flags la : ℕ) → IsHead r.head → IsAtHome r.head r.events p x → (way : Found) → begun r.head x.caches la (access_kind flags) x.way ≡ way →
     IsUnderWay r.head x.caches la (access_kind flags) way → CarriesOr (Counts p flags la (measure_from p r x.caches flags la way)) x (goes_on p r x flags la way)
@@ -157,12 +136,12 @@ access_counts p r x flags la head home Miss is under =
     first_assist a b none one = omega arith
 
 measure_grows : (p : ℕ) (r : Recording) (x : Processor) → IsHead r.head → IsAtHome r.head r.events p x → (slice_get x.instructions x.place ≡ None → ⊥) →
-    let o = slice_get x.instructions x.place in CarriesOr (λ t. measure p r x o < measure p t.world t.processor o) x (turned p r x)
+    let o = slice_get x.instructions x.place in CarriesOr (λ t. measure_by p r x o < measure_by p t.world t.processor o) x (turned p r x)
 measure_grows p r x head home due =
     let o : Option Instruction = slice_get x.instructions x.place in
-    turned_comes (λ t. measure p r x o < measure p t.world t.processor o) p r x o refl due (λ flags la at.
+    turned_comes (λ t. measure_by p r x o < measure_by p t.world t.processor o) p r x o refl due (λ flags la at.
     let way : Found = begun r.head x.caches la (access_kind flags) x.way in
-    subst (λ o. CarriesOr (λ t. measure p r x o < measure p t.world t.processor o) x (goes_on p r x flags la way)) (sym at)
+    subst (λ o. CarriesOr (λ t. measure_by p r x o < measure_by p t.world t.processor o) x (goes_on p r x flags la way)) (sym at)
     (access_counts p r x flags la head home way refl (under_of p r x flags la home at)))
 
 -- ---- places never go back
@@ -184,12 +163,7 @@ place_grows_by p r x (Some (MovCr4Pge on)) = omega arith
 
 place_grows : (p : ℕ) (r : Recording) (x : Processor) (t : Turned) → IsTurn p r x t → x.place ≤ t.processor.place
 place_grows p r x t (inl halt) = subst (λ (t : Turned). x.place ≤ t.processor.place) (sym halt.is) (omega arith)
-place_grows p r x t (inr went) = subst (λ (t : Turned). x.place ≤ t.processor.place) (sym went) (place_grows_by p r x (slice_get x.instructions x.place))
-
-set_here : (xs : List Processor) (p : ℕ) (x y : Processor) → slice_get xs p ≡ Some x → slice_get (slice_set xs p y) p ≡ Some y
-set_here [] p x y h = absurd (cc)
-set_here (a ∷ xs) zero x y h = refl
-set_here (a ∷ xs) (suc p) x y h = set_here xs p x y h
+place_grows p r x t (inr went) = subst (λ (t : Turned). x.place ≤ t.processor.place) (sym went.is) (place_grows_by p r x (slice_get x.instructions x.place))
 
 places_grow : (r : Recording) (xs : List Processor) (ps : List ℕ) (answers : List Advance) (end : Recording) (ys : List Processor) → IsCoreRun r xs ps answers end ys →
     (p : ℕ) (x y : Processor) → slice_get xs p ≡ Some x → slice_get ys p ≡ Some y → x.place ≤ y.place
@@ -221,7 +195,7 @@ record IsMeasure (p bound : ℕ) (C : Head → Type 0) (Others : Type 0) (M : Re
 
 not_stopped : (p : ℕ) (r : Recording) (x : Processor) (t : Turned) → IsTurn p r x t → is_stopped t.answer ≡ false → t ≡ turned p r x
 not_stopped p r x t (inl halt) h = let contrary : true ≡ false = sym (ap (λ (t : Turned). is_stopped t.answer) halt.is) ∙ h in absurd (cc)
-not_stopped p r x t (inr went) h = went
+not_stopped p r x t (inr went) h = went.is
 
 has_one : (xs : List Instruction) (n : ℕ) → n < length xs → slice_get xs n ≡ None → ⊥
 has_one [] n lt h = absurd (omega arith)
@@ -234,20 +208,27 @@ OneOf p Others ps = AllByRecursion (λ q. (q ≡ p) ⊎ Others) ps
 abbrev counted : Bool → ℕ → List ℕ → ℕ
 counted b q rest = length (cond b (q ∷ rest) rest)
 
+abbrev own_answers : Bool → Advance → List Advance → List Advance
+own_answers b answer rest = cond b (answer ∷ rest) rest
+
+abbrev GoesOn : List Advance → Type 0
+GoesOn answers = AllByRecursion (λ answer. is_stopped answer ≡ false) answers
+
 carries : (p bound : ℕ) (C : Head → Type 0) (Others : Type 0) (M : Recording → Processor → ℕ) → IsMeasure p bound C Others M →
     (r : Recording) (xs : List Processor) (ps : List ℕ) (answers : List Advance) (end : Recording) (ys : List Processor) → C r.head → IsQuiet r xs → IsCoreRun r xs ps answers end ys →
-    NoneIsStopped answers → OneOf p Others ps → (x y : Processor) → slice_get xs p ≡ Some x → slice_get ys p ≡ Some y → x.place < length x.instructions →
+    NoneIsStopped p ps answers → OneOf p Others ps → (x y : Processor) → slice_get xs p ≡ Some x → slice_get ys p ≡ Some y → x.place < length x.instructions →
     (x.place < y.place) ⊎ (turns_of p ps + M r x ≤ bound)
 carries p bound C Others M m r xs [] answers end ys c quiet run none few x y here there due =
     let most : M r x ≤ bound = m.most r x (quiet.at_home p x here) in inr (omega arith)
 carries p bound C Others M m r xs (q ∷ ps) answers end ys c quiet run none few x y here there due =
     let t : Turned = run.1 in
-    let going : AllByRecursion (λ answer. is_stopped answer ≡ false) (t.answer ∷ run.2) = subst NoneIsStopped run.5 none in
+    let going : GoesOn (own_answers (q == p) t.answer (answers_of p ps run.2)) = subst (NoneIsStopped p (q ∷ ps)) run.5 none in
     let quiet2 : IsQuiet t.world (slice_set xs q t.processor) = turns_keep_quiet r xs q run.0 t quiet run.3 run.4 in
     let c2 : C t.world.head = subst C (sym (turns_keep_home q r run.0 t quiet.accepted (quiet.at_home q run.0 run.3) run.4).head) c in
-    let rest = carries p bound C Others M m t.world (slice_set xs q t.processor) ps run.2 end ys c2 quiet2 run.6 going.1 few.1 in
+    let rest = λ (none : NoneIsStopped p ps run.2). carries p bound C Others M m t.world (slice_set xs q t.processor) ps run.2 end ys c2 quiet2 run.6 none few.1 in
     elim (cases_eq q p) [
       | inl same ↦
+          let own : GoesOn (t.answer ∷ answers_of p ps run.2) = subst (λ b. GoesOn (own_answers b t.answer (answers_of p ps run.2))) (eq-eqb q p same) going in
           let at : slice_get xs p ≡ Some run.0 = ap (slice_get xs) (sym same) ∙ run.3 in
           let is : run.0 ≡ x = same_Some run.0 x (sym at ∙ here) in
           let turn : IsTurn p r x t = subst (λ z. IsTurn p r z t) is (subst (λ q. IsTurn q r run.0 t) same run.4) in
@@ -255,14 +236,14 @@ carries p bound C Others M m r xs (q ∷ ps) answers end ys c quiet run none few
           let grown : t.processor.place ≤ y.place = places_grow t.world (slice_set xs q t.processor) ps run.2 end ys run.6 p t.processor y now there in
           let one : turns_of p (q ∷ ps) ≡ turns_of p ps + 1 = ap (λ b. counted b q (filter (λ q. q == p) ps)) (eq-eqb q p same) ∙ one_more (filter (λ q. q == p) ps) in
           let came : CarriesOr (λ t. M r x < M t.world t.processor) x t =
-          subst (CarriesOr (λ t. M r x < M t.world t.processor) x) (sym (not_stopped p r x t turn going.0)) (m.own r x c (quiet.at_home p x here) (has_one x.instructions x.place due)) in
+          subst (CarriesOr (λ t. M r x < M t.world t.processor) x) (sym (not_stopped p r x t turn own.0)) (m.own r x c (quiet.at_home p x here) (has_one x.instructions x.place due)) in
           elim came.1 [
             | inl carried ↦ let further : t.processor.place ≡ x.place + 1 = carried.0 in inl (omega arith)
             | inr went ↦
                 let stays : t.processor.place ≡ x.place = went.0 in
                 let more : M r x < M t.world t.processor = went.1 in
                 let due2 : t.processor.place < length t.processor.instructions = subst (λ is. t.processor.place < length is) (sym came.0) (omega arith) in
-                elim (rest t.processor y now there due2) [
+                elim (rest own.1 t.processor y now there due2) [
                   | inl done ↦ let before : t.processor.place < y.place = done in inl (omega arith)
                   | inr left ↦ inr (total (turns_of p (q ∷ ps)) (turns_of p ps) (M r x) (M t.world t.processor) one more left)
                 ]
@@ -270,7 +251,8 @@ carries p bound C Others M m r xs (q ∷ ps) answers end ys c quiet run none few
       | inr away ↦
           let now : slice_get (slice_set xs q t.processor) p ≡ Some x = set_other xs q p t.processor (λ e. away (sym e)) ∙ here in
           let as_before : turns_of p (q ∷ ps) ≡ turns_of p ps = ap (λ b. counted b q (filter (λ q. q == p) ps)) (ne_eqb q p away) in
-          elim (rest x y now there due) [
+          let others : NoneIsStopped p ps run.2 = subst (λ b. GoesOn (own_answers b t.answer (answers_of p ps run.2))) (ne_eqb q p away) going in
+          elim (rest others x y now there due) [
             | inl done ↦ inl done
             | inr left ↦ inr (alike (turns_of p (q ∷ ps)) (turns_of p ps) (M r x) (M t.world x) as_before (m.other (others_of q away few.0) r t.world x) left)
           ]
@@ -324,26 +306,40 @@ all_turns : (p n : ℕ) → turns_of p (replicate n p) ≡ n
 all_turns p zero = refl
 all_turns p (suc n) = ap (λ b. counted b p (filter (λ q. q == p) (replicate n p))) (eq-eqb p p refl) ∙ ap suc (all_turns p n)
 
+own_measure : (p : ℕ) (r : Recording) (x : Processor) → IsHead r.head → IsAtHome r.head r.events p x → (slice_get x.instructions x.place ≡ None → ⊥) →
+    CarriesOr (λ t. measure p r x < measure p t.world t.processor) x (turned p r x)
+own_measure p r x head home due = moved (measure_grows p r x head home due)
+  where
+    moved : CarriesOr (λ t. measure p r x < measure_by p t.world t.processor (slice_get x.instructions x.place)) x (turned p r x) →
+        CarriesOr (λ t. measure p r x < measure p t.world t.processor) x (turned p r x)
+    moved (same, inl carried) = (same, inl carried)
+    moved (same, inr went) =
+        let t : Turned = turned p r x in
+        let next : slice_get t.processor.instructions t.processor.place ≡ slice_get x.instructions x.place = λ i. slice_get (same i) (went.0 i) in
+        (same, inr (went.0, subst (λ o. measure p r x < measure_by p t.world t.processor o) (sym next) went.1))
+
 pub nine_turns_carry_out : NineTurnsCarryOut
 nine_turns_carry_out r xs answers end ys p head quiet run none x y here there due =
-    let M : Recording → Processor → ℕ = λ r x. measure p r x (slice_get x.instructions x.place) in
+    let M : Recording → Processor → ℕ = measure p in
     let is : IsMeasure p 8 IsHead ⊥ M = record {
-      own = λ r x head home due. own_measure r x head home due;
+      own = λ r x head home due. own_measure p r x head home due;
       other = λ others r s x. absurd others;
       most = λ r x home. measure_most p r x home (slice_get x.instructions x.place) refl;
     } in
     let few = carries p 8 IsHead ⊥ M is r xs (replicate 9 p) answers end ys head quiet run none (no_others p 9) x y here there due in
     let nine : turns_of p (replicate 9 p) ≡ 9 = all_turns p 9 in
     enough x.place y.place (turns_of p (replicate 9 p)) 8 (first_part x.place y.place _ 8 few (turns_of p (replicate 9 p)) (M r x) refl) (omega arith)
-  where
-    own_measure : (r : Recording) (x : Processor) → IsHead r.head → IsAtHome r.head r.events p x → (slice_get x.instructions x.place ≡ None → ⊥) →
-        CarriesOr (λ t. measure p r x (slice_get x.instructions x.place) < measure p t.world t.processor (slice_get t.processor.instructions t.processor.place)) x (turned p r x)
-    own_measure r x head home due = moved (measure_grows p r x head home due)
-      where
-        moved : CarriesOr (λ t. measure p r x (slice_get x.instructions x.place) < measure p t.world t.processor (slice_get x.instructions x.place)) x (turned p r x) →
-            CarriesOr (λ t. measure p r x (slice_get x.instructions x.place) < measure p t.world t.processor (slice_get t.processor.instructions t.processor.place)) x (turned p r x)
-        moved (same, inl carried) = (same, inl carried)
-        moved (same, inr went) =
-            let t : Turned = turned p r x in
-            let next : slice_get t.processor.instructions t.processor.place ≡ slice_get x.instructions x.place = λ i. slice_get (same i) (went.0 i) in
-            (same, inr (went.0, subst (λ o. measure p r x (slice_get x.instructions x.place) < measure p t.world t.processor o) (sym next) went.1))
+
+pub turns_come_nearer : TurnsComeNearer
+turns_come_nearer p r x t head home turn due going =
+    let came : CarriesOr (λ t. measure p r x < measure p t.world t.processor) x t =
+    subst (CarriesOr (λ t. measure p r x < measure p t.world t.processor) x) (sym (not_stopped p r x t turn going)) (own_measure p r x head home (has_one x.instructions x.place due)) in
+    elim came.1 [
+      | inl carried ↦ inl (record { receipt = carried.1.0; answer = carried.1.1; place = carried.0 })
+      | inr went ↦
+          inr (record {
+            place = went.0;
+            nearer = went.1;
+            most = measure_most p t.world t.processor (stays_at_home p r x t home turn) (slice_get t.processor.instructions t.processor.place) refl;
+          })
+    ]

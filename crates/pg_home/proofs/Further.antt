@@ -37,7 +37,7 @@ use Rattle.pg_world.specs.Walks.{address_of, word_now, moments_of, lacks_dirty, 
 use Rattle.pg_home.specs.declared.advance.Advance.TheVariants as answers
 use Rattle.pg_home.specs.Turn.{Processor, Turned, keeps, after_read, assisted, goes_on, begun, turned_by, turned}
 use Rattle.pg_home.specs.Home.{Place, at_root, word_at, place_below, Along, FromRoot, EndsInTable, IsSoundTable, IsUnderWay, IsUnderWayFor, IsAtHome}
-use Rattle.pg_home.specs.Progress.{EntriesArePresent, depth, progress, GoesFurther, ReadsGoFurther}
+use Rattle.pg_home.specs.Progress.{EntriesArePresent, depth, progress, GoesFurther, ReadsGoFurther, NoneAssistInVersionOne}
 use Rattle.pg_home.proofs.Turns.{begun_under}
 
 -- ---- what a read gives
@@ -254,3 +254,43 @@ one_goes_further p r x one home due =
     let low : progress x.way ≤ progress way = begun_progress r.head x.caches la (access_kind flags) x.way in
     goes_comes (IsFurther (progress x.way)) p r x flags la home way (under_of p r x flags la home at) (λ l table rights ms deep.
     reads_further p r x way (walk_in (access_kind flags) la l table rights ms) (progress x.way) one (below_both (progress x.way) (progress way) (depth l) low deep)))
+
+-- ---- no assist in version 1
+
+abbrev IsNoAssist : Turned → Type 0
+IsNoAssist t = (receipt : Receipt) → t.answer ≡ answers.Assisted receipt → ⊥
+
+reads_no_assist : (p : ℕ) (r : Recording) (x : Processor) (way : Found) (walk : Walk) → r.head.version ≡ versions.One → Reads IsNoAssist p r x way walk
+reads_no_assist p r x way walk one = record {
+  table = λ value addr ms receipt h. cc;
+  leaf = λ value frame shift g ms receipt h. cc;
+  assist = λ with_dirty found judged. absurd (one_judges_nothing r.head.version one judged);
+}
+
+goes_no_assist : (p : ℕ) (r : Recording) (x : Processor) (flags la : ℕ) → r.head.version ≡ versions.One → (way : Found) → CarriesOr IsNoAssist x (goes_on p r x flags la way)
+goes_no_assist p r x flags la one (Hit frame shift rights global moments) = (refl, inl (refl, (_, refl)))
+goes_no_assist p r x flags la one (Partial level table rights moments) =
+    let walk : Walk = walk_in (access_kind flags) la (below level) table rights (Some moments) in
+    read_comes IsNoAssist p r x (Partial level table rights moments) (access_kind flags) la (below level) table rights (Some moments) (reads_no_assist p r x (Partial level table rights moments) walk one) _ refl
+goes_no_assist p r x flags la one Miss =
+    let root : Parent = root_of x.caches.control in
+    let walk : Walk = walk_in (access_kind flags) la Four root.table root.rights None in
+    read_comes IsNoAssist p r x Miss (access_kind flags) la Four root.table root.rights None (reads_no_assist p r x Miss walk one) _ refl
+
+carries_no_assist : (x : Processor) (t : Turned) → CarriesOr IsNoAssist x t → IsNoAssist t
+carries_no_assist x t (same, inl carried) receipt h = let contrary : answers.Done carried.1.0 ≡ answers.Assisted receipt = sym carried.1.1 ∙ h in absurd (cc)
+carries_no_assist x t (same, inr went) receipt h = went.1 receipt h
+
+turned_no_assist : (p : ℕ) (r : Recording) (x : Processor) → r.head.version ≡ versions.One → IsNoAssist (turned p r x)
+turned_no_assist p r x one receipt h =
+    let o : Option Instruction = slice_get x.instructions x.place in
+    elim (some_or_none o) [
+      | inl none ↦ let ended : answers.Ended ≡ answers.Assisted receipt = ap (λ o. (turned_by p r x o).answer) (sym none) ∙ h in absurd (cc)
+      | inr due ↦
+          carries_no_assist x (turned p r x)
+          (turned_comes IsNoAssist p r x o refl due (λ flags la at. goes_no_assist p r x flags la one (begun r.head x.caches la (access_kind flags) x.way))) receipt h
+    ]
+
+pub none_assist_in_version_one : NoneAssistInVersionOne
+none_assist_in_version_one p r x t receipt one (inl halt) h = let contrary : answers.Stopped halt.why ≡ answers.Assisted receipt = sym (ap (λ (t : Turned). t.answer) halt.is) ∙ h in absurd (cc)
+none_assist_in_version_one p r x t receipt one (inr went) h = turned_no_assist p r x one receipt (sym (ap (λ (t : Turned). t.answer) went.is) ∙ h)

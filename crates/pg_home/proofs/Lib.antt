@@ -10,6 +10,7 @@ pub mod Places
 pub mod Hits
 pub mod Turns
 pub mod Runs
+pub mod Leaves
 pub mod Cases
 pub mod Transcripts
 pub mod Rows

@@ -16,7 +16,7 @@ use Rattle.pg_event.specs.declared.event.Reason.TheVariants as reasons
 use Rattle.pg_event.specs.declared.event.Want.TheVariants as wants
 use Rattle.pg_event.specs.declared.keys.StructureKey.{StructureKey}
 use Rattle.pg_event.specs.declared.keys.TranslationKey.{TranslationKey}
-use Rattle.pg_event.specs.Heads.{Head, judges_accessed}
+use Rattle.pg_event.specs.Heads.{Head, judges_accessed, may_cache}
 use Rattle.pg_event.specs.Values.{mem_at, control_at}
 use Rattle.pg_event.specs.Invalidation.{bits_from, level_shift, structure_key, translation_key, must_drop_structure, must_drop_translation}
 use Rattle.pg_event.specs.Walk.{below, entry_address}
@@ -25,7 +25,7 @@ use Rattle.pg_event.specs.Witness.{asked_by, asked_of, failing_end, is_updated, 
 use Rattle.pg_shadow.specs.declared.entries.KeptLeaf.{KeptLeaf}
 use Rattle.pg_shadow.specs.declared.entries.KeptTable.{KeptTable}
 use Rattle.pg_shadow.specs.Caches.{same_space}
-use Rattle.pg_home.specs.Home.{Place, at_root, word_at, place_below, may_be_used, Along, FromRoot, EndsInTable, EndsInLeaf, IsSoundTable, IsSoundLeaf}
+use Rattle.pg_home.specs.Home.{Place, at_root, word_at, place_below, Along, FromRoot, EndsInTable, EndsInLeaf, IsSoundTable, IsSoundLeaf}
 use Rattle.pg_home.proofs.Longer.{survives_now}
 use Rattle.pg_home.proofs.Entries.{coarser, index_same, table_is, shift_is, want_of_absent, want_of_reserved}
 use Rattle.pg_home.proofs.Keys.{space_self, and_false}
@@ -69,7 +69,7 @@ word_same es a la at w h = ap (λ i. mem_at es w (at.table + 8 * i)) (index_same
 
 -- a table that is read now and kept is sound
 pub table_now : (head : Head) (es : List Event) (p la pcid : ℕ) (at : Place) (ws : List ℕ) → (control_at head es p (length es)).pcid ≡ pcid → Comes head es p la pcid at ws →
-    may_be_used head.version (word_at es la at (length es)) ≡ true → (addr : ℕ) → kind_of head.cfg at.level (word_at es la at (length es)) ≡ kinds.Table addr →
+    may_cache head.version (word_at es la at (length es)) ≡ true → (addr : ℕ) → kind_of head.cfg at.level (word_at es la at (length es)) ≡ kinds.Table addr →
     IsSoundTable head es p (structure_key pcid at.level la) (record { table = addr; rights = joined at.rights (word_at es la at (length es)); moments = ws ++ length es ∷ [] })
 table_now head es p la pcid at ws own comes usable addr kind a matches =
     let key : StructureKey = structure_key pcid at.level la in
@@ -79,7 +79,7 @@ table_now head es p la pcid at ws own comes usable addr kind a matches =
     comes a same (EndsInTable head es p a key kept) (record {
       link = record {
         table = ap (λ v. is_table (kind_of head.cfg at.level v)) word ∙ ap is_table kind;
-        usable = ap (may_be_used head.version) word ∙ usable;
+        usable = ap (may_cache head.version) word ∙ usable;
         own = own;
         order = omega arith;
         stands = survives_now head es p (λ c e. must_drop_structure c e (structure_key pcid at.level a)) (length es);
@@ -91,7 +91,7 @@ table_now head es p la pcid at ws own comes usable addr kind a matches =
 
 -- so is a page
 pub leaf_now : (head : Head) (es : List Event) (p la : ℕ) (c : Control) (at : Place) (ws : List ℕ) → c ≡ control_at head es p (length es) → Comes head es p la c.pcid at ws →
-    may_be_used head.version (word_at es la at (length es)) ≡ true → (frame shift : ℕ) (g : Bool) → kind_of head.cfg at.level (word_at es la at (length es)) ≡ kinds.Leaf frame shift g →
+    may_cache head.version (word_at es la at (length es)) ≡ true → (frame shift : ℕ) (g : Bool) → kind_of head.cfg at.level (word_at es la at (length es)) ≡ kinds.Leaf frame shift g →
     let value = word_at es la at (length es) in
     IsSoundLeaf head es p (translation_key c.pcid shift (g && c.pge) la) (record { frame = frame; rights = joined at.rights value; dirty = dirty value; moments = ws ++ length es ∷ [] })
 leaf_now head es p la c at ws now comes usable frame shift g kind a matches =
@@ -106,7 +106,7 @@ leaf_now head es p la c at ws now comes usable frame shift g kind a matches =
       comes a same (EndsInLeaf head es p a c.pcid key kept) (record {
         global_bit = g;
         leaf = ap (kind_of head.cfg at.level) word ∙ kind;
-        usable = ap (may_be_used head.version) word ∙ usable;
+        usable = ap (may_cache head.version) word ∙ usable;
         dirty_is = ap dirty word;
         rights_are = ap (joined at.rights) word;
         own = ap (λ (d : Control). d.pcid) (sym now);

@@ -17,6 +17,11 @@ set_same [] p x y z h k = absurd (cc)
 set_same (a ∷ xs) zero x y z h k = cc
 set_same (a ∷ xs) (suc p) x y z h k = set_same xs p x y z h k
 
+pub set_here : (xs : List Processor) (p : ℕ) (x y : Processor) → slice_get xs p ≡ Some x → slice_get (slice_set xs p y) p ≡ Some y
+set_here [] p x y h = absurd (cc)
+set_here (a ∷ xs) zero x y h = refl
+set_here (a ∷ xs) (suc p) x y h = set_here xs p x y h
+
 pub set_other : (xs : List Processor) (p q : ℕ) (y : Processor) → q ≢ p → slice_get (slice_set xs p y) q ≡ slice_get xs q
 set_other [] p q y away = refl
 set_other (a ∷ xs) zero zero y away = absurd (away refl)

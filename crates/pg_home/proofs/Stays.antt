@@ -9,7 +9,7 @@ use Rattle.pg_event.specs.declared.control.Control.{Control}
 use Rattle.pg_event.specs.declared.event.Event.{Event}
 use Rattle.pg_event.specs.declared.keys.StructureKey.{StructureKey}
 use Rattle.pg_event.specs.declared.keys.TranslationKey.{TranslationKey}
-use Rattle.pg_event.specs.Heads.{Head}
+use Rattle.pg_event.specs.Heads.{Head, may_cache}
 use Rattle.pg_event.specs.Form.{processor_of}
 use Rattle.pg_event.specs.Values.{control_at}
 use Rattle.pg_event.specs.Invalidation.{bits_from, level_shift, structure_key, translation_key, structure_matches, must_drop_structure, must_drop_translation}
@@ -18,7 +18,7 @@ use Rattle.pg_event.specs.Wants.{is_table}
 use Rattle.pg_shadow.specs.declared.entries.KeptLeaf.{KeptLeaf}
 use Rattle.pg_shadow.specs.declared.entries.KeptTable.{KeptTable}
 use Rattle.pg_shadow.specs.Caches.{same_space}
-use Rattle.pg_home.specs.Home.{Place, at_root, word_at, place_below, may_be_used, IsLink, Along, FromRoot, EndsInTable, EndsInLeaf, IsSoundTable, IsSoundLeaf}
+use Rattle.pg_home.specs.Home.{Place, at_root, word_at, place_below, IsLink, Along, FromRoot, EndsInTable, EndsInLeaf, IsSoundTable, IsSoundLeaf}
 use Rattle.pg_home.proofs.Longer.{mem_longer, control_longer, survives_longer, survives_event}
 
 word_longer : (es rest : List Event) (la : ℕ) (at : Place) (w : ℕ) → w ≤ length es → word_at (es ++ rest) la at w ≡ word_at es la at w
@@ -41,7 +41,7 @@ link_longer head es rest p la pcid at w x past h =
     let early : w ≤ length es = omega (arith, h.order) in
     let word : word_at (es ++ rest) la at w ≡ word_at es la at w = word_longer es rest la at w early in record {
       table = ap (λ v. is_table (kind_of head.cfg at.level v)) word ∙ h.table;
-      usable = ap (may_be_used head.version) word ∙ h.usable;
+      usable = ap (may_cache head.version) word ∙ h.usable;
       own = ap (λ (c : Control). c.pcid) (control_longer head es rest p w early) ∙ h.own;
       order = h.order;
       stands = survives_longer head es rest p (takes_structure pcid la at.level) w x past h.stands;
@@ -98,7 +98,7 @@ table_stays head es e p key kept sound spared la matches =
     record {
       link = record {
         table = ap (λ v. is_table (kind_of head.cfg at.level v)) word ∙ h.link.table;
-        usable = ap (may_be_used head.version) word ∙ h.link.usable;
+        usable = ap (may_cache head.version) word ∙ h.link.usable;
         own = ap (λ (c : Control). c.pcid) (control_longer head es (e ∷ []) p w early) ∙ h.link.own;
         order = omega arith;
         stands = survives_event head es e p (takes_structure key.pcid la at.level) w h.link.stands spared2;
@@ -123,7 +123,7 @@ leaf_stays head es e p key kept sound spared la matches =
           record {
             global_bit = h.global_bit;
             leaf = ap (kind_of head.cfg at.level) word ∙ h.leaf;
-            usable = ap (may_be_used head.version) word ∙ h.usable;
+            usable = ap (may_cache head.version) word ∙ h.usable;
             dirty_is = ap dirty word ∙ h.dirty_is;
             rights_are = ap (joined at.rights) word ∙ h.rights_are;
             own = ap (λ (c : Control). c.pcid) then ∙ h.own;

@@ -9,7 +9,7 @@ use Rattle.pg_event.specs.declared.event.Event.{Event}
 use Rattle.pg_event.specs.declared.event.Event.TheVariants as events
 use Rattle.pg_event.specs.declared.event.Malformed.TheVariants as rules
 use Rattle.pg_event.specs.declared.event.Outcome.TheVariants as outcomes
-use Rattle.pg_event.specs.Form.{processor_of, access_kind, is_canonical}
+use Rattle.pg_event.specs.Form.{processor_of, access_kind, is_canonical, flags_of}
 use Rattle.pg_event.specs.Heads.{Head}
 use Rattle.pg_script.specs.declared.instruction.Instruction.{Instruction}
 use Rattle.pg_script.specs.declared.instruction.Instruction.TheVariants.{Write, Access, MovCr3, Invlpg, Invpcid, MovCr4Pge}
@@ -17,8 +17,7 @@ use Rattle.pg_script.specs.Tasks.{shape, IsWellFormed}
 use Rattle.pg_shadow.specs.declared.entries.Found.{Found}
 use Rattle.pg_world.specs.declared.receipt.Receipt.{Receipt}
 use Rattle.pg_world.specs.Recording.{Recording, receipt_of}
-use Rattle.pg_world.specs.Walks.{flags_of}
-use Rattle.pg_world.proofs.Flags.{flags_are_told}
+use Rattle.pg_event.proofs.Flags.{flags_are_told}
 use Rattle.pg_home.specs.declared.advance.Advance.TheVariants.{Ended}
 use Rattle.pg_home.specs.Turn.{Processor, Turned, done, assisted, goes_on, begun, turned_by, stopped, IsTurn}
 use Rattle.pg_home.specs.Transcripts.{receipts_from, listed, shapes_of, IsTold, AreWellFormed, KeepsTold, TurnsAreTold, FreshAreTold, AreTold, CoreRunsAreTold, EndedHaveToldAll}
@@ -114,7 +113,7 @@ quiet_tells p r x y instructions place transcript = record {
 
 -- ---- the flags of an access
 
-well_at : (P : Instruction → Type 0) (xs : List Instruction) (n : ℕ) (i : Instruction) → AllByRecursion P xs → slice_get xs n ≡ Some i → P i
+pub well_at : (P : Instruction → Type 0) (xs : List Instruction) (n : ℕ) (i : Instruction) → AllByRecursion P xs → slice_get xs n ≡ Some i → P i
 well_at P [] n i all at = absurd (cc)
 well_at P (x ∷ xs) zero i all at = let same : x ≡ i = cc in subst P same all.0
 well_at P (x ∷ xs) (suc n) i all at = well_at P xs n i all.1 at
@@ -126,7 +125,7 @@ last_rule false false true h = absurd (cc)
 last_rule false false false h = refl
 
 -- the flags of a well-formed access are those that the world records for it
-flags_stay : (head : Head) (p flags la : ℕ) → IsWellFormed head p (Access flags la) → flags_of (access_kind flags) ≡ flags
+pub flags_stay : (head : Head) (p flags la : ℕ) → IsWellFormed head p (Access flags la) → flags_of (access_kind flags) ≡ flags
 flags_stay head p flags la well =
     let e : Event = events.Access p flags la (outcomes.Fault 0) [] in
     let out_of_form : Bool = flags % 4 == 3 || not (flags / 16 == 0) in
@@ -164,7 +163,7 @@ turned_tells p r x well (Some (MovCr4Pge on)) at = done_tells p r x (events.MovC
 
 pub turns_are_told : TurnsAreTold
 turns_are_told p r x t well (inl halt) = subst (Tells p r x) (sym halt.is) (quiet_tells p r x (stopped halt.why r x).processor refl refl refl)
-turns_are_told p r x t well (inr went) = subst (Tells p r x) (sym went) (turned_tells p r x well (slice_get x.instructions x.place) refl)
+turns_are_told p r x t well (inr went) = subst (Tells p r x) (sym went.is) (turned_tells p r x well (slice_get x.instructions x.place) refl)
 
 pub fresh_are_told : FreshAreTold
 fresh_are_told head p instructions = record { receipts = refl; shapes = none instructions }
@@ -215,5 +214,6 @@ ends_at_the_end p r x (Some (MovCr4Pge on)) h = absurd (cc)
 pub ended_have_told_all : EndedHaveToldAll
 ended_have_told_all p r x t told (inl halt) ended = let h = subst (λ (t : Turned). t.answer ≡ Ended) halt.is ended in absurd (cc)
 ended_have_told_all p r x t told (inr went) ended =
-    let none : slice_get x.instructions x.place ≡ None = ends_at_the_end p r x (slice_get x.instructions x.place) (subst (λ (t : Turned). t.answer ≡ Ended) went ended) in
-    told.shapes ∙ take_all x.place x.instructions (past x.instructions x.place none)
+    let none : slice_get x.instructions x.place ≡ None = ends_at_the_end p r x (slice_get x.instructions x.place) (subst (λ (t : Turned). t.answer ≡ Ended) went.is ended) in
+    let left : t.processor ≡ x = ap (λ (t : Turned). t.processor) (went.is ∙ ap (turned_by p r x) none) in
+    subst (λ (y : Processor). shapes_of y.transcript ≡ y.instructions) (sym left) (told.shapes ∙ take_all x.place x.instructions (past x.instructions x.place none))

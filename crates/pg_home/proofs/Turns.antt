@@ -17,8 +17,8 @@ use Rattle.pg_event.specs.declared.event.Outcome.TheVariants as outcomes
 use Rattle.pg_event.specs.declared.event.Want.TheVariants as wants
 use Rattle.pg_event.specs.declared.keys.StructureKey.{StructureKey}
 use Rattle.pg_event.specs.declared.keys.TranslationKey.{TranslationKey}
-use Rattle.pg_event.specs.Form.{processor_of, access_kind}
-use Rattle.pg_event.specs.Heads.{Head, judges_accessed}
+use Rattle.pg_event.specs.Form.{processor_of, access_kind, flags_of}
+use Rattle.pg_event.specs.Heads.{Head, judges_accessed, may_cache}
 use Rattle.pg_event.specs.Invalidation.{structure_key, translation_key}
 use Rattle.pg_event.specs.Values.{control_at}
 use Rattle.pg_event.specs.Walk.{below}
@@ -36,11 +36,11 @@ use Rattle.pg_shadow.proofs.Lookups.{IsFound-found}
 use Rattle.pg_world.specs.declared.walk.LevelRead.TheVariants.{Entry, Assisted}
 use Rattle.pg_world.specs.declared.walk.Walk.{Walk}
 use Rattle.pg_world.specs.Recording.{Recording, receipt_of, with_event}
-use Rattle.pg_world.specs.Walks.{flags_of, moments_of, address_of, lacks_dirty, lacks_flags, assist_of, used_entry, found_entry}
-use Rattle.pg_world.proofs.Flags.{flags_are_told}
-use Rattle.pg_home.specs.Turn.{Processor, Turned, fresh, done, assisted, keeps, after_read, goes_on, begun, turned_by, stopped, outcome_of}
-use Rattle.pg_home.specs.Home.{Place, at_root, word_at, may_be_used, IsUnderWay, IsUnderWayFor, AreSound, IsAtHome}
-use Rattle.pg_home.specs.Laws.{KeepsHome, TurnsKeepHome, OthersStayAtHome, FreshAreAtHome}
+use Rattle.pg_world.specs.Walks.{moments_of, address_of, lacks_dirty, lacks_flags, assist_of, used_entry, found_entry}
+use Rattle.pg_event.proofs.Flags.{flags_are_told}
+use Rattle.pg_home.specs.Turn.{Processor, Turned, fresh, done, assisted, keeps, after_read, goes_on, begun, turned_by, stopped, outcome_of, IsTurn}
+use Rattle.pg_home.specs.Home.{Place, at_root, word_at, IsUnderWay, IsUnderWayFor, AreSound, IsAtHome}
+use Rattle.pg_home.specs.Laws.{GrowsByOne, KeepsOthers, TurnsKeepHome, OthersStayAtHome, FreshAreAtHome}
 use Rattle.pg_home.proofs.Entries.{size_is}
 use Rattle.pg_home.proofs.Hits.{hit_witnesses}
 use Rattle.pg_home.proofs.Keys.{structure_self, translation_self}
@@ -67,17 +67,25 @@ others_stay_at_home head es e q x other home = record {
   way = home.way;
 }
 
+-- a turn keeps p and the others at home whatever was recorded before; and where that is accepted, what is recorded then is too
+record KeepsAnyway (p : ℕ) (old new : Recording) (x : Processor) : Type 0 where
+  head : new.head ≡ old.head
+  grows : GrowsByOne p old.events new.events
+  accepted : Accepted old.head old.events → Accepted new.head new.events
+  own : IsAtHome new.head new.events p x
+  others : KeepsOthers p old new
+
 abbrev Keeps : ℕ → Recording → Turned → Type 0
-Keeps p r t = KeepsHome p r t.world t.processor
+Keeps p r t = KeepsAnyway p r t.world t.processor
 
 -- a witnessed event of p is recorded
-recorded_keeps : (p : ℕ) (r : Recording) (x y : Processor) (e : Event) → Accepted r.head r.events → IsAtHome r.head r.events p x → processor_of e ≡ p →
+recorded_keeps : (p : ℕ) (r : Recording) (x y : Processor) (e : Event) → IsAtHome r.head r.events p x → processor_of e ≡ p →
     failing_event r.head r.events (length r.events) e ≡ None → y.caches ≡ after e x.caches → IsUnderWayFor r.head y.caches y.way (slice_get y.instructions y.place) →
-    KeepsHome p r (with_event r e) y
-recorded_keeps p r x y e accepted home own good caches way = record {
+    KeepsAnyway p r (with_event r e) y
+recorded_keeps p r x y e home own good caches way = record {
   head = refl;
   grows = inr (e, own, refl);
-  accepted = accepted_pushed r.head r.events e accepted good;
+  accepted = λ accepted. accepted_pushed r.head r.events e accepted good;
   own = record {
     sound = subst (AreSound r.head (r.events ++ e ∷ []) p) (sym caches) (own_sound r.head r.events e p x.caches own home.sound);
     way = way;
@@ -86,14 +94,14 @@ recorded_keeps p r x y e accepted home own good caches way = record {
 }
 
 -- the instruction is carried out
-done_keeps : (p : ℕ) (r : Recording) (x : Processor) (e : Event) → Accepted r.head r.events → IsAtHome r.head r.events p x → processor_of e ≡ p →
+done_keeps : (p : ℕ) (r : Recording) (x : Processor) (e : Event) → IsAtHome r.head r.events p x → processor_of e ≡ p →
     failing_event r.head r.events (length r.events) e ≡ None → Keeps p r (done r x (receipt_of r.events e))
-done_keeps p r x e accepted home own good =
-    recorded_keeps p r x (done r x (receipt_of r.events e)).processor e accepted home own good refl (begins r.head (after e x.caches) (slice_get x.instructions (x.place + 1)))
+done_keeps p r x e home own good =
+    recorded_keeps p r x (done r x (receipt_of r.events e)).processor e home own good refl (begins r.head (after e x.caches) (slice_get x.instructions (x.place + 1)))
 
 -- nothing is recorded
-quiet_keeps : (p : ℕ) (r : Recording) (y : Processor) → Accepted r.head r.events → IsAtHome r.head r.events p y → KeepsHome p r r y
-quiet_keeps p r y accepted home = record { head = refl; grows = inl refl; accepted = accepted; own = home; others = λ q away x h. h }
+quiet_keeps : (p : ℕ) (r : Recording) (y : Processor) → IsAtHome r.head r.events p y → KeepsAnyway p r r y
+quiet_keeps p r y home = record { head = refl; grows = inl refl; accepted = λ accepted. accepted; own = home; others = λ q away x h. h }
 
 -- ---- flags that an entry has
 
@@ -103,7 +111,7 @@ either_used true false lacks h = absurd (cc)
 either_used false has lacks h = refl
 
 -- an entry that lacks no flag may be used
-may_use : (head : Head) (walk : Walk) (value : ℕ) (k : Kind) → lacks_flags head walk value k ≡ false → may_be_used head.version value ≡ true
+may_use : (head : Head) (walk : Walk) (value : ℕ) (k : Kind) → lacks_flags head walk value k ≡ false → may_cache head.version value ≡ true
 may_use head walk value k none = either_used (judges_accessed head.version) (accessed value) (lacks_dirty head.cfg walk value k) none
 
 page_used : (judged has write d allowed : Bool) → (judged && (not has || (write && not d && allowed))) ≡ false → not (judged && write && allowed && not d) ≡ true
@@ -134,7 +142,6 @@ walk_at kind la at ms = record { la = la; kind = kind; level = at.level; table =
 
 -- an access of p is under way, at a place that its walk comes to
 record IsReading (p : ℕ) (r : Recording) (x : Processor) (flags la : ℕ) (way : Found) : Type 0 where
-  accepted : Accepted r.head r.events
   home : IsAtHome r.head r.events p x
   instruction : slice_get x.instructions x.place ≡ Some (Access flags la)
   under : IsUnderWay r.head x.caches la (access_kind flags) way
@@ -147,7 +154,7 @@ faults_keep : (p : ℕ) (r : Recording) (x : Processor) (flags la : ℕ) (way : 
     Keeps p r (done r x (receipt_of r.events (events.Access p (flags_of kind) la (outcomes.Fault code) ws)))
 faults_keep p r x flags la way reading kind code ws good =
     let n : ℕ = length r.events in
-    done_keeps p r x (events.Access p (flags_of kind) la (outcomes.Fault code) ws) reading.accepted reading.home refl
+    done_keeps p r x (events.Access p (flags_of kind) la (outcomes.Fault code) ws) reading.home refl
     (ap (λ (k : AccessKind). failing_access r.head r.events (record { number = n; p = p; kind = k; la = la; outcome = outcomes.Fault code }) ws) (flags_are_told.kind kind) ∙ good)
 
 -- a present entry: an assist, or what is kept of it
@@ -176,7 +183,7 @@ used_keeps p r x flags la way reading at ms comes k is present kept =
     let good : failing_event head es n assist ≡ None =
     (λ i. failing_assist head es (record { number = n; p = p; kind = assist_kind kind with_dirty i; la = la; word = address_of walk; dirty = assist_dirty kind with_dirty i }) (moments_of ms ++ n ∷ []))
     ∙ assist_now head es p la x.caches.control.pcid kind at (moments_of ms) with_dirty judged.0 (own_pcid head es p x.caches reading.home.sound) comes (ap (is_wanted wants.Present) is ∙ present) may in
-    recorded_keeps p r x (assisted r x way (receipt_of es assist)).processor assist reading.accepted reading.home refl good refl
+    recorded_keeps p r x (assisted r x way (receipt_of es assist)).processor assist reading.home refl good refl
     (subst (λ o. IsUnderWayFor head x.caches way o) (sym reading.instruction) reading.under))
     (λ none. subst (λ (l : Kind). Keeps p r (keeps r x walk value (moments_of ms ++ n ∷ []) l)) (sym is) (kept none))
 
@@ -200,7 +207,7 @@ read_keeps p r x flags la way reading at ms comes (kinds.Table addr) is =
     let key : StructureKey = structure_key x.caches.control.pcid at.level la in
     let kept : KeptTable = record { table = addr; rights = joined at.rights value; moments = moments_of ms ++ n ∷ [] } in
     used_keeps p r x flags la way reading at ms comes (kinds.Table addr) is refl (λ none.
-    quiet_keeps p r _ reading.accepted (record {
+    quiet_keeps p r _ (record {
       sound = table_kept r.head r.events p x.caches key kept reading.home.sound
           (table_now r.head r.events p la x.caches.control.pcid at (moments_of ms) (own_pcid r.head r.events p x.caches reading.home.sound) comes (may_use r.head walk value (kinds.Table addr) none) addr is);
       way = subst (λ o. IsUnderWayFor r.head (with_table key kept x.caches) (Partial at.level addr kept.rights kept.moments) o) (sym reading.instruction)
@@ -225,7 +232,7 @@ read_keeps p r x flags la way reading at ms comes (kinds.Leaf frame shift g) is 
       rights_are = refl;
       moments_are = refl;
     } in
-    quiet_keeps p r _ reading.accepted (record {
+    quiet_keeps p r _ (record {
       sound = leaf_kept r.head r.events p x.caches key kept reading.home.sound
           (leaf_now r.head r.events p la c at (moments_of ms) reading.home.sound.control comes (may_use r.head walk value (kinds.Leaf frame shift g) none) frame shift g is);
       way = subst (λ o. IsUnderWayFor r.head (with_leaf key kept x.caches) (Hit frame shift rights (g && c.pge) kept.moments) o) (sym reading.instruction) hit;
@@ -236,7 +243,7 @@ read_keeps p r x flags la way reading at ms comes (kinds.Leaf frame shift g) is 
 goes_on_keeps : (p : ℕ) (r : Recording) (x : Processor) (flags la : ℕ) (way : Found) → IsReading p r x flags la way → Keeps p r (goes_on p r x flags la way)
 goes_on_keeps p r x flags la (Hit frame shift rights global moments) reading =
     let outcome : Outcome = outcome_of r.head.cfg (access_kind flags) rights (frame + la % 2 ^ shift) in
-    done_keeps p r x (events.Access p flags la outcome moments) reading.accepted reading.home refl
+    done_keeps p r x (events.Access p flags la outcome moments) reading.home refl
     (hit_witnesses r.head r.events p la (access_kind flags) x.caches shift global frame rights moments reading.home.sound reading.under)
 goes_on_keeps p r x flags la (Partial level table rights moments) reading =
     let kept : KeptTable = record { table = table; rights = rights; moments = moments } in
@@ -259,28 +266,36 @@ begun_under head s la kind Miss h = found_under head s la kind (found s la head 
 
 -- ---- a turn
 
-turned_by_keeps : (p : ℕ) (r : Recording) (x : Processor) → Accepted r.head r.events → IsAtHome r.head r.events p x →
+turned_by_keeps : (p : ℕ) (r : Recording) (x : Processor) → IsAtHome r.head r.events p x →
     (o : Option Instruction) → slice_get x.instructions x.place ≡ o → Keeps p r (turned_by p r x o)
-turned_by_keeps p r x accepted home None at = quiet_keeps p r x accepted home
-turned_by_keeps p r x accepted home (Some (Write addr value)) at = done_keeps p r x (events.Write p addr value) accepted home refl refl
-turned_by_keeps p r x accepted home (Some (Access flags la)) at =
+turned_by_keeps p r x home None at = quiet_keeps p r x home
+turned_by_keeps p r x home (Some (Write addr value)) at = done_keeps p r x (events.Write p addr value) home refl refl
+turned_by_keeps p r x home (Some (Access flags la)) at =
     goes_on_keeps p r x flags la (begun r.head x.caches la (access_kind flags) x.way) (record {
-      accepted = accepted;
       home = home;
       instruction = at;
       under = begun_under r.head x.caches la (access_kind flags) x.way (subst (λ o. IsUnderWayFor r.head x.caches x.way o) at home.way);
     })
-turned_by_keeps p r x accepted home (Some (MovCr3 operand)) at = done_keeps p r x (events.MovCr3 p operand) accepted home refl refl
-turned_by_keeps p r x accepted home (Some (Invlpg la)) at = done_keeps p r x (events.Invlpg p la) accepted home refl refl
-turned_by_keeps p r x accepted home (Some (Invpcid kind pcid la)) at = done_keeps p r x (events.Invpcid p kind pcid la) accepted home refl refl
-turned_by_keeps p r x accepted home (Some (MovCr4Pge on)) at = done_keeps p r x (events.MovCr4Pge p on) accepted home refl refl
+turned_by_keeps p r x home (Some (MovCr3 operand)) at = done_keeps p r x (events.MovCr3 p operand) home refl refl
+turned_by_keeps p r x home (Some (Invlpg la)) at = done_keeps p r x (events.Invlpg p la) home refl refl
+turned_by_keeps p r x home (Some (Invpcid kind pcid la)) at = done_keeps p r x (events.Invpcid p kind pcid la) home refl refl
+turned_by_keeps p r x home (Some (MovCr4Pge on)) at = done_keeps p r x (events.MovCr4Pge p on) home refl refl
+
+turn_keeps : (p : ℕ) (r : Recording) (x : Processor) (t : Turned) → IsAtHome r.head r.events p x → IsTurn p r x t → Keeps p r t
+turn_keeps p r x t home (inl halt) =
+    subst (Keeps p r) (sym halt.is)
+    (quiet_keeps p r (stopped halt.why r x).processor (record { sound = home.sound; way = begins r.head x.caches (slice_get x.instructions x.place) }))
+turn_keeps p r x t home (inr went) =
+    subst (Keeps p r) (sym went.is) (turned_by_keeps p r x home (slice_get x.instructions x.place) refl)
+
+-- a processor stays at home by its turn, whether the record is accepted or not
+pub stays_at_home : (p : ℕ) (r : Recording) (x : Processor) (t : Turned) → IsAtHome r.head r.events p x → IsTurn p r x t → IsAtHome t.world.head t.world.events p t.processor
+stays_at_home p r x t home turn = (turn_keeps p r x t home turn).own
 
 pub turns_keep_home : TurnsKeepHome
-turns_keep_home p r x t accepted home (inl halt) =
-    subst (Keeps p r) (sym halt.is)
-    (quiet_keeps p r (stopped halt.why r x).processor accepted (record { sound = home.sound; way = begins r.head x.caches (slice_get x.instructions x.place) }))
-turns_keep_home p r x t accepted home (inr went) =
-    subst (Keeps p r) (sym went) (turned_by_keeps p r x accepted home (slice_get x.instructions x.place) refl)
+turns_keep_home p r x t accepted home turn =
+    let keeps = turn_keeps p r x t home turn in
+    record { head = keeps.head; grows = keeps.grows; accepted = keeps.accepted accepted; own = keeps.own; others = keeps.others }
 
 pub fresh_are_at_home : FreshAreAtHome
 fresh_are_at_home head p instructions =

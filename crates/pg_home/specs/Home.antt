@@ -1,21 +1,20 @@
 -- When all that a processor caches is sound at the present moment, which is the number of events
 -- so far: what was read for it is a walk by moments, and stands since.
-use Rattle.std.specs.Prelude.{◌≡◌, ℕ, ◌≤◌, Bool, true, not, ◌&&◌, ◌||◌, List, [], ◌∷◌, length}
+use Rattle.std.specs.Prelude.{◌≡◌, ℕ, ◌≤◌, Bool, true, ◌&&◌, List, [], ◌∷◌, length}
 use Rattle.std.specs.Prelude.{Option, Some, None, slice_get}
 use Rattle.pg_entry.specs.declared.AccessKind.{AccessKind}
 use Rattle.pg_entry.specs.declared.Kind.TheVariants as kinds
 use Rattle.pg_entry.specs.declared.Level.{Level}
 use Rattle.pg_entry.specs.declared.Level.TheVariants.{Four}
 use Rattle.pg_entry.specs.declared.Rights.{Rights}
-use Rattle.pg_entry.specs.Kinds.{accessed, dirty, kind_of, table_of}
+use Rattle.pg_entry.specs.Kinds.{dirty, kind_of, table_of}
 use Rattle.pg_entry.specs.Permission.{joined}
 use Rattle.pg_event.specs.declared.control.Control.{Control}
 use Rattle.pg_event.specs.declared.event.Event.{Event}
 use Rattle.pg_event.specs.declared.keys.StructureKey.{StructureKey}
 use Rattle.pg_event.specs.declared.keys.TranslationKey.{TranslationKey}
-use Rattle.pg_event.specs.declared.version.Version.{Version}
 use Rattle.pg_event.specs.Form.{access_kind}
-use Rattle.pg_event.specs.Heads.{Head, judges_accessed}
+use Rattle.pg_event.specs.Heads.{Head, may_cache}
 use Rattle.pg_event.specs.Invalidation.{structure_key, translation_key, structure_matches}
 use Rattle.pg_event.specs.Invalidation.{translation_matches, must_drop_structure}
 use Rattle.pg_event.specs.Invalidation.{must_drop_translation}
@@ -60,16 +59,12 @@ place_below m events la at w = record {
   rights = joined at.rights (word_at events la at w);
 }
 
--- an entry may be used: it has A, where accessed flags are judged (4.8)
-abbrev pub may_be_used : Version → ℕ → Bool
-may_be_used version entry = not (judges_accessed version) || accessed entry
-
 -- what a walk of p reads at a place at moment w is a table, read under this PCID, and its
 -- paging-structure-cache entry stands up to moment x (4.10.3)
 pub record IsLink (head : Head) (events : List Event) (p la pcid : ℕ) (at : Place) (w x : ℕ)
     : Type 0 where
   pub table : is_table (kind_of head.cfg at.level (word_at events la at w)) ≡ true
-  pub usable : may_be_used head.version (word_at events la at w) ≡ true
+  pub usable : may_cache head.version (word_at events la at w) ≡ true
   pub own : (control_at head events p w).pcid ≡ pcid
   pub order : w ≤ x
   pub stands : survives head events p
@@ -108,7 +103,7 @@ pub record EndsInLeaf (head : Head) (events : List Event) (p la pcid : ℕ) (key
   pub global_bit : Bool
   pub leaf : kind_of head.cfg at.level (word_at events la at w)
       ≡ kinds.Leaf kept.frame key.shift global_bit
-  pub usable : may_be_used head.version (word_at events la at w) ≡ true
+  pub usable : may_cache head.version (word_at events la at w) ≡ true
   pub dirty_is : dirty (word_at events la at w) ≡ kept.dirty
   pub rights_are : joined at.rights (word_at events la at w) ≡ kept.rights
   pub own : (control_at head events p w).pcid ≡ pcid

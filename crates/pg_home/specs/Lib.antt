@@ -1,5 +1,6 @@
 pub mod Turn
 pub mod CoreRun
+pub mod Leaves
 pub mod Home
 pub mod Laws
 pub mod Transcripts

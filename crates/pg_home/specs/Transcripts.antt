@@ -71,7 +71,7 @@ CoreRunsAreTold = (r : Recording) (xs : List Processor) (ps : List ℕ) (answers
 abbrev pub EndedHaveToldAll : Type 0
 EndedHaveToldAll = (p : ℕ) (r : Recording) (x : Processor) (t : Turned) →
     IsTold r.events p x → IsTurn p r x t → t.answer ≡ Ended →
-    shapes_of x.transcript ≡ x.instructions
+    shapes_of t.processor.transcript ≡ t.processor.instructions
 
 -- each event is of one of so many processors
 abbrev pub AreOf : ℕ → List Event → Type 0

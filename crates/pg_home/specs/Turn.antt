@@ -1,6 +1,6 @@
 -- The turns of a recorded processor. One turn makes one step of the walk of an access, or carries
 -- an instruction out, and it records one event at most.
-use Rattle.std.specs.Prelude.{◌≡◌, ℕ, ◌+◌, ◌%◌, ◌^◌, ◌<◌, true, ◌&&◌, ◌⊎◌, if◌then◌else◌}
+use Rattle.std.specs.Prelude.{◌≡◌, ℕ, ◌+◌, ◌%◌, ◌^◌, ◌<◌, Bool, ◌&&◌, ◌⊎◌, if◌then◌else◌}
 use Rattle.std.specs.Prelude.{List, [], ◌∷◌, ◌++◌, length, Option, Some, None, slice_get}
 use Rattle.pg_entry.specs.declared.AccessKind.{AccessKind}
 use Rattle.pg_entry.specs.declared.Cause.TheVariants as causes
@@ -108,25 +108,36 @@ has_read r x level way caches = record {
   processor = record x { way = way; caches = caches };
 }
 
--- an entry of this kind and value was read: its table or its page is kept under the present PCID,
--- or for all of them (4.10.2, 4.10.3). No other entry is given to be used
-abbrev pub keeps : Recording → Processor → Walk → ℕ → List ℕ → Kind → Turned
-keeps r x walk value moments (kinds.Table addr) =
-    let rights = joined walk.rights value in
+-- a walk has come to this table, which is kept under the present PCID (4.10.3)
+abbrev pub has_table : Recording → Processor → Walk → KeptTable → Turned
+has_table r x walk kept =
     let key = structure_key x.caches.control.pcid walk.level walk.la in
-    let kept : KeptTable = record { table = addr; rights = rights; moments = moments } in
-    has_read r x walk.level (Partial walk.level addr rights moments) (with_table key kept x.caches)
-keeps r x walk value moments (kinds.Leaf frame shift global_bit) =
-    let rights = joined walk.rights value in
+    has_read r x walk.level (Partial walk.level kept.table kept.rights kept.moments)
+    (with_table key kept x.caches)
+
+-- a walk has come to this page, which is kept so, or for all PCIDs (4.10.2)
+abbrev pub has_page : Recording → Processor → Walk → ℕ → Bool → KeptLeaf → Turned
+has_page r x walk shift global_bit kept =
     let global = global_bit && x.caches.control.pge in
     let key = translation_key x.caches.control.pcid shift global walk.la in
-    let kept : KeptLeaf = record {
+    has_read r x walk.level (Hit kept.frame shift kept.rights global kept.moments)
+    (with_leaf key kept x.caches)
+
+-- an entry of this kind and value was read: its table or its page is kept. No other entry is given
+-- to be used
+abbrev pub keeps : Recording → Processor → Walk → ℕ → List ℕ → Kind → Turned
+keeps r x walk value moments (kinds.Table addr) = has_table r x walk (record {
+  table = addr;
+  rights = joined walk.rights value;
+  moments = moments;
+})
+keeps r x walk value moments (kinds.Leaf frame shift global_bit) =
+    has_page r x walk shift global_bit (record {
       frame = frame;
-      rights = rights;
+      rights = joined walk.rights value;
       dirty = dirty value;
       moments = moments;
-    } in
-    has_read r x walk.level (Hit frame shift rights global moments) (with_leaf key kept x.caches)
+    })
 keeps r x walk value moments kinds.Absent = has_read r x walk.level x.way x.caches
 keeps r x walk value moments kinds.Reserved = has_read r x walk.level x.way x.caches
 
@@ -214,19 +225,41 @@ stopped why r x = record {
   processor = record x { way = Miss };
 }
 
--- memory may be refused at any time; the record is full, or is finished
-abbrev pub MayStop : Recording → Stop → Type 0
-MayStop r stops.Memory = Unit {0}
-MayStop r stops.Full = is_full r ≡ true
-MayStop r stops.Finished = r.finished ≡ true
+-- why a record refuses an event more: it is full, or it is finished
+abbrev pub refused_event : Recording → Option Stop
+refused_event r =
+    if is_full r then Some stops.Full else
+    if r.finished then Some stops.Finished else None
 
--- a turn was stopped, which had an instruction to carry out
-pub record IsStopped (r : Recording) (x : Processor) (t : Turned) : Type 0 where
+-- why a record refuses what a turn comes to: one event more where it is full, anything where it is
+-- finished. A processor that has ended asks for nothing
+abbrev pub refused_by : Recording → Advance → Option Stop
+refused_by r (answers.Read level) = if r.finished then Some stops.Finished else None
+refused_by r (answers.Assisted receipt) = refused_event r
+refused_by r (answers.Done receipt) = refused_event r
+refused_by r answers.Ended = None
+refused_by r (answers.Stopped why) = None
+
+-- memory may be refused at any time; else it is the reason for which the record refuses
+abbrev pub MayStop : Recording → Advance → Stop → Type 0
+MayStop r due why = (why ≡ stops.Memory) ⊎ (refused_by r due ≡ Some why)
+
+-- a turn that would come to this was stopped
+pub record IsStopped (r : Recording) (x : Processor) (due t : Turned) : Type 0 where
   pub why : Stop
-  pub may : MayStop r why
-  pub due : x.place < length x.instructions
+  pub may : MayStop r due.answer why
+  pub next : x.place < length x.instructions
   pub is : t ≡ stopped why r x
 
--- a turn of p from a record and a processor: it is stopped, or it comes to what it must
+-- a turn came to what it would, and the record took it
+pub record IsMet (r : Recording) (due t : Turned) : Type 0 where
+  pub granted : refused_by r due.answer ≡ None
+  pub is : t ≡ due
+
+-- a turn is stopped, or comes to this
+abbrev pub ComesTo : Recording → Processor → Turned → Turned → Type 0
+ComesTo r x due t = IsStopped r x due t ⊎ IsMet r due t
+
+-- a turn of p from a record and a processor
 abbrev pub IsTurn : ℕ → Recording → Processor → Turned → Type 0
-IsTurn p r x t = IsStopped r x t ⊎ (t ≡ turned p r x)
+IsTurn p r x t = ComesTo r x (turned p r x) t

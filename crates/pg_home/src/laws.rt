@@ -3,8 +3,10 @@
 ghost use Rattle.pg_home.specs.Laws.{FreshAreAtHome, TurnsKeepHome, OthersStayAtHome};
 ghost use Rattle.pg_home.specs.Laws.{TurnsKeepQuiet, CoreRunsKeepQuiet, CoreRunsAreAccepted};
 ghost use Rattle.pg_home.specs.Laws.{CoreRunsGoOn};
+ghost use Rattle.pg_home.specs.Leaves.{TurnsLeave, CoreRunsLeave};
 ghost use Rattle.pg_home.specs.Progress.{EntriesArePresent, ReadsGoFurther, FiveTurnsCarryOut};
-ghost use Rattle.pg_home.specs.Progress.{NineTurnsCarryOut};
+ghost use Rattle.pg_home.specs.Progress.{NineTurnsCarryOut, TurnsComeNearer};
+ghost use Rattle.pg_home.specs.Progress.{NoneAssistInVersionOne};
 ghost use Rattle.pg_home.specs.Transcripts.{FreshAreTold, TurnsAreTold, CoreRunsAreTold};
 ghost use Rattle.pg_home.specs.Transcripts.{EndedHaveToldAll, TranscriptsHoldAll};
 
@@ -42,6 +44,17 @@ pub fn core_runs_are_accepted()
 /// A core run and a turn more are a core run.
 pub fn core_runs_go_on()
     ensures { CoreRunsGoOn }
+{}
+
+/// A turn leaves the settings of a record, its segments given out and whether it is finished, and
+/// the instructions and the MAXPHYADDR of its processor.
+pub fn turns_leave()
+    ensures { TurnsLeave }
+{}
+
+/// So does every core run, of all processors, and they stay as many.
+pub fn core_runs_leave()
+    ensures { CoreRunsLeave }
 {}
 
 /// New processors have nothing to tell.
@@ -82,14 +95,25 @@ pub fn reads_go_further()
     ensures { ReadsGoFurther }
 {}
 
-/// In version 1 five turns of a processor carry its instruction out, unless one is stopped,
-/// whatever the others do between.
+/// A turn that is not stopped carries the next instruction out, or brings it nearer by a measure of
+/// 8 at most, in both versions.
+pub fn turns_come_nearer()
+    ensures { TurnsComeNearer }
+{}
+
+/// In version 1 no turn records an assist.
+pub fn none_assist_in_version_one()
+    ensures { NoneAssistInVersionOne }
+{}
+
+/// In version 1 five turns of a processor carry its instruction out, unless one of its own is
+/// stopped, whatever the others do between.
 pub fn five_turns_carry_out()
     ensures { FiveTurnsCarryOut }
 {}
 
-/// In both versions nine turns of a processor carry its instruction out, unless one is stopped,
-/// where no other processor has a turn between.
+/// In both versions nine turns of a processor carry its instruction out, unless one of them is
+/// stopped, where no other processor has a turn between.
 pub fn nine_turns_carry_out()
     ensures { NineTurnsCarryOut }
 {}

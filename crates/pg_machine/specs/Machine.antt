@@ -11,7 +11,7 @@ use Rattle.pg_entry.specs.declared.Kind.{Kind}
 use Rattle.pg_entry.specs.declared.Kind.TheVariants as kinds
 use Rattle.pg_entry.specs.declared.Cause.{Cause}
 use Rattle.pg_entry.specs.declared.Cause.TheVariants as causes
-use Rattle.pg_entry.specs.Kinds.{accessed, dirty, table_of, kind_of}
+use Rattle.pg_entry.specs.Kinds.{dirty, table_of, kind_of}
 use Rattle.pg_entry.specs.Permission.{joined, is_write, is_allowed, fault_code}
 use Rattle.pg_event.specs.declared.event.Event.{Event}
 use Rattle.pg_event.specs.declared.event.Event.TheVariants as events
@@ -21,6 +21,7 @@ use Rattle.pg_event.specs.declared.event.Want.{Want}
 use Rattle.pg_event.specs.declared.event.Want.TheVariants as wants
 use Rattle.pg_event.specs.declared.version.Version.{Version}
 use Rattle.pg_event.specs.Heads.{Head, judges_accessed}
+pub use Rattle.pg_event.specs.Heads.{may_cache}
 use Rattle.pg_event.specs.Form.{processor_of, is_canonical, access_kind, says_dirty, broken_rule}
 use Rattle.pg_event.specs.declared.control.Control.{Control}
 use Rattle.pg_event.specs.Values.{written, controlled, started}
@@ -80,10 +81,6 @@ entry_now s la level from = s.memory (entry_address from.table level la)
 -- the processor is there, and the address is canonical
 abbrev pub IsWalkable : Head → ℕ → ℕ → Type 0
 IsWalkable head p la = (p < length head.processors) × (is_canonical la ≡ true)
-
--- an entry may be cached: where accessed flags are judged, it has A (4.8)
-abbrev pub may_cache : Version → ℕ → Bool
-may_cache version entry = not (judges_accessed version) || accessed entry
 
 -- a walk may read and cache the entry of a level, and this is what it is
 abbrev pub Finds : Head → State → ℕ → ℕ → Level → Parent → Kind → Type 0

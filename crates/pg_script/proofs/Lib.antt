@@ -5,7 +5,9 @@ mod Lists
 mod Deals
 mod Loops
 mod Pushing
-mod Wells
+pub mod Wells
+mod Sums
+pub mod Shapes
 mod Refusals
 mod Wants
 mod Digits

@@ -200,6 +200,6 @@ unfolding reading
 reading_of_text s is =
     let head = head_said s is in
     let ranges : IsHead s.head = is.script.head in
-    let few : 0 + length s.tasks ≤ most_instructions = omega (arith, is.few) in
+    let few : 0 + length s.tasks ≤ most_instructions = omega (arith, is.script.few) in
     let tasks = tasks_said s.head 0 head.0 s.tasks ranges.few few is.fits is.script.well in
     rw (lines_said 1 (script_lines s) (script_spoken s)) (rw head.1 (rw tasks refl))

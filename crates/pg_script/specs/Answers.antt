@@ -1,8 +1,7 @@
 -- What the functions of this crate answer, seen as the definitions of reading.
-use Rattle.std.specs.Prelude.{◌≡◌, ℕ, Bool, true, false, ◌||◌, List, [], ◌⊎◌}
-use Rattle.std.specs.Prelude.{Option, Some, None, Result, Ok, Err, MatchBool}
-use Rattle.std.specs.Prelude.{length, IfErr, MatchResult, is_ok, ◌<◌}
-use Rattle.pg_script.specs.declared.refusal.ScriptRefusal.{ScriptRefusal}
+use Rattle.std.specs.Prelude.{◌≡◌, ℕ, List, [], ◌⊎◌}
+use Rattle.std.specs.Prelude.{Option, Some, None, Result, Ok, Err}
+use Rattle.std.specs.Prelude.{length, MatchResult, ◌<◌}
 use Rattle.pg_script.specs.declared.refusal.ScriptRefusal.TheVariants as refusals
 use Rattle.pg_script.specs.declared.refusal.ScriptError.{ScriptError}
 use Rattle.pg_script.specs.declared.text.Told.{Told}
@@ -11,8 +10,6 @@ use Rattle.pg_script.specs.declared.text.Front.TheVariants as fronts
 use Rattle.pg_script.specs.Lines.{Lines, Ended, Cut, Line, pieces, lines_of, words_of}
 use Rattle.pg_script.specs.Lines.{told}
 use Rattle.pg_script.specs.Words.{Words}
-use Rattle.pg_script.specs.Heading.{names_processor}
-use Rattle.pg_script.specs.Instructions.{processor_at}
 use Rattle.pg_script.specs.Reading.{Said, said}
 use Rattle.pg_script.specs.Refusals.{Adds}
 

@@ -8,4 +8,5 @@ pub mod Instructions
 pub mod Reading
 pub mod Refusals
 pub mod Spelling
+pub mod Laws
 pub mod Answers

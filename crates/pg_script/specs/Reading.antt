@@ -1,6 +1,7 @@
 -- Which text is which script, and the first refusal of a text that is none.
-use Rattle.std.specs.Prelude.{ℕ, zero, suc, ◌+◌, ◌-◌, Bool, nat_lt}
-use Rattle.std.specs.Prelude.{if◌then◌else◌, List, [], ◌∷◌, Option, Some, None, Result, Ok, Err}
+use Rattle.std.specs.Prelude.{ℕ, zero, suc, ◌+◌, ◌-◌, ◌≤◌, Bool, nat_lt}
+use Rattle.std.specs.Prelude.{if◌then◌else◌, List, [], ◌∷◌, length, Option, Some, None}
+use Rattle.std.specs.Prelude.{Result, Ok, Err}
 use Rattle.std.specs.List.{AllByRecursion}
 use Rattle.pg_event.specs.Heads.{Head, most_processors}
 use Rattle.pg_event.specs.Spelling.{IsHead}
@@ -155,7 +156,9 @@ reading bytes = do
   tasks ← tasks_at head.0 0 head.1
   Ok (record { head = head.0; tasks = tasks })
 
--- what each script keeps: its header is in range, and its instructions are well formed under it
+-- what each script keeps: its header is in range, and its instructions are not too many and well
+-- formed under it
 pub record IsScript (s : Scripted) : Type 0 where
   pub head : IsHead s.head
+  pub few : length s.tasks ≤ most_instructions
   pub well : AllByRecursion (λ task. IsWellFormed s.head task.p task.instruction) s.tasks

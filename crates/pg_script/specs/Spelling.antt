@@ -1,6 +1,6 @@
 -- The canonical text of a script: no comments, no leading zeros, digits in lower case.
-use Rattle.std.specs.Prelude.{◌≡◌, ℕ, zero, suc, ◌+◌, ◌/◌, ◌%◌, ◌^◌, ◌<◌, ◌≤◌, Bool, false}
-use Rattle.std.specs.Prelude.{◌&&◌, ◌==◌, nat_lt, if◌then◌else◌, List, [], ◌∷◌, ◌++◌, length, map}
+use Rattle.std.specs.Prelude.{◌≡◌, ℕ, zero, suc, ◌+◌, ◌/◌, ◌%◌, ◌^◌, ◌<◌, Bool, false}
+use Rattle.std.specs.Prelude.{◌&&◌, ◌==◌, nat_lt, if◌then◌else◌, List, [], ◌∷◌, ◌++◌, map}
 use Rattle.std.specs.Prelude.{codes, Ok}
 use Rattle.std.specs.List.{AllByRecursion}
 use Rattle.pg_entry.specs.declared.Op.{Op}
@@ -14,7 +14,7 @@ use Rattle.pg_script.specs.declared.instruction.Instruction.{Instruction}
 use Rattle.pg_script.specs.declared.instruction.Instruction.TheVariants as instructions
 use Rattle.pg_script.specs.declared.instruction.Task.{Task}
 use Rattle.pg_script.specs.Words.{Words}
-use Rattle.pg_script.specs.Reading.{Scripted, IsScript, reading, most_instructions}
+use Rattle.pg_script.specs.Reading.{Scripted, IsScript, reading}
 
 -- `0` to `9`, and `a` to `f`
 abbrev pub digit_byte : ℕ → ℕ
@@ -118,7 +118,6 @@ FitsInstruction (instructions.MovCr4Pge on) = Unit {0}
 -- a script that a text can say
 pub record IsSayable (s : Scripted) : Type 0 where
   pub script : IsScript s
-  pub few : length s.tasks ≤ most_instructions
   pub fits : AllByRecursion (λ task. FitsInstruction task.instruction) s.tasks
 
 -- the canonical text of a script is read as that script

@@ -18,7 +18,9 @@ pub enum Instruction {
 
 /// An instruction and the number, from 0, of the processor that carries it out.
 #[derive(Clone, Copy, PartialEq, Eq, Debug)]
-pub(crate) struct Task {
-    pub(crate) p: u16,
-    pub(crate) instruction: Instruction,
+pub struct Task {
+    /// The number of the processor.
+    pub p: u16,
+    /// What it carries out.
+    pub instruction: Instruction,
 }

@@ -13,8 +13,8 @@ mod tasks;
 mod text;
 mod words;
 
-pub use instruction::Instruction;
-pub use laws::reading_of_text;
+pub use instruction::{Instruction, Task};
+pub use laws::{each_carries_out, instructions_add_up, reading_of_text};
 pub use refusal::{ScriptError, ScriptRefusal};
 pub use script::Script;
 

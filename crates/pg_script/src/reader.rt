@@ -1,7 +1,7 @@
 //! The lines of a script, one after the other.
 
 ghost use Rattle.std.specs.Prelude.{◌≡◌, ◌≤◌, ◌<◌, ◌+◌, ◌^◌, length, vec_len, option_map};
-ghost use Rattle.std.specs.Prelude.{IfOk, IfSome};
+ghost use Rattle.std.specs.Prelude.{IfOk, OnOk, IfSome};
 ghost use Rattle.std.specs.List.{AllByRecursion};
 ghost use Rattle.pg_event.specs.Spelling.{IsHead};
 ghost use Rattle.pg_event.specs.Heads.{most_segment};
@@ -10,6 +10,7 @@ ghost use Rattle.pg_script.specs.Tasks.{IsWellFormed};
 ghost use Rattle.pg_script.specs.Reading.{in_line, placed, line_at, heading_at, starts_at};
 ghost use Rattle.pg_script.specs.Reading.{processors_at, head_at, task_after, tasks_at};
 ghost use Rattle.pg_script.specs.Reading.{line_or_refusal, next_start_at, next_task_at};
+ghost use Rattle.pg_script.specs.Reading.{most_instructions};
 ghost use Rattle.pg_script.specs.Answers.{Agrees, AgreesOnPart, AgreesOnAll, lines_in, told_in};
 ghost use Rattle.pg_script.specs.Answers.{said_in, front_in, first_number};
 
@@ -238,6 +239,7 @@ fn task_after(count: usize, header: &Header, words: &Words) -> Result<Task, Scri
     requires { header.now.cfg.m ≤ 52 }
     ensures task { Agrees (λ x. x) result (task_after count header.now words.now) }
     ensures well { IfOk result (λ task. IsWellFormed header.now task.p task.instruction) }
+    ensures few { OnOk result (count < most_instructions) }
 {
     if count >= MOST_INSTRUCTIONS {
         return Err(ScriptRefusal::TooMany);
@@ -257,6 +259,7 @@ fn next_task<'a>(
         (next_task_at header.now count (told_in text.now)) }
     ensures well { IfOk result (λ next. IfSome next
         (λ x. IsWellFormed header.now x.value.p x.value.instruction)) }
+    ensures few { IfOk result (λ next. IfSome next (λ _. count < most_instructions)) }
     ensures less { IfOk result (λ next. IfSome next
         (λ x. length x.rest.1 < length text.now.1)) }
 {
@@ -289,6 +292,7 @@ pub(crate) fn tasks_of<'a>(
         (tasks_at header.now 0 (told_in text.entry)) }
     ensures well { IfOk result (λ tasks.
         AllByRecursion (λ task. IsWellFormed header.now task.p task.instruction) tasks) }
+    ensures few { IfOk result (λ tasks. length tasks ≤ most_instructions) }
 {
     let mut tasks = Tasks::new(alloc);
     let mut rest = text;

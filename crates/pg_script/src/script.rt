@@ -51,6 +51,7 @@ impl Script {
     pub fn header(&self) -> &Header
         ensures header { result.now ≡ self.now.head }
         ensures range { IsHead result.now }
+        ensures kept { IsScript self.now }
     {
         &self.header
     }
@@ -68,6 +69,7 @@ impl Script {
     pub fn order(&self) -> &[u16]
         ensures order { result.now ≡ order_of self.now.tasks }
         ensures within { AllByRecursion (λ p. p < length self.now.head.processors) result.now }
+        ensures kept { IsScript self.now }
     {
         self.tasks.order()
     }

@@ -20,7 +20,7 @@ use Rattle.pg_entry.specs.Kinds.{accessed, marked, leaf_shift, is_reserved_at, i
 use Rattle.pg_entry.specs.Permission.{is_write, joined}
 use Rattle.pg_event.specs.declared.event.Event.{Event}
 use Rattle.pg_event.specs.Heads.{Head, judges_accessed}
-use Rattle.pg_event.specs.Form.{says_dirty}
+use Rattle.pg_event.specs.Form.{op_bits, flags_of, says_dirty}
 use Rattle.pg_event.specs.Spelling.{bit}
 use Rattle.pg_event.specs.Values.{written}
 use Rattle.pg_event.specs.Wants.{may_dirty}
@@ -29,7 +29,7 @@ use Rattle.pg_world.specs.declared.walk.Walk.{Walk}
 use Rattle.pg_world.specs.declared.walk.LevelRead.TheVariants.{Entry, Assisted}
 use Rattle.pg_world.specs.Laws.{AnAssistIsEnough}
 use Rattle.pg_world.specs.Recording.{receipt_of}
-use Rattle.pg_world.specs.Walks.{op_bits, flags_of, address_of, word_now, lacks_dirty, lacks_flags, assist_of, found_entry, found_by}
+use Rattle.pg_world.specs.Walks.{address_of, word_now, lacks_dirty, lacks_flags, assist_of, found_entry, found_by}
 
 -- ---- the entry with its flags set
 
@@ -149,18 +149,18 @@ op_few ops.Read = omega arith
 op_few ops.Write = omega arith
 op_few ops.Fetch = omega arith
 
-bit_few : (b : Bool) → bit b ≤ 1
-bit_few true = omega arith
-bit_few false = omega arith
+few_flags : (op : Op) (user ac : Bool) → op_bits op + cond user 4 0 + cond ac 8 0 < 16
+few_flags op false false = omega (arith, op_few op)
+few_flags op false true = omega (arith, op_few op)
+few_flags op true false = omega (arith, op_few op)
+few_flags op true true = omega (arith, op_few op)
 
-dirty_told : (op : Op) (user ac with_dirty : Bool) → says_dirty (op_bits op + 4 * bit user + 8 * bit ac + 16 * bit with_dirty) ≡ with_dirty
-dirty_told op user ac true =
-    let few : op_bits op + 4 * bit user + 8 * bit ac < 16 = omega (arith, op_few op, bit_few user, bit_few ac) in
-    let one : (op_bits op + 4 * bit user + 8 * bit ac + 16 * bit true) / 2 ^ 4 % 2 ≡ 1 = omega (arith, few) in
+dirty_by : (flags : ℕ) (with_dirty : Bool) → flags < 16 → says_dirty (flags + 16 * bit with_dirty) ≡ with_dirty
+dirty_by flags true few =
+    let one : (flags + 16 * bit true) / 2 ^ 4 % 2 ≡ 1 = omega (arith, few) in
     ap (λ n. nat_eq n 1) one
-dirty_told op user ac false =
-    let few : op_bits op + 4 * bit user + 8 * bit ac < 16 = omega (arith, op_few op, bit_few user, bit_few ac) in
-    let none : (op_bits op + 4 * bit user + 8 * bit ac + 16 * bit false) / 2 ^ 4 % 2 ≡ 0 = omega (arith, few) in
+dirty_by flags false few =
+    let none : (flags + 16 * bit false) / 2 ^ 4 % 2 ≡ 0 = omega (arith, few) in
     ap (λ n. nat_eq n 1) none
 
 word_after : (es : List Event) (e : Event) (a : ℕ) → word_now (es ++ e ∷ []) a ≡ written a (word_now es a) e
@@ -175,7 +175,7 @@ word_assisted es p walk with_dirty =
     let value : ℕ = word_now es a in
     word_after es (assist_of es p walk with_dirty) a
     ∙ ap (λ b. cond b (marked (says_dirty (flags_of walk.kind + 16 * bit with_dirty)) value) value) (eq-eqb a a refl)
-    ∙ ap (λ b. marked b value) (dirty_told walk.kind.op walk.kind.user walk.kind.ac with_dirty)
+    ∙ ap (λ b. marked b value) (dirty_by (flags_of walk.kind) with_dirty (few_flags walk.kind.op walk.kind.user walk.kind.ac))
 
 -- ---- what is found then
 

@@ -13,7 +13,7 @@ use Rattle.pg_event.specs.declared.event.Event.TheVariants as events
 use Rattle.pg_event.specs.declared.event.Outcome.{Outcome}
 use Rattle.pg_event.specs.declared.event.Outcome.TheVariants as outcomes
 use Rattle.pg_event.specs.Heads.{Head, judges_accessed}
-use Rattle.pg_event.specs.Form.{is_canonical, is_word, breaks_assist}
+use Rattle.pg_event.specs.Form.{flags_of, is_canonical, is_word, breaks_assist}
 use Rattle.pg_event.specs.Spelling.{bit}
 use Rattle.pg_event.specs.Wants.{may_dirty}
 use Rattle.std.proofs.lemmas.Bool.{cond_both}
@@ -30,13 +30,16 @@ use Rattle.pg_world.specs.declared.walk.Walk.{Walk}
 use Rattle.pg_world.specs.declared.walk.LevelRead.{LevelRead}
 use Rattle.pg_world.specs.declared.walk.LevelRead.TheVariants as founds
 use Rattle.pg_world.specs.Recording.{Recording, receipt_of, is_well_formed, refusal, event_refusal, IsRefusedBy}
-use Rattle.pg_world.specs.Walks.{op_bits, flags_of, is_walk, address_of, word_now, moments_now, lacks_dirty, lacks_flags, fault_of, assist_of, used_entry, found_entry, found_by, found_in, adds_event, read_refusal}
+use Rattle.pg_world.specs.Walks.{is_walk, address_of, word_now, moments_now, lacks_dirty, lacks_flags, fault_of, assist_of, used_entry, found_entry, found_by, found_in, adds_event, read_refusal}
 use Rattle.pg_world.proofs.Tables.{left_of, MayRead, may_read, entry-word}
 
 -- ---- flags
 
+abbrev bits : Op → Bool → Bool → ℕ
+bits op user ac = let kind : AccessKind = record { op = op; user = user; ac = ac } in flags_of kind
+
 access_bits : (op : Op) (user ac : Bool) →
-    let flags = op_bits op + 4 * bit user + 8 * bit ac in
+    let flags = bits op user ac in
     (nat_eq (flags % 4) 3 || not (nat_eq (flags / 16) 0)) ≡ false
 access_bits ops.Read false false = refl
 access_bits ops.Read false true = refl
@@ -51,7 +54,7 @@ access_bits ops.Fetch false true = refl
 access_bits ops.Fetch true false = refl
 access_bits ops.Fetch true true = refl
 
-clean_bits : (op : Op) (user ac : Bool) → breaks_assist versions.Two (op_bits op + 4 * bit user + 8 * bit ac + 16 * bit false) ≡ false
+clean_bits : (op : Op) (user ac : Bool) → breaks_assist versions.Two (bits op user ac + 16 * bit false) ≡ false
 clean_bits ops.Read false false = refl
 clean_bits ops.Read false true = refl
 clean_bits ops.Read true false = refl
@@ -65,7 +68,7 @@ clean_bits ops.Fetch false true = refl
 clean_bits ops.Fetch true false = refl
 clean_bits ops.Fetch true true = refl
 
-dirty_bits : (op : Op) (user ac : Bool) → is_write op ≡ true → breaks_assist versions.Two (op_bits op + 4 * bit user + 8 * bit ac + 16 * bit true) ≡ false
+dirty_bits : (op : Op) (user ac : Bool) → is_write op ≡ true → breaks_assist versions.Two (bits op user ac + 16 * bit true) ≡ false
 dirty_bits ops.Read user ac h = absurd cc
 dirty_bits ops.Write false false h = refl
 dirty_bits ops.Write false true h = refl

@@ -1,6 +1,5 @@
 pub mod Tables
 pub mod Formed
 pub mod Segments
-pub mod Flags
 pub mod Rows
 pub mod Assisted

@@ -1,16 +1,14 @@
 -- Laws of recordings.
-use Rattle.std.specs.Prelude.{◌≡◌, ◌≢◌, ℕ, zero, suc, ◌*◌, ◌%◌, ◌<◌, ◌≤◌, true, List, []}
+use Rattle.std.specs.Prelude.{◌≡◌, ℕ, zero, suc, ◌*◌, ◌≤◌, true, List, []}
 use Rattle.std.specs.Prelude.{◌++◌, length, take}
-use Rattle.pg_entry.specs.declared.AccessKind.{AccessKind}
 use Rattle.pg_entry.specs.Kinds.{table_of}
 use Rattle.pg_event.specs.declared.event.Event.{Event}
-use Rattle.pg_event.specs.Form.{access_kind}
 use Rattle.pg_event.specs.Spelling.{IsHead}
 use Rattle.pg_world.specs.declared.receipt.Receipt.{Receipt}
 use Rattle.pg_world.specs.declared.walk.LevelRead.TheVariants.{Assisted, Entry}
 use Rattle.pg_world.specs.declared.walk.Walk.{Walk}
 use Rattle.pg_world.specs.Recording.{Recording, segment_of, sealed_count, with_event}
-use Rattle.pg_world.specs.Walks.{flags_of, is_table_address, address_of, word_now, found_in}
+use Rattle.pg_world.specs.Walks.{is_table_address, address_of, word_now, found_in}
 
 -- so many segments, one after another
 abbrev pub joined_segments : Recording → ℕ → List Event
@@ -24,11 +22,6 @@ SegmentsBeginTheEvents =
 abbrev pub FinishedSegmentsAreTheEvents : Type 0
 FinishedSegmentsAreTheEvents = (r : Recording) → IsHead r.head → r.finished ≡ true →
     joined_segments r (sealed_count r) ≡ r.events
-
--- an access is what its flags say, and well formed flags are those of the access that they say
-pub record FlagsAreTold : Type 0 where
-  pub kind : (kind : AccessKind) → access_kind (flags_of kind) ≡ kind
-  pub flags : (flags : ℕ) → flags < 16 → flags % 4 ≢ 3 → flags_of (access_kind flags) ≡ flags
 
 -- what an entry or CR3 refers to is the address of a table
 abbrev pub TablesHaveAddresses : Type 0

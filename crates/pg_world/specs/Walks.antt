@@ -2,9 +2,6 @@
 use Rattle.std.specs.Prelude.{ℕ, ◌+◌, ◌*◌, ◌%◌, ◌^◌, Bool, true, false, not, ◌&&◌, ◌||◌, ◌==◌}
 use Rattle.std.specs.Prelude.{nat_lt, if◌then◌else◌, List, [], ◌∷◌, ◌++◌, length, Option, Some}
 use Rattle.std.specs.Prelude.{None}
-use Rattle.pg_entry.specs.declared.Op.{Op}
-use Rattle.pg_entry.specs.declared.Op.TheVariants as ops
-use Rattle.pg_entry.specs.declared.AccessKind.{AccessKind}
 use Rattle.pg_entry.specs.declared.Cfg.{Cfg}
 use Rattle.pg_entry.specs.declared.Cause.{Cause}
 use Rattle.pg_entry.specs.declared.Cause.TheVariants as causes
@@ -18,7 +15,7 @@ use Rattle.pg_event.specs.declared.event.Event.{Event}
 use Rattle.pg_event.specs.declared.event.Event.TheVariants as events
 use Rattle.pg_event.specs.declared.event.Outcome.TheVariants as outcomes
 use Rattle.pg_event.specs.Heads.{Head, judges_accessed}
-use Rattle.pg_event.specs.Form.{is_canonical}
+use Rattle.pg_event.specs.Form.{is_canonical, flags_of}
 use Rattle.pg_event.specs.Spelling.{bit}
 use Rattle.pg_event.specs.Values.{mem_at}
 use Rattle.pg_event.specs.Walk.{entry_address}
@@ -30,16 +27,6 @@ use Rattle.pg_world.specs.declared.walk.LevelRead.TheVariants.{Entry, Fault, Ass
 use Rattle.pg_world.specs.Recording.{Recording, receipt_of, with_event, refusal}
 
 -- ---- the walk
-
-abbrev pub op_bits : Op → ℕ
-op_bits ops.Read = 0
-op_bits ops.Write = 1
-op_bits ops.Fetch = 2
-
--- the flags that an access is recorded with: bits 1 and 0 the operation, bit 2 user, bit 3
--- EFLAGS.AC
-abbrev pub flags_of : AccessKind → ℕ
-flags_of kind = op_bits kind.op + 4 * bit kind.user + 8 * bit kind.ac
 
 -- how many levels a walk reads before this one
 abbrev pub levels_above : Level → ℕ

@@ -4,7 +4,7 @@ ghost use Rattle.pg_world.specs.Recording.{is_access, is_control};
 use pg_event::Event;
 
 /// Whether an event is an access to memory.
-pub fn is_access(event: &Event) -> bool
+pub(crate) fn is_access(event: &Event) -> bool
     ensures { result ≡ is_access event.now }
 {
     match *event {
@@ -19,7 +19,7 @@ pub fn is_access(event: &Event) -> bool
 }
 
 /// Whether an event is an instruction that changes control registers or invalidates.
-pub fn is_control(event: &Event) -> bool
+pub(crate) fn is_control(event: &Event) -> bool
     ensures { result ≡ is_control event.now }
 {
     match *event {

@@ -1,7 +1,7 @@
 //! Laws of recordings. Each function does nothing: its contract is the law.
 
 ghost use Rattle.pg_world.specs.Laws.{SegmentsBeginTheEvents, FinishedSegmentsAreTheEvents};
-ghost use Rattle.pg_world.specs.Laws.{FlagsAreTold, TablesHaveAddresses, AnAssistIsEnough};
+ghost use Rattle.pg_world.specs.Laws.{TablesHaveAddresses, AnAssistIsEnough};
 
 /// The first segments, one after another, are the first events.
 pub fn segments_begin_the_events()
@@ -11,11 +11,6 @@ pub fn segments_begin_the_events()
 /// The sealed segments of a finished record, one after another, are its events.
 pub fn finished_segments_are_the_events()
     ensures { FinishedSegmentsAreTheEvents }
-{}
-
-/// The flags of an access say the access, and the access says its flags.
-pub fn flags_are_told()
-    ensures { FlagsAreTold }
 {}
 
 /// What an entry or CR3 refers to is the address of a table: a walk that goes by what it read is

@@ -14,8 +14,8 @@ mod world;
 
 pub use error::WorldError;
 pub use law::{
-    an_assist_is_enough, finished_segments_are_the_events, flags_are_told,
-    segments_begin_the_events, tables_have_addresses,
+    an_assist_is_enough, finished_segments_are_the_events, segments_begin_the_events,
+    tables_have_addresses,
 };
 pub use receipt::Receipt;
 pub use walk::{LevelRead, Walk};

@@ -10,7 +10,7 @@ use std::marker::Model;
 
 /// Table memory: the present word at each physical byte address, 0 where none was put.
 #[derive(Debug, Drop)]
-pub struct Memory {
+pub(crate) struct Memory {
     words: HashMap<u64, u64>,
 }
 
@@ -24,7 +24,7 @@ impl Model for Memory {
 
 impl Memory {
     /// Memory at the start of a run: all zero.
-    pub fn new(alloc: Global) -> Memory
+    pub(crate) fn new(alloc: Global) -> Memory
         ensures { (a : ℕ) → word_in result a ≡ 0 }
     {
         Memory {
@@ -33,7 +33,7 @@ impl Memory {
     }
 
     /// The word at an address.
-    pub fn word(&self, addr: u64) -> u64
+    pub(crate) fn word(&self, addr: u64) -> u64
         ensures { result ≡ word_in self.now addr }
     {
         self.words.get(&addr).copied().unwrap_or(0)
@@ -41,7 +41,7 @@ impl Memory {
 
     /// Carries out what an event does to memory. Fails where memory for a new word is refused, and
     /// then nothing is done.
-    pub fn take(&mut self, event: &Event) -> Result<(), AllocError>
+    pub(crate) fn take(&mut self, event: &Event) -> Result<(), AllocError>
         ensures ok { OnOk result
             ((a : ℕ) → word_in self.new a ≡ written a (word_in self.old a) event.now) }
         ensures err { OnErr result (self.new ≡ self.old) }

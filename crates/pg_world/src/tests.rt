@@ -72,6 +72,15 @@ fn write_tables(world: &mut World, words: [u64; 4]) -> Result<(), WorldError> {
 }
 
 #[test]
+fn headers_compared(rt: HostRuntime) -> Result<(), Fail> {
+    let header = one_processor(rt.alloc(), Version::One, 16)?;
+    let other = one_processor(rt.alloc(), Version::One, 32)?;
+    assert!(rt; header.is_same(&header.clone()?));
+    assert!(rt; !header.is_same(&other));
+    Ok(())
+}
+
+#[test]
 fn reads_and_records(rt: HostRuntime) -> Result<(), Fail> {
     let header = one_processor(rt.alloc(), Version::One, 16)?;
     let mut world = World::new(rt.alloc(), header);

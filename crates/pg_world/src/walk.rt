@@ -1,11 +1,11 @@
 ghost use Rattle.std.specs.Prelude.{◌≡◌, ◌≤◌, ◌+◌, ◌*◌, ◌++◌, ◌∷◌, [], length};
+ghost use Rattle.pg_event.specs.Form.{flags_of};
 ghost use Rattle.pg_event.specs.Spelling.{bit};
-ghost use Rattle.pg_world.specs.Walks.{op_bits, flags_of, levels_above, moments_of};
-ghost use Rattle.pg_world.specs.Walks.{is_table_address, is_walk};
+ghost use Rattle.pg_world.specs.Walks.{levels_above, moments_of, is_table_address, is_walk};
 
 use crate::receipt::Receipt;
-use pg_entry::{AccessKind, Level, Op, Rights};
-use pg_event::{Header, Moments, is_canonical};
+use pg_entry::{AccessKind, Level, Rights};
+use pg_event::{Header, Moments, flags_of, is_canonical};
 
 /// A walk that is to read a level (Intel SDM, vol. 3, 4.5).
 #[derive(Clone, Copy, PartialEq, Eq, Debug)]
@@ -24,6 +24,19 @@ pub struct Walk {
     pub moments: Option<Moments>,
 }
 
+impl Walk {
+    /// The moments of the levels above, and one more: at most four levels are read.
+    pub fn moments_with(&self, moment: u32) -> Moments
+        requires { length (moments_of self.now.moments) ≤ 3 }
+        ensures { result ≡ moments_of self.now.moments ++ moment ∷ [] }
+    {
+        match self.moments {
+            None => Moments::first(moment),
+            Some(moments) => moments.with(moment).unwrap(),
+        }
+    }
+}
+
 /// What the read of a level came to.
 #[derive(Clone, Copy, PartialEq, Eq, Debug)]
 pub enum LevelRead {
@@ -36,37 +49,11 @@ pub enum LevelRead {
     Assisted(Receipt),
 }
 
-fn op_bits(op: Op) -> u8
-    ensures value { result ≡ op_bits op }
-    ensures small { result ≤ 2 }
-{
-    match op {
-        Op::Read => 0,
-        Op::Write => 1,
-        Op::Fetch => 2,
-    }
-}
-
-fn bit(b: bool) -> u8
-    ensures value { result ≡ bit b }
-    ensures small { result ≤ 1 }
-{
-    if b { 1 } else { 0 }
-}
-
-/// The flags that an access is recorded with.
-pub fn flags_of(kind: AccessKind) -> u8
-    ensures value { result ≡ flags_of kind }
-    ensures small { result ≤ 14 }
-{
-    op_bits(kind.op) + 4 * bit(kind.user) + 8 * bit(kind.ac)
-}
-
 /// The flags that an assist for an access is recorded with.
-pub fn assist_flags(kind: AccessKind, is_dirty: bool) -> u8
+pub(crate) fn assist_flags(kind: AccessKind, is_dirty: bool) -> u8
     ensures { result ≡ flags_of kind + 16 * bit is_dirty }
 {
-    flags_of(kind) + 16 * bit(is_dirty)
+    flags_of(kind) + if is_dirty { 16 } else { 0 }
 }
 
 fn levels_above(level: Level) -> usize
@@ -98,7 +85,7 @@ fn is_table_address(m: u8, table: u64) -> bool
 }
 
 /// Whether a walk of a processor may read.
-pub fn is_walk(header: &Header, p: u16, walk: &Walk) -> bool
+pub(crate) fn is_walk(header: &Header, p: u16, walk: &Walk) -> bool
     requires { header.now.cfg.m ≤ 52 }
     ensures { result ≡ is_walk header.now p walk.now }
 {
@@ -106,15 +93,4 @@ pub fn is_walk(header: &Header, p: u16, walk: &Walk) -> bool
         && is_canonical(walk.la)
         && is_table_address(header.cfg.m, walk.table)
         && moment_count(&walk.moments) == levels_above(walk.level)
-}
-
-/// The moments of the levels above, and one more.
-pub fn moments_with(moments: &Option<Moments>, moment: u32) -> Moments
-    requires { length (moments_of moments.now) ≤ 3 }
-    ensures { result ≡ moments_of moments.now ++ moment ∷ [] }
-{
-    match moments {
-        None => Moments::first(moment),
-        Some(moments) => moments.with(moment).unwrap(),
-    }
 }

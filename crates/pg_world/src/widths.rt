@@ -47,7 +47,7 @@ fn outcome_fits(outcome: Outcome)
 }
 
 /// The fields of an event fit those of a record.
-pub fn event_fits(event: &Event)
+pub(crate) fn event_fits(event: &Event)
     ensures { FitsEvent event.now }
 {
     match *event {

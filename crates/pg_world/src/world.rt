@@ -16,11 +16,12 @@ use crate::error::WorldError;
 use crate::kinds::{is_access, is_control};
 use crate::memory::Memory;
 use crate::receipt::Receipt;
-use crate::walk::{LevelRead, Walk, assist_flags, flags_of, is_walk, moments_with};
+use crate::walk::{LevelRead, Walk, assist_flags, is_walk};
 use crate::widths::event_fits;
 use pg_entry::{Cause, Entry, Kind, Op, accessed, classify, combine, dirty, error_code};
 use pg_event::{
-    Event, Header, Outcome, Record, Version, entry_address, may_dirty, processor_of, well_formed,
+    Event, Header, Outcome, Record, Version, entry_address, flags_of, may_dirty, processor_of,
+    well_formed,
 };
 use std::alloc::{AllocError, Global};
 use std::marker::Model;
@@ -260,7 +261,7 @@ impl World {
                 flags: flags_of(walk.kind),
                 la: walk.la,
                 outcome: Outcome::Fault(error_code(self.header.cfg, walk.kind, cause)),
-                moments: moments_with(&walk.moments, moment),
+                moments: walk.moments_with(moment),
             },
         }
     }
@@ -280,7 +281,7 @@ impl World {
                 flags: assist_flags(walk.kind, is_dirty),
                 la: walk.la,
                 word: entry_address(walk.table, walk.level, walk.la),
-                moments: moments_with(&walk.moments, moment),
+                moments: walk.moments_with(moment),
             },
         }
     }

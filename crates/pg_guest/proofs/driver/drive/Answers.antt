@@ -1,7 +1,9 @@
 use Rattle.std.proofs.Common.{◌<◌, length, map, take, get_or, sym, ◌∙◌, subst, arith, length-set}
 use Rattle.std.proofs.lemmas.List.{take_more}
 use Rattle.std.proofs.lemmas.Option.{slice_get-get_or}
+use Rattle.pg_home.proofs.Leaves.{core_runs_leave}
 use Rattle.pg_home.proofs.Runs.{core_runs_keep_quiet}
+use Rattle.pg_home.proofs.Transcripts.{core_runs_are_told}
 use Rattle.pg_guest.specs.Held.{seen}
 use Rattle.pg_guest.specs.Steps.{IsOfRun}
 use Rattle.pg_guest.proofs.Placed.{turn_within, driven_on}
@@ -40,3 +42,13 @@ returns-clause-quiet c = λ quiet.
     let turns = c.args.turns.now in
     let run = c.loop-p.invariant.driven.run in
     core_runs_keep_quiet c.args.world.now (map seen c.args.processors.now) (take c.loop-p.p-index turns) c.loop-p.answers.items c.loop-p.world (map seen c.loop-p.processors) quiet run
+
+pub returns-clause-leaves : goal.returns-clause-leaves
+returns-clause-leaves c =
+    let turns = c.args.turns.now in
+    core_runs_leave c.args.world.now (map seen c.args.processors.now) (take c.loop-p.p-index turns) c.loop-p.answers.items c.loop-p.world (map seen c.loop-p.processors) c.loop-p.invariant.driven.run
+
+pub returns-clause-told : goal.returns-clause-told
+returns-clause-told c = λ told.
+    let turns = c.args.turns.now in
+    core_runs_are_told c.args.world.now (map seen c.args.processors.now) (take c.loop-p.p-index turns) c.loop-p.answers.items c.loop-p.world (map seen c.loop-p.processors) told c.loop-p.invariant.driven.run

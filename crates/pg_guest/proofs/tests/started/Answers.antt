@@ -4,4 +4,4 @@ use Rattle.pg_guest.specs.Runs.{IsPlaced}
 use Rattle.pg_guest.proofs.tests.started.Goals as goal
 
 pub returns : goal.returns
-returns c = λ p h is. subst (λ (head : Head). IsPlaced head p h) (sym c.in_ok-world.ensures) (c.in_ok-processors.ensures.each p h is).placed
+returns c = λ p h is. subst (λ (head : Head). IsPlaced head p h) (sym c.in_ok-world.ensures) (c.in_ok-processors.ensures.made.each p h is).placed

@@ -1,7 +1,8 @@
-use Rattle.std.proofs.Common.{inl, inr, ◌≡◌, ◌∙◌, Some, None, length, sym}
+use Rattle.std.proofs.Common.{inl, inr, ◌≡◌, ◌∙◌, ◌<◌, Some, None, length, sym, arith}
 use Rattle.std.specs.Prelude.{Ok, Err}
+use Rattle.std.proofs.lemmas.List.{length_push}
 use Rattle.std.proofs.lemmas.Result.{err_from_is_err_and}
-use Rattle.pg_script.specs.Reading.{next_task_at}
+use Rattle.pg_script.specs.Reading.{next_task_at, most_instructions}
 use Rattle.pg_script.specs.Answers.{told_in, said_in}
 use Rattle.pg_script.proofs.Loops.{tasks_go_on, tasks_end, tasks_refused}
 use Rattle.pg_script.proofs.Pushing.{all_pushed}
@@ -38,9 +39,12 @@ lines-preserved c =
     let P : Task → Type 0 = λ t. IsWellFormed head t.p t.instruction in
     let pushed = c.in-Ok.ensures.ok in
     let well : P task = rw c.in-Some.is at c.in_ok-task.ensures.well in
+    let room : c.len.result < most_instructions = rw c.in-Some.is at c.in_ok-task.ensures.few in
+    let few : length tasks < most_instructions = rw (← c.len.ensures) room in
     record {
       so_far = rw pushed (tasks_go_on head tasks (told_in c.lines.rest) (said_in told_in c.in-Some.task) next ∙ c.lines.invariant.so_far);
       within = λ n a. c.lines.invariant.within n (adds_behind_task head (length tasks) (told_in c.lines.rest) (said_in told_in c.in-Some.task) n next a);
+      few = rw pushed (rw (length_push tasks task) (omega (arith, few)));
       well = rw pushed (all_pushed P tasks task c.lines.invariant.well well);
     }
 

@@ -1,7 +1,7 @@
-use Rattle.std.proofs.Common.{ℕ, ◌≡◌, length}
+use Rattle.std.proofs.Common.{ℕ, ◌≡◌, ◌≤◌, length}
 use Rattle.std.specs.List.{AllByRecursion}
 use Rattle.pg_script.specs.Tasks.{IsWellFormed}
-use Rattle.pg_script.specs.Reading.{tasks_at}
+use Rattle.pg_script.specs.Reading.{tasks_at, most_instructions}
 use Rattle.pg_script.specs.Answers.{told_in}
 use Rattle.pg_script.specs.Refusals.{Adds}
 use Rattle.pg_script.proofs.Loops.{tasks_behind}
@@ -11,6 +11,7 @@ abbrev pub invariant-lines : goal.invariant-lines
 invariant-lines l = record {
   so_far : tasks_behind l.tasks (tasks_at l.header (length l.tasks) (told_in l.rest)) ≡ tasks_at l.header 0 (told_in l.fn.text);
   within : (n : ℕ) → Adds (told_in l.rest) n → Adds (told_in l.fn.text) n;
+  few : length l.tasks ≤ most_instructions;
   well : AllByRecursion (λ task. IsWellFormed l.header task.p task.instruction) l.tasks;
 }
 

@@ -1,12 +1,9 @@
-use Rattle.std.proofs.Common.{◌≡◌, ◌≤◌, ℕ, refl, sym, ◌∙◌, ap, subst, arith}
+use Rattle.std.proofs.Common.{◌≡◌, ◌≤◌, ℕ, sym, ◌∙◌, ap, subst, arith}
 use Rattle.pg_event.specs.declared.control.Control.{Control}
-use Rattle.pg_event.specs.declared.event.Event.TheVariants.{Access}
 use Rattle.pg_shadow.specs.Caches.{IsBlock}
 use Rattle.pg_shadow.specs.Find.{IsInRange}
 use Rattle.pg_shadow.specs.Held.{seen as cached}
 use Rattle.pg_guest.specs.Held.{Held}
-use Rattle.pg_script.specs.declared.instruction.Instruction.TheVariants as instructions
-use Rattle.pg_guest.proofs.Instructions.{carries}
 use Rattle.pg_guest.proofs.Reach.{root_walk, table_walk, small_page}
 use Rattle.pg_guest.proofs.processor.Processor.go_on.Goals as goal
 
@@ -16,12 +13,6 @@ address_in-address-requires-clause-frame c =
     let same : (cached c.self.inside.shadow).width ≡ width = ap (λ (h : Held). (cached h.shadow).width) c.self.view_is in
     let most : width ≤ 52 = omega (arith, same, c.control-control.ensures.range.most) in
     (small_page width c.in-Hit.shift c.in-Hit.frame c.in-Hit.moments most (subst (IsInRange width) c.in-Hit.is c.requires.way)).frame_below
-
-pub carry_out-requires-clause-event : goal.carry_out-requires-clause-event
-carry_out-requires-clause-event c =
-    let own : c.self.inside.number ≡ c.args.self.now.number = ap (λ (h : Held). h.number) c.self.view_is in
-    carries c.args.world.now.head c.self.inside.number c.args.self.now.number (instructions.Access c.args.flags c.args.la)
-    (Access c.self.inside.number c.args.flags c.args.la c.outcome_of.result c.in-Hit.moments) own c.requires.well refl refl
 
 pub read-requires-clause-walk : goal.read-requires-clause-walk
 read-requires-clause-walk c =

@@ -10,14 +10,15 @@ use Rattle.pg_world.specs.Walks.{found_in}
 use Rattle.pg_home.specs.Turn.{Processor}
 use Rattle.pg_home.proofs.Further.{entries_are_present}
 use Rattle.pg_guest.specs.Held.{Held, seen}
-use Rattle.pg_guest.proofs.Read.{entry_so}
+use Rattle.pg_guest.proofs.Read.{entry_so, refused_so}
+use Rattle.pg_guest.proofs.Refused.{entry_unfinished}
 use Rattle.pg_guest.proofs.processor.Processor.read.Goals as goal
 
 pub keep-requires-clause-present : goal.keep-requires-clause-present
 keep-requires-clause-present c =
     let r = c.args.world.now in
     let found : found_in r c.self.inside.number c.args.walk.now ≡ Entry c.in-Ok-Entry.value c.in-Ok-Entry.moment = sym c.in-Ok-Entry.ensures.found ∙ c.in-Ok-Entry.field-0-is in
-    subst (λ (cfg : Cfg). is_wanted Present (kind_of cfg c.args.walk.now.level c.in-Ok-Entry.value) ≡ true) (sym c.cfg_of-cfg.ensures)
+    subst (λ (cfg : Cfg). is_wanted Present (kind_of cfg c.args.walk.now.level c.in-Ok-Entry.value) ≡ true) (sym c.cfg_of-cfg.ensures.value)
     (entries_are_present r c.self.inside.number c.args.walk.now c.in-Ok-Entry.value c.in-Ok-Entry.moment found)
 
 pub returns-in-Ok-Entry-clause-turn : goal.returns-in-Ok-Entry-clause-turn
@@ -35,4 +36,21 @@ returns-in-Ok-Entry-clause-turn c =
     let same : with_room c.reserve.new.self.items ≡ seen c.args.self.now = ap with_room c.reserve.ensures.items ∙ ap seen c.self.view_is in
     let found : found_in r was.number c.args.walk.now ≡ Entry c.in-Ok-Entry.value c.in-Ok-Entry.moment = sym c.in-Ok-Entry.ensures.found ∙ c.in-Ok-Entry.field-0-is in
     entry_so was.number c.args.self.now.number r c.read_level.new.world _ _ (seen c.keep.new.self) c.args.way c.args.walk.now c.keep.result c.in-Ok-Entry.value c.in-Ok-Entry.moment c.cfg_of-cfg.result
-    number same c.cfg_of-cfg.ensures found c.in-Ok-Entry.ensures.recorded c.keep.ensures.turn
+    number same c.cfg_of-cfg.ensures.value found c.in-Ok-Entry.ensures.recorded
+    (entry_unfinished r c.args.walk.now.level _ c.in-Ok-Entry.value c.in-Ok-Entry.moment c.in-Ok-Entry.field-0-is c.in-Ok-Entry.ensures.ok) c.keep.ensures.turn
+
+pub returns-in-Err-clause-turn : goal.returns-in-Err-clause-turn
+returns-in-Err-clause-turn c =
+    let r = c.args.world.now in
+    let was = c.self.inside in
+    let with_room : List Receipt → Processor = λ transcript. record {
+      instructions = was.instructions.items;
+      place = was.place;
+      way = was.way;
+      transcript = transcript;
+      caches = cached was.shadow;
+    } in
+    let number : was.number ≡ c.args.self.now.number = ap (λ (h : Held). h.number) c.self.view_is in
+    let same : with_room c.reserve.new.self.items ≡ seen c.args.self.now = ap with_room c.reserve.ensures.items ∙ ap seen c.self.view_is in
+    refused_so was.number c.args.self.now.number r c.read_level.new.world (with_room c.reserve.new.self.items) (seen c.args.self.now) (seen c.stopped-in-Err.new.self) c.args.way c.args.walk.now
+    c.stopped-in-Err.result c.in-Err.why number same c.in-Err.ensures.err c.stopped-in-Err.ensures.answer (ap seen c.stopped-in-Err.ensures.left) c.requires.due c.in-Err.ensures.refused
