@@ -45,15 +45,15 @@ pub record Certificate (head : Head) (all : List Event) (w : ℕ) (e : Event) : 
   pub fits : HasMoments event
   pub good : failing_event head all w event ≡ None
 
-bar : {X : Type 0} (b : Bool) (x : X) (o : Option X) → b ≡ false → o ≡ None → cond b (Some x) o ≡ None
+pub bar : {X : Type 0} (b : Bool) (x : X) (o : Option X) → b ≡ false → o ≡ None → cond b (Some x) o ≡ None
 bar false x o h k = k
 bar true x o h k = absurd (cc)
 
-last : {X : Type 0} (b : Bool) (x : X) → b ≡ true → cond b None (Some x) ≡ None
+pub last : {X : Type 0} (b : Bool) (x : X) → b ≡ true → cond b None (Some x) ≡ None
 last true x h = refl
 last false x h = absurd (cc)
 
-foreign : (a b : Bool) → (a || b) ≡ true → (not a && not b) ≡ false
+pub foreign : (a b : Bool) → (a || b) ≡ true → (not a && not b) ≡ false
 foreign true b h = refl
 foreign false true h = refl
 foreign false false h = absurd (cc)
@@ -113,7 +113,7 @@ leaf_certified head all s w few now sound p flags la outcome moments want h =
     }
 
 -- what a fault wants is not used, and it writes nothing
-fault_flags : (version : Version) (c : Claim) (value code : ℕ) → c.outcome ≡ Fault code → uses_last (want_of c.outcome) ≡ false → IsFlagged version c value
+pub fault_flags : (version : Version) (c : Claim) (value code : ℕ) → c.outcome ≡ Fault code → uses_last (want_of c.outcome) ≡ false → IsFlagged version c value
 fault_flags version c value code is unused = record {
   leaf = ap (λ b. not (judges_accessed version) || (not b || accessed value)) unused ∙ or_right (not (judges_accessed version)) true refl;
   write = ap (λ (o : Outcome). not (judges_accessed version && is_done_write c.kind o) || dirty value) is ∙ unwritten (judges_accessed version) (dirty value);
@@ -158,7 +158,7 @@ judged_version : (version : Version) (flags : ℕ) → breaks_assist version fla
 judged_version versions.One flags h = absurd (cc)
 judged_version versions.Two flags h = refl
 
-assist_judged : (head : Head) (p flags la word : ℕ) (moments : List ℕ) → broken_rule head (Assist p flags la word moments) ≡ None → judges_accessed head.version ≡ true
+pub assist_judged : (head : Head) (p flags la word : ℕ) (moments : List ℕ) → broken_rule head (Assist p flags la word moments) ≡ None → judges_accessed head.version ≡ true
 assist_judged head p flags la word moments h =
     let there = guard_none (nat_lt p (length head.processors)) rules.Processor _ h in
     let aligned = guard_none (is_word head.cfg.m word) rules.WordAddress _ there.1 in

@@ -220,7 +220,7 @@ depth Three = 2
 depth Two = 1
 depth One = 0
 
-short : (head : Head) (all : List Event) (p la pcid w : ℕ) (level : Level) (from : Parent) (ws : List ℕ) (at : Level) (to : Parent) →
+pub short : (head : Head) (all : List Event) (p la pcid w : ℕ) (level : Level) (from : Parent) (ws : List ℕ) (at : Level) (to : Parent) →
     Comes head all p la pcid w level from ws at to → length ws ≤ depth level
 short head all p la pcid w level from [] at to h = omega arith
 short head all p la pcid w Four from (x ∷ xs) at to h =

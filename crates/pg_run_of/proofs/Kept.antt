@@ -121,7 +121,7 @@ in_pushed p q x y old h =
       | inr f ↦ inr (rw f at h)
     ]
 
-in_filtered : {X : Type 0} (test : X → Bool) (x : X) (xs : List X) → IsIn x (filter test xs) → IsIn x xs × (test x ≡ true)
+pub in_filtered : {X : Type 0} (test : X → Bool) (x : X) (xs : List X) → IsIn x (filter test xs) → IsIn x xs × (test x ≡ true)
 in_filtered test x [] h = absurd h
 in_filtered test x (y ∷ ys) h =
     elim (cases_Bool (test y)) [
@@ -158,7 +158,7 @@ sound_translation head all s w sound p y k = record {
 }
 
 -- nothing is taken out of an entry's time that has not begun
-survives_none : (head : Head) (all : List Event) (p : ℕ) (test : Control → Event → Bool) (w : ℕ) → survives head all p test w w ≡ true
+pub survives_none : (head : Head) (all : List Event) (p : ℕ) (test : Control → Event → Bool) (w : ℕ) → survives head all p test w w ≡ true
 survives_none head all p test w =
     let none : w - w ≡ 0 = omega arith in
     ap (λ n. not (any_from (λ j. takes_out p test (control_at head all p j) (slice_get all j)) w n)) none
@@ -248,7 +248,7 @@ drop_sound head all s w sound p (members.Translation x) =
     record { structures = sound.structures; translations = λ q y h. sound.translations q y (in_dropped p q (λ y. not (same_translation x y)) y s.translations h) }
 
 -- one more moment
-any_more : (test : ℕ → Bool) (from n : ℕ) → any_from test from n ≡ false → test (from + n) ≡ false → any_from test from (suc n) ≡ false
+pub any_more : (test : ℕ → Bool) (from n : ℕ) → any_from test from n ≡ false → test (from + n) ≡ false → any_from test from (suc n) ≡ false
 any_more test from zero h last = or_from _ _ (let e : from ≡ from + 0 = omega arith in ap test e ∙ last) refl
 any_more test from (suc n) h last =
     let e : from + 1 + n ≡ from + suc n = omega arith in

@@ -1,16 +1,16 @@
 mod Paths
-mod Walks
+pub mod Walks
 mod Fills
 mod Built
 mod Hops
 mod Places
-mod Accesses
-mod Standing
+pub mod Accesses
+pub mod Standing
 mod Ends
 pub mod Whole
-mod Moments
+pub mod Moments
 mod Prefixes
-mod Chains
-mod Kept
-mod Certified
-mod Converse
+pub mod Chains
+pub mod Kept
+pub mod Certified
+pub mod Converse

@@ -172,7 +172,7 @@ assist_same head es u (w ∷ ws) =
     ∙ ap (λ (look : ℕ → ℕ → ℕ). failing_update head all u start.pcid (w ∷ ws) (reads_by head u.la look start (w ∷ ws))) (memory_same es)
     ∙ update_same head es u start.pcid (w ∷ ws) (reads_by head u.la (mem_at es) start (w ∷ ws))
 
-event_same : (head : Head) (es : List Event) (i : ℕ) (e : Event) → failing_event head (map without_moments es) i e ≡ failing_event head es i e
+pub event_same : (head : Head) (es : List Event) (i : ℕ) (e : Event) → failing_event head (map without_moments es) i e ≡ failing_event head es i e
 event_same head es i (Access p flags la outcome ws) = access_same head es (claim_of i p flags la outcome) ws
 event_same head es i (Assist p flags la word ws) = assist_same head es (update_of i p flags la word) ws
 event_same head es i (Write q addr value) = refl

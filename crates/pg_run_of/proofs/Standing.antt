@@ -149,7 +149,7 @@ at_grown head all s t w h g = record {
 not_one : (head : Head) (level : Level) (e : ℕ) → is_table (kind_of head.cfg level e) ≡ true → level ≡ One → ⊥
 not_one head level e h same = no_table_below head.cfg e (ap (λ l. is_table (kind_of head.cfg l e)) (sym same) ∙ h)
 
-or_and : (a b c : Bool) → (a || (b && c)) ≡ true → ((a || b) ≡ true) × ((a || c) ≡ true)
+pub or_and : (a b c : Bool) → (a || (b && c)) ≡ true → ((a || b) ≡ true) × ((a || c) ≡ true)
 or_and true b c h = (refl, refl)
 or_and false true c h = (refl, h)
 or_and false false c h = absurd (cc)

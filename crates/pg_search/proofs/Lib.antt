@@ -1,0 +1,13 @@
+mod Lists
+mod Swept
+mod Stepping
+mod Sound
+mod Ready
+mod Filling
+mod Reached
+mod Exact
+mod Runs
+mod Found
+mod Complete
+mod Picks
+mod Answered

@@ -1,0 +1,6 @@
+pub mod Sweep
+pub mod Found
+pub mod Law
+pub mod Exact
+pub mod Held
+pub mod Swept

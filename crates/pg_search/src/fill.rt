@@ -1,0 +1,266 @@
+ghost use Rattle.std.specs.Prelude.{◌≡◌, ◌<◌, ◌≤◌, ◌+◌, ◌^◌, not, [], ◌∷◌, ◌++◌, length, filter};
+ghost use Rattle.std.specs.Prelude.{Some, None, option_map, OnOk, IfSome};
+ghost use Rattle.pg_entry.specs.Kinds.{kind_of};
+ghost use Rattle.pg_event.specs.Walk.{below};
+ghost use Rattle.pg_machine.specs.Machine.{may_cache};
+ghost use Rattle.pg_search.specs.Sweep.{same_place, same_made, with_new, with_each, entry_at};
+ghost use Rattle.pg_search.specs.Sweep.{table_by, next_table, next_leaf, next_place, next_made};
+ghost use Rattle.pg_search.specs.Held.{trail_of, place_of, made_from, IsNow, AreCurrent, AreReady};
+ghost use Rattle.pg_check.specs.Ends.{IsSmallLeaf};
+
+use crate::held::{Found, HeldFound, HeldSpot, Spot};
+use crate::now::Now;
+use pg_check::History;
+use pg_entry::{Cfg, Entry, Kind, Level, accessed, classify, combine, dirty, table_of};
+use pg_event::{Header, Moments, Parent, Version, below, entry_address, translation_key};
+use pg_machine::Translation;
+use std::alloc::AllocError;
+
+/// The moments and one more.
+pub fn next_moments(trail: Option<Moments>, moment: u32) -> Moments
+    requires { length (trail_of trail) < 4 }
+    ensures { result ≡ trail_of trail ++ moment ∷ [] }
+{
+    match trail {
+        None => Moments::first(moment),
+        Some(moments) => match moments.with(moment) {
+            Some(next) => next,
+            None => unreachable!(),
+        },
+    }
+}
+
+/// Whether an entry may be cached: where accessed flags are judged, it has A (Intel SDM, vol. 3,
+/// 4.8).
+fn may_cache(version: Version, entry: Entry) -> bool
+    ensures { result ≡ may_cache version entry.0 }
+{
+    match version {
+        Version::One => true,
+        Version::Two => accessed(entry),
+    }
+}
+
+/// Where the walk goes on that an entry gives.
+fn table_by(m: u8, from: Parent, entry: Entry) -> Parent
+    requires { (36 ≤ m) × (m ≤ 52) }
+    ensures table { result ≡ table_by m from entry.0 }
+    ensures within { result.table < 2 ^ 52 }
+{
+    Parent {
+        table: table_of(m, entry),
+        rights: combine(from.rights, entry),
+    }
+}
+
+/// The table that the entry of a spot leads to, if it is of the current PCID.
+fn next_table(header: &Header, now: Now, level: Level, spot: Spot) -> Option<Parent>
+    requires width { (36 ≤ header.now.cfg.m) × (header.now.cfg.m ≤ 52) }
+    ensures table { result
+        ≡ next_table header.now now.control.pcid level (place_of spot) spot.word }
+    ensures within { IfSome result (λ next. next.table < 2 ^ 52) }
+{
+    let entry = Entry(spot.word);
+    let is_table = matches!(classify(header.cfg, level, entry), Kind::Table { .. });
+    if now.control.pcid == spot.pcid && (is_table && may_cache(header.version, entry)) {
+        Some(table_by(header.cfg.m, spot.from, entry))
+    } else {
+        None
+    }
+}
+
+/// The entry that a table has now at the level of these spots: that of a spot in the same table, if
+/// there is one, and else it is looked up.
+fn word_in(spots: &[HeldSpot], history: &History, now: Now, level: Level, from: Parent) -> u64
+    requires current { AreCurrent history.now.events now.la now.moment level spots.now }
+    requires within { from.table < 2 ^ 52 }
+    ensures { result ≡ entry_at history.now.events now.la now.moment level from }
+{
+    for x in spots {
+        let spot = x.get();
+        if spot.from.table == from.table {
+            return spot.word;
+        }
+    }
+    history.value_at(now.moment, entry_address(from.table, level, now.la))
+}
+
+fn same_place(a: &Spot, b: &Spot) -> bool
+    ensures { result ≡ same_place (place_of a.now) (place_of b.now) }
+{
+    let (x, y) = (a.from.rights, b.from.rights);
+    a.pcid == b.pcid
+        && a.from.table == b.from.table
+        && (x.write == y.write && x.user == y.user && x.xd == y.xd)
+}
+
+fn same_made(a: &Found, b: &Found) -> bool
+    ensures { result ≡ same_made (made_from a.now) (made_from b.now) }
+{
+    a.translation == b.translation
+}
+
+/// Puts a spot in the place of one that is the same but for its moments.
+fn put_spot(into: &mut Vec<HeldSpot>, spot: Spot) -> Result<(), AllocError>
+    requires { spot.from.table < 2 ^ 52 }
+    ensures { OnOk result
+        (into.new.items ≡ with_new same_place into.old.items (Some (place_of spot))) }
+{
+    into.retain(|x| !same_place(&x.get(), &spot));
+    into.push(HeldSpot::new(spot))?;
+    Ok(())
+}
+
+/// Puts a translation in the place of one that is the same but for its moments.
+fn put_found(into: &mut Vec<HeldFound>, found: Found) -> Result<(), AllocError>
+    requires size { found.translation.key.shift ≤ 30 }
+    requires within { found.translation.frame < 2 ^ 52 }
+    ensures { OnOk result
+        (into.new.items ≡ with_new same_made into.old.items (Some (made_from found))) }
+{
+    into.retain(|x| !same_made(&x.get(), &found));
+    into.push(HeldFound::new(found))?;
+    Ok(())
+}
+
+/// Puts in the table that is read now from a spot, if it leads to one.
+fn add_spot(
+    into: &mut Vec<HeldSpot>,
+    history: &History,
+    now: Now,
+    level: Level,
+    spot: Spot,
+) -> Result<(), AllocError>
+    requires now { IsNow history.now now }
+    requires few { length (trail_of spot.trail) ≤ 3 }
+    requires word { spot.word
+        ≡ entry_at history.now.events now.la now.moment level spot.from }
+    requires current { AreCurrent history.now.events now.la now.moment (below level)
+        into.old.items }
+    ensures { OnOk result (into.new.items ≡ with_new same_place into.old.items
+        (next_place history.now.head history.now.events now.p now.la now.moment level
+        (place_of spot))) }
+{
+    let Spot { pcid, trail, .. } = spot;
+    let Some(from) = next_table(history.header(), now, level, spot) else {
+        return Ok(());
+    };
+    let next = Spot {
+        from,
+        pcid,
+        trail: Some(next_moments(trail, now.moment)),
+        word: word_in(into, history, now, below(level), from),
+    };
+    put_spot(into, next)
+}
+
+/// Puts in the tables that are read now from spots.
+pub fn add_spots(
+    into: &mut Vec<HeldSpot>,
+    history: &History,
+    now: Now,
+    level: Level,
+    spots: &[HeldSpot],
+) -> Result<(), AllocError>
+    requires now { IsNow history.now now }
+    requires ready { AreReady history.now.events now.la now.moment level spots.now }
+    requires current { AreCurrent history.now.events now.la now.moment (below level)
+        into.old.items }
+    ensures { OnOk result (into.new.items ≡ with_each same_place
+        (next_place history.now.head history.now.events now.p now.la now.moment level)
+        spots.now into.old.items) }
+{
+    for x in spots {
+        add_spot(into, history, now, level, x.get())?;
+    }
+    Ok(())
+}
+
+/// What an entry is, with a leaf's page within the physical addresses.
+fn kind_at(cfg: Cfg, level: Level, entry: Entry) -> Kind
+    requires { (36 ≤ cfg.m) × (cfg.m ≤ 52) }
+    ensures kind { result ≡ kind_of cfg level entry.0 }
+    ensures small { IsSmallLeaf result }
+{
+    classify(cfg, level, entry)
+}
+
+/// The translation that the entry of a spot gives, if the spot is of the current PCID.
+fn next_leaf(header: &Header, now: Now, level: Level, spot: Spot) -> Option<Translation>
+    requires width { (36 ≤ header.now.cfg.m) × (header.now.cfg.m ≤ 52) }
+    ensures leaf { result
+        ≡ next_leaf header.now now.control now.la level (place_of spot) spot.word }
+    ensures size { IfSome result (λ t. t.key.shift ≤ 30) }
+    ensures within { IfSome result (λ t. t.frame < 2 ^ 52) }
+{
+    let entry = Entry(spot.word);
+    if now.control.pcid != spot.pcid || !may_cache(header.version, entry) {
+        return None;
+    }
+    match kind_at(header.cfg, level, entry) {
+        Kind::Leaf {
+            frame,
+            shift,
+            global_bit,
+        } => {
+            let global = global_bit && now.control.pge;
+            Some(Translation {
+                key: translation_key(now.control.pcid, shift, global, now.la),
+                frame,
+                rights: combine(spot.from.rights, entry),
+                dirty: dirty(entry),
+            })
+        }
+        Kind::Table { .. } | Kind::Absent | Kind::Reserved => None,
+    }
+}
+
+/// Puts in the translation that is read now from a spot, if it leads to one.
+fn add_found(
+    into: &mut Vec<HeldFound>,
+    history: &History,
+    now: Now,
+    level: Level,
+    spot: Spot,
+) -> Result<(), AllocError>
+    requires now { IsNow history.now now }
+    requires few { length (trail_of spot.trail) ≤ 3 }
+    requires word { spot.word
+        ≡ entry_at history.now.events now.la now.moment level spot.from }
+    ensures { OnOk result (into.new.items ≡ with_new same_made into.old.items
+        (next_made history.now.head history.now.events now.p now.la now.moment level
+        (place_of spot))) }
+{
+    let trail = spot.trail;
+    let Some(translation) = next_leaf(history.header(), now, level, spot) else {
+        return Ok(());
+    };
+    let moments = next_moments(trail, now.moment);
+    put_found(
+        into,
+        Found {
+            translation,
+            moments,
+        },
+    )
+}
+
+/// Puts in the translations that are read now from spots.
+pub fn add_founds(
+    into: &mut Vec<HeldFound>,
+    history: &History,
+    now: Now,
+    level: Level,
+    spots: &[HeldSpot],
+) -> Result<(), AllocError>
+    requires now { IsNow history.now now }
+    requires ready { AreReady history.now.events now.la now.moment level spots.now }
+    ensures { OnOk result (into.new.items ≡ with_each same_made
+        (next_made history.now.head history.now.events now.p now.la now.moment level)
+        spots.now into.old.items) }
+{
+    for x in spots {
+        add_found(into, history, now, level, x.get())?;
+    }
+    Ok(())
+}

@@ -1,0 +1,20 @@
+//! Whether any moments witness an access or an assist. Where none do, no run of the machine begins
+//! with the events up to it.
+#![tactic(auto)]
+
+mod fill;
+mod finder;
+mod fresh;
+mod held;
+mod laws;
+mod now;
+mod sought;
+mod sweeper;
+#[cfg(test)]
+mod tests;
+
+pub use finder::{find_moments, names_moments};
+pub use laws::{
+    found_moments_witness, made_is_exact, none_found_none_witness, standing_is_exact,
+    unwitnessed_events_have_no_run,
+};

@@ -1,0 +1,182 @@
+ghost use Rattle.std.specs.Prelude.{◌≡◌, ◌<◌, ◌≤◌, ◌+◌, ◌^◌, ◌==◌, ◌&&◌, not, map, filter, length};
+ghost use Rattle.std.specs.Prelude.{Some, slice_get, OnOk, IfOk};
+ghost use Rattle.pg_entry.specs.declared.Level.TheVariants.{Four, Three, Two};
+ghost use Rattle.pg_event.specs.Form.{processor_of};
+ghost use Rattle.pg_event.specs.Invalidation.{structure_key};
+ghost use Rattle.pg_event.specs.Invalidation.{must_drop_structure, must_drop_translation};
+ghost use Rattle.pg_event.specs.Walk.{below};
+ghost use Rattle.pg_search.specs.Sweep.{same_place, same_made, with_each, next_place, next_made};
+ghost use Rattle.pg_search.specs.Sweep.{staying, staying_made, swept, standing};
+ghost use Rattle.pg_search.specs.Held.{IsNow, AreCurrent, AreReady, seen_by};
+ghost use Rattle.pg_search.specs.Swept.{IsSweep};
+
+use crate::fill::{add_founds, add_spots};
+use crate::held::{HeldFound, HeldSpot};
+use crate::now::{Now, after, at_start, root_spot};
+use pg_check::History;
+use pg_entry::Level;
+use pg_event::{
+    Event, below, must_drop_structure, must_drop_translation, processor_of, structure_key,
+};
+use std::alloc::{AllocError, Global};
+
+/// What may stand at a moment, for one processor and address: tables to read in at each level below
+/// the root's, and translations.
+#[derive(Debug, Drop)]
+pub struct Sweep {
+    pub threes: Vec<HeldSpot>,
+    pub twos: Vec<HeldSpot>,
+    pub ones: Vec<HeldSpot>,
+    pub made: Vec<HeldFound>,
+}
+
+/// Puts in what is read now from the spots of a level: translations, and the spots below.
+fn fill_level(
+    made: &mut Vec<HeldFound>,
+    under: &mut Vec<HeldSpot>,
+    history: &History,
+    now: Now,
+    level: Level,
+    spots: &[HeldSpot],
+) -> Result<(), AllocError>
+    requires now { IsNow history.now now }
+    requires ready { AreReady history.now.events now.la now.moment level spots.now }
+    requires current { AreCurrent history.now.events now.la now.moment (below level)
+        under.old.items }
+    ensures made { OnOk result (made.new.items ≡ with_each same_made
+        (next_made history.now.head history.now.events now.p now.la now.moment level)
+        spots.now made.old.items) }
+    ensures under { OnOk result (under.new.items ≡ with_each same_place
+        (next_place history.now.head history.now.events now.p now.la now.moment level)
+        spots.now under.old.items) }
+{
+    add_founds(made, history, now, level, spots)?;
+    add_spots(under, history, now, level, spots)
+}
+
+/// All fills of a moment, from level 4 down.
+fn fill(sweep: &mut Sweep, history: &History, now: Now) -> Result<(), AllocError>
+    requires now { IsNow history.now now }
+    requires before { IsSweep sweep.old
+        (swept history.now.head history.now.events now.p now.la now.moment) }
+    ensures { OnOk result (IsSweep sweep.new
+        (standing history.now.head history.now.events now.p now.la now.moment)) }
+{
+    let Sweep {
+        threes,
+        twos,
+        ones,
+        made,
+    } = sweep;
+    let root = [root_spot(now)];
+    fill_level(made, threes, history, now, Level::Four, &root)?;
+    fill_level(made, twos, history, now, Level::Three, threes)?;
+    fill_level(made, ones, history, now, Level::Two, twos)?;
+    add_founds(made, history, now, Level::One, ones)
+}
+
+/// Whether an event leaves a spot that the level above gave.
+fn spot_stays(x: &HeldSpot, now: &Now, event: &Event, above: Level) -> bool
+    ensures { result ≡ not (processor_of event.now == now.now.p
+        && must_drop_structure now.now.control event.now
+        (structure_key x.now.pcid above now.now.la)) }
+{
+    let key = structure_key(x.get().pcid, above, now.la);
+    !(processor_of(event) == now.p && must_drop_structure(now.control, event, key))
+}
+
+/// Whether an event leaves a translation.
+fn found_stays(x: &HeldFound, now: &Now, event: &Event) -> bool
+    ensures { result ≡ not (processor_of event.now == now.now.p
+        && must_drop_translation now.now.control event.now x.now.translation.key) }
+{
+    let key = x.get().translation.key;
+    !(processor_of(event) == now.p && must_drop_translation(now.control, event, key))
+}
+
+/// Drops the spots that an event must take out, where the level above gave them.
+fn keep_spots(spots: &mut Vec<HeldSpot>, now: &Now, event: &Event, above: Level)
+    ensures { spots.new.items ≡ filter (λ x. not (processor_of event.now == now.now.p
+        && must_drop_structure now.now.control event.now
+        (structure_key x.pcid above now.now.la))) spots.old.items }
+{
+    spots.retain(|x| spot_stays(x, now, event, above));
+}
+
+/// Drops the translations that an event must take out.
+fn keep_founds(made: &mut Vec<HeldFound>, now: &Now, event: &Event)
+    ensures { made.new.items ≡ filter (λ x. not (processor_of event.now == now.now.p
+        && must_drop_translation now.now.control event.now x.translation.key)) made.old.items }
+{
+    made.retain(|x| found_stays(x, now, event));
+}
+
+/// Changes the entries that are read in spots as an event does.
+fn see_event(spots: &mut Vec<HeldSpot>, level: Level, la: u64, event: &Event)
+    ensures { spots.new.items ≡ map (seen_by event.now la level) spots.old.items }
+{
+    for x in spots.iter_mut() {
+        x.see(level, la, event);
+    }
+}
+
+/// What an event leaves of spots that the level above gave.
+fn leave_spots(spots: &mut Vec<HeldSpot>, history: &History, now: &Now, event: &Event, above: Level)
+    requires now { IsNow history.now now.now }
+    requires event { slice_get history.now.events now.now.moment ≡ Some event.now }
+    requires current { AreCurrent history.now.events now.now.la now.now.moment (below above)
+        spots.old.items }
+    ensures { spots.new.items ≡ staying history.now.head history.now.events now.now.p now.now.la
+        now.now.moment above spots.old.items }
+{
+    keep_spots(spots, now, event, above);
+    see_event(spots, below(above), now.la, event);
+}
+
+/// What an event leaves.
+fn leave(sweep: &mut Sweep, history: &History, now: &Now, event: &Event)
+    requires now { IsNow history.now now.now }
+    requires event { slice_get history.now.events now.now.moment ≡ Some event.now }
+    requires before { IsSweep sweep.old
+        (standing history.now.head history.now.events now.now.p now.now.la now.now.moment) }
+    ensures { IsSweep sweep.new
+        (swept history.now.head history.now.events now.now.p now.now.la (now.now.moment + 1)) }
+{
+    leave_spots(&mut sweep.threes, history, now, event, Level::Four);
+    leave_spots(&mut sweep.twos, history, now, event, Level::Three);
+    leave_spots(&mut sweep.ones, history, now, event, Level::Two);
+    keep_founds(&mut sweep.made, now, event);
+}
+
+/// What stands at a moment, after its fills, and the control registers there. It takes one pass
+/// over the events before: an entry is looked up where a table or a root is new, and else changed
+/// as the events say.
+pub fn sweep_to(
+    alloc: Global,
+    history: &History,
+    p: u16,
+    la: u64,
+    moment: u32,
+) -> Result<(Sweep, Now), AllocError>
+    requires processor { p < length history.now.head.processors }
+    requires within { moment < length history.now.events }
+    ensures sweep { IfOk result (λ r. IsSweep r.0
+        (standing history.now.head history.now.events p la moment)) }
+    ensures now { IfOk result (λ r. IsNow history.now r.1) }
+    ensures asked { IfOk result (λ r. (r.1.p ≡ p) × (r.1.la ≡ la) × (r.1.moment ≡ moment)) }
+{
+    let mut sweep = Sweep {
+        threes: Vec::new(alloc),
+        twos: Vec::new(alloc),
+        ones: Vec::new(alloc),
+        made: Vec::new(alloc),
+    };
+    let mut now = at_start(history, p, la);
+    for event in &history.events()[..moment as usize] {
+        fill(&mut sweep, history, now)?;
+        leave(&mut sweep, history, &now, event);
+        now = after(history, now, event);
+    }
+    fill(&mut sweep, history, now)?;
+    Ok((sweep, now))
+}
