@@ -1,3 +1,4 @@
+mod Intakes
 pub mod Pushed
 pub mod Written
 pub mod Many

@@ -4,3 +4,4 @@ pub mod Writing
 pub mod Reads
 pub mod Parts
 pub mod Readers
+pub mod Intakes

@@ -8,6 +8,7 @@ mod decoder;
 mod error;
 mod fields;
 mod front;
+mod intake;
 mod number;
 mod parts;
 mod reader;
@@ -21,6 +22,7 @@ mod watched;
 mod writer;
 
 pub use error::ReadError;
+pub use intake::{IntakeError, pull_all};
 pub use reader::RecordReader;
 pub use stream::{Failed, Sink, Source};
 pub use transfer::put_all;

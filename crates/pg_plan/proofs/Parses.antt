@@ -1,5 +1,5 @@
 -- What a parse by the command line answers.
-use Rattle.std.proofs.Common.{arith, ⊎_elim, option_map, Box, ◌≡◌, ◌↔◌, ◌⊎◌, ◌∙◌, ℕ, true, List, [], ◌∷◌, Option, Some, None, codes, inl, inr, refl, sym, ap, subst}
+use Rattle.std.proofs.Common.{arith, ⊎_elim, option_map, Box, ◌≡◌, ◌↔◌, ◌⊎◌, ◌∙◌, ℕ, Bool, true, List, [], ◌∷◌, Option, Some, None, codes, inl, inr, refl, sym, ap, subst}
 use Rattle.std.specs.Box.{box_value}
 use Rattle.std.specs.Option.{option_map_or}
 use Rattle.clap.specs.Kinds.{HasKind, IsAmong, Kinds}
@@ -17,7 +17,7 @@ use Rattle.clap.specs.Faults.{fault_of, is_simple_and_free}
 use Rattle.clap.proofs.OnLiterals.{clap_on_literals}
 use Rattle.pg_plan.specs.declared.request.Plan.{Plan}
 use Rattle.pg_plan.specs.declared.request.Command.{Command}
-use Rattle.pg_plan.specs.Commands.{AreAsked, AreFrom1To64, Asks, AsksOnly, IsPlanOf, command_line, command_word, faults}
+use Rattle.pg_plan.specs.Commands.{AreAsked, AreFrom1To64, Asks, AsksOnly, IsPlanOf, command_line, command_word, faults, is_on}
 
 is_plain : is_simple_and_free command_line ≡ true
 unfolding clap_on_literals
@@ -90,24 +90,27 @@ joined (Some x) name rows a b = cc
 parts : {A B : Type 0} (p q : A × B) → Some p ≡ Some q → (p.0 ≡ q.0) × (p.1 ≡ q.1)
 parts p q e = (ap (λ o. option_map_or (λ r. r.0) o p.0) e, ap (λ o. option_map_or (λ r. r.1) o p.1) e)
 
-abbrev made : Command → ℕ → Plan
-made command checkers = record { command = command; checkers = checkers }
+abbrev made : Command → Bool → Bool → ℕ → Plan
+made command single bytes checkers = record { command = command; checkers = checkers; single = single; bytes = bytes }
 
-pub plan_is : (found : Option (Text × List Row)) (name : Text) (rows : List Row) (command : Command) (count : Option ℕ) → found ≡ Some (name, rows)
+pub plan_is : (found : Option (Text × List Row)) (name : Text) (rows : List Row) (command : Command) (count : Option ℕ) (single bytes : Bool) → found ≡ Some (name, rows)
     → ((c : Command) → (Some command ≡ Some c) ↔ (name ≡ command_word c)) → ((n : ℕ) → (count ≡ Some n) ↔ AreAsked (first_of (codes "checkers") rows) n)
-    → (plan : Plan) → (option_map (made command) count ≡ Some plan) ↔ IsPlanOf found plan
-plan_is found name rows command count found_is commands counts plan = (there count refl, back)
+    → single ≡ is_on (first_of (codes "single") rows) → bytes ≡ is_on (first_of (codes "bytes") rows)
+    → (plan : Plan) → (option_map (made command single bytes) count ≡ Some plan) ↔ IsPlanOf found plan
+plan_is found name rows command count single bytes found_is commands counts single_is bytes_is plan = (there count refl, back)
   where
-    there : (r : Option ℕ) → count ≡ r → option_map (made command) r ≡ Some plan → IsPlanOf found plan
+    there : (r : Option ℕ) → count ≡ r → option_map (made command single bytes) r ≡ Some plan → IsPlanOf found plan
     there None is e = cc
     there (Some n) is e =
-        let same : made command n ≡ plan = cc in
-        subst (IsPlanOf found) same (record { rows = rows; command = found_is ∙ ap (λ w. Some (w, rows)) ((commands command).0 refl); checkers = (counts n).0 is })
+        let same : made command single bytes n ≡ plan = cc in
+        subst (IsPlanOf found) same (record { rows = rows; command = found_is ∙ ap (λ w. Some (w, rows)) ((commands command).0 refl); checkers = (counts n).0 is; single = single_is; bytes = bytes_is })
 
-    back : IsPlanOf found plan → option_map (made command) count ≡ Some plan
+    back : IsPlanOf found plan → option_map (made command single bytes) count ≡ Some plan
     back h =
         let both = parts (name, rows) (command_word plan.command, h.rows) (sym found_is ∙ h.command) in
         let here : Some command ≡ Some plan.command = (commands plan.command).1 both.0 in
         let command_is : command ≡ plan.command = cc in
         let counted : count ≡ Some plan.checkers = (counts plan.checkers).1 (subst (λ r. AreAsked (first_of (codes "checkers") r) plan.checkers) (sym both.1) h.checkers) in
-        ap (option_map (made command)) counted ∙ ap (λ c. Some (made c plan.checkers)) command_is
+        let alone : single ≡ plan.single = single_is ∙ ap (λ r. is_on (first_of (codes "single") r)) both.1 ∙ sym h.single in
+        let written : bytes ≡ plan.bytes = bytes_is ∙ ap (λ r. is_on (first_of (codes "bytes") r)) both.1 ∙ sym h.bytes in
+        ap (option_map (made command single bytes)) counted ∙ ap (λ c. Some (made c single bytes plan.checkers)) command_is ∙ ap (λ b. Some (made plan.command b bytes plan.checkers)) alone ∙ ap (λ b. Some (made plan.command plan.single b plan.checkers)) written

@@ -1,9 +1,9 @@
 -- Which kinds `clap` gives these lines: none where it takes them; and what lines ask for.
-use Rattle.std.proofs.Common.{◌≡◌, List, [], ◌∷◌, codes, refl}
+use Rattle.std.proofs.Common.{◌≡◌, true, false, List, [], ◌∷◌, codes, refl}
 use Rattle.clap.specs.Faults.{fault_of}
 use Rattle.clap.specs.Walk.{Text}
 use Rattle.clap.specs.Kinds.{Kinds}
-use Rattle.clap.specs.declared.error.kind.ErrorKind.TheVariants.{DisplayHelp, DisplayVersion, InvalidSubcommand, MissingSubcommand, UnknownArgument, ValueValidation}
+use Rattle.clap.specs.declared.error.kind.ErrorKind.TheVariants.{DisplayHelp, DisplayVersion, InvalidSubcommand, MissingSubcommand, UnknownArgument, ValueValidation, ArgumentConflict}
 use Rattle.clap.proofs.OnLiterals.{clap_on_literals}
 use Rattle.pg_plan.specs.Commands.{Asks, command_line}
 use Rattle.pg_plan.specs.declared.request.Command.TheVariants.{Check}
@@ -105,6 +105,16 @@ checkers_of_run_of : Gives (codes "run-of" ∷ codes "--checkers" ∷ codes "2" 
 unfolding clap_on_literals
 checkers_of_run_of = refl
 
-asks_one : Asks (codes "check" ∷ []) (record { command = Check; checkers = 1 })
+asks_one : Asks (codes "check" ∷ []) (record { command = Check; checkers = 1; single = false; bytes = false })
 unfolding clap_on_literals
-asks_one = (refl, record { rows = []; command = refl; checkers = refl })
+asks_one = (refl, record { rows = []; command = refl; checkers = refl; single = refl; bytes = refl })
+
+-- ---- the switches of `run`
+
+switches : Gives (codes "run" ∷ codes "--single" ∷ codes "--bytes" ∷ []) []
+unfolding clap_on_literals
+switches = refl
+
+switch_twice : Gives (codes "run" ∷ codes "--single" ∷ codes "--single" ∷ []) (ArgumentConflict ∷ [])
+unfolding clap_on_literals
+switch_twice = refl

@@ -1,16 +1,18 @@
 -- What the words of a command line ask for, by what `clap` makes of them.
-use Rattle.std.specs.Prelude.{◌≡◌, ℕ, ◌≤◌, true, pos, List, [], ◌∷◌, Option, Some, None, codes}
+use Rattle.std.specs.Prelude.{◌≡◌, ℕ, ◌≤◌, Bool, true, false, pos, List, [], ◌∷◌}
+use Rattle.std.specs.Prelude.{Option, Some, None, codes}
+use Rattle.std.specs.Str.{bytes_eq}
 use Rattle.std.specs.Str.Parse.{IsNumeral, digits_value}
 use Rattle.clap.specs.Faults.{fault_of}
 use Rattle.clap.specs.Kinds.{IsAmong, Kinds}
 use Rattle.clap.specs.Simple.{App, new_app, new_rule, on_top, subcommand_of, with_rule}
 use Rattle.clap.specs.Simple.{with_subcommand}
 use Rattle.clap.specs.Walk.{Row, Rule, Text, first_of}
-use Rattle.clap.specs.declared.builder.action.ArgAction.TheVariants.{Set}
+use Rattle.clap.specs.declared.builder.action.ArgAction.TheVariants.{Set, SetTrue}
 use Rattle.clap.specs.declared.builder.value_parser.ValueParser.TheVariants as parsers
 use Rattle.clap.specs.declared.error.kind.ErrorKind.TheVariants.{DisplayHelp, DisplayVersion}
 use Rattle.pg_plan.specs.declared.request.Command.{Command}
-use Rattle.pg_plan.specs.declared.request.Command.TheVariants.{Check, RunOf, Upgrade}
+use Rattle.pg_plan.specs.declared.request.Command.TheVariants.{Check, Run, RunOf, Upgrade}
 use Rattle.pg_plan.specs.declared.request.Plan.{Plan}
 use Rattle.pg_plan.specs.declared.request.Usage.{Usage}
 use Rattle.pg_plan.specs.declared.request.Usage.TheVariants.{Help, Version, Fault}
@@ -18,10 +20,11 @@ pub use Rattle.clap.specs.Walk.{texts}
 
 abbrev pub command_word : Command → List ℕ
 command_word Check = codes "check"
+command_word Run = codes "run"
 command_word RunOf = codes "run-of"
 command_word Upgrade = codes "upgrade"
 
--- ---- the command line: one of the commands, of which `check` has an option
+-- ---- the command line: one of the commands, of which `check` and `run` have options
 
 abbrev pub bare_line : App
 bare_line = on_top (λ s. record s {
@@ -42,10 +45,22 @@ checkers_rule = record (new_rule (codes "checkers")) {
 abbrev pub check_line : App
 check_line = with_rule (new_app (command_word Check)) checkers_rule
 
+-- `--` and a name
+abbrev pub switch_rule : Text → Rule
+switch_rule name = record (new_rule name) { long = Some name; action = Some SetTrue }
+
+abbrev pub run_line : App
+run_line =
+    let line = with_rule (new_app (command_word Run)) checkers_rule in
+    with_rule (with_rule line (switch_rule (codes "single"))) (switch_rule (codes "bytes"))
+
+-- the commands that have options
+abbrev pub options_line : App
+options_line = with_subcommand (with_subcommand bare_line check_line.top) run_line.top
+
 abbrev pub command_line : App
 command_line =
-    with_subcommand
-    (with_subcommand (with_subcommand bare_line check_line.top) (new_app (command_word RunOf)).top)
+    with_subcommand (with_subcommand options_line (new_app (command_word RunOf)).top)
     (new_app (command_word Upgrade)).top
 
 -- the kinds of error that `clap` gives for the words: none where they are taken
@@ -62,11 +77,18 @@ abbrev pub AreAsked : Option Text → ℕ → Type 0
 AreAsked None n = n ≡ 1
 AreAsked (Some text) n = IsNumeral 10 text × (digits_value 10 text ≡ n) × AreFrom1To64 n
 
+-- a switch was given
+abbrev pub is_on : Option Text → Bool
+is_on None = false
+is_on (Some text) = bytes_eq text (codes "true")
+
 -- this is the plan of a command and its options
 pub record IsPlanOf (found : Option (Text × List Row)) (plan : Plan) : Type 0 where
   pub rows : List Row
   pub command : found ≡ Some (command_word plan.command, rows)
   pub checkers : AreAsked (first_of (codes "checkers") rows) plan.checkers
+  pub single : plan.single ≡ is_on (first_of (codes "single") rows)
+  pub bytes : plan.bytes ≡ is_on (first_of (codes "bytes") rows)
 
 -- the words are taken, and this is their plan
 abbrev pub Asks : List Text → Plan → Type 0

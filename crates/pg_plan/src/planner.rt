@@ -5,7 +5,8 @@ ghost use Rattle.clap.specs.Simple.{app_of, subcommand_rows_of};
 ghost use Rattle.clap.specs.Matches.{first_value, found_of};
 ghost use Rattle.clap.specs.Walk.{rule_of};
 ghost use Rattle.clap.specs.declared.builder.command.Command.TheViews.{out-Command as fields_of};
-ghost use Rattle.pg_plan.specs.Commands.{texts, bare_line, check_line, checkers_rule, command_line};
+ghost use Rattle.pg_plan.specs.Commands.{texts, bare_line, check_line, run_line, options_line};
+ghost use Rattle.pg_plan.specs.Commands.{checkers_rule, switch_rule, command_line, is_on};
 ghost use Rattle.pg_plan.specs.Commands.{command_word, AreAsked, AreFrom1To64};
 ghost use Rattle.pg_plan.specs.Commands.{Asks, AsksOnly, IsPlanOf};
 ghost use Rattle.pg_plan.specs.Commands.{AsksHelp, AsksVersion, NamesHelp, NamesVersion};
@@ -21,6 +22,11 @@ use std::alloc::{AllocError, Global};
 const CHECK: &str = "check";
 
 const CHECK_ABOUT: &str = "Reads a record from standard input, and writes its report";
+
+const RUN: &str = "run";
+
+const RUN_ABOUT: &str = "Reads a guest script from standard input, runs it, and writes the report \
+    of its record";
 
 const RUN_OF: &str = "run-of";
 
@@ -38,6 +44,14 @@ const VERSION: &str = "0.2.0 (record versions 1 and 2)";
 const CHECKERS: &str = "checkers";
 
 const CHECKERS_ABOUT: &str = "How many checkers judge the record, from 1 to 64; 1 where left out";
+
+const SINGLE: &str = "single";
+
+const SINGLE_ABOUT: &str = "Run on one thread, the lines in the order of the script";
+
+const BYTES: &str = "bytes";
+
+const BYTES_ABOUT: &str = "Write the record itself";
 
 const NO_NUMBER: &str = "error: the number of checkers is given by digits alone\n\n\
     For more information, try '--help'.\n";
@@ -73,11 +87,40 @@ fn check_line<'a>(alloc: Global) -> Result<CommandLine<'a>, AllocError>
         .arg(checkers_option(alloc))
 }
 
-fn command_line<'a>(alloc: Global) -> Result<CommandLine<'a>, AllocError>
-    ensures { IfOk result (λ line. app_of line ≡ command_line) }
+fn switch<'a>(alloc: Global, name: &'a str, about: &'a str) -> Arg<'a>
+    ensures rule { rule_of result ≡ switch_rule name.entry.now }
+    ensures local { result.global ≡ false }
+{
+    Arg::new(alloc, name)
+        .long(name)
+        .help(about)
+        .action(ArgAction::SetTrue)
+}
+
+fn run_line<'a>(alloc: Global) -> Result<CommandLine<'a>, AllocError>
+    ensures line { IfOk result (λ line. app_of line ≡ run_line) }
+    ensures local { IfOk result (λ line. (fields_of line).has_globals ≡ false) }
+{
+    CommandLine::new(alloc, RUN)
+        .about(RUN_ABOUT)
+        .arg(checkers_option(alloc))?
+        .arg(switch(alloc, SINGLE, SINGLE_ABOUT))?
+        .arg(switch(alloc, BYTES, BYTES_ABOUT))
+}
+
+/// The commands that have options.
+fn options_line<'a>(alloc: Global) -> Result<CommandLine<'a>, AllocError>
+    ensures { IfOk result (λ line. app_of line ≡ options_line) }
 {
     bare_line(alloc)
         .subcommand(check_line(alloc)?)?
+        .subcommand(run_line(alloc)?)
+}
+
+fn command_line<'a>(alloc: Global) -> Result<CommandLine<'a>, AllocError>
+    ensures { IfOk result (λ line. app_of line ≡ command_line) }
+{
+    options_line(alloc)?
         .subcommand(CommandLine::new(alloc, RUN_OF).about(RUN_OF_ABOUT))?
         .subcommand(CommandLine::new(alloc, UPGRADE).about(UPGRADE_ABOUT))
 }
@@ -108,6 +151,7 @@ fn command_of(name: &str) -> Option<Command>
 {
     match name {
         CHECK => Some(Command::Check),
+        RUN => Some(Command::Run),
         RUN_OF => Some(Command::RunOf),
         UPGRADE => Some(Command::Upgrade),
         _ => None,
@@ -131,6 +175,16 @@ fn checkers_of(text: Option<&str>) -> Option<u16>
     }
 }
 
+/// Whether a switch was given. (`get_flag` says nothing of other texts than `true` and `false`.)
+fn is_on(text: Option<&str>) -> bool
+    ensures { result ≡ is_on (option_map (λ s. s.now) text.entry) }
+{
+    match text {
+        Some(text) => text == "true",
+        None => false,
+    }
+}
+
 /// What the matches ask for.
 fn plan_of(matches: &ArgMatches<'_>) -> Option<Plan>
     ensures { (plan : Planned) → (result ≡ Some plan)
@@ -139,7 +193,12 @@ fn plan_of(matches: &ArgMatches<'_>) -> Option<Plan>
     let (name, own) = matches.subcommand()?;
     let command = command_of(name)?;
     let checkers = checkers_of(own.get_str(CHECKERS))?;
-    Some(Plan { command, checkers })
+    Some(Plan {
+        command,
+        checkers,
+        single: is_on(own.get_str(SINGLE)),
+        bytes: is_on(own.get_str(BYTES)),
+    })
 }
 
 fn no_number(alloc: Global) -> Usage
@@ -181,7 +240,12 @@ mod tests {
     use std::test::Fail;
 
     fn planned(command: Command, checkers: u16) -> Option<Plan> {
-        Some(Plan { command, checkers })
+        Some(Plan {
+            command,
+            checkers,
+            single: false,
+            bytes: false,
+        })
     }
 
     #[test]
@@ -221,6 +285,29 @@ mod tests {
                 Err(Usage::Fault(_))
             )
         );
+        Ok(())
+    }
+
+    #[test]
+    fn reads_the_switches_of_run(rt: HostRuntime) -> Result<(), Fail> {
+        let alloc = rt.alloc();
+        let bare = planned(Command::Run, 1);
+        assert_eq!(rt; plan(alloc, &["run"]).ok(), bare);
+        let full = Some(Plan {
+            command: Command::Run,
+            checkers: 3,
+            single: true,
+            bytes: true,
+        });
+        let words = ["run", "--bytes", "--checkers", "3", "--single"];
+        assert_eq!(rt; plan(alloc, &words).ok(), full);
+        assert!(rt;
+            matches!(
+                plan(alloc, &["run", "--single", "--single"]),
+                Err(Usage::Fault(_))
+            )
+        );
+        assert!(rt; matches!(plan(alloc, &["run", "more"]), Err(Usage::Fault(_))));
         Ok(())
     }
 

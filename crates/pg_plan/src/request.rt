@@ -3,6 +3,8 @@
 pub enum Command {
     /// Read a record, and write its report.
     Check,
+    /// Read a guest script, run it, and write the report of the run's record, or the record.
+    Run,
     /// Read a record, and write a run of the manual's machine that has its events.
     RunOf,
     /// Read a version 1 record, and write the version 2 record of the same events; its report goes
@@ -15,8 +17,12 @@ pub enum Command {
 pub struct Plan {
     /// The command.
     pub command: Command,
-    /// How many checkers `check` has, 1 to 64. It is 1 where the words say nothing.
+    /// How many checkers `check` and `run` have, 1 to 64. It is 1 where the words say nothing.
     pub checkers: u16,
+    /// Whether `run` keeps to one thread, and carries out the script's lines in their order.
+    pub single: bool,
+    /// Whether `run` writes the record in the place of its report.
+    pub bytes: bool,
 }
 
 /// Why the words of a command line give no plan.

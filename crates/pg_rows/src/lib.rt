@@ -22,6 +22,8 @@ mod row;
 #[cfg(test)]
 mod runs;
 #[cfg(test)]
+mod scripts;
+#[cfg(test)]
 mod streams;
 #[cfg(test)]
 mod tests;

@@ -1,4 +1,5 @@
 pub mod WrittenRuns
 pub mod Rows
+pub mod Guested
 pub mod Upgraded
 pub mod Asked

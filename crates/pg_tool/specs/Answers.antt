@@ -1,7 +1,7 @@
 -- What the whole program answers, by its words.
 use Rattle.std.specs.Prelude.{◌≡◌, ◌⊎◌, ℕ, List, string_bytes}
 use Rattle.pg_plan.specs.declared.request.Command.{Command}
-use Rattle.pg_plan.specs.declared.request.Command.TheVariants.{Check, RunOf, Upgrade}
+use Rattle.pg_plan.specs.declared.request.Command.TheVariants.{Check, Run, RunOf, Upgrade}
 use Rattle.pg_plan.specs.declared.request.Plan.{Plan}
 use Rattle.pg_plan.specs.declared.request.Usage.{Usage}
 use Rattle.pg_plan.specs.declared.request.Usage.TheVariants.{Help, Version, Fault, Memory}
@@ -9,6 +9,7 @@ use Rattle.pg_plan.specs.Commands.{Asks, AsksNone, AsksHelp, AsksVersion, NamesH
 use Rattle.pg_plan.specs.Commands.{NamesVersion, IsFault, IsHelp, IsVersion}
 use Rattle.pg_report.specs.declared.error.AuditError.TheVariants.{Device}
 use Rattle.pg_report.specs.Changes.{Change, Fails, Works, Adds, AddsSome}
+use Rattle.pg_tool.specs.Guests.{RunsGuest}
 use Rattle.pg_tool.specs.Refusals.{StaysSame, Tells, refusal_line, memory_line}
 use Rattle.pg_tool.specs.Status.{Checks, ShowsRun}
 use Rattle.pg_tool.specs.Streams.{Streams}
@@ -43,15 +44,15 @@ pub record AnswersUsage (words : List (List ℕ)) (s : Streams) (status : ℕ) :
   pub asked_version : AsksVersion words → ¬ IsFault why
   pub gives : GivesUsage why s.output s.errors status
 
--- what a command does, `check` with so many checkers
-abbrev pub DoesCommand : Command → ℕ → Streams → ℕ → Type 0
-DoesCommand Check checkers s status = Checks checkers s status
-DoesCommand RunOf checkers s status = ShowsRun s status
-DoesCommand Upgrade checkers s status = Upgrades s status
-
 -- what a plan's command does
+abbrev pub DoesCommand : Command → Plan → Streams → ℕ → Type 0
+DoesCommand Check plan s status = Checks plan.checkers s status
+DoesCommand Run plan s status = RunsGuest plan.single plan.bytes s status
+DoesCommand RunOf plan s status = ShowsRun s status
+DoesCommand Upgrade plan s status = Upgrades s status
+
 abbrev pub Does : Plan → Streams → ℕ → Type 0
-Does plan = DoesCommand plan.command plan.checkers
+Does plan = DoesCommand plan.command plan
 
 -- memory was refused before any input was read
 abbrev pub RefusesMemory : Type 0 → Streams → ℕ → Type 0

@@ -4,4 +4,5 @@ pub mod Streams
 pub mod Refusals
 pub mod Status
 pub mod Upgrades
+pub mod Guests
 pub mod Answers

@@ -1,6 +1,9 @@
 //! The whole program over any streams.
 #![tactic(auto)]
 
+mod guest_error;
+mod guest_refusals;
+mod guests;
 mod program;
 mod refusals;
 mod replayer;
@@ -8,8 +11,9 @@ mod runs;
 mod shown;
 mod upgrader;
 
+pub use guest_error::GuestError;
 pub use pg_plan::{Command, Plan, Usage, plan};
-pub use program::{check, pcid_audit, run_of, upgrade};
+pub use program::{check, pcid_audit, run, run_of, upgrade};
 pub use refusals::tell_memory;
 pub use runs::run_text;
 pub use shown::Shown;

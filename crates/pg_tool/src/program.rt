@@ -4,11 +4,16 @@ ghost use Rattle.pg_pool.specs.Rounds.{AreCheckers};
 ghost use Rattle.pg_report.specs.Audits.{IsAudit};
 ghost use Rattle.pg_report.specs.Changes.{drawn, filled};
 ghost use Rattle.pg_tool.specs.Answers.{Answers, Does, GivesText};
+ghost use Rattle.pg_tool.specs.Guests.{guest_error_status, run_error_status};
+ghost use Rattle.pg_tool.specs.Guests.{RunsGuest, TellsGuest};
 ghost use Rattle.pg_tool.specs.Status.{error_status, verdict_status, status_of, run_status};
 ghost use Rattle.pg_tool.specs.Status.{Checks, IsAbleBy, ShowsRun};
 ghost use Rattle.pg_tool.specs.Streams.{streams};
 ghost use Rattle.pg_tool.specs.Upgrades.{IsReportText, report_in, TellsReport, Upgrades};
 
+use crate::guest_error::GuestError;
+use crate::guest_refusals::tell_guest;
+use crate::guests::run_script;
 use crate::refusals::{tell, tell_error, tell_memory, tell_text};
 use crate::replayer::write_run;
 use crate::shown::{ReportText, Shown};
@@ -16,6 +21,8 @@ use crate::upgrader::write_upgrade;
 use pg_codec::{Sink, Source, put_all};
 use pg_plan::{Command, Plan, Usage, plan};
 use pg_report::{AuditError, Verdict, audit, audit_one};
+use pg_runner::RunError;
+use pg_script::{ScriptError, ScriptRefusal};
 use std::alloc::{AllocGlobal, Global};
 use std::sync::Wait;
 use std::thread::Threads;
@@ -156,6 +163,62 @@ pub fn upgrade<R: Source, O: Sink, E: Sink>(
     tell_upgrade(errors, &answer)
 }
 
+fn run_error_status(error: RunError) -> u8
+    ensures { result ≡ run_error_status error }
+{
+    match error {
+        RunError::Memory | RunError::Thread => MEMORY,
+        RunError::Checkers => USAGE,
+        RunError::Full => REFUSED,
+    }
+}
+
+fn guest_error_status(error: GuestError) -> u8
+    ensures { result ≡ guest_error_status error }
+{
+    match error {
+        GuestError::Script(
+            ScriptError {
+                refusal: ScriptRefusal::Memory,
+                ..
+            },
+        ) => MEMORY,
+        GuestError::Run(error) => run_error_status(error),
+        GuestError::TooLong | GuestError::Script(_) | GuestError::Device => REFUSED,
+    }
+}
+
+/// Tells why a script gave no answer, if it gave none, and gives the exit status.
+fn tell_run<E: Sink>(errors: &mut E, answer: Result<(), GuestError>) -> u8
+    ensures { TellsGuest (filled E.Sink errors.old errors.new) answer result }
+{
+    match answer {
+        Ok(()) => YES,
+        Err(error) => {
+            tell_guest(errors, error);
+            guest_error_status(error)
+        }
+    }
+}
+
+/// Runs the guest script on `input`, and writes the report of the run's record to `output`, or that
+/// record; or one line to `errors` that says why there is none. It gives the exit status: 0 a run,
+/// which is a yes, 2 refused, 3 memory.
+pub fn run<R: Source, O: Sink, E: Sink>(
+    alloc: Global,
+    single: bool,
+    bytes: bool,
+    input: &mut R,
+    output: &mut O,
+    errors: &mut E,
+) -> u8
+    ensures { RunsGuest single bytes (streams R.Source O.Sink E.Sink
+        (input.old, output.old, errors.old) (input.new, output.new, errors.new)) result }
+{
+    let answer = run_script(alloc, single, bytes, input, output);
+    tell_run(errors, answer)
+}
+
 /// Gives a text that was asked for: help, or the version.
 fn give_text<O: Sink, E: Sink>(text: &str, output: &mut O, errors: &mut E) -> u8
     ensures { GivesText text.now
@@ -184,6 +247,7 @@ fn perform<T: AllocGlobal + Threads + Wait + Sync, R: Source, O: Sink, E: Sink>(
 {
     match plan.command {
         Command::Check => check(rt, plan.checkers, input, output, errors),
+        Command::Run => run(rt.alloc(), plan.single, plan.bytes, input, output, errors),
         Command::RunOf => run_of(rt.alloc(), input, output, errors),
         Command::Upgrade => upgrade(rt.alloc(), input, output, errors),
     }

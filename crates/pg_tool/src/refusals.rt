@@ -1,6 +1,6 @@
 //! Refusal lines on standard error. Whether they could be written changes no status.
 
-ghost use Rattle.std.specs.Prelude.{◌++◌, decimal};
+ghost use Rattle.std.specs.Prelude.{◌++◌, codes, decimal};
 ghost use Rattle.pg_codec.specs.Writing.{Puts};
 ghost use Rattle.pg_report.specs.Changes.{filled};
 ghost use Rattle.pg_tool.specs.Refusals.{refusal_text, place_text, refusal_line, memory_line};
@@ -11,7 +11,7 @@ use pg_codec::{Failed, Sink, put_all};
 use pg_event::Refusal;
 use pg_report::{AuditError, rule_number};
 
-fn put_number<W: Sink>(errors: &mut W, before: &[u8], number: u64) -> Result<(), Failed>
+pub(crate) fn put_number<W: Sink>(errors: &mut W, before: &[u8], number: u64) -> Result<(), Failed>
     ensures { Puts W.Sink (before.now ++ decimal number) errors.old errors.new result }
 {
     let mut buffer = Buffer::new();
@@ -40,7 +40,7 @@ fn put_place<W: Sink>(errors: &mut W, error: AuditError) -> Result<(), Failed>
     }
 }
 
-fn put_error<W: Sink>(errors: &mut W, error: AuditError) -> Result<(), Failed>
+pub(crate) fn put_error<W: Sink>(errors: &mut W, error: AuditError) -> Result<(), Failed>
     ensures { Puts W.Sink (refusal_line error) errors.old errors.new result }
 {
     put_refusal(errors, error.number(), error.name())?;
@@ -48,10 +48,12 @@ fn put_error<W: Sink>(errors: &mut W, error: AuditError) -> Result<(), Failed>
     put_all(errors, b"\n")
 }
 
-fn put_memory<W: Sink>(errors: &mut W) -> Result<(), Failed>
-    ensures { Puts W.Sink memory_line errors.old errors.new result }
+/// A refusal with nothing behind it.
+pub(crate) fn put_line<W: Sink>(errors: &mut W, number: u8, name: &str) -> Result<(), Failed>
+    ensures { Puts W.Sink (refusal_text number name.now ++ codes "\n")
+        errors.old errors.new result }
 {
-    put_refusal(errors, 1, "memory")?;
+    put_refusal(errors, number, name)?;
     put_all(errors, b"\n")
 }
 
@@ -82,5 +84,5 @@ pub fn tell_error<W: Sink, T>(errors: &mut W, answer: &Result<T, AuditError>)
 pub fn tell_memory<W: Sink>(errors: &mut W)
     ensures { Tells (filled W.Sink errors.old errors.new) memory_line }
 {
-    let _ = put_memory(errors);
+    let _ = put_line(errors, 1, "memory");
 }

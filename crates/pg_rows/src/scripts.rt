@@ -1,0 +1,297 @@
+//! Guest scripts by `run`: their reports, and their records byte for byte.
+
+ghost use Rattle.std.specs.Prelude.{None};
+
+use crate::pieces::{Crumbs, Fault, Pieces};
+use crate::row::{Row, bytes_of, run_on};
+use pg_codec::{Failed, Source, Watched};
+use pg_tool::pcid_audit;
+use std::alloc::AllocGlobal;
+use std::io::ErrorKind;
+use std::process::Abort;
+use std::sync::Wait;
+use std::test::Fail;
+use std::thread::Threads;
+
+/// A script, its report by `run --single`, and its record by `run --single --bytes`.
+#[derive(Clone, Copy)]
+struct Script {
+    name: &'static str,
+    /// The settings and the processors.
+    head: &'static str,
+    /// The instructions.
+    lines: &'static str,
+    report: &'static str,
+    /// The record, in hexadecimal.
+    record: &'static [&'static str],
+}
+
+const HEAD_1: &str = "pcid-guest 1\nmachine 40 wp nxe\nsegment 16\ncpu 0x1001 1\n";
+
+const HEAD_2: &str = "pcid-guest 2\nmachine 40 wp nxe\nsegment 16\ncpu 0x1001 1\n";
+
+const ROWS: [Script; 4] = [
+    Script {
+        name: "script_run_single",
+        head: HEAD_1,
+        lines: "0 write 0x1000 0x2007\n\
+            0 write 0x2000 0x3007\n\
+            0 write 0x3000 0x4007\n\
+            0 write 0x4028 0x9007\n\
+            0 read 0x5123 user\n\
+            0 write 0x4028 0x0\n\
+            0 read 0x5123 user\n\
+            0 invlpg 0x5000\n\
+            0 read 0x5123 user\n",
+        report: "verdict: yes\nevents: 9\nsegments: 1\n",
+        record: &[
+            "50475245434f52440100280301100000000110000000000000010100000000090000001000001000",
+            "00000000000720000000000000100000200000000000000730000000000000100000300000000000",
+            "00074000000000000010002840000000000000079000000000000011000423510000000000000023",
+            "91000000000000040400000004000000040000000400000010002840000000000000000000000000",
+            "00001100042351000000000000002391000000000000040400000004000000040000000400000013",
+            "00005000000000000011000423510000000000000104000408000000080000000800000008000000",
+            "0209000000",
+        ],
+    },
+    Script {
+        name: "script_version_2",
+        head: HEAD_2,
+        lines: "0 write 0x1000 0x2007\n\
+            0 write 0x2000 0x3007\n\
+            0 write 0x3000 0x4007\n\
+            0 write 0x4028 0x9007\n\
+            0 read 0x5123 user\n\
+            0 write 0x4028 0x0\n\
+            0 read 0x5123 user\n\
+            0 invlpg 0x5000\n\
+            0 read 0x5123 user\n",
+        report: "verdict: yes\nevents: 13\nsegments: 1\n",
+        record: &[
+            "50475245434f52440200280301001000000001100000000000000101000000000d00000010000000",
+            "10000000000000072000000000000010000000200000000000000730000000000000100000003000",
+            "00000000000740000000000000100000284000000000000007900000000000001600000423510000",
+            "00000000001000000000000001040000001600000423510000000000000020000000000000020500",
+            "00000500000016000004235100000000000000300000000000000305000000060000000600000016",
+            "00000423510000000000002840000000000000040500000006000000070000000700000011000004",
+            "23510000000000000023910000000000000405000000060000000700000008000000100000284000",
+            "00000000000000000000000000110000042351000000000000002391000000000000040500000006",
+            "00000007000000080000001300000050000000000000110000042351000000000000010400040c00",
+            "00000c0000000c0000000c000000020d000000",
+        ],
+    },
+    Script {
+        name: "script_back_to_first_pcid",
+        head: HEAD_1,
+        lines: "0 write 0x1000 0x2007\n\
+            0 write 0x2000 0x3007\n\
+            0 write 0x3000 0x4007\n\
+            0 write 0x4028 0x9007\n\
+            0 read 0x5123 user\n\
+            0 cr3 0x8000000000001002\n\
+            0 read 0x5123 user\n\
+            0 cr3 0x8000000000001001\n\
+            0 read 0x5123 user\n",
+        report: "verdict: yes\nevents: 9\nsegments: 1\n",
+        record: &[
+            "50475245434f52440100280301100000000110000000000000010100000000090000001000001000",
+            "00000000000720000000000000100000200000000000000730000000000000100000300000000000",
+            "00074000000000000010002840000000000000079000000000000011000423510000000000000023",
+            "91000000000000040400000004000000040000000400000012000210000000000080110004235100",
+            "00000000000023910000000000000406000000060000000600000006000000120001100000000000",
+            "80110004235100000000000000239100000000000004040000000400000004000000040000000209",
+            "000000",
+        ],
+    },
+    Script {
+        name: "script_second_page_by_structure_cache",
+        head: HEAD_1,
+        lines: "0 write 0x1000 0x2007\n\
+            0 write 0x2000 0x3007\n\
+            0 write 0x3000 0x4007\n\
+            0 write 0x4028 0x9007\n\
+            0 write 0x4030 0xa007\n\
+            0 read 0x5123 user\n\
+            0 read 0x6123 user\n",
+        report: "verdict: yes\nevents: 7\nsegments: 1\n",
+        record: &[
+            "50475245434f52440100280301100000000110000000000000010100000000070000001000001000",
+            "00000000000720000000000000100000200000000000000730000000000000100000300000000000",
+            "0007400000000000001000284000000000000007900000000000001000304000000000000007a000",
+            "00000000001100042351000000000000002391000000000000040500000005000000050000000500",
+            "000011000423610000000000000023a1000000000000040500000005000000050000000600000002",
+            "07000000",
+        ],
+    },
+];
+
+/// Runs the program on a text, and says what it wrote.
+fn run<T: AllocGlobal + Abort + Threads + Wait + Sync>(
+    rt: &T,
+    words: &[&str],
+    pieces: [&str; 2],
+) -> Result<(u8, Vec<u8>, Vec<u8>), Fail> {
+    let mut text = Vec::new(rt.alloc());
+    for piece in pieces {
+        text.extend_from_slice(piece.as_bytes())?;
+    }
+    let mut input = Watched::new(text.as_slice());
+    let mut output = Watched::new(Vec::new(rt.alloc()));
+    let mut errors = Watched::new(Vec::new(rt.alloc()));
+    let status = pcid_audit(rt, words, &mut input, &mut output, &mut errors);
+    Ok((status, output.inner, errors.inner))
+}
+
+#[test]
+fn reports_and_records_of_scripts(rt: HostRuntime) -> Result<(), Fail> {
+    for row in &ROWS {
+        let name = row.name;
+        let (status, output, errors) = run(&rt, &["run", "--single"], [row.head, row.lines])?;
+        assert_eq!(rt; errors.as_slice(), "".as_bytes(), "{name}");
+        assert_eq!(rt; output.as_slice(), row.report.as_bytes(), "{name}");
+        assert_eq!(rt; status, 0, "{name}");
+        let words = ["run", "--single", "--bytes"];
+        let (status, output, errors) = run(&rt, &words, [row.head, row.lines])?;
+        let record = bytes_of(rt.alloc(), row.record)?;
+        assert_eq!(rt; errors.as_slice(), "".as_bytes(), "{name}");
+        assert_eq!(rt; output.as_slice(), record.as_slice(), "{name}");
+        assert_eq!(rt; status, 0, "{name}");
+    }
+    Ok(())
+}
+
+/// A text that is no script, with its line of refusal.
+const REFUSED: [(&str, &str); 11] = [
+    (
+        "pcid-guest 3\n",
+        "pcid-audit: script line 1 refused 1 first line\n",
+    ),
+    (
+        "pcid-guest 1\nmachine 35\n",
+        "pcid-audit: script line 2 refused 2 machine\n",
+    ),
+    (
+        "pcid-guest 1\nmachine 40\nsegment 0\n",
+        "pcid-audit: script line 3 refused 3 segment\n",
+    ),
+    (
+        "pcid-guest 1\nmachine 40\nsegment 16\n",
+        "pcid-audit: script line 4 refused 4 cpu\n",
+    ),
+    (
+        "pcid-guest 1\nmachine 40 wp nxe\nsegment 16\ncpu 0x1001 1\n0 jump\n",
+        "pcid-audit: script line 5 refused 5 instruction\n",
+    ),
+    (
+        "pcid-guest 1\nmachine 40 wp nxe\nsegment 16\ncpu 0x1001 1\n0 cr3 1\n",
+        "pcid-audit: script line 5 refused 6 number\n",
+    ),
+    (
+        "pcid-guest 1\nmachine 40 wp nxe\nsegment 16\ncpu 0x1001 1\n1 pge 1\n",
+        "pcid-audit: script line 5 refused 7 malformed\n",
+    ),
+    (
+        "pcid-guest 1",
+        "pcid-audit: script line 1 refused 8 line end\n",
+    ),
+    ("", "pcid-audit: script line 1 refused 1 first line\n"),
+    (
+        "pcid-guest 1\n# a comment\n\nmachine 53\n",
+        "pcid-audit: script line 4 refused 2 machine\n",
+    ),
+    (
+        "pcid-guest 1\n\t\n",
+        "pcid-audit: script line 2 refused 8 line end\n",
+    ),
+];
+
+#[test]
+fn texts_that_are_no_script(rt: HostRuntime) -> Result<(), Fail> {
+    for (text, line) in REFUSED {
+        let (status, output, errors) = run(&rt, &["run", "--single"], [text, ""])?;
+        assert_eq!(rt; errors.as_slice(), line.as_bytes(), "{line}");
+        assert_eq!(rt; output.as_slice(), "".as_bytes(), "{line}");
+        assert_eq!(rt; status, 2, "{line}");
+    }
+    Ok(())
+}
+
+/// A script that never ends, and how many bytes of it were given.
+#[derive(Drop)]
+struct Endless {
+    given: usize,
+}
+
+impl Source for Endless {
+    ghost left = { λ _. None };
+
+    ghost failed = { λ _. 0 };
+
+    fn pull(&mut self, out: &mut [u8]) -> Result<usize, Failed> {
+        out.fill(b'\n');
+        self.given = self.given.wrapping_add(out.len());
+        Ok(out.len())
+    }
+
+    fn failures(&self) -> u64 {
+        0
+    }
+}
+
+const TOO_LONG: Row = Row {
+    name: "script_too_long",
+    words: &["run", "--single"],
+    input: &[],
+    output: "",
+    line: "pcid-audit: script line 0 refused 11 too long\n",
+    status: 2,
+};
+
+#[test]
+fn a_script_that_is_too_long(rt: HostRuntime) -> Result<(), Fail> {
+    let mut input = Endless { given: 0 };
+    run_on(&rt, &TOO_LONG, 0, &mut input)?;
+    assert_eq!(rt; input.given, 134_217_729);
+    Ok(())
+}
+
+const DEVICE: Row = Row {
+    name: "script_failing_read",
+    words: &["run", "--single"],
+    input: &[],
+    output: "",
+    line: "pcid-audit: refused 11 device\n",
+    status: 2,
+};
+
+const SETTINGS: &str = "pcid-guest 1\nmachine 40 wp nxe\nsegment 16\ncpu 0x1001 1\n0 pge 1\n";
+
+#[test]
+fn each_read_of_a_script_failing(rt: HostRuntime) -> Result<(), Fail> {
+    for k in 0..6 {
+        let mut input = Watched::new(Pieces {
+            left: SETTINGS.as_bytes(),
+            most: 13,
+            reads: 0,
+            failing: Some((k, ErrorKind::UnexpectedEof)),
+        });
+        run_on(&rt, &DEVICE, k, &mut input)?;
+    }
+    Ok(())
+}
+
+#[test]
+fn each_write_of_a_record_failing(rt: HostRuntime) -> Result<(), Fail> {
+    // 26 bytes of header, 9 before the event, 3 of the event, 5 of the end.
+    for k in 0..43 {
+        let mut input = Watched::new(SETTINGS.as_bytes());
+        let mut output = Watched::new(Crumbs::new(rt.alloc(), Some((k, Fault::Error)))?);
+        let mut errors = Watched::new(Vec::new(rt.alloc()));
+        let words = ["run", "--single", "--bytes"];
+        let status = pcid_audit(&rt, &words, &mut input, &mut output, &mut errors);
+        assert_eq!(rt; errors.inner.as_slice(), DEVICE.line.as_bytes(), "{k}");
+        assert_eq!(rt; output.inner.taken.len(), k, "{k}");
+        assert_eq!(rt; status, 2, "{k}");
+    }
+    Ok(())
+}

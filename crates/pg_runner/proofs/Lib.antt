@@ -1,0 +1,6 @@
+pub mod Judged
+pub mod Lines
+pub mod Started
+pub mod ByTurns
+pub mod AtLines
+pub mod Whole

@@ -1,0 +1,62 @@
+-- Runs of guest scripts on one thread, line by line.
+use Rattle.std.specs.Prelude.{◌≡◌, ℕ, List, [], ◌∷◌, length, map, take, Option, Some, None}
+use Rattle.std.specs.Prelude.{slice_get}
+use Rattle.std.specs.List.{flat_map}
+use Rattle.pg_event.specs.declared.event.Event.{Event}
+use Rattle.pg_event.specs.declared.version.Version.TheVariants.{One, Two}
+use Rattle.pg_event.specs.Form.{processor_of}
+use Rattle.pg_event.specs.Spelling.{Recorded}
+use Rattle.pg_script.specs.declared.instruction.Instruction.{Instruction}
+use Rattle.pg_script.specs.declared.instruction.Task.{Task}
+use Rattle.pg_script.specs.Reading.{Scripted}
+use Rattle.pg_script.specs.Tasks.{instructions_of, shape}
+use Rattle.pg_world.specs.declared.receipt.Receipt.{Receipt}
+use Rattle.pg_world.specs.Recording.{Recording}
+use Rattle.pg_home.specs.Turn.{Processor}
+use Rattle.pg_report.specs.declared.report.Verdict.TheVariants.{Yes}
+use Rattle.pg_report.specs.Text.{report_of}
+use Rattle.pg_runner.specs.declared.error.RunError.{RunError}
+use Rattle.pg_runner.specs.declared.error.RunError.TheVariants as errors
+use Rattle.pg_runner.specs.declared.result.RunResult.{RunResult}
+use Rattle.pg_runner.specs.Runs.{IsRunOfScript, RunsTo, record_of}
+
+-- the instruction that an event of a processor carries out; an assist carries none out
+abbrev pub carried : ℕ → Option Instruction → List Task
+carried p None = []
+carried p (Some instruction) = record { p = p; instruction = instruction } ∷ []
+
+-- the instructions that events carried out, with their processors, in the order of the events
+abbrev pub tasks_of : List Event → List Task
+tasks_of events = flat_map (λ e. carried (processor_of e) (shape e)) events
+
+-- a run of the script's processors carries out its lines, in their order
+pub record CarriesOutLines (script : Scripted) (r : Recorded) (receipts : List (List Receipt)) :
+    Type 0 where
+  pub run : IsRunOfScript script r receipts
+  pub lines : tasks_of r.events ≡ script.tasks
+
+-- and its report is a yes
+pub record IsSingleRun (script : Scripted) (result : RunResult) : Type 0 where
+  pub run : CarriesOutLines script (record_of result.trace)
+      (map (λ own. own.items) result.transcripts.items)
+  pub report : result.report ≡ report_of (record_of result.trace)
+  pub yes : result.report.verdict ≡ Yes
+
+-- why a run of a script comes to nothing: memory is refused; or the record is full, which that of a
+-- version 1 script never is
+abbrev pub StopsRun : Scripted → RunError → Type 0
+StopsRun script errors.Memory = Unit {0}
+StopsRun script errors.Full = script.head.version ≡ Two
+StopsRun script errors.Thread = ⊥
+StopsRun script errors.Checkers = ⊥
+
+-- After the first so many lines: these are carried out and no other, and each processor is to carry
+-- out the first of its instructions that is not among them. In version 1 each event carried a line
+-- out
+pub record AreCarriedOut (script : Scripted) (k : ℕ) (r : Recording) (xs : List Processor) : Type 0
+  where
+    pub runs : RunsTo script r xs
+    pub lines : tasks_of r.events ≡ take k script.tasks
+    pub places : (p : ℕ) (x : Processor) → slice_get xs p ≡ Some x →
+        x.place ≡ length (instructions_of p (take k script.tasks))
+    pub count : script.head.version ≡ One → length r.events ≡ k

@@ -1,0 +1,116 @@
+//! Runs on one thread, the lines of the script in their order.
+
+ghost use Rattle.std.specs.Prelude.{◌≡◌, ◌≢◌, ◌+◌, ◌<◌, ◌⊎◌, length, map, IfOk, IfErr, OnOk, Some};
+ghost use Rattle.std.specs.Prelude.{slice_get};
+ghost use Rattle.pg_guest.specs.Held.{seen};
+ghost use Rattle.pg_guest.specs.Runs.{ArePlaced};
+ghost use Rattle.pg_event.specs.Spelling.{IsRecord};
+ghost use Rattle.pg_runner.specs.Lines.{AreCarriedOut, IsSingleRun, StopsRun};
+ghost use Rattle.pg_runner.specs.Runs.{record_of};
+
+use crate::error::RunError;
+use crate::judging::report_from_bytes;
+use crate::result::RunResult;
+use crate::turns::turn;
+use pg_guest::{Processor, processors};
+use pg_home::{Advance, Stop};
+use pg_script::Script;
+use pg_world::{Receipt, World};
+use std::alloc::{AllocError, Global};
+
+/// An instruction takes so many turns at most where no other processor has one between.
+const MOST_TURNS: usize = 9;
+
+/// Why a turn in a record that is not finished was stopped.
+fn stop_error(why: Stop) -> RunError
+    requires { why ≢ Stop.Finished }
+    ensures { (result ≡ RunError.Memory) ⊎ ((result ≡ RunError.Full) × (why ≡ Stop.Full)) }
+{
+    match why {
+        Stop::Memory => RunError::Memory,
+        Stop::Full => RunError::Full,
+        Stop::Finished => unreachable!(),
+    }
+}
+
+/// Carries out the line with this number, counted from 0, after all lines before it.
+fn carry_out(
+    script: &Script,
+    line: usize,
+    world: &mut World,
+    processors: &mut [Processor],
+) -> Result<(), RunError>
+    requires line { line < length script.now.tasks }
+    requires placed { ArePlaced world.old.head processors.old }
+    requires before { AreCarriedOut script.now line world.old (map seen processors.old) }
+    ensures placed { ArePlaced world.new.head processors.new }
+    ensures after { OnOk result
+        (AreCarriedOut script.now (line + 1) world.new (map seen processors.new)) }
+    ensures err { IfErr result (StopsRun script.now) }
+{
+    let p = script.order()[line];
+    for _ in 0..MOST_TURNS {
+        match turn(world, processors, p) {
+            Advance::Read(_) | Advance::Assisted(_) => {}
+            Advance::Done(_) => return Ok(()),
+            Advance::Ended => unreachable!(),
+            Advance::Stopped(why) => return Err(stop_error(why)),
+        }
+    }
+    unreachable!()
+}
+
+/// Carries out all lines, in their order.
+fn carry_out_all(
+    script: &Script,
+    world: &mut World,
+    processors: &mut [Processor],
+) -> Result<(), RunError>
+    requires placed { ArePlaced world.old.head processors.old }
+    requires before { AreCarriedOut script.now 0 world.old (map seen processors.old) }
+    ensures after { OnOk result
+        (AreCarriedOut script.now (length script.now.tasks) world.new (map seen processors.new)) }
+    ensures err { IfErr result (StopsRun script.now) }
+{
+    for line in 0..script.order().len() {
+        carry_out(script, line, world, processors)?;
+    }
+    Ok(())
+}
+
+/// The receipts of each processor.
+fn transcripts_of(
+    alloc: Global,
+    processors: Vec<Processor>,
+) -> Result<Vec<Vec<Receipt>>, AllocError>
+    ensures { IfOk result (λ all. map (λ own. own.items) all.items
+        ≡ map (λ h. h.transcript) processors.items) }
+{
+    let mut all = Vec::new(alloc);
+    for processor in processors {
+        all.push(processor.into_transcript())?;
+    }
+    Ok(all)
+}
+
+/// Runs a script on the calling thread alone, its lines in their order, each to its end, and has
+/// the record judged from its bytes. It fails where memory is refused, or where a script of version
+/// 2 fills the record; nothing is handed out then.
+pub fn run_single(alloc: Global, script: &Script) -> Result<RunResult, RunError>
+    ensures ok { IfOk result (λ run. IsSingleRun script.now run) }
+    ensures formed { IfOk result (λ run. IsRecord (record_of run.trace)) }
+    ensures err { IfErr result (StopsRun script.now) }
+{
+    let mut world = World::new(alloc, script.header().clone()?);
+    let mut guests = processors(alloc, script)?;
+    carry_out_all(script, &mut world, &mut guests)?;
+    world.finish();
+    let trace = world.into_record();
+    let report = report_from_bytes(alloc, &trace)?;
+    let transcripts = transcripts_of(alloc, guests)?;
+    Ok(RunResult {
+        trace,
+        report,
+        transcripts,
+    })
+}
