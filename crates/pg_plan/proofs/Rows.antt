@@ -1,12 +1,13 @@
 -- Which kinds `clap` gives these lines: none where it takes them; and what lines ask for.
-use Rattle.std.proofs.Common.{◌≡◌, true, false, List, [], ◌∷◌, codes, refl}
+use Rattle.std.proofs.Common.{◌≡◌, true, false, List, [], ◌∷◌, codes, Option, Some, None, refl, sym, subst, arith}
 use Rattle.clap.specs.Faults.{fault_of}
-use Rattle.clap.specs.Walk.{Text}
+use Rattle.clap.specs.Simple.{subcommand_of}
+use Rattle.clap.specs.Walk.{Row, Text, first_of}
 use Rattle.clap.specs.Kinds.{Kinds}
 use Rattle.clap.specs.declared.error.kind.ErrorKind.TheVariants.{DisplayHelp, DisplayVersion, InvalidSubcommand, MissingSubcommand, UnknownArgument, ValueValidation, ArgumentConflict}
 use Rattle.clap.proofs.OnLiterals.{clap_on_literals}
-use Rattle.pg_plan.specs.Commands.{Asks, command_line}
-use Rattle.pg_plan.specs.declared.request.Command.TheVariants.{Check}
+use Rattle.pg_plan.specs.Commands.{AreAsked, Asks, command_line}
+use Rattle.pg_plan.specs.declared.request.Command.TheVariants.{Check, Run}
 
 abbrev Gives : List Text → Kinds → Type 0
 Gives words kinds = fault_of command_line words ≡ kinds
@@ -118,3 +119,22 @@ switches = refl
 switch_twice : Gives (codes "run" ∷ codes "--single" ∷ codes "--single" ∷ []) (ArgumentConflict ∷ [])
 unfolding clap_on_literals
 switch_twice = refl
+
+abbrev run_words : List Text
+run_words = codes "run" ∷ codes "--checkers" ∷ codes "2" ∷ codes "--single" ∷ codes "--bytes" ∷ []
+
+-- the options that were found
+abbrev options : Option (Text × List Row) → List Row
+options None = []
+options (Some found) = found.1
+
+abbrev run_options : List Row
+run_options = options (subcommand_of command_line run_words)
+
+two : first_of (codes "checkers") run_options ≡ Some (codes "2")
+unfolding clap_on_literals
+two = refl
+
+asks_run : Asks run_words (record { command = Run; checkers = 2; single = true; bytes = true })
+unfolding clap_on_literals
+asks_run = (refl, record { rows = run_options; command = refl; checkers = subst (λ o. AreAsked o 2) (sym two) ((omega arith, (omega arith, tt)), refl, (omega arith, omega arith)); single = refl; bytes = refl })

@@ -30,7 +30,7 @@ const HEAD_1: &str = "pcid-guest 1\nmachine 40 wp nxe\nsegment 16\ncpu 0x1001 1\
 
 const HEAD_2: &str = "pcid-guest 2\nmachine 40 wp nxe\nsegment 16\ncpu 0x1001 1\n";
 
-const ROWS: [Script; 4] = [
+const ROWS: [Script; 8] = [
     Script {
         name: "script_run_single",
         head: HEAD_1,
@@ -123,6 +123,66 @@ const ROWS: [Script; 4] = [
             "07000000",
         ],
     },
+    Script {
+        name: "script_two_processors",
+        head: "pcid-guest 1\nmachine 40 wp nxe\nsegment 16\ncpu 0x1001 1\ncpu 0x1001 1\n",
+        lines: "0 write 0x1000 0x2007\n\
+            0 write 0x2000 0x3007\n\
+            0 write 0x3000 0x4007\n\
+            0 write 0x4028 0x9007\n\
+            0 write 0x4028 0x0\n\
+            1 read 0x5123 user\n",
+        report: "verdict: yes\nevents: 6\nsegments: 1\n",
+        record: &[
+            "50475245434f52440100280302100000000110000000000000010110000000000000010100000000",
+            "06000000100000100000000000000720000000000000100000200000000000000730000000000000",
+            "10000030000000000000074000000000000010002840000000000000079000000000000010002840",
+            "00000000000000000000000000001101042351000000000000010400040500000005000000050000",
+            "00050000000206000000",
+        ],
+    },
+    Script {
+        name: "script_no_instruction",
+        head: HEAD_1,
+        lines: "",
+        report: "verdict: yes\nevents: 0\nsegments: 0\n",
+        record: &[
+            "50475245434f5244010028030110000000011000000000000001",
+            "0200000000",
+        ],
+    },
+    Script {
+        name: "script_two_segments",
+        head: "pcid-guest 1\nmachine 40 wp nxe\nsegment 2\ncpu 0x1001 1\n",
+        lines: "0 invlpg 0x5000\n0 pge 0\n0 cr3 0x2003\n",
+        report: "verdict: yes\nevents: 3\nsegments: 2\n",
+        record: &[
+            "50475245434f5244010028030102000000011000000000000001",
+            "010000000002000000",
+            "13000050000000000000",
+            "150000",
+            "010100000001000000",
+            "12000320000000000000",
+            "0203000000",
+        ],
+    },
+    Script {
+        name: "script_dirty_assist",
+        head: HEAD_2,
+        lines: "0 write 0x1000 0x2027\n\
+            0 write 0x2000 0x3027\n\
+            0 write 0x3000 0x4027\n\
+            0 write 0x4028 0x9027\n\
+            0 store 0x5123 user\n",
+        report: "verdict: yes\nevents: 6\nsegments: 1\n",
+        record: &[
+            "50475245434f52440200280301001000000001100000000000000101000000000600000010000000",
+            "10000000000000272000000000000010000000200000000000002730000000000000100000003000",
+            "00000000002740000000000000100000284000000000000027900000000000001600001523510000",
+            "00000000284000000000000004040000000400000004000000040000001100000523510000000000",
+            "0000239100000000000004040000000400000004000000050000000206000000",
+        ],
+    },
 ];
 
 /// Runs the program on a text, and says what it wrote.
@@ -156,6 +216,20 @@ fn reports_and_records_of_scripts(rt: HostRuntime) -> Result<(), Fail> {
         assert_eq!(rt; errors.as_slice(), "".as_bytes(), "{name}");
         assert_eq!(rt; output.as_slice(), record.as_slice(), "{name}");
         assert_eq!(rt; status, 0, "{name}");
+    }
+    Ok(())
+}
+
+#[test]
+fn reports_by_any_number_of_checkers(rt: HostRuntime) -> Result<(), Fail> {
+    for row in &ROWS {
+        let name = row.name;
+        for words in [&["run"][..], &["run", "--checkers", "2"]] {
+            let (status, output, errors) = run(&rt, words, [row.head, row.lines])?;
+            assert_eq!(rt; errors.as_slice(), "".as_bytes(), "{name}");
+            assert_eq!(rt; output.as_slice(), row.report.as_bytes(), "{name}");
+            assert_eq!(rt; status, 0, "{name}");
+        }
     }
     Ok(())
 }
@@ -280,18 +354,34 @@ fn each_read_of_a_script_failing(rt: HostRuntime) -> Result<(), Fail> {
     Ok(())
 }
 
+/// Has the write with this number fail so: what was written before stays, and the status says it.
+fn fail_a_write<T: AllocGlobal + Abort + Threads + Wait + Sync>(
+    rt: &T,
+    words: &[&str],
+    k: usize,
+    fault: Fault,
+) -> Result<(), Fail> {
+    let mut input = Watched::new(SETTINGS.as_bytes());
+    let mut output = Watched::new(Crumbs::new(rt.alloc(), Some((k, fault)))?);
+    let mut errors = Watched::new(Vec::new(rt.alloc()));
+    let status = pcid_audit(rt, words, &mut input, &mut output, &mut errors);
+    assert_eq!(rt; errors.inner.as_slice(), DEVICE.line.as_bytes(), "{k}");
+    assert_eq!(rt; output.inner.taken.len(), k, "{k}");
+    assert_eq!(rt; status, 2, "{k}");
+    Ok(())
+}
+
 #[test]
-fn each_write_of_a_record_failing(rt: HostRuntime) -> Result<(), Fail> {
-    // 26 bytes of header, 9 before the event, 3 of the event, 5 of the end.
-    for k in 0..43 {
-        let mut input = Watched::new(SETTINGS.as_bytes());
-        let mut output = Watched::new(Crumbs::new(rt.alloc(), Some((k, Fault::Error)))?);
-        let mut errors = Watched::new(Vec::new(rt.alloc()));
-        let words = ["run", "--single", "--bytes"];
-        let status = pcid_audit(&rt, &words, &mut input, &mut output, &mut errors);
-        assert_eq!(rt; errors.inner.as_slice(), DEVICE.line.as_bytes(), "{k}");
-        assert_eq!(rt; output.inner.taken.len(), k, "{k}");
-        assert_eq!(rt; status, 2, "{k}");
+fn each_write_failing(rt: HostRuntime) -> Result<(), Fail> {
+    for fault in [Fault::Error, Fault::TakesNone] {
+        // 26 bytes of header, 9 before the event, 3 of the event, 5 of the end.
+        for k in 0..43 {
+            fail_a_write(&rt, &["run", "--single", "--bytes"], k, fault)?;
+        }
+        // "verdict: yes\nevents: 1\nsegments: 1\n"
+        for k in 0..35 {
+            fail_a_write(&rt, &["run", "--single"], k, fault)?;
+        }
     }
     Ok(())
 }

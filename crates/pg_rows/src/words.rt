@@ -33,7 +33,8 @@ fn words_of_no_command(rt: HostRuntime) -> Result<(), Fail> {
     expect_usage(&rt, &["check", "--checkers", "65"])?;
     expect_usage(&rt, &["check", "--checkers", "+2"])?;
     expect_usage(&rt, &["check", "--checkers", "2", "--checkers", "2"])?;
-    expect_usage(&rt, &["run-of", "--checkers", "2"])
+    expect_usage(&rt, &["run-of", "--checkers", "2"])?;
+    expect_usage(&rt, &["run", "--checkers", "65"])
 }
 
 /// Words that ask for a text, which goes to standard output.

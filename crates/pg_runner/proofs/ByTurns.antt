@@ -1,7 +1,7 @@
 -- One turn after another carries the lines out.
-use Rattle.std.proofs.Common.{◌≡◌, ◌≢◌, ℕ, zero, suc, ◌+◌, ◌<◌, ◌≤◌, ◌==◌, ◌-◌, ◌^◌, Bool, true, false, not, nat_lt, cond, ◌⊎◌, inl, inr, List, [], ◌∷◌, ◌++◌, length, map, take, refl, sym, ◌∙◌, ap, subst, arith, Option, Some, None}
+use Rattle.std.proofs.Common.{◌≡◌, ◌≢◌, ℕ, zero, suc, ◌+◌, ◌<◌, ◌≤◌, ◌-◌, ◌^◌, Bool, true, false, not, nat_lt, cond, ◌⊎◌, inl, inr, List, [], ◌∷◌, ◌++◌, length, take, refl, sym, ◌∙◌, ap, subst, arith, Some, None}
 use Rattle.std.specs.Prelude.{slice_get, slice_set}
-use Rattle.std.proofs.lemmas.Bool.{cases_eq, ne_eqb, eq-eqb, lt-ltb}
+use Rattle.std.proofs.lemmas.Bool.{ne_eqb, eq-eqb, lt-ltb}
 use Rattle.std.proofs.lemmas.List.{append-nil, length-append}
 use Rattle.std.proofs.lemmas.Option.{same_Some}
 use Rattle.pg_event.specs.declared.version.Version.{Version}
@@ -10,7 +10,6 @@ use Rattle.pg_event.specs.Heads.{Head}
 use Rattle.pg_event.specs.Spelling.{IsHead}
 use Rattle.pg_entry.specs.declared.Level.{Level}
 use Rattle.pg_world.specs.declared.receipt.Receipt.{Receipt}
-use Rattle.pg_script.specs.declared.instruction.Instruction.{Instruction}
 use Rattle.pg_script.specs.declared.instruction.Task.{Task}
 use Rattle.pg_script.specs.Reading.{Scripted, IsScript, most_instructions}
 use Rattle.pg_script.specs.Tasks.{instructions_of}
@@ -21,14 +20,14 @@ use Rattle.pg_home.specs.declared.advance.Stop.{Stop}
 use Rattle.pg_home.specs.declared.advance.Stop.TheVariants as stops
 use Rattle.pg_home.specs.CoreRun.{IsCoreRun}
 use Rattle.pg_home.specs.Progress.{measure, is_stopped, ComesNearer}
-use Rattle.pg_home.specs.Turn.{Processor, Turned, turned, refused_by, MayStop, IsTurn}
+use Rattle.pg_home.specs.Turn.{Processor, Turned, turned, MayStop, IsTurn}
 use Rattle.pg_home.proofs.Counts.{turns_come_nearer}
 use Rattle.pg_home.proofs.Further.{none_assist_in_version_one}
-use Rattle.pg_home.proofs.Runs.{each_processor, set_other}
+use Rattle.pg_home.proofs.Runs.{each_processor}
 use Rattle.pg_home.proofs.Runs.{set_here}
-use Rattle.pg_runner.specs.Lines.{AreCarriedOut, tasks_of}
-use Rattle.pg_runner.specs.Runs.{RunsTo}
+use Rattle.pg_runner.specs.Lines.{AreCarriedOut, FillsByLines, lines_left, tasks_of}
 use Rattle.pg_runner.proofs.Lines.{AddsBy, turn_adds, line_at, instructions_pushed, Stays, Carries}
+use Rattle.pg_runner.proofs.Orders.{GoBy, KeepsLine, by_one_more, by_one_done}
 use Rattle.pg_runner.proofs.Started.{quiet_of, told_of, head_of, open_of, instructions_are, one_turn_more}
 
 -- ---- the processor whose line is next
@@ -59,14 +58,17 @@ take_one (t ∷ ts) (suc k) task at =
     let more : suc k + 1 ≡ suc (k + 1) = omega arith in
     ap (λ n. take n (t ∷ ts)) more ∙ ap (λ zs. t ∷ zs) (take_one ts k task at)
 
-stays : (script : Scripted) (k : ℕ) (r : Recording) (xs : List Processor) (p : ℕ) (x : Processor) (t : Turned) → AreCarriedOut script k r xs → slice_get xs p ≡ Some x → IsTurn p r x t → Stays r x t →
-    (script.head.version ≡ One → length t.world.events ≡ length r.events) → AreCarriedOut script k t.world (slice_set xs p t.processor)
-stays script k r xs p x t before here turn left same = record {
-  runs = one_turn_more script r xs p x t before.runs here turn;
-  lines = left.tasks ∙ before.lines;
-  places = each_processor (λ q z. z.place ≡ length (instructions_of q (take k script.tasks))) xs p x t.processor here (left.place ∙ before.places p x here) (λ q z away at. before.places q z at);
-  count = λ one. same one ∙ before.count one;
-}
+stays : (script : Scripted) (k : ℕ) (r : Recording) (xs : List Processor) (task : Task) (x : Processor) (t : Turned) → AreCarriedOut script k r xs → slice_get script.tasks k ≡ Some task → slice_get xs task.p ≡ Some x
+    → IsTurn task.p r x t → Stays r x t → KeepsLine t.answer → (script.head.version ≡ One → length t.world.events ≡ length r.events) → AreCarriedOut script k t.world (slice_set xs task.p t.processor)
+stays script k r xs task x t before at here turn left keeps same =
+    let by = by_one_more script.tasks k before.runs.turns before.runs.answers task t.answer at (before.order, before.left) keeps in record {
+      runs = one_turn_more script r xs task.p x t before.runs here turn;
+      order = by.0;
+      left = by.1;
+      lines = left.tasks ∙ before.lines;
+      places = each_processor (λ q z. z.place ≡ length (instructions_of q (take k script.tasks))) xs task.p x t.processor here (left.place ∙ before.places task.p x here) (λ q z away at. before.places q z at);
+      count = λ one. same one ∙ before.count one;
+    }
 
 pushed_own : (tasks : List Task) (task : Task) → length (instructions_of task.p (tasks ++ task ∷ [])) ≡ length (instructions_of task.p tasks) + 1
 pushed_own tasks task =
@@ -77,16 +79,21 @@ pushed_other : (tasks : List Task) (task : Task) (q : ℕ) → q ≢ task.p → 
 pushed_other tasks task q away =
     instructions_pushed q tasks task ∙ ap (λ b. instructions_of q tasks ++ cond b (task.instruction ∷ []) []) (ne_eqb task.p q (λ e. away (sym e))) ∙ append-nil (instructions_of q tasks)
 
-carries : (script : Scripted) (k : ℕ) (r : Recording) (xs : List Processor) (task : Task) (x : Processor) (t : Turned) → AreCarriedOut script k r xs → slice_get script.tasks k ≡ Some task → slice_get xs task.p ≡ Some x
-    → IsTurn task.p r x t → Carries task.p r x t → AreCarriedOut script (k + 1) t.world (slice_set xs task.p t.processor)
-carries script k r xs task x t before at here turn left =
+carries : (script : Scripted) (k : ℕ) (r : Recording) (xs : List Processor) (task : Task) (x : Processor) (t : Turned) (receipt : Receipt) → AreCarriedOut script k r xs → slice_get script.tasks k ≡ Some task → slice_get xs task.p ≡ Some x
+    → IsTurn task.p r x t → t.answer ≡ Done receipt → Carries task.p r x t → AreCarriedOut script (k + 1) t.world (slice_set xs task.p t.processor)
+carries script k r xs task x t receipt before at here turn answer left =
     let more : take (k + 1) script.tasks ≡ take k script.tasks ++ task ∷ [] = take_one script.tasks k task at in
     let same : left.instruction ≡ task.instruction = same_Some left.instruction task.instruction (sym left.next ∙ next_is script k r xs task x before at here) in
     let line : tasks_of t.world.events ≡ take k script.tasks ++ task ∷ [] =
     left.tasks ∙ ap (λ ts. ts ++ record { p = task.p; instruction = left.instruction } ∷ []) before.lines ∙ ap (λ i. take k script.tasks ++ record { p = task.p; instruction = i } ∷ []) same in
     let own : t.processor.place ≡ length (instructions_of task.p (take (k + 1) script.tasks)) =
-    left.place ∙ ap (λ n. n + 1) (before.places task.p x here) ∙ sym (pushed_own (take k script.tasks) task) ∙ ap (λ ts. length (instructions_of task.p ts)) (sym more) in record {
+    left.place ∙ ap (λ n. n + 1) (before.places task.p x here) ∙ sym (pushed_own (take k script.tasks) task) ∙ ap (λ ts. length (instructions_of task.p ts)) (sym more) in
+    let by : GoBy script.tasks (k + 1) (before.runs.turns ++ task.p ∷ []) (before.runs.answers ++ t.answer ∷ []) =
+    subst (λ a. GoBy script.tasks (k + 1) (before.runs.turns ++ task.p ∷ []) (before.runs.answers ++ a ∷ [])) (sym answer)
+    (by_one_done script.tasks k before.runs.turns before.runs.answers task receipt at (before.order, before.left)) in record {
       runs = one_turn_more script r xs task.p x t before.runs here turn;
+      order = by.0;
+      left = by.1;
       lines = line ∙ sym more;
       places = each_processor (λ q z. z.place ≡ length (instructions_of q (take (k + 1) script.tasks))) xs task.p x t.processor here own
           (λ q z away there. before.places q z there ∙ ap length (sym (pushed_other (take k script.tasks) task q away)) ∙ ap (λ ts. length (instructions_of q ts)) (sym more));
@@ -99,7 +106,7 @@ Leaves script k r xs (Read level) = AreCarriedOut script k r xs
 Leaves script k r xs (Assisted receipt) = AreCarriedOut script k r xs
 Leaves script k r xs (Done receipt) = AreCarriedOut script (k + 1) r xs
 Leaves script k r xs Ended = ⊥
-Leaves script k r xs (Stopped why) = (why ≢ stops.Finished) × (why ≡ stops.Full → script.head.version ≡ Two)
+Leaves script k r xs (Stopped why) = (why ≢ stops.Finished) × (why ≡ stops.Full → FillsByLines script)
 
 finishes : (full finished : Bool) → finished ≡ false → cond full (Some stops.Full) (cond finished (Some stops.Finished) None) ≡ Some stops.Finished → ⊥
 finishes true false going_on is = cc
@@ -146,17 +153,43 @@ in_two script k r xs is before within full One same =
     let few : length r.events ≤ most_instructions = omega (arith, count, within, is.few) in
     absurd (not_full (length r.events) few full)
 
+-- a full record of a run of these lines, one of which is next
+filled : (script : Scripted) (k : ℕ) (r : Recording) (xs : List Processor) (task : Task) (x : Processor) → IsScript script → AreCarriedOut script k r xs → slice_get script.tasks k ≡ Some task → slice_get xs task.p ≡ Some x
+    → is_full r ≡ true → FillsByLines script
+filled script k r xs task x is before at here full = record {
+  fills = record {
+    version = in_two script k r xs is before (below_length script.tasks k task at) full script.head.version refl;
+    end = r;
+    ends = xs;
+    runs = before.runs;
+    full = full;
+    p = task.p;
+    x = x;
+    at = here;
+    left = is_due script k r xs task x before at here;
+  };
+  order = before.order;
+}
+
+reading_keeps : (a : Advance) (level : Level) → a ≡ Read level → KeepsLine a
+reading_keeps a level is task later = ap (λ x. lines_left x (task ∷ later)) is
+
+assisting_keeps : (a : Advance) (receipt : Receipt) → a ≡ Assisted receipt → KeepsLine a
+assisting_keeps a receipt is task later = ap (λ x. lines_left x (task ∷ later)) is
+
 by_answer : (script : Scripted) (k : ℕ) (r : Recording) (xs : List Processor) (task : Task) (x : Processor) (t : Turned) → IsScript script → AreCarriedOut script k r xs → slice_get script.tasks k ≡ Some task
     → slice_get xs task.p ≡ Some x → IsTurn task.p r x t → (a : Advance) → t.answer ≡ a → AddsBy task.p r x t a → Leaves script k t.world (slice_set xs task.p t.processor) a
-by_answer script k r xs task x t is before at here turn (Read level) same adds = stays script k r xs task.p x t before here turn adds.0 (λ one. ap length adds.1)
+by_answer script k r xs task x t is before at here turn (Read level) same adds =
+    stays script k r xs task x t before at here turn adds.0 (reading_keeps t.answer level same) (λ one. ap length adds.1)
 by_answer script k r xs task x t is before at here turn (Assisted receipt) same adds =
-    stays script k r xs task.p x t before here turn adds (λ one. absurd (none_assist_in_version_one task.p r x t receipt (ap (λ (h : Head). h.version) (head_of script r xs before.runs) ∙ one) turn same))
-by_answer script k r xs task x t is before at here turn (Done receipt) same adds = carries script k r xs task x t before at here turn adds
+    stays script k r xs task x t before at here turn adds (assisting_keeps t.answer receipt same)
+    (λ one. absurd (none_assist_in_version_one task.p r x t receipt (ap (λ (h : Head). h.version) (head_of script r xs before.runs) ∙ one) turn same))
+by_answer script k r xs task x t is before at here turn (Done receipt) same adds = carries script k r xs task x t receipt before at here turn same adds
 by_answer script k r xs task x t is before at here turn Ended same adds = let contrary : Some task.instruction ≡ None = sym (next_is script k r xs task x before at here) ∙ adds in absurd (cc)
 by_answer script k r xs task x t is before at here turn (Stopped why) same adds =
     let due : Advance = (turned task.p r x).answer in (
       not_finished r due why (open_of script r xs before.runs) adds,
-      λ full. in_two script k r xs is before (below_length script.tasks k task at) (is_full_where r due why adds full) script.head.version refl,
+      λ full. filled script k r xs task x is before at here (is_full_where r due why adds full),
     )
 
 turn_leaves : (script : Scripted) (k : ℕ) (r : Recording) (xs : List Processor) (task : Task) (x : Processor) (t : Turned) → IsScript script → AreCarriedOut script k r xs → slice_get script.tasks k ≡ Some task

@@ -1,7 +1,6 @@
 -- What turns add to the lines that are carried out.
-use Rattle.std.proofs.Common.{◌≡◌, ◌≢◌, ℕ, zero, suc, ◌+◌, ◌<◌, ◌==◌, Bool, true, false, cond, List, [], ◌∷◌, ◌++◌, length, take, refl, ap, sym, ◌∙◌, subst, arith, Option, Some, None, inl, inr, eq-eqb}
+use Rattle.std.proofs.Common.{◌≡◌, ℕ, zero, suc, ◌+◌, ◌==◌, Bool, true, false, cond, List, [], ◌∷◌, ◌++◌, length, take, refl, ap, sym, ◌∙◌, subst, Option, Some, None, inl, inr, eq-eqb}
 use Rattle.std.specs.Prelude.{slice_get}
-use Rattle.std.proofs.lemmas.Bool.{ne_eqb}
 use Rattle.std.proofs.lemmas.Grind.{flat_map-append}
 use Rattle.std.proofs.lemmas.List.{append-nil, length-append}
 use Rattle.pg_event.specs.declared.event.Event.{Event}
@@ -16,7 +15,7 @@ use Rattle.pg_shadow.specs.declared.entries.Found.{Found}
 use Rattle.pg_world.specs.Recording.{Recording, receipt_of}
 use Rattle.pg_home.specs.declared.advance.Advance.{Advance}
 use Rattle.pg_home.specs.declared.advance.Advance.TheVariants.{Read, Assisted, Done, Ended, Stopped}
-use Rattle.pg_home.specs.Turn.{Processor, Turned, done, assisted, goes_on, begun, turned_by, turned, stopped, MayStop, IsTurn}
+use Rattle.pg_home.specs.Turn.{Processor, Turned, done, assisted, goes_on, begun, turned_by, turned, MayStop, IsTurn}
 use Rattle.pg_home.specs.Transcripts.{AreWellFormed}
 use Rattle.pg_home.proofs.Cases.{goes_on_any}
 use Rattle.pg_home.proofs.Transcripts.{flags_stay, well_at}

@@ -1,19 +1,15 @@
 -- What holds of every run of a script's processors.
-use Rattle.std.proofs.Common.{◌≡◌, ℕ, zero, suc, ◌+◌, ◌<◌, false, List, [], ◌∷◌, ◌++◌, length, refl, sym, ◌∙◌, ap, subst, arith, Some}
+use Rattle.std.proofs.Common.{◌≡◌, ℕ, zero, suc, false, List, [], ◌∷◌, ◌++◌, length, refl, sym, ◌∙◌, ap, subst, arith, Some}
 use Rattle.std.specs.Prelude.{slice_get, slice_set}
-use Rattle.std.specs.List.{AllByRecursion}
-use Rattle.pg_event.specs.Heads.{Head}
-use Rattle.pg_script.specs.declared.instruction.Instruction.{Instruction}
 use Rattle.pg_script.specs.Reading.{Scripted, IsScript}
-use Rattle.pg_script.specs.Tasks.{instructions_of, IsWellFormed}
+use Rattle.pg_script.specs.Tasks.{instructions_of}
 use Rattle.pg_script.proofs.Wells.{own_well}
 use Rattle.pg_world.specs.Recording.{Recording}
-use Rattle.pg_home.specs.declared.advance.Advance.{Advance}
-use Rattle.pg_home.specs.CoreRun.{IsCoreRun, unwritten}
+use Rattle.pg_home.specs.CoreRun.{unwritten}
 use Rattle.pg_home.specs.Laws.{IsQuiet, AreFresh}
 use Rattle.pg_home.specs.Leaves.{LeaveAll}
 use Rattle.pg_home.specs.Transcripts.{AreTold, AreWellFormed, IsTold}
-use Rattle.pg_home.specs.Turn.{Processor, Turned, fresh, IsTurn}
+use Rattle.pg_home.specs.Turn.{Processor, Turned, IsTurn}
 use Rattle.pg_home.proofs.Runs.{core_runs_keep_quiet, core_runs_go_on, fresh_are_quiet}
 use Rattle.pg_home.proofs.Leaves.{core_runs_leave}
 use Rattle.pg_home.proofs.Transcripts.{core_runs_are_told, fresh_are_told}
@@ -66,7 +62,7 @@ instructions_are script r xs to p x at =
     let there = there_too to.start xs p x left.count at in
     (left.each p there.0 x there.1 at).0 ∙ ap (λ (y : Processor). y.instructions) (to.started.each p there.0 there.1)
 
-pub one_turn_more : (script : Scripted) (r : Recording) (xs : List Processor) (p : ℕ) (x : Processor) (t : Turned) → RunsTo script r xs → slice_get xs p ≡ Some x → IsTurn p r x t →
+abbrev pub one_turn_more : (script : Scripted) (r : Recording) (xs : List Processor) (p : ℕ) (x : Processor) (t : Turned) → RunsTo script r xs → slice_get xs p ≡ Some x → IsTurn p r x t →
     RunsTo script t.world (slice_set xs p t.processor)
 one_turn_more script r xs p x t to here turn = record {
   start = to.start;

@@ -1,24 +1,21 @@
 -- Where all lines are carried out, all is told.
-use Rattle.std.proofs.Common.{◌≡◌, ℕ, zero, suc, ◌+◌, ◌<◌, List, [], ◌∷◌, ◌++◌, length, map, take, refl, sym, ◌∙◌, ap, subst, arith, Some, None}
+use Rattle.std.proofs.Common.{◌≡◌, ℕ, zero, suc, List, [], ◌∷◌, ◌++◌, length, map, take, refl, sym, ◌∙◌, ap, subst, arith, Some, None}
 use Rattle.std.specs.Prelude.{slice_get}
 use Rattle.std.specs.List.{AllByRecursion}
-use Rattle.std.specs.Option.{option_map}
-use Rattle.std.proofs.lemmas.List.{take_all, length-map}
-use Rattle.std.proofs.lemmas.Option.{same_Some, slice_get-map}
+use Rattle.std.proofs.lemmas.List.{take_all, drop_all, length-map}
+use Rattle.std.proofs.lemmas.Option.{same_Some}
 use Rattle.pg_event.specs.declared.event.Event.{Event}
-use Rattle.pg_event.specs.Form.{processor_of, broken_rule}
+use Rattle.pg_event.specs.Form.{broken_rule}
 use Rattle.pg_event.specs.Heads.{Head}
 use Rattle.pg_event.specs.Spelling.{IsRecord}
 use Rattle.pg_event.proofs.Events.{processor_within}
-use Rattle.pg_script.specs.declared.instruction.Task.{Task}
 use Rattle.pg_script.specs.Reading.{Scripted, IsScript}
 use Rattle.pg_script.specs.Tasks.{instructions_of}
 use Rattle.pg_world.specs.declared.receipt.Receipt.{Receipt}
 use Rattle.pg_world.specs.Recording.{Recording, recorded}
-use Rattle.pg_home.specs.Transcripts.{AreOf, IsTold, receipts_from, shapes_of}
+use Rattle.pg_home.specs.Transcripts.{AreOf, IsTold, shapes_of}
 use Rattle.pg_home.specs.Turn.{Processor, fresh}
 use Rattle.pg_runner.specs.Lines.{AreCarriedOut, CarriesOutLines, tasks_of}
-use Rattle.pg_runner.specs.Runs.{AreReceipts, IsRunOfScript}
 use Rattle.pg_guest.specs.Held.{Held, seen}
 use Rattle.pg_guest.specs.Runs.{AreNew}
 use Rattle.pg_home.specs.CoreRun.{unwritten}
@@ -57,6 +54,7 @@ all_lines script r xs is record_is out =
         ends = xs;
         runs = out.runs;
         record_is = refl;
+        head = head;
         receipts_are = refl;
         whole = record {
           count = length-map xs (λ y. y.transcript) ∙ count_of script r xs out.runs;
@@ -71,6 +69,8 @@ all_lines script r xs is record_is out =
         };
       };
       lines = out.lines ∙ every;
+      order = out.order;
+      left = out.left ∙ drop_all (length script.tasks) script.tasks (omega arith);
     }
 
 -- ---- before the first line
@@ -92,6 +92,8 @@ none_carried script r hs is new = record {
     answers = [];
     run = (refl, is, refl);
   };
+  order = refl;
+  left = refl;
   lines = ap (λ (r : Recording). tasks_of r.events) is;
   places = seen_at (λ p x. x.place ≡ 0) hs (λ p h at. ap (λ (x : Processor). x.place) (new.each p h at).fresh_is);
   count = λ one. ap (λ (r : Recording). length r.events) is;

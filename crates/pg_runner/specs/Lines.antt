@@ -1,9 +1,9 @@
 -- Runs of guest scripts on one thread, line by line.
-use Rattle.std.specs.Prelude.{◌≡◌, ℕ, List, [], ◌∷◌, length, map, take, Option, Some, None}
+use Rattle.std.specs.Prelude.{◌≡◌, ℕ, List, [], ◌∷◌, length, map, take, drop, Option, Some, None}
 use Rattle.std.specs.Prelude.{slice_get}
 use Rattle.std.specs.List.{flat_map}
 use Rattle.pg_event.specs.declared.event.Event.{Event}
-use Rattle.pg_event.specs.declared.version.Version.TheVariants.{One, Two}
+use Rattle.pg_event.specs.declared.version.Version.TheVariants.{One}
 use Rattle.pg_event.specs.Form.{processor_of}
 use Rattle.pg_event.specs.Spelling.{Recorded}
 use Rattle.pg_script.specs.declared.instruction.Instruction.{Instruction}
@@ -12,13 +12,15 @@ use Rattle.pg_script.specs.Reading.{Scripted}
 use Rattle.pg_script.specs.Tasks.{instructions_of, shape}
 use Rattle.pg_world.specs.declared.receipt.Receipt.{Receipt}
 use Rattle.pg_world.specs.Recording.{Recording}
+use Rattle.pg_home.specs.declared.advance.Advance.{Advance}
+use Rattle.pg_home.specs.declared.advance.Advance.TheVariants.{Read, Assisted, Done, Ended, Stopped}
 use Rattle.pg_home.specs.Turn.{Processor}
 use Rattle.pg_report.specs.declared.report.Verdict.TheVariants.{Yes}
 use Rattle.pg_report.specs.Text.{report_of}
 use Rattle.pg_runner.specs.declared.error.RunError.{RunError}
 use Rattle.pg_runner.specs.declared.error.RunError.TheVariants as errors
 use Rattle.pg_runner.specs.declared.result.RunResult.{RunResult}
-use Rattle.pg_runner.specs.Runs.{IsRunOfScript, RunsTo, record_of}
+use Rattle.pg_runner.specs.Runs.{FillsRecord, IsRunOfScript, RunsTo, record_of}
 
 -- the instruction that an event of a processor carries out; an assist carries none out
 abbrev pub carried : ℕ → Option Instruction → List Task
@@ -29,11 +31,39 @@ carried p (Some instruction) = record { p = p; instruction = instruction } ∷ [
 abbrev pub tasks_of : List Event → List Task
 tasks_of events = flat_map (λ e. carried (processor_of e) (shape e)) events
 
--- a run of the script's processors carries out its lines, in their order
+-- ---- whose turns come, line by line
+
+-- the lines that are left where a turn for the first of them answered so
+abbrev pub lines_left : Advance → List Task → List Task
+lines_left answer [] = []
+lines_left (Read level) (task ∷ tasks) = task ∷ tasks
+lines_left (Assisted receipt) (task ∷ tasks) = task ∷ tasks
+lines_left (Done receipt) (task ∷ tasks) = tasks
+lines_left Ended (task ∷ tasks) = task ∷ tasks
+lines_left (Stopped why) (task ∷ tasks) = task ∷ tasks
+
+-- and where turns did, one after another
+abbrev pub lines_after : List Task → List Advance → List Task
+lines_after tasks [] = tasks
+lines_after tasks (answer ∷ answers) = lines_after (lines_left answer tasks) answers
+
+-- whose turns they were: each was given to the processor of the first line that was left
+abbrev pub turns_by : List Task → List Advance → List ℕ
+turns_by tasks [] = []
+turns_by [] (answer ∷ answers) = []
+turns_by (task ∷ tasks) (answer ∷ answers) =
+    task.p ∷ turns_by (lines_left answer (task ∷ tasks)) answers
+
+-- ---- runs
+
+-- a run of the script's processors carries out its lines in their order, each to its end before the
+-- next one begins
 pub record CarriesOutLines (script : Scripted) (r : Recorded) (receipts : List (List Receipt)) :
     Type 0 where
   pub run : IsRunOfScript script r receipts
   pub lines : tasks_of r.events ≡ script.tasks
+  pub order : run.runs.turns ≡ turns_by script.tasks run.runs.answers
+  pub left : lines_after script.tasks run.runs.answers ≡ []
 
 -- and its report is a yes
 pub record IsSingleRun (script : Scripted) (result : RunResult) : Type 0 where
@@ -42,20 +72,26 @@ pub record IsSingleRun (script : Scripted) (result : RunResult) : Type 0 where
   pub report : result.report ≡ report_of (record_of result.trace)
   pub yes : result.report.verdict ≡ Yes
 
--- why a run of a script comes to nothing: memory is refused; or the record is full, which that of a
--- version 1 script never is
+-- such a run so far fills the record
+pub record FillsByLines (script : Scripted) : Type 0 where
+  pub fills : FillsRecord script
+  pub order : fills.runs.turns ≡ turns_by script.tasks fills.runs.answers
+
+-- why a run of a script comes to nothing: memory is refused, or the record is full
 abbrev pub StopsRun : Scripted → RunError → Type 0
 StopsRun script errors.Memory = Unit {0}
-StopsRun script errors.Full = script.head.version ≡ Two
+StopsRun script errors.Full = FillsByLines script
 StopsRun script errors.Thread = ⊥
 StopsRun script errors.Checkers = ⊥
 
--- After the first so many lines: these are carried out and no other, and each processor is to carry
--- out the first of its instructions that is not among them. In version 1 each event carried a line
--- out
+-- After the first so many lines: these are carried out and no other, each to its end before the
+-- next, and each processor is to carry out the first of its instructions that is not among them. In
+-- version 1 each event carried a line out
 pub record AreCarriedOut (script : Scripted) (k : ℕ) (r : Recording) (xs : List Processor) : Type 0
   where
     pub runs : RunsTo script r xs
+    pub order : runs.turns ≡ turns_by script.tasks runs.answers
+    pub left : lines_after script.tasks runs.answers ≡ drop k script.tasks
     pub lines : tasks_of r.events ≡ take k script.tasks
     pub places : (p : ℕ) (x : Processor) → slice_get xs p ≡ Some x →
         x.place ≡ length (instructions_of p (take k script.tasks))

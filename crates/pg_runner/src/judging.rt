@@ -8,7 +8,7 @@ ghost use Rattle.pg_runner.specs.Runs.{record_of};
 use crate::error::RunError;
 use pg_codec::{Failed, Source, Watched, write_record};
 use pg_event::Record;
-use pg_report::{Report, judge_record};
+use pg_report::{AuditError, Report, judge_record};
 use std::alloc::Global;
 
 /// Bytes in memory, of which no read fails.
@@ -45,9 +45,13 @@ pub(crate) fn report_from_bytes(alloc: Global, trace: &Record) -> Result<Report,
     if write_record(&mut sink, &trace.header, &trace.events).is_err() {
         return Err(RunError::Memory);
     }
-    // These bytes are a record, and no read of them fails.
+    // These bytes are a record, no read of them fails, and no thread is asked for.
     match judge_record(alloc, &mut Bytes { left: &sink.inner }) {
         Ok(report) => Ok(report),
-        Err(_) => Err(RunError::Memory),
+        Err(AuditError::Memory) => Err(RunError::Memory),
+        Err(AuditError::Refused(_)) => unreachable!(),
+        Err(AuditError::Device) => unreachable!(),
+        Err(AuditError::Thread) => unreachable!(),
+        Err(AuditError::Checkers) => unreachable!(),
     }
 }

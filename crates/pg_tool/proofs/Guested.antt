@@ -9,14 +9,18 @@ use Rattle.pg_report.specs.Changes.{Change, Adds, AddsSome, AddsNothing, Works}
 use Rattle.pg_report.specs.Text.{report_of}
 use Rattle.pg_runner.specs.declared.error.RunError.{RunError}
 use Rattle.pg_runner.specs.declared.error.RunError.TheVariants as runs
-use Rattle.pg_runner.specs.Lines.{CarriesOutLines, StopsRun}
+use Rattle.pg_runner.specs.Lines.{CarriesOutLines, FillsByLines, StopsRun}
 use Rattle.pg_tool.specs.declared.guest_error.GuestError.{GuestError}
 use Rattle.pg_tool.specs.declared.guest_error.GuestError.TheVariants.{TooLong, Script, Run, Device}
-use Rattle.pg_tool.specs.Guests.{Gives, HasRunOf, IsGuestRun, IsRunBy, TakesScript, WritesAnswer, output_text}
+use Rattle.pg_tool.specs.Guests.{Gives, HasRunOf, IsGuestRun, IsRunBy, FillsBy, TakesScript, WritesAnswer, output_text}
 
 run_by : (single : Bool) (script : Scripted) (r : Recorded) (receipts : List (List Receipt)) → CarriesOutLines script r receipts → IsRunBy single script r receipts
 run_by true script r receipts lines = lines
 run_by false script r receipts lines = lines.run
+
+fills_by : (single : Bool) (script : Scripted) → FillsByLines script → FillsBy single script
+fills_by true script by = by
+fills_by false script by = by.fills
 
 has_run : (single : Bool) (bytes : List ℕ) (P : Recorded → Type 0) (script : Scripted) (r : Recorded) (receipts : List (List Receipt)) → reading bytes ≡ Ok script → CarriesOutLines script r receipts → (report_of r).verdict ≡ Yes → P r →
     HasRunOf single bytes P
@@ -56,7 +60,7 @@ run_written single as_bytes input output script r receipts takes lines accepted 
 stopped : (single as_bytes : Bool) (input output : Change) (script : Scripted) (takes : TakesScript input (Ok script)) → AddsNothing output → Works output → (e : RunError) → StopsRun script e →
     Gives single as_bytes takes.bytes (IsAtEnd input.new.bytes) input output (Err (Run e))
 stopped single as_bytes input output script takes nothing works runs.Memory stops = (nothing, (takes.device, works))
-stopped single as_bytes input output script takes nothing works runs.Full stops = (takes.takes.0, (script, takes.takes.1, stops), nothing, (takes.device, works))
+stopped single as_bytes input output script takes nothing works runs.Full stops = (takes.takes.0, (script, takes.takes.1, fills_by single script stops), nothing, (takes.device, works))
 stopped single as_bytes input output script takes nothing works runs.Thread stops = absurd stops
 stopped single as_bytes input output script takes nothing works runs.Checkers stops = absurd stops
 

@@ -3,7 +3,6 @@ use Rattle.std.specs.Prelude.{◌≡◌, ◌⊎◌, ℕ, ◌+◌, ◌^◌, ◌�
 use Rattle.std.specs.Prelude.{List, ◌++◌, length, Result, Ok, Err, codes, decimal}
 use Rattle.std.specs.Io.KnownBytes.{Consumes, IsAtEnd}
 use Rattle.pg_codec.specs.Streams.{FailsWithDevice}
-use Rattle.pg_event.specs.declared.version.Version.TheVariants.{Two}
 use Rattle.pg_event.specs.Spelling.{Recorded, record_bytes}
 use Rattle.pg_script.specs.declared.refusal.ScriptRefusal.{ScriptRefusal}
 use Rattle.pg_script.specs.Reading.{Scripted, reading}
@@ -17,8 +16,8 @@ use Rattle.pg_report.specs.Text.{report_of, report_text}
 use Rattle.pg_runner.specs.declared.error.RunError.{RunError}
 use Rattle.pg_runner.specs.declared.error.RunError.TheVariants as runs
 use Rattle.pg_runner.specs.Errors.{error_number, error_name}
-use Rattle.pg_runner.specs.Lines.{CarriesOutLines}
-use Rattle.pg_runner.specs.Runs.{IsRunOfScript}
+use Rattle.pg_runner.specs.Lines.{CarriesOutLines, FillsByLines}
+use Rattle.pg_runner.specs.Runs.{FillsRecord, IsRunOfScript}
 use Rattle.pg_tool.specs.declared.guest_error.GuestError.{GuestError}
 use Rattle.pg_tool.specs.declared.guest_error.GuestError.TheVariants.{TooLong, Script, Run, Device}
 use Rattle.pg_tool.specs.Refusals.{StaysSame, Tells, refusal_text, refusal_line}
@@ -101,6 +100,11 @@ abbrev pub IsRunBy : Bool → Scripted → Recorded → List (List Receipt) → 
 IsRunBy true = CarriesOutLines
 IsRunBy false = IsRunOfScript
 
+-- such a run so far fills the record
+abbrev pub FillsBy : Bool → Scripted → Type 0
+FillsBy true = FillsByLines
+FillsBy false = FillsRecord
+
 -- these bytes are a script, and this holds of the record of a run of it, whose report is a yes
 pub record HasRunOf (single : Bool) (bytes : List ℕ) (P : Recorded → Type 0) : Type 0 where
   pub script : Scripted
@@ -126,10 +130,11 @@ module _ (single as_bytes : Bool) (bytes : List ℕ) (AtEnd : Type 0) (input out
   Gives (Err (Script e)) =
       AtEnd × IsRefused bytes e × AddsNothing output × NoneFails input output
   Gives (Err (Run runs.Full)) =
-      AtEnd × ((script : Scripted) × (reading bytes ≡ Ok script) × (script.head.version ≡ Two))
+      AtEnd × ((script : Scripted) × (reading bytes ≡ Ok script) × FillsBy single script)
       × AddsNothing output × NoneFails input output
   Gives (Err (Run runs.Memory)) = AddsNothing output × NoneFails input output
-  Gives (Err (Run runs.Thread)) = AddsNothing output × NoneFails input output
+  Gives (Err (Run runs.Thread)) =
+      (single ≡ false) × AddsNothing output × NoneFails input output
   Gives (Err (Run runs.Checkers)) = ⊥
   Gives (Err Device) =
       (ReaderFails input output × AddsNothing output)

@@ -1,4 +1,4 @@
-use Rattle.std.proofs.Common.{◌≡◌, ◌∙◌, ℕ, length, map, get_or, ap, sym, subst, arith, ◌<◌, ◌≤◌, ◌⊎◌, inl, inr, refl}
+use Rattle.std.proofs.Common.{◌∙◌, length, map, get_or, ap, sym, subst, arith, ◌<◌, ◌≤◌, inl, inr}
 use Rattle.std.proofs.lemmas.List.{length-map}
 use Rattle.pg_guest.specs.Held.{seen}
 use Rattle.pg_runner.specs.Lines.{StopsRun}

@@ -1,4 +1,4 @@
-use Rattle.std.proofs.Common.{◌≡◌, ◌<◌, [], map, slice_index_or, refl, sym, subst}
+use Rattle.std.proofs.Common.{[], slice_index_or, refl, sym, subst}
 use Rattle.std.proofs.lemmas.Option.{slice_get-get_or}
 use Rattle.pg_guest.specs.Held.{seen}
 use Rattle.pg_guest.specs.Steps.{IsOfRun}
