@@ -1,6 +1,6 @@
 /*
- * records KIND EVENTS: writes an accepted record of four processors to standard output, made by a
- * small machine that caches translations as a hypervisor would.
+ * records KIND EVENTS: writes an accepted record of PROCESSORS processors to standard output, made by
+ * a small machine that caches translations as a hypervisor would.
  *
  *   mixed    four events of five are reads, mostly of a few hundred pages, by entries that were
  *            read long before; the others are writes of their entries, INVLPG and MOV to CR3
@@ -8,6 +8,7 @@
  *            which is invalidated now and then, so that moments spread over all that it held
  *   invlpg   every second event is an INVLPG of a random page
  *   cr3      every second event is a MOV to CR3, which drops what its PCID has
+ *   words    every second event writes a word of its own
  */
 #include "../../emit/pcid_record.h"
 
@@ -19,17 +20,22 @@
 #define SEGMENT 4096
 #endif
 
+#ifndef PROCESSORS
+#define PROCESSORS 4
+#endif
+
 /* 1 makes the first answer wrong. */
 #ifndef SLIP
 #define SLIP 0
 #endif
 
-enum { PROCESSORS = 4, PAGES = 4096, HOT = 256, PCIDS = 64 };
+enum { PAGES = 4096, HOT = 256, PCIDS = 64 };
 
 #define ROOT UINT64_C(0x1000)
 #define UPPER UINT64_C(0x2000)
 #define MIDDLE UINT64_C(0x3000)
 #define LEAVES UINT64_C(0x10000) /* a table of 512 entries for each 2 MB */
+#define OWN_WORDS UINT64_C(0x4000000000)
 #define PRESENT UINT64_C(0x7)
 
 struct page {
@@ -189,10 +195,18 @@ static void word(uint32_t p)
         read_page(p, what < 32 ? 7 : some_page(p));
 }
 
+/* A write of a word that no other event writes or reads. */
+static void write_own_word(uint32_t p)
+{
+    const uint32_t moment = pcid_record_moment(&record);
+
+    taken(pcid_record_write(&record, p, OWN_WORDS + 8 * (uint64_t)moment, moment));
+}
+
 static int is_kind(const char *kind)
 {
     return !strcmp(kind, "mixed") || !strcmp(kind, "word") || !strcmp(kind, "invlpg") ||
-           !strcmp(kind, "cr3");
+           !strcmp(kind, "cr3") || !strcmp(kind, "words");
 }
 
 int main(int count, char **words)
@@ -200,23 +214,24 @@ int main(int count, char **words)
     const char *kind = count == 3 ? words[1] : "";
     const uint32_t events = count == 3 ? (uint32_t)strtoul(words[2], NULL, 10) : 0;
     static uint8_t buffer[PCID_RECORD_BYTES(1, SEGMENT)];
-    const struct pcid_record_start start[PROCESSORS] = {
-        {ROOT, 1}, {ROOT, 1}, {ROOT, 1}, {ROOT, 1}};
+    static struct pcid_record_start start[PROCESSORS];
     const struct pcid_record_header header = {
         1, 40, PCID_RECORD_WP | PCID_RECORD_NXE, PROCESSORS, SEGMENT, start};
     uint32_t k, p;
 
     if (events < 8192 || !is_kind(kind)) {
-        fprintf(stderr, "usage: records mixed|word|invlpg|cr3 EVENTS, at least 8192\n");
+        fprintf(stderr, "usage: records mixed|word|invlpg|cr3|words EVENTS, at least 8192\n");
         return 64;
     }
-    for (p = 0; p < PROCESSORS; p++)
+    for (p = 0; p < PROCESSORS; p++) {
+        start[p] = (struct pcid_record_start){ROOT, 1};
         for (k = 0; k < PCIDS; k++) {
             processors[p].spaces[k].generation = 1;
             processors[p].spaces[k].pages = calloc(PAGES, sizeof(struct page));
             if (!processors[p].spaces[k].pages)
                 return 3;
         }
+    }
     taken(pcid_record_begin(&record, &header, buffer, sizeof buffer, put, stdout));
     write_tables();
     while (pcid_record_moment(&record) < events) {
@@ -229,6 +244,8 @@ int main(int count, char **words)
             read_page(p, some_page(p));
         else if (!strcmp(kind, "invlpg"))
             invlpg(p, random_below(PAGES));
+        else if (!strcmp(kind, "words"))
+            write_own_word(p);
         else
             load(p, random_below(PCIDS), 0);
     }

@@ -234,6 +234,31 @@ fn reports_by_any_number_of_checkers(rt: HostRuntime) -> Result<(), Fail> {
     Ok(())
 }
 
+const TWO_THREADS: &str = "pcid-guest 1\nmachine 40 wp nxe\nsegment 16\n\
+    cpu 0x1001 1\ncpu 0x1001 1\n\
+    0 write 0x1000 0x2007\n\
+    0 write 0x2000 0x3007\n\
+    0 write 0x3000 0x4007\n\
+    0 write 0x4028 0x9007\n\
+    0 read 0x5123 user\n\
+    0 write 0x4028 0x0\n\
+    0 read 0x5123 user\n\
+    0 invlpg 0x5000\n\
+    0 read 0x5123 user\n\
+    1 read 0x5123 user\n";
+
+#[test]
+fn two_processors_in_threads(rt: HostRuntime) -> Result<(), Fail> {
+    for words in [&["run"][..], &["run", "--checkers", "2"]] {
+        let (status, output, errors) = run(&rt, words, [TWO_THREADS, ""])?;
+        assert_eq!(rt; errors.as_slice(), "".as_bytes(), "{words:?}");
+        let report = "verdict: yes\nevents: 10\nsegments: 1\n";
+        assert_eq!(rt; output.as_slice(), report.as_bytes(), "{words:?}");
+        assert_eq!(rt; status, 0, "{words:?}");
+    }
+    Ok(())
+}
+
 /// A text that is no script, with its line of refusal.
 const REFUSED: [(&str, &str); 11] = [
     (

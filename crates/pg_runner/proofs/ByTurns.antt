@@ -131,7 +131,7 @@ only_finished : (finished : Bool) → cond finished (Some stops.Finished) None �
 only_finished true is = cc
 only_finished false is = cc
 
-is_full_where : (r : Recording) (due : Advance) (why : Stop) → MayStop r due why → why ≡ stops.Full → is_full r ≡ true
+pub is_full_where : (r : Recording) (due : Advance) (why : Stop) → MayStop r due why → why ≡ stops.Full → is_full r ≡ true
 is_full_where r due why (inl memory) same = let contrary : stops.Memory ≡ stops.Full = sym memory ∙ same in absurd (cc)
 is_full_where r (Read level) why (inr refused) same = absurd (only_finished r.finished (refused ∙ ap Some same))
 is_full_where r (Assisted receipt) why (inr refused) same = fills (is_full r) r.finished (refused ∙ ap Some same)

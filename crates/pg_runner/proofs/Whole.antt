@@ -26,15 +26,15 @@ use Rattle.pg_report.specs.Text.{report_of, verdict_of}
 use Rattle.pg_runner.specs.Runs.{record_of}
 use Rattle.pg_runner.proofs.Started.{quiet_of, told_of, head_of, count_of, instructions_are}
 
-all_within : (head : Head) (es : List Event) → AllByRecursion (λ e. broken_rule head e ≡ None) es → AreOf (length head.processors) es
+pub all_within : (head : Head) (es : List Event) → AllByRecursion (λ e. broken_rule head e ≡ None) es → AreOf (length head.processors) es
 all_within head [] well = tt
 all_within head (e ∷ es) well = (processor_within head e well.0, all_within head es well.1)
 
 -- the processor whose transcript stands at this place
-abbrev transcripts : List Processor → List (List Receipt)
+abbrev pub transcripts : List Processor → List (List Receipt)
 transcripts xs = map (λ y. y.transcript) xs
 
-whose : (xs : List Processor) (p : ℕ) (own : List Receipt) → slice_get (transcripts xs) p ≡ Some own → (x : Processor) × (slice_get xs p ≡ Some x) × (x.transcript ≡ own)
+pub whose : (xs : List Processor) (p : ℕ) (own : List Receipt) → slice_get (transcripts xs) p ≡ Some own → (x : Processor) × (slice_get xs p ≡ Some x) × (x.transcript ≡ own)
 whose [] p own at = absurd (cc)
 whose (x ∷ xs) zero own at = (x, refl, same_Some x.transcript own at)
 whose (x ∷ xs) (suc p) own at = whose xs p own at
@@ -101,7 +101,7 @@ none_carried script r hs is new = record {
 
 -- ---- after the last
 
-transcripts_seen : (hs : List Held) → map (λ h. h.transcript) hs ≡ transcripts (map seen hs)
+pub transcripts_seen : (hs : List Held) → map (λ h. h.transcript) hs ≡ transcripts (map seen hs)
 transcripts_seen [] = refl
 transcripts_seen (h ∷ hs) = ap (λ ts. h.transcript ∷ ts) (transcripts_seen hs)
 

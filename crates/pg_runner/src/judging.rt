@@ -35,7 +35,7 @@ impl<'a> Source for Bytes<'a> {
 }
 
 /// The report of a record. Memory is wanted for its bytes.
-pub(crate) fn report_from_bytes(alloc: Global, trace: &Record) -> Result<Report, RunError>
+pub fn report_from_bytes(alloc: Global, trace: &Record) -> Result<Report, RunError>
     requires { IsRecord (record_of trace.now) }
     ensures ok { IfOk result (λ report. report ≡ report_of (record_of trace.now)) }
     ensures err { IfErr result (λ e. e ≡ RunError.Memory) }

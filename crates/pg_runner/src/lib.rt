@@ -8,8 +8,10 @@ mod single;
 mod turns;
 
 pub use error::RunError;
+pub use judging::report_from_bytes;
 pub use result::RunResult;
-pub use single::run_single;
+pub use single::{run_single, transcripts_of};
+pub use turns::turn;
 
 #[cfg(test)]
 mod tests;

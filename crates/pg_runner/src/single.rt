@@ -79,7 +79,7 @@ fn carry_out_all(
 }
 
 /// The receipts of each processor.
-fn transcripts_of(
+pub fn transcripts_of(
     alloc: Global,
     processors: Vec<Processor>,
 ) -> Result<Vec<Vec<Receipt>>, AllocError>

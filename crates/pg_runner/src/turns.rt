@@ -10,7 +10,7 @@ use pg_home::Advance;
 use pg_world::World;
 
 /// One turn of processor `p`.
-pub(crate) fn turn(world: &mut World, processors: &mut [Processor], p: u16) -> Advance
+pub fn turn(world: &mut World, processors: &mut [Processor], p: u16) -> Advance
     requires placed { ArePlaced world.old.head processors.old }
     requires within { p < length processors.old }
     ensures turned { IsCoreRun world.old (map seen processors.old) (p ∷ []) (result ∷ [])

@@ -1,3 +1,4 @@
+mod SameInstructions
 mod Pieces
 mod Powers
 mod Fronts

@@ -7,6 +7,7 @@ mod laws;
 mod number;
 mod reader;
 mod refusal;
+mod same;
 mod script;
 mod task;
 mod tasks;
@@ -16,6 +17,7 @@ mod words;
 pub use instruction::{Instruction, Task};
 pub use laws::{each_carries_out, instructions_add_up, reading_of_text};
 pub use refusal::{ScriptError, ScriptRefusal};
+pub use same::same_instructions;
 pub use script::Script;
 
 #[cfg(test)]

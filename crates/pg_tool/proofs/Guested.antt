@@ -1,5 +1,6 @@
 -- What runs of guest scripts come to, from what their parts do.
 use Rattle.std.proofs.Common.{◌≡◌, ℕ, Bool, true, false, List, Result, Ok, Err, refl, sym, ◌∙◌, ap, subst, inl, inr}
+use Rattle.std.specs.Prelude.{IfOk, IfErr}
 use Rattle.std.specs.Io.KnownBytes.{IsAtEnd}
 use Rattle.pg_event.specs.Spelling.{Recorded}
 use Rattle.pg_world.specs.declared.receipt.Receipt.{Receipt}
@@ -9,32 +10,58 @@ use Rattle.pg_report.specs.Changes.{Change, Adds, AddsSome, AddsNothing, Works}
 use Rattle.pg_report.specs.Text.{report_of}
 use Rattle.pg_runner.specs.declared.error.RunError.{RunError}
 use Rattle.pg_runner.specs.declared.error.RunError.TheVariants as runs
-use Rattle.pg_runner.specs.Lines.{CarriesOutLines, FillsByLines, StopsRun}
+use Rattle.pg_runner.specs.declared.result.RunResult.{RunResult}
+use Rattle.pg_runner.specs.Lines.{IsSingleRun, StopsRun}
+use Rattle.pg_threads.specs.Guests.{IsGuestRun as IsThreadsRun, StopsThreads}
 use Rattle.pg_tool.specs.declared.guest_error.GuestError.{GuestError}
 use Rattle.pg_tool.specs.declared.guest_error.GuestError.TheVariants.{TooLong, Script, Run, Device}
-use Rattle.pg_tool.specs.Guests.{Gives, HasRunOf, IsGuestRun, IsRunBy, FillsBy, TakesScript, WritesAnswer, output_text}
+use Rattle.pg_tool.specs.Guests.{Gives, HasRunOf, IsGuestRun, IsRunBy, IsResultBy, FillsBy, StopsBy, TakesScript, WritesAnswer, output_text}
 
-run_by : (single : Bool) (script : Scripted) (r : Recorded) (receipts : List (List Receipt)) → CarriesOutLines script r receipts → IsRunBy single script r receipts
-run_by true script r receipts lines = lines
-run_by false script r receipts lines = lines.run
+-- ---- by one thread or by many
 
-fills_by : (single : Bool) (script : Scripted) → FillsByLines script → FillsBy single script
-fills_by true script by = by
-fills_by false script by = by.fills
+pub by_one : (single : Bool) (script : Scripted) (result : Result RunResult RunError) → single ≡ true → IfOk result (λ run. IsSingleRun script run) → IfOk result (λ run. IsResultBy single script run)
+by_one single script (Ok run) is one = subst (λ b. IsResultBy b script run) (sym is) (record { run = one.run; report = one.report; yes = one.yes })
+by_one single script (Err e) is one = tt
 
-has_run : (single : Bool) (bytes : List ℕ) (P : Recorded → Type 0) (script : Scripted) (r : Recorded) (receipts : List (List Receipt)) → reading bytes ≡ Ok script → CarriesOutLines script r receipts → (report_of r).verdict ≡ Yes → P r →
+one_stops : (single : Bool) (script : Scripted) (e : RunError) → single ≡ true → StopsRun script e → StopsBy single script e
+one_stops single script runs.Memory is stops = tt
+one_stops single script runs.Full is stops = subst (λ b. FillsBy b script) (sym is) stops
+one_stops single script runs.Thread is stops = absurd stops
+one_stops single script runs.Checkers is stops = absurd stops
+
+pub stopped_by_one : (single : Bool) (script : Scripted) (result : Result RunResult RunError) → single ≡ true → IfErr result (StopsRun script) → IfErr result (StopsBy single script)
+stopped_by_one single script (Ok run) is stops = tt
+stopped_by_one single script (Err e) is stops = one_stops single script e is stops
+
+pub by_many : (single : Bool) (script : Scripted) (result : Result RunResult RunError) → single ≡ false → IfOk result (λ run. IsThreadsRun script run) → IfOk result (λ run. IsResultBy single script run)
+by_many single script (Ok run) is many = subst (λ b. IsResultBy b script run) (sym is) (record { run = many.run; report = many.report; yes = many.yes })
+by_many single script (Err e) is many = tt
+
+many_stop : (single : Bool) (script : Scripted) (e : RunError) → single ≡ false → (e ≡ runs.Checkers → ⊥) → StopsThreads script e → StopsBy single script e
+many_stop single script runs.Memory is able stops = tt
+many_stop single script runs.Full is able stops = subst (λ b. FillsBy b script) (sym is) stops
+many_stop single script runs.Thread is able stops = is
+many_stop single script runs.Checkers is able stops = able refl
+
+pub stopped_by_many : (single : Bool) (script : Scripted) (result : Result RunResult RunError) → single ≡ false → (result ≡ Err runs.Checkers → ⊥) → IfErr result (StopsThreads script) → IfErr result (StopsBy single script)
+stopped_by_many single script (Ok run) is able stops = tt
+stopped_by_many single script (Err e) is able stops = many_stop single script e is (λ same. able (ap Err same)) stops
+
+-- ---- what the program says
+
+has_run : (single : Bool) (bytes : List ℕ) (P : Recorded → Type 0) (script : Scripted) (r : Recorded) (receipts : List (List Receipt)) → reading bytes ≡ Ok script → IsRunBy single script r receipts → (report_of r).verdict ≡ Yes → P r →
     HasRunOf single bytes P
 has_run single bytes P script r receipts said lines accepted holds = record {
   script = script;
   said = said;
   r = r;
   receipts = receipts;
-  runs = run_by single script r receipts lines;
+  runs = lines;
   yes = accepted;
   holds = holds;
 }
 
-answered : (single as_bytes : Bool) (input output : Change) (script : Scripted) (r : Recorded) (receipts : List (List Receipt)) (takes : TakesScript input (Ok script)) → CarriesOutLines script r receipts → (report_of r).verdict ≡ Yes
+answered : (single as_bytes : Bool) (input output : Change) (script : Scripted) (r : Recorded) (receipts : List (List Receipt)) (takes : TakesScript input (Ok script)) → IsRunBy single script r receipts → (report_of r).verdict ≡ Yes
     → (written : Result (Unit {0}) GuestError) → WritesAnswer output (output_text as_bytes r) written → Gives single as_bytes takes.bytes (IsAtEnd input.new.bytes) input output written
 answered single as_bytes input output script r receipts takes lines accepted (Ok done) wrote =
     (takes.takes.0, has_run single takes.bytes (λ r. Adds output (output_text as_bytes r)) script r receipts takes.takes.1 lines accepted wrote.0, (takes.device, wrote.1))
@@ -48,7 +75,7 @@ answered single as_bytes input output script r receipts takes lines accepted (Er
 answered single as_bytes input output script r receipts takes lines accepted (Err (Script e)) wrote = absurd wrote
 
 -- a run was had, and its answer was written, or was not
-pub run_written : (single as_bytes : Bool) (input output : Change) (script : Scripted) (r : Recorded) (receipts : List (List Receipt)) → TakesScript input (Ok script) → CarriesOutLines script r receipts → (report_of r).verdict ≡ Yes
+pub run_written : (single as_bytes : Bool) (input output : Change) (script : Scripted) (r : Recorded) (receipts : List (List Receipt)) → TakesScript input (Ok script) → IsRunBy single script r receipts → (report_of r).verdict ≡ Yes
     → (written : Result (Unit {0}) GuestError) → WritesAnswer output (output_text as_bytes r) written → IsGuestRun single as_bytes input output written
 run_written single as_bytes input output script r receipts takes lines accepted written wrote = record {
   bytes = takes.bytes;
@@ -57,15 +84,15 @@ run_written single as_bytes input output script r receipts takes lines accepted 
   gives = answered single as_bytes input output script r receipts takes lines accepted written wrote;
 }
 
-stopped : (single as_bytes : Bool) (input output : Change) (script : Scripted) (takes : TakesScript input (Ok script)) → AddsNothing output → Works output → (e : RunError) → StopsRun script e →
+stopped : (single as_bytes : Bool) (input output : Change) (script : Scripted) (takes : TakesScript input (Ok script)) → AddsNothing output → Works output → (e : RunError) → StopsBy single script e →
     Gives single as_bytes takes.bytes (IsAtEnd input.new.bytes) input output (Err (Run e))
 stopped single as_bytes input output script takes nothing works runs.Memory stops = (nothing, (takes.device, works))
-stopped single as_bytes input output script takes nothing works runs.Full stops = (takes.takes.0, (script, takes.takes.1, fills_by single script stops), nothing, (takes.device, works))
-stopped single as_bytes input output script takes nothing works runs.Thread stops = absurd stops
+stopped single as_bytes input output script takes nothing works runs.Full stops = (takes.takes.0, (script, takes.takes.1, stops), nothing, (takes.device, works))
+stopped single as_bytes input output script takes nothing works runs.Thread stops = (stops, nothing, (takes.device, works))
 stopped single as_bytes input output script takes nothing works runs.Checkers stops = absurd stops
 
 -- the run came to nothing
-pub run_stops : (single as_bytes : Bool) (input output : Change) (script : Scripted) (e : RunError) → TakesScript input (Ok script) → AddsNothing output → Works output → StopsRun script e →
+pub run_stops : (single as_bytes : Bool) (input output : Change) (script : Scripted) (e : RunError) → TakesScript input (Ok script) → AddsNothing output → Works output → StopsBy single script e →
     IsGuestRun single as_bytes input output (Err (Run e))
 run_stops single as_bytes input output script e takes nothing works stops = record {
   bytes = takes.bytes;

@@ -1,6 +1,6 @@
 -- What a run of a guest script comes to, and what the program says of it.
 use Rattle.std.specs.Prelude.{◌≡◌, ◌⊎◌, ℕ, ◌+◌, ◌^◌, ◌≤◌, Bool, true, false, if◌then◌else◌}
-use Rattle.std.specs.Prelude.{List, ◌++◌, length, Result, Ok, Err, codes, decimal}
+use Rattle.std.specs.Prelude.{List, ◌++◌, length, map, Result, Ok, Err, codes, decimal}
 use Rattle.std.specs.Io.KnownBytes.{Consumes, IsAtEnd}
 use Rattle.pg_codec.specs.Streams.{FailsWithDevice}
 use Rattle.pg_event.specs.Spelling.{Recorded, record_bytes}
@@ -17,7 +17,8 @@ use Rattle.pg_runner.specs.declared.error.RunError.{RunError}
 use Rattle.pg_runner.specs.declared.error.RunError.TheVariants as runs
 use Rattle.pg_runner.specs.Errors.{error_number, error_name}
 use Rattle.pg_runner.specs.Lines.{CarriesOutLines, FillsByLines}
-use Rattle.pg_runner.specs.Runs.{FillsRecord, IsRunOfScript}
+use Rattle.pg_runner.specs.declared.result.RunResult.{RunResult}
+use Rattle.pg_runner.specs.Runs.{FillsRecord, IsRunOfScript, record_of}
 use Rattle.pg_tool.specs.declared.guest_error.GuestError.{GuestError}
 use Rattle.pg_tool.specs.declared.guest_error.GuestError.TheVariants.{TooLong, Script, Run, Device}
 use Rattle.pg_tool.specs.Refusals.{StaysSame, Tells, refusal_text, refusal_line}
@@ -104,6 +105,21 @@ IsRunBy false = IsRunOfScript
 abbrev pub FillsBy : Bool → Scripted → Type 0
 FillsBy true = FillsByLines
 FillsBy false = FillsRecord
+
+-- this is what such a run came to, whose report is a yes
+pub record IsResultBy (single : Bool) (script : Scripted) (result : RunResult) : Type 0 where
+  pub run : IsRunBy single script (record_of result.trace)
+      (map (λ own. own.items) result.transcripts.items)
+  pub report : result.report ≡ report_of (record_of result.trace)
+  pub yes : result.report.verdict ≡ Yes
+
+-- why it came to nothing: memory is refused, or a thread where there is one for each processor; or
+-- the record is full
+abbrev pub StopsBy : Bool → Scripted → RunError → Type 0
+StopsBy single script runs.Memory = Unit {0}
+StopsBy single script runs.Thread = single ≡ false
+StopsBy single script runs.Checkers = ⊥
+StopsBy single script runs.Full = FillsBy single script
 
 -- these bytes are a script, and this holds of the record of a run of it, whose report is a yes
 pub record HasRunOf (single : Bool) (bytes : List ℕ) (P : Recorded → Type 0) : Type 0 where

@@ -1,19 +1,25 @@
 //! Runs of guest scripts, from a script's bytes to its record or that record's report.
 
-ghost use Rattle.std.specs.Prelude.{◌≡◌};
+ghost use Rattle.std.specs.Prelude.{◌≡◌, IfOk, IfErr};
 ghost use Rattle.pg_event.specs.Spelling.{IsRecord, record_bytes};
+ghost use Rattle.pg_pool.specs.Rounds.{AreCheckers};
 ghost use Rattle.pg_report.specs.Changes.{drawn, filled};
 ghost use Rattle.pg_report.specs.Text.{report_text};
 ghost use Rattle.pg_runner.specs.Runs.{record_of};
-ghost use Rattle.pg_tool.specs.Guests.{IsGuestRun, TakesScript, WritesAnswer};
+ghost use Rattle.pg_tool.specs.Guests.{IsGuestRun, IsResultBy, StopsBy, TakesScript, WritesAnswer};
 
 use crate::guest_error::GuestError;
 use pg_codec::{IntakeError, Sink, Source, pull_all, put_all, write_record};
 use pg_event::Record;
+use pg_plan::Plan;
+use pg_pool::OpenGate;
 use pg_report::Report;
-use pg_runner::{RunError, run_single};
+use pg_runner::{RunError, RunResult, run_single};
 use pg_script::Script;
-use std::alloc::Global;
+use pg_threads::run_guest;
+use std::alloc::{AllocGlobal, Global};
+use std::sync::Wait;
+use std::thread::Threads;
 
 /// A script has at most so many bytes.
 const MOST_BYTES: usize = 134_217_728;
@@ -59,28 +65,47 @@ fn write_trace<O: Sink>(output: &mut O, trace: &Record) -> Result<(), GuestError
     }
 }
 
+/// A run of a script by the calling thread alone, or by a thread for each processor, whose record
+/// so many checkers judge.
+fn run_by<T: AllocGlobal + Threads + Wait + Sync>(
+    rt: &T,
+    plan: Plan,
+    script: &Script,
+) -> Result<RunResult, RunError>
+    requires { AreCheckers plan.checkers }
+    ensures ok { IfOk result (λ run. IsResultBy plan.single script.now run) }
+    ensures formed { IfOk result (λ run. IsRecord (record_of run.trace)) }
+    ensures err { IfErr result (StopsBy plan.single script.now) }
+{
+    if plan.single {
+        run_single(rt.alloc(), script)
+    } else {
+        run_guest(rt, rt.alloc(), script, plan.checkers as u32, &OpenGate)
+    }
+}
+
 /// Runs the script that `input` has left, and writes its record, or its record's report.
-pub(crate) fn run_script<R: Source, O: Sink>(
-    alloc: Global,
-    single: bool,
-    bytes: bool,
+pub(crate) fn run_script<T: AllocGlobal + Threads + Wait + Sync, R: Source, O: Sink>(
+    rt: &T,
+    plan: Plan,
     input: &mut R,
     output: &mut O,
 ) -> Result<(), GuestError>
-    ensures { IsGuestRun single bytes
+    requires { AreCheckers plan.checkers }
+    ensures { IsGuestRun plan.single plan.bytes
         (drawn R.Source input.old input.new) (filled O.Sink output.old output.new) result }
 {
-    let script = match read_script(alloc, input) {
+    let script = match read_script(rt.alloc(), input) {
         Ok(script) => script,
         Err(error) => return Err(error),
     };
-    let run = match run_single(alloc, &script) {
+    let run = match run_by(rt, plan, &script) {
         Ok(run) => run,
         Err(error) => return Err(GuestError::Run(error)),
     };
-    if bytes {
+    if plan.bytes {
         write_trace(output, &run.trace)
     } else {
-        write_report(alloc, output, run.report)
+        write_report(rt.alloc(), output, run.report)
     }
 }

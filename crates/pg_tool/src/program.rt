@@ -201,21 +201,22 @@ fn tell_run<E: Sink>(errors: &mut E, answer: Result<(), GuestError>) -> u8
     }
 }
 
-/// Runs the guest script on `input`, and writes the report of the run's record to `output`, or that
-/// record; or one line to `errors` that says why there is none. It gives the exit status: 0 a run,
-/// which is a yes, 2 refused, 3 memory.
-pub fn run<R: Source, O: Sink, E: Sink>(
-    alloc: Global,
-    single: bool,
-    bytes: bool,
+/// Runs the guest script on `input`, each of its processors in a thread, or all in this one, and
+/// writes the report of the run's record to `output`, or that record; or one line to `errors` that
+/// says why there is none. It gives the exit status: 0 a run, which is a yes, 2 refused, 3 memory
+/// or a thread.
+pub fn run<T: AllocGlobal + Threads + Wait + Sync, R: Source, O: Sink, E: Sink>(
+    rt: &T,
+    plan: Plan,
     input: &mut R,
     output: &mut O,
     errors: &mut E,
 ) -> u8
-    ensures { RunsGuest single bytes (streams R.Source O.Sink E.Sink
+    requires { AreCheckers plan.checkers }
+    ensures { RunsGuest plan.single plan.bytes (streams R.Source O.Sink E.Sink
         (input.old, output.old, errors.old) (input.new, output.new, errors.new)) result }
 {
-    let answer = run_script(alloc, single, bytes, input, output);
+    let answer = run_script(rt, plan, input, output);
     tell_run(errors, answer)
 }
 
@@ -247,7 +248,7 @@ fn perform<T: AllocGlobal + Threads + Wait + Sync, R: Source, O: Sink, E: Sink>(
 {
     match plan.command {
         Command::Check => check(rt, plan.checkers, input, output, errors),
-        Command::Run => run(rt.alloc(), plan.single, plan.bytes, input, output, errors),
+        Command::Run => run(rt, plan, input, output, errors),
         Command::RunOf => run_of(rt.alloc(), input, output, errors),
         Command::Upgrade => upgrade(rt.alloc(), input, output, errors),
     }

@@ -1,0 +1,2 @@
+mod Untaken
+mod OfScripts

@@ -1,0 +1,13 @@
+use pg_guest::Processor;
+use pg_progress::Publisher;
+use pg_world::World;
+
+/// What a board was made of, once it takes no more turns.
+#[derive(Drop)]
+pub struct Finished {
+    /// The record, finished.
+    pub world: World,
+    /// The processors in the order of their numbers.
+    pub processors: Vec<Processor>,
+    pub publisher: Publisher,
+}

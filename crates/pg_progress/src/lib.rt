@@ -1,0 +1,16 @@
+//! How far a run has come, in one word that readers read without a lock.
+#![tactic(auto)]
+
+mod counts;
+mod progress;
+mod publisher;
+mod reader;
+mod rule;
+mod seen;
+#[cfg(test)]
+mod tests;
+
+pub use counts::Counts;
+pub use progress::Progress;
+pub use publisher::Publisher;
+pub use reader::ReadSeat;

@@ -1,0 +1,2 @@
+mod AfterTurns
+mod WholeRuns

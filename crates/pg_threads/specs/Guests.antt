@@ -1,0 +1,42 @@
+-- Runs of guest scripts whose processors carry their instructions out in threads.
+use Rattle.std.specs.Prelude.{◌≡◌, ◌≢◌, ℕ, List, map, slice_get}
+use Rattle.pg_board.specs.Boards.{HasToldAll}
+use Rattle.pg_home.specs.Turn.{Processor}
+use Rattle.pg_report.specs.declared.report.Verdict.TheVariants.{Yes}
+use Rattle.pg_report.specs.Text.{report_of}
+use Rattle.pg_runner.specs.declared.error.RunError.{RunError}
+use Rattle.pg_runner.specs.declared.error.RunError.TheVariants as errors
+use Rattle.pg_runner.specs.declared.result.RunResult.{RunResult}
+use Rattle.pg_runner.specs.Runs.{FillsRecord, IsRunOfScript, record_of}
+use Rattle.pg_script.specs.Reading.{Scripted}
+
+-- a run of the script's processors, whose turns came in whatever order, and its report is a yes
+pub record IsGuestRun (script : Scripted) (result : RunResult) : Type 0 where
+  pub run : IsRunOfScript script (record_of result.trace)
+      (map (λ own. own.items) result.transcripts.items)
+  pub report : result.report ≡ report_of (record_of result.trace)
+  pub yes : result.report.verdict ≡ Yes
+
+-- why such a run comes to nothing: memory is refused, or the record is full
+abbrev pub StopsGuest : Scripted → RunError → Type 0
+StopsGuest script errors.Memory = Unit {0}
+StopsGuest script errors.Full = FillsRecord script
+StopsGuest script errors.Thread = ⊥
+StopsGuest script errors.Checkers = ⊥
+
+-- in threads also: a thread is refused. What the number of checkers says of it stands apart
+abbrev pub StopsThreads : Scripted → RunError → Type 0
+StopsThreads script errors.Memory = Unit {0}
+StopsThreads script errors.Full = FillsRecord script
+StopsThreads script errors.Thread = Unit {0}
+StopsThreads script errors.Checkers = Unit {0}
+
+-- ---- what ends a run
+
+-- of each processor all instructions stand in its transcript
+abbrev pub HaveToldAll : List Processor → Type 0
+HaveToldAll xs = (p : ℕ) → HasToldAll p xs
+
+-- no processor but p changed
+abbrev pub StayBut : ℕ → List Processor → List Processor → Type 0
+StayBut p old new = (q : ℕ) → q ≢ p → slice_get new q ≡ slice_get old q

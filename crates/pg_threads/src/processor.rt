@@ -1,0 +1,63 @@
+//! A processor's thread.
+
+use pg_board::Board;
+use pg_guest::Advance;
+use pg_home::Stop;
+use pg_pool::Gate;
+use std::sync::{Mutex, Wait};
+
+/// How a processor's thread left an instruction.
+#[derive(Clone, Copy, PartialEq, Eq, Debug)]
+pub(crate) enum Left {
+    /// It was carried out.
+    Done,
+    /// A turn was stopped for want of memory.
+    Refused,
+    /// There is nothing to go on with: the processor has ended, or the record is full.
+    Over,
+}
+
+/// One turn, in one hold of the lock.
+fn locked_turn<R: Wait>(rt: &R, shared: &Mutex<Board<'_>>, p: u16) -> Advance {
+    let mut board = shared.lock(rt);
+    if p as usize >= board.count() {
+        return Advance::Ended;
+    }
+    board.turn(p)
+}
+
+/// Turns of a processor, until one carries its next instruction out.
+fn carry_out<R: Wait>(rt: &R, shared: &Mutex<Board<'_>>, p: u16) -> Left {
+    for _ in rt.forever() {
+        match locked_turn(rt, shared, p) {
+            Advance::Read(_) | Advance::Assisted(_) => {}
+            Advance::Done(_) => return Left::Done,
+            Advance::Ended => return Left::Over,
+            Advance::Stopped(Stop::Memory) => return Left::Refused,
+            Advance::Stopped(Stop::Full | Stop::Finished) => return Left::Over,
+        }
+    }
+    unreachable!()
+}
+
+/// Carries so many instructions of a processor out, each through the gate, which is called outside
+/// the lock. Says whether memory was refused.
+pub(crate) fn run_processor<R: Wait, G: Gate>(
+    rt: &R,
+    shared: &Mutex<Board<'_>>,
+    p: u16,
+    instructions: usize,
+    gate: &G,
+) -> bool {
+    for number in 0..instructions {
+        gate.enter(p as u32, number as u64);
+        let left = carry_out(rt, shared, p);
+        gate.leave(p as u32, number as u64);
+        match left {
+            Left::Done => {}
+            Left::Refused => return true,
+            Left::Over => return false,
+        }
+    }
+    false
+}
