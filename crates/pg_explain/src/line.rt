@@ -1,0 +1,229 @@
+ghost use Rattle.std.specs.Prelude.{◌≡◌, ◌+◌, ◌<◌, ◌≤◌, ◌^◌, ◌++◌, length, IfOk, OnOk, string_bytes};
+ghost use Rattle.pg_event.specs.Form.{access_kind};
+ghost use Rattle.pg_explain.specs.Line.{mode_name, op_name, kind_text, access_text, bit_name};
+ghost use Rattle.pg_explain.specs.Line.{bit_names, opening, in_brackets, code_text, outcome_text};
+ghost use Rattle.pg_explain.specs.Line.{word_text, numbers_text, moments_text, set_text, assist_text};
+ghost use Rattle.pg_explain.specs.Line.{switch_text, event_text};
+ghost use Rattle.pg_explain.specs.Line.{event_line, lines_from};
+
+use pg_entry::{AccessKind, Op, has_bit};
+use pg_event::{Event, Moments, Outcome, access_kind, processor_of, says_dirty};
+use std::alloc::{AllocError, Global};
+
+fn mode_name(kind: AccessKind) -> &'static str
+    ensures { result.now ≡ mode_name kind }
+{
+    match (kind.user, kind.ac) {
+        (true, true) => "user-ac",
+        (true, false) => "user",
+        (false, true) => "super-ac",
+        (false, false) => "super",
+    }
+}
+
+fn op_name(op: Op) -> &'static str
+    ensures { result.now ≡ op_name op }
+{
+    match op {
+        Op::Read => "read",
+        Op::Write => "write",
+        Op::Fetch => "fetch",
+    }
+}
+
+/// Appends what an access asks of the rights: its mode and its operation.
+pub(crate) fn push_kind(text: &mut String, kind: AccessKind) -> Result<(), AllocError>
+    ensures { OnOk result
+        (string_bytes text.new ≡ string_bytes text.old ++ kind_text kind) }
+{
+    let mode = mode_name(kind);
+    let op = op_name(kind.op);
+    write!(text, "{mode} {op}")
+}
+
+/// Appends an access by its flags, to a linear address.
+fn push_access(text: &mut String, flags: u8, la: u64) -> Result<(), AllocError>
+    ensures { OnOk result
+        (string_bytes text.new ≡ string_bytes text.old ++ access_text flags la) }
+{
+    push_kind(text, access_kind(flags))?;
+    write!(text, " 0x{la:x}")
+}
+
+/// The names of bits 0 to 4 of an error code.
+fn bit_name(k: u32) -> &'static str
+    ensures { result.now ≡ bit_name k }
+{
+    match k {
+        0 => "present",
+        1 => "write",
+        2 => "user",
+        3 => "reserved",
+        _ => "fetch",
+    }
+}
+
+/// Appends the name of a bit, the first with an opening bracket.
+fn push_name(text: &mut String, is_opened: bool, name: &str) -> Result<(), AllocError>
+    ensures { OnOk result
+        (string_bytes text.new ≡ string_bytes text.old ++ (opening is_opened ++ name.now)) }
+{
+    if is_opened {
+        write!(text, " {name}")
+    } else {
+        write!(text, " ({name}")
+    }
+}
+
+/// Appends the names of the bits that are set in an error code, in brackets.
+fn push_bits(text: &mut String, code: u16) -> Result<(), AllocError>
+    ensures { OnOk result
+        (string_bytes text.new ≡ string_bytes text.old ++ in_brackets (bit_names code)) }
+{
+    let mut is_opened = false;
+    for k in 0..5 {
+        if has_bit(code as u64, k) {
+            push_name(text, is_opened, bit_name(k))?;
+            is_opened = true;
+        }
+    }
+    if is_opened {
+        text.push_str(")")?;
+    }
+    Ok(())
+}
+
+/// Appends an error code.
+pub(crate) fn push_code(text: &mut String, code: u16) -> Result<(), AllocError>
+    ensures { OnOk result (string_bytes text.new ≡ string_bytes text.old ++ code_text code) }
+{
+    write!(text, "fault 0x{code:x}")?;
+    push_bits(text, code)
+}
+
+fn push_outcome(text: &mut String, outcome: Outcome) -> Result<(), AllocError>
+    ensures { OnOk result
+        (string_bytes text.new ≡ string_bytes text.old ++ outcome_text outcome) }
+{
+    match outcome {
+        Outcome::Page(page) => write!(text, "0x{page:x}"),
+        Outcome::Fault(code) => push_code(text, code),
+    }
+}
+
+/// Appends moments.
+fn push_moments(text: &mut String, moments: &Moments) -> Result<(), AllocError>
+    ensures { OnOk result
+        (string_bytes text.new ≡ string_bytes text.old ++ moments_text moments.now) }
+{
+    text.push_str(" moments")?;
+    push_numbers(text, moments.as_slice())
+}
+
+/// Appends numbers, each after a space.
+pub(crate) fn push_numbers(text: &mut String, numbers: &[u32]) -> Result<(), AllocError>
+    ensures { OnOk result
+        (string_bytes text.new ≡ string_bytes text.old ++ numbers_text numbers.now) }
+{
+    for number in numbers {
+        write!(text, " {number}")?;
+    }
+    Ok(())
+}
+
+fn set_text(flags: u8) -> &'static str
+    ensures { result.now ≡ set_text flags }
+{
+    if says_dirty(flags) { "accessed dirty" } else { "accessed" }
+}
+
+fn switch_text(on: bool) -> &'static str
+    ensures { result.now ≡ switch_text on }
+{
+    if on { "on" } else { "off" }
+}
+
+/// Appends a word of table memory by its physical address.
+pub(crate) fn push_word(text: &mut String, address: u64) -> Result<(), AllocError>
+    ensures { OnOk result (string_bytes text.new ≡ string_bytes text.old ++ word_text address) }
+{
+    write!(text, "[0x{address:x}]")
+}
+
+/// Appends an assist after its access.
+fn push_assist(text: &mut String, flags: u8, word: u64) -> Result<(), AllocError>
+    ensures { OnOk result
+        (string_bytes text.new ≡ string_bytes text.old ++ assist_text flags word) }
+{
+    text.push_str(" assist ")?;
+    push_word(text, word)?;
+    text.push_str(" ")?;
+    text.push_str(set_text(flags))
+}
+
+/// Appends what an event did.
+fn push_deed(text: &mut String, event: &Event) -> Result<(), AllocError>
+    ensures { OnOk result
+        (string_bytes text.new ≡ string_bytes text.old ++ event_text event.now) }
+{
+    match *event {
+        Event::Write { addr, value, .. } => write!(text, "write [0x{addr:x}] = 0x{value:x}"),
+        Event::Access {
+            flags,
+            la,
+            outcome,
+            moments,
+            ..
+        } => {
+            push_access(text, flags, la)?;
+            text.push_str(" -> ")?;
+            push_outcome(text, outcome)?;
+            push_moments(text, &moments)
+        }
+        Event::Assist {
+            flags,
+            la,
+            word,
+            moments,
+            ..
+        } => {
+            push_access(text, flags, la)?;
+            push_assist(text, flags, word)?;
+            push_moments(text, &moments)
+        }
+        Event::MovCr3 { operand, .. } => write!(text, "cr3 0x{operand:x}"),
+        Event::Invlpg { la, .. } => write!(text, "invlpg 0x{la:x}"),
+        Event::Invpcid { kind, pcid, la, .. } => {
+            write!(text, "invpcid {kind} 0x{pcid:x} 0x{la:x}")
+        }
+        Event::MovCr4Pge { on, .. } => {
+            let switch = switch_text(on);
+            write!(text, "pge {switch}")
+        }
+    }
+}
+
+/// Appends the line of the event with this number, without its end. `Err` is for want of memory
+/// alone, and may leave a part of the line.
+pub fn push_event(text: &mut String, number: u64, event: &Event) -> Result<(), AllocError>
+    ensures { OnOk result
+        (string_bytes text.new ≡ string_bytes text.old ++ event_line number event.now) }
+{
+    let p = processor_of(event);
+    write!(text, "{number} cpu {p} ")?;
+    push_deed(text, event)
+}
+
+/// The lines of events in their order, of which the first has this number. `Err` is for want of
+/// memory alone.
+pub fn show_text(alloc: Global, first: u64, events: &[Event]) -> Result<String, AllocError>
+    requires { first + length events.now < 2 ^ 64 }
+    ensures { IfOk result (λ t. string_bytes t ≡ lines_from first events.now) }
+{
+    let mut text = String::new(alloc);
+    for (i, event) in events.iter().enumerate() {
+        push_event(&mut text, first + i as u64, event)?;
+        text.push_str("\n")?;
+    }
+    Ok(text)
+}
