@@ -1,1 +1,4 @@
 pub mod Line
+pub mod Drops
+pub mod Findings
+pub mod Walk

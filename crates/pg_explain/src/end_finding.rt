@@ -1,0 +1,223 @@
+//! What stands behind the reasons from the translation on.
+
+ghost use Rattle.std.specs.Prelude.{◌≡◌, ◌<◌, ◌≤◌, ◌%◌, ◌^◌, ◌&&◌, length};
+ghost use Rattle.pg_entry.specs.declared.Kind.TheVariants as kinds;
+ghost use Rattle.pg_entry.specs.Kinds.{kind_of};
+ghost use Rattle.pg_event.specs.Values.{mem_at, control_at};
+ghost use Rattle.pg_inval.specs.Drops.{IsPageShift};
+ghost use Rattle.pg_chain.specs.Walked.{reading_of};
+ghost use Rattle.pg_check.specs.Ends.{IsSmallLeaf};
+ghost use Rattle.pg_explain.specs.Findings.{leaf_finding, held_finding, fault_finding};
+ghost use Rattle.pg_explain.specs.Findings.{translation_drop, foreign_finding, end_finding};
+
+use crate::dropped::{CacheKey, first_drop};
+use crate::finding::{Finding, Tagged, Wish};
+use crate::walk_finding::tagged;
+use pg_chain::Step;
+use pg_check::History;
+use pg_entry::{Cause, Cfg, Entry, Kind, Rights, allowed, classify, error_code};
+use pg_event::{Claim, Outcome, Want, translation_key, want_of};
+
+/// What the entry of a step is, with a leaf's page within the physical addresses.
+fn kind_at(cfg: Cfg, step: Step) -> Kind
+    requires { (36 ≤ cfg.m) × (cfg.m ≤ 52) }
+    ensures kind { result ≡ kind_of cfg step.level step.value }
+    ensures small { IsSmallLeaf result }
+{
+    classify(cfg, step.level, Entry(step.value))
+}
+
+/// The bytes of a page.
+fn page_size(shift: u8) -> u64
+    requires { shift ≤ 30 }
+    ensures { result ≡ 2 ^ shift }
+{
+    1 << shift
+}
+
+/// The offset of a linear address in its page of 2 to the power of `shift` bytes.
+fn offset(la: u64, shift: u8) -> u64
+    requires { shift ≤ 30 }
+    ensures offset { result ≡ la % 2 ^ shift }
+    ensures within { result < 2 ^ 30 }
+{
+    la % page_size(shift)
+}
+
+/// What stands behind the reasons by the rights, the answer and the code, where a leaf gives an
+/// address.
+fn leaf_finding(cfg: Cfg, claim: &Claim, rights: Rights, address: u64) -> Option<Finding>
+    ensures { result ≡ leaf_finding cfg claim.now.kind rights address claim.now.outcome }
+{
+    let access = claim.kind;
+    let is_allowed = allowed(cfg, rights, access);
+    match claim.outcome {
+        Outcome::Page(page) => {
+            if !is_allowed {
+                Some(Finding::Rights {
+                    rights,
+                    access,
+                    is_allowed: false,
+                })
+            } else if page == address {
+                None
+            } else {
+                Some(Finding::Answer { expected: address })
+            }
+        }
+        Outcome::Fault(code) => {
+            let expected = error_code(cfg, access, Cause::Denied);
+            if is_allowed {
+                Some(Finding::Rights {
+                    rights,
+                    access,
+                    is_allowed: true,
+                })
+            } else if code == expected {
+                None
+            } else {
+                Some(Finding::Code { expected })
+            }
+        }
+    }
+}
+
+/// What the word of a step holds at the event.
+fn held_finding(cfg: Cfg, step: Step, value: u64) -> Finding
+    requires { (36 ≤ cfg.m) × (cfg.m ≤ 52) }
+    ensures { result ≡ held_finding cfg (reading_of step) value }
+{
+    Finding::NotAtEvent {
+        moment: step.moment,
+        address: step.address,
+        value,
+        kind: classify(cfg, step.level, Entry(value)),
+    }
+}
+
+/// What stands behind the reasons of a fault, where the entry that is read last is absent or
+/// reserved.
+fn fault_finding(
+    history: &History,
+    claim: &Claim,
+    cause: Cause,
+    kind: Kind,
+    step: Step,
+) -> Option<Finding>
+    ensures { result ≡ fault_finding history.now.head history.now.events claim.now cause kind
+        (reading_of step) claim.now.outcome }
+{
+    let cfg = history.header().cfg;
+    match claim.outcome {
+        Outcome::Page(_) => Some(Finding::Entry {
+            level: step.level,
+            wish: Wish::Last(Want::Leaf),
+            found: kind,
+        }),
+        Outcome::Fault(code) => {
+            let expected = error_code(cfg, claim.kind, cause);
+            if step.moment != claim.number {
+                let value = history.value_at(claim.number, step.address);
+                Some(held_finding(cfg, step, value))
+            } else if code == expected {
+                None
+            } else {
+                Some(Finding::Code { expected })
+            }
+        }
+    }
+}
+
+fn translation_drop(step: Step, at: Option<u32>) -> Option<Finding>
+    ensures { result ≡ translation_drop step.level at }
+{
+    match at {
+        Some(at) => Some(Finding::TranslationDropped {
+            level: step.level,
+            at,
+        }),
+        None => None,
+    }
+}
+
+/// The PCIDs at the reading and at the event, where the translation may not be used.
+fn foreign_finding(read: Tagged, current: Tagged, global: bool) -> Option<Finding>
+    ensures { result ≡ foreign_finding read current global }
+{
+    if current.pcid != read.pcid && !global {
+        Some(Finding::ForeignPcid { read, current })
+    } else {
+        None
+    }
+}
+
+/// Whether the translation that a leaf gives is global: the leaf's bit 8 is set, and CR4.PGE was
+/// when it was read.
+fn is_global(history: &History, p: u16, moment: u32, global_bit: bool) -> bool
+    requires { p < length history.now.head.processors }
+    ensures { result
+        ≡ (global_bit && (control_at history.now.head history.now.events p moment).pge) }
+{
+    let control = history.control_at(p, moment);
+    global_bit && control.pge
+}
+
+/// What stands behind the reasons by the translation that a leaf gives.
+fn page_finding(
+    history: &History,
+    claim: &Claim,
+    pcid: u16,
+    step: Step,
+    frame: u64,
+    shift: u8,
+    global_bit: bool,
+) -> Option<Finding>
+    requires processor { claim.now.p < length history.now.head.processors }
+    requires frame { frame < 2 ^ 52 }
+    requires shift { IsPageShift shift }
+    ensures { result ≡ end_finding history.now.head history.now.events claim.now pcid
+        (reading_of step) (kinds.Leaf frame shift global_bit) }
+{
+    let Claim { number, p, la, .. } = *claim;
+    let moment = step.moment;
+    let global = is_global(history, p, moment, global_bit);
+    let key = CacheKey::Translation(translation_key(pcid, shift, global, la));
+    let at = first_drop(history, p, key, moment, number);
+    if let Some(found) = translation_drop(step, at) {
+        return Some(found);
+    }
+    let read = Tagged { moment, pcid };
+    if let Some(found) = foreign_finding(read, tagged(history, p, number), global) {
+        return Some(found);
+    }
+    let address = frame + offset(la, shift);
+    leaf_finding(history.header().cfg, claim, step.rights, address)
+}
+
+/// What stands behind the reasons from the translation on, by what was read last under a PCID.
+pub(crate) fn end_finding(
+    history: &History,
+    claim: &Claim,
+    pcid: u16,
+    step: Step,
+) -> Option<Finding>
+    requires { claim.now.p < length history.now.head.processors }
+    ensures { result ≡ end_finding history.now.head history.now.events claim.now pcid
+        (reading_of step) (kind_of history.now.head.cfg step.level step.value) }
+{
+    let kind = kind_at(history.header().cfg, step);
+    match kind {
+        Kind::Leaf {
+            frame,
+            shift,
+            global_bit,
+        } => page_finding(history, claim, pcid, step, frame, shift, global_bit),
+        Kind::Absent => fault_finding(history, claim, Cause::Absent, kind, step),
+        Kind::Reserved => fault_finding(history, claim, Cause::Reserved, kind, step),
+        Kind::Table { .. } => Some(Finding::Entry {
+            level: step.level,
+            wish: Wish::Last(want_of(claim.outcome)),
+            found: kind,
+        }),
+    }
+}
