@@ -28,6 +28,7 @@ any_from-last test from zero = or_false (test from) ∙ ap test (sym (plus_zero 
     or_false : (b : Bool) → (b || false) ≡ b
     or_false true = refl
     or_false false = refl
+
     plus_zero : (n : ℕ) → n + 0 ≡ n
     plus_zero n = omega arith
 any_from-last test from (suc n) =
@@ -38,6 +39,7 @@ any_from-last test from (suc n) =
     assoc : (a b c : Bool) → (a || (b || c)) ≡ ((a || b) || c)
     assoc true b c = refl
     assoc false b c = refl
+
     moved : (from n : ℕ) → from + 1 + n ≡ from + suc n
     moved from n = omega arith
 

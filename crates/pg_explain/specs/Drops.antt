@@ -1,10 +1,8 @@
 -- The first event that takes a cached entry out.
-use Rattle.std.specs.Prelude.{ℕ, zero, suc, ◌+◌, ◌-◌, ◌<◌, Bool, false, if◌then◌else◌, List}
+use Rattle.std.specs.Prelude.{ℕ, zero, suc, ◌+◌, ◌-◌, ◌<◌, Bool, if◌then◌else◌, List}
 use Rattle.std.specs.Prelude.{Option, Some, None, slice_get}
 use Rattle.pg_event.specs.declared.event.Event.{Event}
 use Rattle.pg_event.specs.declared.control.Control.{Control}
-use Rattle.pg_event.specs.declared.keys.StructureKey.{StructureKey}
-use Rattle.pg_event.specs.declared.keys.TranslationKey.{TranslationKey}
 use Rattle.pg_event.specs.Heads.{Head}
 use Rattle.pg_event.specs.Invalidation.{must_drop_structure, must_drop_translation}
 use Rattle.pg_event.specs.Values.{control_at}

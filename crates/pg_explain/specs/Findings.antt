@@ -39,7 +39,6 @@ use Rattle.pg_explain.specs.declared.finding.Limit.{Limit}
 use Rattle.pg_explain.specs.declared.finding.Limit.TheVariants as limits
 use Rattle.pg_explain.specs.declared.finding.Wish.{Wish}
 use Rattle.pg_explain.specs.declared.finding.Wish.TheVariants as wishes
-use Rattle.pg_explain.specs.declared.finding.Misfit.{Misfit}
 use Rattle.pg_explain.specs.declared.finding.Misfit.TheVariants as misfits
 use Rattle.pg_explain.specs.declared.finding.Finding.{Finding}
 use Rattle.pg_explain.specs.declared.finding.Finding.TheVariants as findings

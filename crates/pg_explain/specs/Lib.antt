@@ -2,3 +2,4 @@ pub mod Line
 pub mod Drops
 pub mod Findings
 pub mod Walk
+pub mod Explained

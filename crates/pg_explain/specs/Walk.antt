@@ -1,5 +1,5 @@
 -- The entries that the moments of an event name, and which events wrote them.
-use Rattle.std.specs.Prelude.{◌≡◌, ℕ, ◌+◌, ◌-◌, ◌<◌, Bool, true, false, ◌==◌, List, [], map}
+use Rattle.std.specs.Prelude.{◌≡◌, ℕ, ◌+◌, ◌-◌, ◌<◌, Bool, true, false, ◌==◌, List, map}
 use Rattle.std.specs.Prelude.{Option, Some, None, slice_get, MatchOption}
 use Rattle.std.specs.List.{AllByRecursion}
 use Rattle.pg_entry.specs.Kinds.{kind_of}
@@ -10,7 +10,6 @@ use Rattle.pg_event.specs.Heads.{Head}
 use Rattle.pg_event.specs.Values.{control_at}
 use Rattle.pg_event.specs.Walk.{Reading}
 use Rattle.pg_event.specs.Witness.{any_from}
-use Rattle.pg_chain.specs.declared.steps.Step.{Step}
 use Rattle.pg_chain.specs.Walked.{reading_of}
 use Rattle.pg_explain.specs.declared.entry.WalkEntry.{WalkEntry}
 use Rattle.pg_explain.specs.Findings.{readings_by}
@@ -39,7 +38,7 @@ abbrev pub IsWriter : List Event → ℕ → ℕ → Option ℕ → Type 0
 IsWriter events a w found =
     MatchOption found (is_written events a 0 w ≡ false)
     (λ j. (j < w) × (writes_some a (slice_get events j) ≡ true)
-        × (is_written events a (j + 1) w ≡ false))
+    × (is_written events a (j + 1) w ≡ false))
 
 -- what is told of an entry that processor p reads
 pub record IsTold (head : Head) (events : List Event) (p : ℕ) (x : WalkEntry) : Type 0 where

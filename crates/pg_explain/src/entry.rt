@@ -64,8 +64,9 @@ pub(crate) fn read_steps(
 ) -> Result<Vec<Step>, AllocError>
     requires processor { p < length history.now.head.processors }
     requires some { 1 ≤ length moments.now }
-    ensures { IfOk result (λ steps. map reading_of steps.items
+    ensures read { IfOk result (λ steps. map reading_of steps.items
         ≡ readings_by history.now.head history.now.events p la moments.now) }
+    ensures count { IfOk result (λ steps. length steps.items ≡ length moments.now) }
 {
     let mut steps = Vec::new(alloc);
     let mut level = Level::Four;

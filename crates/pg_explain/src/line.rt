@@ -134,7 +134,11 @@ pub(crate) fn push_numbers(text: &mut String, numbers: &[u32]) -> Result<(), All
 fn set_text(flags: u8) -> &'static str
     ensures { result.now ≡ set_text flags }
 {
-    if says_dirty(flags) { "accessed dirty" } else { "accessed" }
+    if says_dirty(flags) {
+        "accessed dirty"
+    } else {
+        "accessed"
+    }
 }
 
 fn switch_text(on: bool) -> &'static str

@@ -87,7 +87,11 @@ fn is_table(kind: Kind) -> bool
 fn wish_at(want: Want, is_last: bool) -> Wish
     ensures { result ≡ wish_at want is_last }
 {
-    if is_last { Wish::Last(want) } else { Wish::Table }
+    if is_last {
+        Wish::Last(want)
+    } else {
+        Wish::Table
+    }
 }
 
 fn is_wished(wish: Wish, kind: Kind) -> bool
@@ -236,7 +240,12 @@ pub(crate) fn walk_finding(
     ensures { result ≡ walk_finding history.now.head history.now.events asked first moments.now
         (map reading_of steps.now) }
 {
-    let Asked { number, p, la, want } = asked;
+    let Asked {
+        number,
+        p,
+        la,
+        want,
+    } = asked;
     if let Some(found) = order_finding(number, moments) {
         return Some(found);
     }

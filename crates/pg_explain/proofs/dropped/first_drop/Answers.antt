@@ -1,6 +1,6 @@
 use Rattle.std.proofs.Common.{◌∙◌, sym}
 use Rattle.pg_explain.specs.Drops.{is_dropped_at}
-use Rattle.pg_explain.proofs.Firsts.{first_from-here, first_from-next}
+use Rattle.pg_explain.proofs.Firsts.{first_from-next}
 use Rattle.pg_explain.proofs.dropped.first_drop.Goals as goal
 
 pub loop-number-preserved : goal.loop-number-preserved

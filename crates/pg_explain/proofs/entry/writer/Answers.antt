@@ -1,4 +1,4 @@
-use Rattle.std.proofs.Common.{◌≡◌, ◌+◌, ◌<◌, ◌≤◌, Some, length, arith, ap, sym, subst, ◌∙◌}
+use Rattle.std.proofs.Common.{◌≡◌, ◌+◌, ◌<◌, Some, length, arith, ap, sym, subst, ◌∙◌}
 use Rattle.std.specs.Prelude.{slice_get}
 use Rattle.std.proofs.lemmas.Option.{slice_get-get_or}
 use Rattle.pg_event.specs.declared.event.Event.{Event}
@@ -15,12 +15,12 @@ loop-i-preserved c =
     let lt : i < length events = omega arith in
     let at : slice_get events i ≡ Some c.index-events-i.result = slice_get-get_or events i c.index-events-i.result lt ∙ ap (λ (x : Event). Some x) (sym c.index-events-i.is) in
     elim c.if-writes.branch [
-        then-writes w ↦
-            subst (IsWriter events a (i + 1)) (sym w.last-is)
-            (writer-found events a i (ap (writes_some a) at ∙ sym c.writes.ensures ∙ w.if-writes.true))
-        | else-writes w ↦
-            subst (IsWriter events a (i + 1)) (sym w.last-is)
-            (writer-passed events a i c.loop-i.last c.loop-i.invariant (ap (writes_some a) at ∙ sym c.writes.ensures ∙ w.if-writes.false))
+      | then-writes w ↦
+          subst (IsWriter events a (i + 1)) (sym w.last-is)
+          (writer-found events a i (ap (writes_some a) at ∙ sym c.writes.ensures ∙ w.if-writes.true))
+      | else-writes w ↦
+          subst (IsWriter events a (i + 1)) (sym w.last-is)
+          (writer-passed events a i c.loop-i.last c.loop-i.invariant (ap (writes_some a) at ∙ sym c.writes.ensures ∙ w.if-writes.false))
     ]
 
 pub returns : goal.returns

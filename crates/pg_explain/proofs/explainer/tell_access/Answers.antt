@@ -1,0 +1,39 @@
+use Rattle.std.proofs.Common.{◌≡◌, List, map, ap, sym, ◌∙◌}
+use Rattle.pg_event.specs.declared.event.Event.{Event}
+use Rattle.pg_event.specs.Heads.{Head}
+use Rattle.pg_event.specs.Walk.{Reading}
+use Rattle.pg_event.specs.Witness.{failing_access}
+use Rattle.pg_chain.specs.declared.steps.Step.{Step}
+use Rattle.pg_chain.specs.Walked.{reading_of}
+use Rattle.pg_explain.specs.Findings.{access_finding, readings_by}
+use Rattle.pg_explain.specs.Walk.{reading_at}
+use Rattle.pg_explain.proofs.Reasons.{access_reasons, access_found, told_none, told_some}
+use Rattle.pg_explain.proofs.explainer.tell_access.Goals as goal
+
+pub returns-in-None : goal.returns-in-None
+returns-in-None c =
+    let head : Head = c.args.history.now.head in
+    let events : List Event = c.args.history.now.events in
+    let ws = c.args.moments.now in
+    let x = c.args.claim.now in
+    let rs : List Reading = map reading_of c.deref.result.now in
+    let read : rs ≡ readings_by head events x.p x.la ws = ap (λ (ys : List Step). map reading_of ys) c.deref.ensures.value ∙ c.in_ok-steps.ensures.read in
+    told_none c.claim_finding.result (access_finding head events x ws) (failing_access head events x ws)
+    (access_found head events x ws c.first_tag-first.result rs c.claim_finding.result c.first_tag-first.ensures read c.claim_finding.ensures)
+    (access_reasons head events x ws c.requires.some) c.in-None.is
+
+pub returns : goal.returns
+returns c =
+    let head : Head = c.args.history.now.head in
+    let events : List Event = c.args.history.now.events in
+    let ws = c.args.moments.now in
+    let x = c.args.claim.now in
+    let rs : List Reading = map reading_of c.deref.result.now in
+    let read : rs ≡ readings_by head events x.p x.la ws = ap (λ (ys : List Step). map reading_of ys) c.deref.ensures.value ∙ c.in_ok-steps.ensures.read in
+    let found : c.claim_finding.result ≡ access_finding head events x ws = access_found head events x ws c.first_tag-first.result rs c.claim_finding.result c.first_tag-first.ensures read c.claim_finding.ensures in
+    let walk : map reading_at c.in_ok-walk-in-Some.walk.items ≡ readings_by head events x.p x.la ws =
+    c.in_ok-walk-in-Some.ensures.read ∙ (ap (λ (ys : List Step). map reading_of ys) c.deref-in-Some.ensures.value ∙ c.in_ok-steps.ensures.read) in (
+      told_some c.claim_finding.result (access_finding head events x ws) (failing_access head events x ws) c.in-Some.finding found (access_reasons head events x ws c.requires.some) c.in-Some.is,
+      sym found ∙ c.in-Some.is,
+      record { read = walk; told = c.in_ok-walk-in-Some.ensures.told },
+    )

@@ -1,0 +1,251 @@
+//! What stands behind a "no", and whether other moments would do.
+
+ghost use Rattle.std.specs.Prelude.{◌≡◌, ◌<◌, ◌≤◌, length, map, IfOk, MatchOption};
+ghost use Rattle.pg_event.specs.Form.{processor_of};
+ghost use Rattle.pg_event.specs.Witness.{failing_access, failing_assist, failing_event, Witnessed};
+ghost use Rattle.pg_chain.specs.Walked.{reading_of};
+ghost use Rattle.pg_explain.specs.Explained.{IsWalkOf, TellsEvent, IsExplained};
+ghost use Rattle.pg_explain.specs.Findings.{last_of, first_tag, claim_finding, access_finding};
+ghost use Rattle.pg_explain.specs.Findings.{mark_finding, assist_finding, event_finding};
+ghost use Rattle.pg_explain.specs.Walk.{IsWalk};
+
+use crate::end_finding::end_finding;
+use crate::entry::{WalkEntry, read_steps, tell};
+use crate::finding::{Finding, Tagged};
+use crate::flag_finding::{accessed_finding, flag_finding, update_finding};
+use crate::walk_finding::{Asked, tagged, walk_finding};
+use pg_chain::Step;
+use pg_check::History;
+use pg_event::{Claim, Event, Moments, Update, Want, access_kind, says_dirty, want_of};
+use pg_search::find_moments;
+use std::alloc::{AllocError, Global};
+
+/// What stands behind a "no".
+#[derive(Debug, Drop)]
+pub struct Explanation {
+    /// The number of the event.
+    pub number: u32,
+    /// The entries that its moments name, from level 4 down. What stands below an entry that is no
+    /// table was read as if it were one.
+    pub walk: Vec<WalkEntry>,
+    /// What stands behind the reason.
+    pub finding: Finding,
+    /// The freshest moments that prove the event in the place of its own. Where there are none, no
+    /// moments do, and no run of the machine has the events up to this one.
+    pub other: Option<Moments>,
+}
+
+/// The walk of an event that is not witnessed, and what stands behind the reason.
+#[derive(Debug, Drop)]
+pub struct Told {
+    pub walk: Vec<WalkEntry>,
+    pub finding: Finding,
+}
+
+/// What is read last.
+fn last_step(steps: &[Step]) -> Step
+    requires { 1 ≤ length steps.now }
+    ensures { reading_of result ≡ last_of (map reading_of steps.now) }
+{
+    steps[steps.len() - 1]
+}
+
+/// The first moment of a processor, with its PCID.
+fn first_tag(history: &History, p: u16, moments: &[u32]) -> Tagged
+    requires processor { p < length history.now.head.processors }
+    requires some { 1 ≤ length moments.now }
+    ensures { result ≡ first_tag history.now.head history.now.events p moments.now }
+{
+    tagged(history, p, moments[0])
+}
+
+/// What stands behind the reason of an access, by what its moments read.
+fn claim_finding(
+    history: &History,
+    claim: &Claim,
+    first: Tagged,
+    moments: &[u32],
+    steps: &[Step],
+) -> Option<Finding>
+    requires processor { claim.now.p < length history.now.head.processors }
+    requires some { 1 ≤ length steps.now }
+    ensures { result ≡ claim_finding history.now.head history.now.events claim.now first
+        moments.now (map reading_of steps.now) }
+{
+    let Claim { number, p, la, .. } = *claim;
+    let want = want_of(claim.outcome);
+    let asked = Asked {
+        number,
+        p,
+        la,
+        want,
+    };
+    if let Some(found) = walk_finding(history, asked, first, moments, steps) {
+        return Some(found);
+    }
+    let end = last_step(steps);
+    if let Some(found) = end_finding(history, claim, first.pcid, end) {
+        return Some(found);
+    }
+    flag_finding(history.header().version, claim, steps, end)
+}
+
+/// What stands behind the reason of an assist, by what its moments read.
+fn mark_finding(
+    history: &History,
+    update: &Update,
+    first: Tagged,
+    moments: &[u32],
+    steps: &[Step],
+) -> Option<Finding>
+    requires processor { update.now.p < length history.now.head.processors }
+    requires some { 1 ≤ length steps.now }
+    ensures { result ≡ mark_finding history.now.head history.now.events update.now first
+        moments.now (map reading_of steps.now) }
+{
+    let Update { number, p, la, .. } = *update;
+    let want = Want::Present;
+    let asked = Asked {
+        number,
+        p,
+        la,
+        want,
+    };
+    if let Some(found) = walk_finding(history, asked, first, moments, steps) {
+        return Some(found);
+    }
+    if let Some(found) = accessed_finding(false, steps) {
+        return Some(found);
+    }
+    update_finding(history.header().cfg, update, last_step(steps))
+}
+
+/// What is told of an access.
+fn tell_access(
+    alloc: Global,
+    history: &History,
+    claim: &Claim,
+    moments: &[u32],
+) -> Result<Option<Told>, AllocError>
+    requires processor { claim.now.p < length history.now.head.processors }
+    requires some { 1 ≤ length moments.now }
+    ensures { IfOk result (TellsEvent
+        (failing_access history.now.head history.now.events claim.now moments.now)
+        (access_finding history.now.head history.now.events claim.now moments.now)
+        (IsWalk history.now.head history.now.events claim.now.p claim.now.la moments.now)) }
+{
+    let p = claim.p;
+    let steps = read_steps(alloc, history, p, claim.la, moments)?;
+    let first = first_tag(history, p, moments);
+    match claim_finding(history, claim, first, moments, &steps) {
+        None => Ok(None),
+        Some(finding) => {
+            let walk = tell(alloc, history, p, &steps)?;
+            Ok(Some(Told { walk, finding }))
+        }
+    }
+}
+
+/// What is told of an assist.
+fn tell_assist(
+    alloc: Global,
+    history: &History,
+    update: &Update,
+    moments: &[u32],
+) -> Result<Option<Told>, AllocError>
+    requires processor { update.now.p < length history.now.head.processors }
+    requires some { 1 ≤ length moments.now }
+    ensures { IfOk result (TellsEvent
+        (failing_assist history.now.head history.now.events update.now moments.now)
+        (assist_finding history.now.head history.now.events update.now moments.now)
+        (IsWalk history.now.head history.now.events update.now.p update.now.la moments.now)) }
+{
+    let p = update.p;
+    let steps = read_steps(alloc, history, p, update.la, moments)?;
+    let first = first_tag(history, p, moments);
+    match mark_finding(history, update, first, moments, &steps) {
+        None => Ok(None),
+        Some(finding) => {
+            let walk = tell(alloc, history, p, &steps)?;
+            Ok(Some(Told { walk, finding }))
+        }
+    }
+}
+
+/// What is told of an event with this number.
+fn tell_event(
+    alloc: Global,
+    history: &History,
+    number: u32,
+    event: &Event,
+) -> Result<Option<Told>, AllocError>
+    requires { processor_of event.now < length history.now.head.processors }
+    ensures { IfOk result (TellsEvent
+        (failing_event history.now.head history.now.events number event.now)
+        (event_finding history.now.head history.now.events number event.now)
+        (IsWalkOf history.now.head history.now.events event.now)) }
+{
+    match *event {
+        Event::Access {
+            p,
+            flags,
+            la,
+            outcome,
+            moments,
+        } => {
+            let claim = Claim {
+                number,
+                p,
+                kind: access_kind(flags),
+                la,
+                outcome,
+            };
+            tell_access(alloc, history, &claim, moments.as_slice())
+        }
+        Event::Assist {
+            p,
+            flags,
+            la,
+            word,
+            moments,
+        } => {
+            let update = Update {
+                number,
+                p,
+                kind: access_kind(flags),
+                la,
+                word,
+                dirty: says_dirty(flags),
+            };
+            tell_assist(alloc, history, &update, moments.as_slice())
+        }
+        Event::Write { .. }
+        | Event::MovCr3 { .. }
+        | Event::Invlpg { .. }
+        | Event::Invpcid { .. }
+        | Event::MovCr4Pge { .. } => Ok(None),
+    }
+}
+
+/// What stands behind the least reason that fails for an event, or `None` where the event is
+/// witnessed. It takes a few passes over the events. `Err` is for want of memory alone.
+pub fn explain(alloc: Global, history: &History, i: u32) -> Result<Option<Explanation>, AllocError>
+    requires { i < length history.now.events }
+    ensures { IfOk result (λ x. MatchOption x
+        (Witnessed history.now.head history.now.events i)
+        (IsExplained history.now.head history.now.events i)) }
+{
+    let event = history.events()[i as usize];
+    match tell_event(alloc, history, i, &event)? {
+        None => Ok(None),
+        Some(Told { walk, finding }) => {
+            let other = find_moments(alloc, history, i)?;
+            Ok(Some(Explanation {
+                number: i,
+                walk,
+                finding,
+                other,
+            }))
+        }
+    }
+}
