@@ -3,3 +3,4 @@ pub mod Drops
 pub mod Findings
 pub mod Walk
 pub mod Explained
+pub mod Text

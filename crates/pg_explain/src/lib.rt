@@ -6,11 +6,15 @@ mod end_finding;
 mod entry;
 mod explainer;
 mod finding;
+mod finding_text;
 mod flag_finding;
 mod line;
+mod text;
 mod walk_finding;
+mod walk_text;
 
 pub use entry::WalkEntry;
 pub use explainer::{Explanation, explain};
 pub use finding::{Finding, Limit, Misfit, Tagged, Wish};
 pub use line::{push_event, show_text};
+pub use text::explanation_text;

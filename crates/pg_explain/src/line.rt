@@ -1,8 +1,10 @@
-ghost use Rattle.std.specs.Prelude.{◌≡◌, ◌+◌, ◌<◌, ◌≤◌, ◌^◌, ◌++◌, length, IfOk, OnOk, string_bytes};
+ghost use Rattle.std.specs.Prelude.{◌≡◌, ◌+◌, ◌<◌, ◌≤◌, ◌^◌, ◌++◌};
+ghost use Rattle.std.specs.Prelude.{length, IfOk, OnOk, string_bytes};
 ghost use Rattle.pg_event.specs.Form.{access_kind};
 ghost use Rattle.pg_explain.specs.Line.{mode_name, op_name, kind_text, access_text, bit_name};
 ghost use Rattle.pg_explain.specs.Line.{bit_names, opening, in_brackets, code_text, outcome_text};
-ghost use Rattle.pg_explain.specs.Line.{word_text, numbers_text, moments_text, set_text, assist_text};
+ghost use Rattle.pg_explain.specs.Line.{word_text, numbers_text, moments_text};
+ghost use Rattle.pg_explain.specs.Line.{set_text, assist_text};
 ghost use Rattle.pg_explain.specs.Line.{switch_text, event_text};
 ghost use Rattle.pg_explain.specs.Line.{event_line, lines_from};
 

@@ -5,8 +5,10 @@ ghost use Rattle.pg_entry.specs.declared.Level.TheVariants.{Four};
 ghost use Rattle.pg_event.specs.Wants.{is_table};
 ghost use Rattle.pg_chain.specs.Walked.{reading_of};
 ghost use Rattle.pg_explain.specs.Findings.{limit_of, limit_number, order_at, order_finding};
-ghost use Rattle.pg_explain.specs.Findings.{is_last, wish_at, is_wished, entry_at, entry_finding, tagged};
-ghost use Rattle.pg_explain.specs.Findings.{context_at, context_finding, structure_drop, structure_at};
+ghost use Rattle.pg_explain.specs.Findings.{is_last, wish_at, is_wished, entry_at};
+ghost use Rattle.pg_explain.specs.Findings.{entry_finding, tagged};
+ghost use Rattle.pg_explain.specs.Findings.{context_at, context_finding, structure_drop};
+ghost use Rattle.pg_explain.specs.Findings.{structure_at};
 ghost use Rattle.pg_explain.specs.Findings.{structure_finding, walk_finding};
 
 use crate::dropped::{CacheKey, first_drop};
@@ -75,7 +77,7 @@ fn order_finding(number: u32, moments: &[u32]) -> Option<Finding>
     None
 }
 
-fn is_table(kind: Kind) -> bool
+pub(crate) fn is_table(kind: Kind) -> bool
     ensures { result ≡ is_table kind }
 {
     match kind {

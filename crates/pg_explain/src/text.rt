@@ -1,0 +1,83 @@
+//! The text of an explanation.
+
+ghost use Rattle.std.specs.Prelude.{◌≡◌, ◌++◌, IfOk, OnOk, string_bytes, slice_get, codes};
+ghost use Rattle.pg_explain.specs.Line.{numbers_text};
+ghost use Rattle.pg_explain.specs.Text.{deed_name, last_text, head_text};
+ghost use Rattle.pg_explain.specs.Text.{explanation_text};
+
+use crate::explainer::Explanation;
+use crate::finding_text::{push_finding, push_numbered};
+use crate::line::push_numbers;
+use crate::walk_text::push_walk;
+use pg_event::{Event, Moments};
+use std::alloc::{AllocError, Global};
+
+/// What an event is.
+fn deed_name(events: &[Event], number: u32) -> &'static str
+    ensures { result.now ≡ deed_name (slice_get events.now number) }
+{
+    match events.get(number as usize) {
+        Some(Event::Access { .. }) => "access",
+        Some(Event::Assist { .. }) => "assist",
+        Some(
+            Event::Write { .. }
+            | Event::MovCr3 { .. }
+            | Event::Invlpg { .. }
+            | Event::Invpcid { .. }
+            | Event::MovCr4Pge { .. },
+        )
+        | None => "event",
+    }
+}
+
+/// Appends a line of a name and numbers.
+fn push_listed(text: &mut String, name: &str, numbers: &[u32]) -> Result<(), AllocError>
+    ensures { OnOk result (string_bytes text.new
+        ≡ string_bytes text.old ++ (name.now ++ (numbers_text numbers.now ++ codes "\n"))) }
+{
+    text.push_str(name)?;
+    push_numbers(text, numbers)?;
+    text.push_str("\n")
+}
+
+/// Appends whether other moments would do.
+fn push_last(text: &mut String, deed: &str, other: Option<Moments>) -> Result<(), AllocError>
+    ensures { OnOk result
+        (string_bytes text.new ≡ string_bytes text.old ++ last_text deed.now other) }
+{
+    match other {
+        None => writeln!(text, "final: no moments prove this {deed}"),
+        Some(moments) => push_listed(text, "other moments would:", moments.as_slice()),
+    }
+}
+
+/// Appends the event, as it is shown.
+fn push_head(text: &mut String, events: &[Event], number: u32) -> Result<(), AllocError>
+    ensures { OnOk result
+        (string_bytes text.new ≡ string_bytes text.old ++ head_text events.now number) }
+{
+    text.push_str("event: ")?;
+    push_numbered(text, events, number)?;
+    text.push_str("\n")
+}
+
+/// The text of an explanation, where these are the events of its run: the event, the entries that
+/// its moments name down to the first that is no table, what stands behind the reason, and whether
+/// other moments would do. `Err` is for want of memory alone.
+pub fn explanation_text(
+    alloc: Global,
+    events: &[Event],
+    explanation: &Explanation,
+) -> Result<String, AllocError>
+    ensures { IfOk result (λ t. string_bytes t
+        ≡ explanation_text events.now explanation.now) }
+{
+    let number = explanation.number;
+    let mut text = String::new(alloc);
+    push_head(&mut text, events, number)?;
+    push_walk(&mut text, &explanation.walk)?;
+    push_finding(&mut text, events, explanation.finding)?;
+    text.push_str("\n")?;
+    push_last(&mut text, deed_name(events, number), explanation.other)?;
+    Ok(text)
+}

@@ -1,0 +1,98 @@
+//! The text of a walk, an entry a line.
+
+ghost use Rattle.std.specs.Prelude.{◌≡◌, ◌++◌, OnOk, string_bytes};
+ghost use Rattle.pg_event.specs.Wants.{is_table};
+ghost use Rattle.pg_explain.specs.Text.{level_number, kind_name, held_text, read_text, writer_text};
+ghost use Rattle.pg_explain.specs.Text.{entry_text, walk_text};
+
+use crate::entry::WalkEntry;
+use crate::line::push_word;
+use crate::walk_finding::is_table;
+use pg_chain::Step;
+use pg_entry::{Kind, Level};
+use std::alloc::AllocError;
+
+pub(crate) fn level_number(level: Level) -> u8
+    ensures { result ≡ level_number level }
+{
+    match level {
+        Level::Four => 4,
+        Level::Three => 3,
+        Level::Two => 2,
+        Level::One => 1,
+    }
+}
+
+pub(crate) fn kind_name(kind: Kind) -> &'static str
+    ensures { result.now ≡ kind_name kind }
+{
+    match kind {
+        Kind::Absent => "absent",
+        Kind::Reserved => "reserved",
+        Kind::Table { .. } => "table",
+        Kind::Leaf { .. } => "leaf",
+    }
+}
+
+/// Appends a word, what it holds, and what that is.
+pub(crate) fn push_held(
+    text: &mut String,
+    address: u64,
+    value: u64,
+    kind: Kind,
+) -> Result<(), AllocError>
+    ensures { OnOk result
+        (string_bytes text.new ≡ string_bytes text.old ++ held_text address value kind) }
+{
+    push_word(text, address)?;
+    let name = kind_name(kind);
+    write!(text, " = 0x{value:x} {name}")
+}
+
+fn push_read(text: &mut String, level: Level, moment: u32, pcid: u16) -> Result<(), AllocError>
+    ensures { OnOk result
+        (string_bytes text.new ≡ string_bytes text.old ++ read_text level moment pcid) }
+{
+    let level = level_number(level);
+    write!(text, "level {level}: moment {moment} pcid 0x{pcid:x} ")
+}
+
+fn push_writer(text: &mut String, writer: Option<u32>) -> Result<(), AllocError>
+    ensures { OnOk result
+        (string_bytes text.new ≡ string_bytes text.old ++ writer_text writer) }
+{
+    match writer {
+        Some(event) => writeln!(text, ", written by event {event}"),
+        None => text.push_str(", never written\n"),
+    }
+}
+
+fn push_entry(text: &mut String, entry: &WalkEntry) -> Result<(), AllocError>
+    ensures { OnOk result
+        (string_bytes text.new ≡ string_bytes text.old ++ entry_text entry.now) }
+{
+    let Step {
+        level,
+        address,
+        value,
+        moment,
+        ..
+    } = entry.step;
+    push_read(text, level, moment, entry.pcid)?;
+    push_held(text, address, value, entry.kind)?;
+    push_writer(text, entry.writer)
+}
+
+/// Appends the entries of a walk down to the first that is no table.
+pub(crate) fn push_walk(text: &mut String, walk: &[WalkEntry]) -> Result<(), AllocError>
+    ensures { OnOk result
+        (string_bytes text.new ≡ string_bytes text.old ++ walk_text walk.now) }
+{
+    for entry in walk {
+        push_entry(text, entry)?;
+        if !is_table(entry.kind) {
+            return Ok(());
+        }
+    }
+    Ok(())
+}
