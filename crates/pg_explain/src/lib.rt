@@ -9,6 +9,8 @@ mod finding;
 mod finding_text;
 mod flag_finding;
 mod line;
+#[cfg(test)]
+mod tests;
 mod text;
 mod walk_finding;
 mod walk_text;
