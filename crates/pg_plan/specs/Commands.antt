@@ -12,7 +12,7 @@ use Rattle.clap.specs.declared.builder.action.ArgAction.TheVariants.{Set, SetTru
 use Rattle.clap.specs.declared.builder.value_parser.ValueParser.TheVariants as parsers
 use Rattle.clap.specs.declared.error.kind.ErrorKind.TheVariants.{DisplayHelp, DisplayVersion}
 use Rattle.pg_plan.specs.declared.request.Command.{Command}
-use Rattle.pg_plan.specs.declared.request.Command.TheVariants.{Check, Run, RunOf, Upgrade}
+use Rattle.pg_plan.specs.declared.request.Command.TheVariants.{Check, Run, RunOf, Explain, Upgrade}
 use Rattle.pg_plan.specs.declared.request.Plan.{Plan}
 use Rattle.pg_plan.specs.declared.request.Usage.{Usage}
 use Rattle.pg_plan.specs.declared.request.Usage.TheVariants.{Help, Version, Fault}
@@ -22,6 +22,7 @@ abbrev pub command_word : Command → List ℕ
 command_word Check = codes "check"
 command_word Run = codes "run"
 command_word RunOf = codes "run-of"
+command_word Explain = codes "explain"
 command_word Upgrade = codes "upgrade"
 
 -- ---- the command line: one of the commands, of which `check` and `run` have options
@@ -58,10 +59,14 @@ run_line =
 abbrev pub options_line : App
 options_line = with_subcommand (with_subcommand bare_line check_line.top) run_line.top
 
-abbrev pub command_line : App
-command_line =
+-- and those that say more of a record
+abbrev pub records_line : App
+records_line =
     with_subcommand (with_subcommand options_line (new_app (command_word RunOf)).top)
-    (new_app (command_word Upgrade)).top
+    (new_app (command_word Explain)).top
+
+abbrev pub command_line : App
+command_line = with_subcommand records_line (new_app (command_word Upgrade)).top
 
 -- the kinds of error that `clap` gives for the words: none where they are taken
 abbrev pub faults : List Text → Kinds

@@ -6,6 +6,7 @@ ghost use Rattle.clap.specs.Matches.{first_value, found_of};
 ghost use Rattle.clap.specs.Walk.{rule_of};
 ghost use Rattle.clap.specs.declared.builder.command.Command.TheViews.{out-Command as fields_of};
 ghost use Rattle.pg_plan.specs.Commands.{texts, bare_line, check_line, run_line, options_line};
+ghost use Rattle.pg_plan.specs.Commands.{records_line};
 ghost use Rattle.pg_plan.specs.Commands.{checkers_rule, switch_rule, command_line, is_on};
 ghost use Rattle.pg_plan.specs.Commands.{command_word, AreAsked, AreFrom1To64};
 ghost use Rattle.pg_plan.specs.Commands.{Asks, AsksOnly, IsPlanOf};
@@ -32,6 +33,11 @@ const RUN_OF: &str = "run-of";
 
 const RUN_OF_ABOUT: &str =
     "Reads a record from standard input, and writes a run that has its events";
+
+const EXPLAIN: &str = "explain";
+
+const EXPLAIN_ABOUT: &str = "Reads a record from standard input, and writes its report and, where \
+    it is no, what stands behind it";
 
 const UPGRADE: &str = "upgrade";
 
@@ -117,12 +123,19 @@ fn options_line<'a>(alloc: Global) -> Result<CommandLine<'a>, AllocError>
         .subcommand(run_line(alloc)?)
 }
 
-fn command_line<'a>(alloc: Global) -> Result<CommandLine<'a>, AllocError>
-    ensures { IfOk result (λ line. app_of line ≡ command_line) }
+/// And those that say more of a record.
+fn records_line<'a>(alloc: Global) -> Result<CommandLine<'a>, AllocError>
+    ensures { IfOk result (λ line. app_of line ≡ records_line) }
 {
     options_line(alloc)?
         .subcommand(CommandLine::new(alloc, RUN_OF).about(RUN_OF_ABOUT))?
-        .subcommand(CommandLine::new(alloc, UPGRADE).about(UPGRADE_ABOUT))
+        .subcommand(CommandLine::new(alloc, EXPLAIN).about(EXPLAIN_ABOUT))
+}
+
+fn command_line<'a>(alloc: Global) -> Result<CommandLine<'a>, AllocError>
+    ensures { IfOk result (λ line. app_of line ≡ command_line) }
+{
+    records_line(alloc)?.subcommand(CommandLine::new(alloc, UPGRADE).about(UPGRADE_ABOUT))
 }
 
 fn usage_of(alloc: Global, error: Error) -> Usage
@@ -153,6 +166,7 @@ fn command_of(name: &str) -> Option<Command>
         CHECK => Some(Command::Check),
         RUN => Some(Command::Run),
         RUN_OF => Some(Command::RunOf),
+        EXPLAIN => Some(Command::Explain),
         UPGRADE => Some(Command::Upgrade),
         _ => None,
     }
@@ -253,6 +267,10 @@ mod tests {
         let alloc = rt.alloc();
         assert_eq!(rt; plan(alloc, &["check"]).ok(), planned(Command::Check, 1));
         assert_eq!(rt; plan(alloc, &["run-of"]).ok(), planned(Command::RunOf, 1));
+        assert_eq!(rt;
+            plan(alloc, &["explain"]).ok(),
+            planned(Command::Explain, 1)
+        );
         assert_eq!(rt;
             plan(alloc, &["upgrade"]).ok(),
             planned(Command::Upgrade, 1)

@@ -7,6 +7,8 @@ pub enum Command {
     Run,
     /// Read a record, and write a run of the manual's machine that has its events.
     RunOf,
+    /// Read a record, and write its report and, where it is no, what stands behind it.
+    Explain,
     /// Read a version 1 record, and write the version 2 record of the same events; its report goes
     /// to standard error.
     Upgrade,

@@ -3,3 +3,5 @@ pub mod Rows
 pub mod Guested
 pub mod Upgraded
 pub mod Asked
+pub mod GivenTexts
+pub mod Bad

@@ -1,7 +1,8 @@
 -- What the whole program answers, by its words.
 use Rattle.std.specs.Prelude.{◌≡◌, ◌⊎◌, ℕ, List, string_bytes}
 use Rattle.pg_plan.specs.declared.request.Command.{Command}
-use Rattle.pg_plan.specs.declared.request.Command.TheVariants.{Check, Run, RunOf, Upgrade}
+use Rattle.pg_plan.specs.declared.request.Command.TheVariants.{Check, Run, RunOf}
+use Rattle.pg_plan.specs.declared.request.Command.TheVariants.{Explain, Upgrade}
 use Rattle.pg_plan.specs.declared.request.Plan.{Plan}
 use Rattle.pg_plan.specs.declared.request.Usage.{Usage}
 use Rattle.pg_plan.specs.declared.request.Usage.TheVariants.{Help, Version, Fault, Memory}
@@ -9,6 +10,7 @@ use Rattle.pg_plan.specs.Commands.{Asks, AsksNone, AsksHelp, AsksVersion, NamesH
 use Rattle.pg_plan.specs.Commands.{NamesVersion, IsFault, IsHelp, IsVersion}
 use Rattle.pg_report.specs.declared.error.AuditError.TheVariants.{Device}
 use Rattle.pg_report.specs.Changes.{Change, Fails, Works, Adds, AddsSome}
+use Rattle.pg_tool.specs.Explanations.{ExplainsRecord}
 use Rattle.pg_tool.specs.Guests.{RunsGuest}
 use Rattle.pg_tool.specs.Refusals.{StaysSame, Tells, refusal_line, memory_line}
 use Rattle.pg_tool.specs.Status.{Checks, ShowsRun}
@@ -49,6 +51,7 @@ abbrev pub DoesCommand : Command → Plan → Streams → ℕ → Type 0
 DoesCommand Check plan s status = Checks plan.checkers s status
 DoesCommand Run plan s status = RunsGuest plan.single plan.bytes s status
 DoesCommand RunOf plan s status = ShowsRun s status
+DoesCommand Explain plan s status = ExplainsRecord s status
 DoesCommand Upgrade plan s status = Upgrades s status
 
 abbrev pub Does : Plan → Streams → ℕ → Type 0

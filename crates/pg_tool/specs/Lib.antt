@@ -5,4 +5,6 @@ pub mod Refusals
 pub mod Status
 pub mod Upgrades
 pub mod Guests
+pub mod Texts
+pub mod Explanations
 pub mod Answers

@@ -1,6 +1,7 @@
 //! The whole program over any streams.
 #![tactic(auto)]
 
+mod explanations;
 mod guest_error;
 mod guest_refusals;
 mod guests;
@@ -11,6 +12,7 @@ mod runs;
 mod shown;
 mod upgrader;
 
+pub use explanations::explain;
 pub use guest_error::GuestError;
 pub use pg_plan::{Command, Plan, Usage, plan};
 pub use program::{check, pcid_audit, run, run_of, upgrade};

@@ -11,6 +11,7 @@ ghost use Rattle.pg_tool.specs.Status.{Checks, IsAbleBy, ShowsRun};
 ghost use Rattle.pg_tool.specs.Streams.{streams};
 ghost use Rattle.pg_tool.specs.Upgrades.{IsReportText, report_in, TellsReport, Upgrades};
 
+use crate::explanations::explain;
 use crate::guest_error::GuestError;
 use crate::guest_refusals::tell_guest;
 use crate::guests::run_script;
@@ -56,7 +57,7 @@ fn verdict_status(verdict: Verdict) -> u8
     }
 }
 
-fn status_of(answer: Result<Verdict, AuditError>) -> u8
+pub(crate) fn status_of(answer: Result<Verdict, AuditError>) -> u8
     ensures { result ≡ status_of answer }
 {
     match answer {
@@ -250,6 +251,7 @@ fn perform<T: AllocGlobal + Threads + Wait + Sync, R: Source, O: Sink, E: Sink>(
         Command::Check => check(rt, plan.checkers, input, output, errors),
         Command::Run => run(rt, plan, input, output, errors),
         Command::RunOf => run_of(rt.alloc(), input, output, errors),
+        Command::Explain => explain(rt.alloc(), input, output, errors),
         Command::Upgrade => upgrade(rt.alloc(), input, output, errors),
     }
 }

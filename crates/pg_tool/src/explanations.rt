@@ -1,0 +1,106 @@
+//! A record's report, and what stands behind a no.
+
+ghost use Rattle.std.specs.Prelude.{◌≡◌, ◌<◌, ◌++◌, length, IfOk, OnOk, string_bytes};
+ghost use Rattle.pg_event.specs.Witness.{Witnessed};
+ghost use Rattle.pg_explain.specs.declared.explainer.Explanation.{Explanation};
+ghost use Rattle.pg_explain.specs.Explained.{IsExplained};
+ghost use Rattle.pg_explain.specs.Text.{explanation_text};
+ghost use Rattle.pg_report.specs.Changes.{drawn, filled};
+ghost use Rattle.pg_tool.specs.Explanations.{IsExplanationOf, ExplainsRecord};
+ghost use Rattle.pg_tool.specs.Streams.{streams};
+ghost use Rattle.pg_tool.specs.Texts.{IsTextGiven};
+
+use crate::program::status_of;
+use crate::refusals::tell_error;
+use pg_check::History;
+use pg_codec::{Sink, Source};
+use pg_explain::explanation_text;
+use pg_report::{AuditError, Verdict, read_record, report_of, write_text};
+use std::alloc::{AllocError, Global};
+
+/// A verdict, and the text that tells it.
+#[derive(Debug, Drop)]
+pub struct ToldText {
+    pub verdict: Verdict,
+    pub text: String,
+}
+
+/// Appends what stands behind the reason of an event that is not witnessed.
+fn push_explanation(
+    alloc: Global,
+    text: &mut String,
+    history: &History,
+    number: u64,
+) -> Result<(), AllocError>
+    requires within { number < length history.now.events }
+    requires bad { ¬ Witnessed history.now.head history.now.events number }
+    ensures { OnOk result ((x : Explanation)
+        × IsExplained history.now.head history.now.events number x
+        × (string_bytes text.new
+        ≡ string_bytes text.old ++ explanation_text history.now.events x)) }
+{
+    let events = history.events();
+    match pg_explain::explain(alloc, history, number as u32)? {
+        Some(explanation) => {
+            let told = explanation_text(alloc, events, &explanation)?;
+            text.push_str(told.as_str())?;
+            Ok(())
+        }
+        None => unreachable!(),
+    }
+}
+
+/// The report of a history, and where it is no what stands behind it.
+fn explained(alloc: Global, history: &History) -> Result<ToldText, AllocError>
+    ensures { IfOk result (λ told. IsExplanationOf history.now told.verdict
+        (string_bytes told.text)) }
+{
+    let report = report_of(history);
+    let verdict = report.verdict;
+    let mut text = report.text(alloc)?;
+    match verdict {
+        Verdict::Yes => Ok(ToldText { verdict, text }),
+        Verdict::No { event, .. } => {
+            push_explanation(alloc, &mut text, history, event)?;
+            Ok(ToldText { verdict, text })
+        }
+    }
+}
+
+/// Reads a record, and writes its report and what stands behind a no. Nothing is written before
+/// both are ready.
+pub(crate) fn write_explanation<R: Source, O: Sink>(
+    alloc: Global,
+    input: &mut R,
+    output: &mut O,
+) -> Result<Verdict, AuditError>
+    ensures { IsTextGiven IsExplanationOf
+        (drawn R.Source input.old input.new) (filled O.Sink output.old output.new) result }
+{
+    let history = match read_record(alloc, input) {
+        Ok(history) => history,
+        Err(error) => return Err(error),
+    };
+    let told = explained(alloc, &history)?;
+    match write_text(output, told.text.as_str()) {
+        Ok(()) => Ok(told.verdict),
+        Err(error) => Err(error),
+    }
+}
+
+/// Writes the report of the record on `input` and, where it is no, what stands behind it: the first
+/// bad event, what its moments read, what the reason found, and whether other moments would do. It
+/// gives the exit status: 0 yes, 1 no, 2 refused, 3 memory.
+pub fn explain<R: Source, O: Sink, E: Sink>(
+    alloc: Global,
+    input: &mut R,
+    output: &mut O,
+    errors: &mut E,
+) -> u8
+    ensures { ExplainsRecord (streams R.Source O.Sink E.Sink
+        (input.old, output.old, errors.old) (input.new, output.new, errors.new)) result }
+{
+    let answer = write_explanation(alloc, input, output);
+    tell_error(errors, &answer);
+    status_of(answer)
+}
