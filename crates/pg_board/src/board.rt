@@ -1,5 +1,5 @@
-ghost use Rattle.std.specs.Prelude.{◌≡◌, ◌<◌, ◌∷◌, [], length, map, None, IfOk, IfSome, IsTrue, Decides};
-ghost use Rattle.std.specs.Prelude.{IsNone, OnErr, ◌↔◌, true, false};
+ghost use Rattle.std.specs.Prelude.{◌≡◌, ◌<◌, ◌∷◌, [], length, map, None, IfOk, IfSome};
+ghost use Rattle.std.specs.Prelude.{IsTrue, Decides, IsNone, OnErr, ◌↔◌, true, false};
 ghost use Rattle.pg_guest.specs.Held.{seen};
 ghost use Rattle.pg_guest.specs.Runs.{AreNew};
 ghost use Rattle.pg_home.specs.CoreRun.{IsCoreRun, unwritten};

@@ -38,7 +38,7 @@ fn judge_many(judged: &mut Judged, window: &mut Vec<Event>) -> Result<(), AllocE
 }
 
 /// The report of a run that was judged.
-pub(crate) fn report_of_judged(judged: &Judged) -> Report
+pub fn report_of_judged(judged: &Judged) -> Report
     ensures { IsReportOf judged.now result }
 {
     Report {

@@ -11,8 +11,9 @@ mod merger;
 mod report;
 
 pub use auditor::{audit, audit_one, audit_watched, report_of, write_report, write_text};
+pub use crew::Crew;
 pub use error::{AuditError, MergeError, rule_number};
 pub use intake::{read_old_record, read_record};
-pub use judging::judge_record;
+pub use judging::{judge_record, report_of_judged};
 pub use merger::merge;
 pub use report::{Report, Verdict, reason_name, reason_number};

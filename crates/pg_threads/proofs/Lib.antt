@@ -1,2 +1,3 @@
 mod AfterTurns
 mod WholeRuns
+mod WholeSegments

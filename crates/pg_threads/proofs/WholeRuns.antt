@@ -63,5 +63,5 @@ single_is_guest script result single = record { run = single.run.run; report = s
 pub stops_as_single : (script : Scripted) (e : RunError) → StopsRun script e → StopsGuest script e
 stops_as_single script errors.Memory stops = stops
 stops_as_single script errors.Full stops = stops.fills
-stops_as_single script errors.Thread stops = stops
+stops_as_single script errors.Thread stops = tt
 stops_as_single script errors.Checkers stops = stops

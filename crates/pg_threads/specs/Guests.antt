@@ -17,19 +17,12 @@ pub record IsGuestRun (script : Scripted) (result : RunResult) : Type 0 where
   pub report : result.report ≡ report_of (record_of result.trace)
   pub yes : result.report.verdict ≡ Yes
 
--- why such a run comes to nothing: memory is refused, or the record is full
+-- why such a run comes to nothing: memory or a thread is refused, or the record is full
 abbrev pub StopsGuest : Scripted → RunError → Type 0
 StopsGuest script errors.Memory = Unit {0}
+StopsGuest script errors.Thread = Unit {0}
 StopsGuest script errors.Full = FillsRecord script
-StopsGuest script errors.Thread = ⊥
 StopsGuest script errors.Checkers = ⊥
-
--- in threads also: a thread is refused. What the number of checkers says of it stands apart
-abbrev pub StopsThreads : Scripted → RunError → Type 0
-StopsThreads script errors.Memory = Unit {0}
-StopsThreads script errors.Full = FillsRecord script
-StopsThreads script errors.Thread = Unit {0}
-StopsThreads script errors.Checkers = Unit {0}
 
 -- ---- what ends a run
 

@@ -1,1 +1,2 @@
 pub mod Guests
+pub mod Live

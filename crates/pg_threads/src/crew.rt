@@ -1,76 +1,113 @@
 //! The processors' threads.
 
-ghost use Rattle.std.specs.Prelude.{◌≡◌, ◌⊎◌, IfErr};
+ghost use Rattle.std.specs.Prelude.{◌≡◌, IfErr, length};
+ghost use Rattle.pg_threads.specs.Live.{IsWant};
 
+use crate::lookout::{Lookout, watch};
 use crate::processor::run_processor;
+use crate::watched::Watched;
 use pg_board::Board;
 use pg_pool::Gate;
+use pg_report::Crew;
 use pg_runner::RunError;
 use pg_script::Script;
-use std::alloc::Global;
+use std::sync::atomic::AtomicU64;
 use std::sync::{Mutex, Wait};
 use std::thread;
 use std::thread::Threads;
 
 /// What threads met that were started and joined.
 enum Met {
-    Nothing,
+    /// What was judged while they ran.
+    Nothing(Watched),
     /// One of them was refused memory.
     NoMemory,
     /// One of them was refused.
     NoThread,
 }
 
-/// Lets each processor of a script carry its instructions out in a thread of its own. All that were
-/// started are joined before it answers, also where a thread was refused.
-fn run_all<R: Threads + Wait + Sync, G: Gate>(
-    rt: &R,
-    alloc: Global,
+/// What the processors' threads and the rounds beside them met: want of memory goes before a
+/// refused thread.
+fn outcome(refused: bool, short: bool, live: Result<Watched, RunError>) -> Met {
+    match live {
+        Err(RunError::Memory) => Met::NoMemory,
+        Err(RunError::Thread | RunError::Checkers | RunError::Full) => {
+            if refused {
+                Met::NoMemory
+            } else {
+                Met::NoThread
+            }
+        }
+        Ok(watched) => {
+            if refused {
+                Met::NoMemory
+            } else if short {
+                Met::NoThread
+            } else {
+                Met::Nothing(watched)
+            }
+        }
+    }
+}
+
+/// How many processors a script has: at most 1,024.
+fn processor_count(script: &Script) -> u16
+    ensures { result ≡ length script.now.head.processors }
+{
+    script.header().processors.len() as u16
+}
+
+/// Lets each processor of a script carry its instructions out in a thread of its own, and judges
+/// what they seal. All threads that were started are joined before it answers, also where a thread
+/// was refused.
+fn run_all<R: Threads + Wait + Sync, G: Gate, H: Gate>(
+    crew: &Crew<'_, R, H>,
     shared: &Mutex<Board<'_>>,
     script: &Script,
     gate: &G,
+    lookout: &mut Lookout<'_>,
+    watched: Watched,
 ) -> Met {
+    let rt = crew.rt;
+    let ended = AtomicU64::new(0);
+    let ended = &ended;
     thread::scope(thread::scope_env(), rt, |scope| -> Met {
-        let count = script.header().processors.len();
-        let Ok(mut handles) = Vec::with_capacity(alloc, count) else {
+        let count = processor_count(script);
+        let Ok(mut handles) = Vec::with_capacity(crew.alloc, count as usize) else {
             return Met::NoMemory;
         };
         for p in 0..count {
-            let number = p as u16;
-            let instructions = script.instructions(number).len();
-            match scope.spawn(move || run_processor(rt, shared, number, instructions, gate)) {
+            let instructions = script.instructions(p).len();
+            match scope.spawn(move || run_processor(rt, shared, p, instructions, ended, gate)) {
                 Ok(handle) => handles.push_reserved(handle),
                 Err(_) => break,
             }
         }
         let started = handles.len();
+        let live = watch(crew, shared, lookout, ended, started as u64, watched);
         let mut refused = false;
         for handle in handles {
             refused = handle.join(rt) || refused;
         }
-        if refused {
-            return Met::NoMemory;
-        }
-        if started < count {
-            return Met::NoThread;
-        }
-        Met::Nothing
+        outcome(refused, started < count as usize, live)
     })
 }
 
-/// Runs all processors of a script, each in a thread of its own. It answers once all threads have
-/// ended, and by want of memory where there was that as well.
-pub(crate) fn run_processors<R: Threads + Wait + Sync, G: Gate>(
-    rt: &R,
-    alloc: Global,
+/// Runs all processors of a script, each in a thread of its own, and gives what was judged while
+/// they ran. It answers once all threads have ended, and by want of memory where there was that as
+/// well as a refused thread.
+pub(crate) fn run_processors<R: Threads + Wait + Sync, G: Gate, H: Gate>(
+    crew: &Crew<'_, R, H>,
     shared: &Mutex<Board<'_>>,
     script: &Script,
     gate: &G,
-) -> Result<(), RunError>
-    ensures { IfErr result (λ e. (e ≡ RunError.Memory) ⊎ (e ≡ RunError.Thread)) }
+    lookout: &mut Lookout<'_>,
+    watched: Watched,
+) -> Result<Watched, RunError>
+    ensures { IfErr result IsWant }
 {
-    match run_all(rt, alloc, shared, script, gate) {
-        Met::Nothing => Ok(()),
+    match run_all(crew, shared, script, gate, lookout, watched) {
+        Met::Nothing(watched) => Ok(watched),
         Met::NoMemory => Err(RunError::Memory),
         Met::NoThread => Err(RunError::Thread),
     }

@@ -6,15 +6,21 @@ ghost use Rattle.pg_board.specs.Boards.{HasToldAll, IsRunOf};
 ghost use Rattle.pg_guest.specs.Held.{seen};
 ghost use Rattle.pg_event.specs.Spelling.{IsRecord};
 ghost use Rattle.pg_runner.specs.Runs.{record_of};
+ghost use Rattle.pg_threads.specs.Live.{IsWant};
 ghost use Rattle.pg_threads.specs.Guests.{IsGuestRun, StopsGuest, HaveToldAll, StayBut};
 
+use crate::watched::Watched;
 use pg_board::{Board, Finished};
 use pg_event::Version;
 use pg_guest::Advance;
 use pg_home::Stop;
-use pg_runner::{RunError, RunResult, report_from_bytes, run_single, transcripts_of};
+use pg_pool::Gate;
+use pg_report::Crew;
+use pg_runner::{RunError, RunResult, run_single, transcripts_of};
 use pg_script::Script;
 use std::alloc::Global;
+use std::sync::Wait;
+use std::thread::Threads;
 
 /// So many turns are enough for a processor's instructions, where no other has one between: nine
 /// for each, and one that says that it has ended.
@@ -73,12 +79,17 @@ fn end_all(board: &mut Board<'_>, script: &Script) -> Result<bool, RunError>
 }
 
 /// What the run of a script came to whose processors have ended.
-fn result_of(alloc: Global, script: &Script, board: Board<'_>) -> Result<RunResult, RunError>
+fn result_of<R: Threads + Wait + Sync, H: Gate>(
+    crew: &Crew<'_, R, H>,
+    script: &Script,
+    board: Board<'_>,
+    watched: Watched,
+) -> Result<RunResult, RunError>
     requires script { IsRunOf script.now board.world board.processors }
     requires ended { HaveToldAll (map seen board.processors) }
     ensures ok { IfOk result (λ run. IsGuestRun script.now run) }
     ensures formed { IfOk result (λ run. IsRecord (record_of run.trace)) }
-    ensures err { IfErr result (λ e. e ≡ RunError.Memory) }
+    ensures err { IfErr result IsWant }
 {
     // Its settings say that it is a script.
     let _header = script.header();
@@ -88,8 +99,11 @@ fn result_of(alloc: Global, script: &Script, board: Board<'_>) -> Result<RunResu
         publisher: _,
     } = board.finish();
     let trace = world.into_record();
-    let report = report_from_bytes(alloc, &trace)?;
-    let transcripts = transcripts_of(alloc, processors)?;
+    let report = match watched.report(crew, &trace) {
+        Ok(report) => report,
+        Err(e) => return Err(e),
+    };
+    let transcripts = transcripts_of(crew.alloc, processors)?;
     Ok(RunResult {
         trace,
         report,
@@ -97,23 +111,25 @@ fn result_of(alloc: Global, script: &Script, board: Board<'_>) -> Result<RunResu
     })
 }
 
-/// Ends the run of a script on the calling thread. Where the board is another script's, or does not
-/// come to its end, which no threads bring about, the script is run anew.
-pub(crate) fn ended(
-    alloc: Global,
+/// Ends the run of a script on the calling thread, and judges what was not judged before. Where the
+/// board is another script's, or does not come to its end, which no threads bring about, the script
+/// is run anew.
+pub(crate) fn ended<R: Threads + Wait + Sync, H: Gate>(
+    crew: &Crew<'_, R, H>,
     script: &Script,
     mut board: Board<'_>,
+    watched: Watched,
 ) -> Result<RunResult, RunError>
     ensures ok { IfOk result (λ run. IsGuestRun script.now run) }
     ensures formed { IfOk result (λ run. IsRecord (record_of run.trace)) }
     ensures err { IfErr result (StopsGuest script.now) }
 {
     if !board.is_of(script) {
-        return anew(alloc, script);
+        return anew(crew.alloc, script);
     }
     match end_all(&mut board, script) {
-        Ok(true) => result_of(alloc, script, board),
-        Ok(false) => anew(alloc, script),
+        Ok(true) => result_of(crew, script, board, watched),
+        Ok(false) => anew(crew.alloc, script),
         Err(e) => Err(e),
     }
 }

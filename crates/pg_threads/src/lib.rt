@@ -4,8 +4,12 @@
 mod crew;
 mod ending;
 mod guest;
+mod lookout;
 mod processor;
+mod same;
+mod segments;
 #[cfg(test)]
 mod tests;
+mod watched;
 
-pub use guest::run_guest;
+pub use guest::{run_guest, run_guest_watched};

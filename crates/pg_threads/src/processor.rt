@@ -4,6 +4,7 @@ use pg_board::Board;
 use pg_guest::Advance;
 use pg_home::Stop;
 use pg_pool::Gate;
+use std::sync::atomic::{AtomicU64, Ordering};
 use std::sync::{Mutex, Wait};
 
 /// How a processor's thread left an instruction.
@@ -42,7 +43,7 @@ fn carry_out<R: Wait>(rt: &R, shared: &Mutex<Board<'_>>, p: u16) -> Left {
 
 /// Carries so many instructions of a processor out, each through the gate, which is called outside
 /// the lock. Says whether memory was refused.
-pub(crate) fn run_processor<R: Wait, G: Gate>(
+fn carry_all<R: Wait, G: Gate>(
     rt: &R,
     shared: &Mutex<Board<'_>>,
     p: u16,
@@ -60,4 +61,18 @@ pub(crate) fn run_processor<R: Wait, G: Gate>(
         }
     }
     false
+}
+
+/// What a processor's thread does: it counts itself among those that have ended once it has.
+pub(crate) fn run_processor<R: Wait, G: Gate>(
+    rt: &R,
+    shared: &Mutex<Board<'_>>,
+    p: u16,
+    instructions: usize,
+    ended: &AtomicU64,
+    gate: &G,
+) -> bool {
+    let refused = carry_all(rt, shared, p, instructions, gate);
+    ended.fetch_add(1, Ordering::SeqCst);
+    refused
 }

@@ -1,11 +1,10 @@
-use crate::run_guest;
+use crate::{run_guest, run_guest_watched};
 use pg_codec::{Watched, write_record};
 use pg_event::{Event, Moments, Outcome};
 use pg_pool::{Gate, OpenGate};
 use pg_report::Verdict;
 use pg_runner::RunError;
 use pg_script::Script;
-use pg_world::Receipt;
 use std::sync::atomic::{AtomicU64, Ordering};
 use std::test::Fail;
 use std::thread;
@@ -75,6 +74,17 @@ impl Gate for OtherFirst {
     }
 }
 
+/// Processor 1's read, before anything was written.
+fn fault_of_one() -> Event {
+    Event::Access {
+        p: 1,
+        flags: 4,
+        la: 0x5123,
+        outcome: Outcome::Fault(4),
+        moments: Moments::first(0),
+    }
+}
+
 #[test]
 fn both_run_at_the_same_time(rt: HostRuntime) -> Result<(), Fail> {
     let script = Script::read(rt.alloc(), SCRIPT)?;
@@ -88,23 +98,16 @@ fn both_run_at_the_same_time(rt: HostRuntime) -> Result<(), Fail> {
     assert_eq!(rt; run.report.verdict, Verdict::Yes);
     assert_eq!(rt; run.report.events, 10);
     assert_eq!(rt; run.report.segments, 1);
-    let fault = Event::Access {
-        p: 1,
-        flags: 4,
-        la: 0x5123,
-        outcome: Outcome::Fault(4),
-        moments: Moments::first(0),
-    };
-    let receipt = Receipt {
-        moment: 0,
-        event: fault,
-    };
-    assert_eq!(rt; run.trace.events.first().copied(), Some(fault));
+    let first = run.trace.events.first().ok_or("no event")?;
+    assert_eq!(rt; *first, fault_of_one());
     assert_eq!(rt; run.transcripts.len(), 2);
     let own = run.transcripts.first().ok_or("no transcript")?;
     assert_eq!(rt; own.len(), 9);
     let other = run.transcripts.last().ok_or("no transcript")?;
-    assert_eq!(rt; other.as_slice(), [receipt].as_slice());
+    assert_eq!(rt; other.len(), 1);
+    let receipt = other.first().ok_or("no receipt")?;
+    assert_eq!(rt; receipt.moment, 0);
+    assert_eq!(rt; receipt.event, fault_of_one());
     let mut sink = Watched::new(Vec::new(rt.alloc()));
     assert!(rt; write_record(&mut sink, &run.trace.header, &run.trace.events).is_ok());
     assert_eq!(rt; sink.inner.len(), 273);
@@ -123,5 +126,72 @@ fn numbers_of_checkers(rt: HostRuntime) -> Result<(), Fail> {
         assert_eq!(rt; run.report.verdict, Verdict::Yes);
         assert_eq!(rt; run.report.events, 10);
     }
+    Ok(())
+}
+
+/// A page mapped, read, taken away, read from what is cached, invalidated and read again, in
+/// segments of two events.
+const SEGMENTS: &[u8] = b"pcid-guest 1
+machine 40 wp nxe
+segment 2
+cpu 0x1001 1
+0 write 0x1000 0x2007
+0 write 0x2000 0x3007
+0 write 0x3000 0x4007
+0 write 0x4028 0x9007
+0 read 0x5123 user
+0 write 0x4028 0x0
+0 read 0x5123 user
+0 invlpg 0x5000
+0 read 0x5123 user
+";
+
+/// Holds the last instruction until the checkers have left segment 0.
+#[derive(Drop)]
+struct LastWaits<'a> {
+    judged: &'a AtomicU64,
+    failed: AtomicU64,
+}
+
+impl<'a> Gate for LastWaits<'a> {
+    fn enter(&self, _worker: u32, number: u64) {
+        if number == 8 && !is_raised(self.judged) {
+            self.failed.store(1, Ordering::SeqCst);
+        }
+    }
+
+    fn leave(&self, _worker: u32, _number: u64) {}
+}
+
+/// Says when segment 0 has been judged.
+#[derive(Drop)]
+struct Tells<'a> {
+    judged: &'a AtomicU64,
+}
+
+impl<'a> Gate for Tells<'a> {
+    fn enter(&self, _worker: u32, _number: u64) {}
+
+    fn leave(&self, _worker: u32, number: u64) {
+        if number == 0 {
+            self.judged.store(1, Ordering::SeqCst);
+        }
+    }
+}
+
+#[test]
+fn judged_while_a_processor_runs(rt: HostRuntime) -> Result<(), Fail> {
+    let script = Script::read(rt.alloc(), SEGMENTS)?;
+    let judged = AtomicU64::new(0);
+    let gate = LastWaits {
+        judged: &judged,
+        failed: AtomicU64::new(0),
+    };
+    let tells = Tells { judged: &judged };
+    let run = run_guest_watched(&rt, rt.alloc(), &script, 1, &gate, &tells)?;
+    assert_eq!(rt; gate.failed.load(Ordering::SeqCst), 0);
+    assert_eq!(rt; run.report.verdict, Verdict::Yes);
+    assert_eq!(rt; run.report.events, 9);
+    assert_eq!(rt; run.report.segments, 5);
     Ok(())
 }

@@ -1,6 +1,6 @@
 -- What runs of guest scripts come to, from what their parts do.
 use Rattle.std.proofs.Common.{◌≡◌, ℕ, Bool, true, false, List, Result, Ok, Err, refl, sym, ◌∙◌, ap, subst, inl, inr}
-use Rattle.std.specs.Prelude.{IfOk, IfErr}
+use Rattle.std.specs.Prelude.{◌⊎◌, IfOk, IfErr}
 use Rattle.std.specs.Io.KnownBytes.{IsAtEnd}
 use Rattle.pg_event.specs.Spelling.{Recorded}
 use Rattle.pg_world.specs.declared.receipt.Receipt.{Receipt}
@@ -12,7 +12,7 @@ use Rattle.pg_runner.specs.declared.error.RunError.{RunError}
 use Rattle.pg_runner.specs.declared.error.RunError.TheVariants as runs
 use Rattle.pg_runner.specs.declared.result.RunResult.{RunResult}
 use Rattle.pg_runner.specs.Lines.{IsSingleRun, StopsRun}
-use Rattle.pg_threads.specs.Guests.{IsGuestRun as IsThreadsRun, StopsThreads}
+use Rattle.pg_threads.specs.Guests.{IsGuestRun as IsThreadsRun, StopsGuest}
 use Rattle.pg_tool.specs.declared.guest_error.GuestError.{GuestError}
 use Rattle.pg_tool.specs.declared.guest_error.GuestError.TheVariants.{TooLong, Script, Run, Device}
 use Rattle.pg_tool.specs.Guests.{Gives, HasRunOf, IsGuestRun, IsRunBy, IsResultBy, FillsBy, StopsBy, TakesScript, WritesAnswer, output_text}
@@ -37,15 +37,17 @@ pub by_many : (single : Bool) (script : Scripted) (result : Result RunResult Run
 by_many single script (Ok run) is many = subst (λ b. IsResultBy b script run) (sym is) (record { run = many.run; report = many.report; yes = many.yes })
 by_many single script (Err e) is many = tt
 
-many_stop : (single : Bool) (script : Scripted) (e : RunError) → single ≡ false → (e ≡ runs.Checkers → ⊥) → StopsThreads script e → StopsBy single script e
-many_stop single script runs.Memory is able stops = tt
-many_stop single script runs.Full is able stops = subst (λ b. FillsBy b script) (sym is) stops
-many_stop single script runs.Thread is able stops = is
-many_stop single script runs.Checkers is able stops = able refl
+many_stop : (single : Bool) (script : Scripted) (e : RunError) → single ≡ false → StopsGuest script e → StopsBy single script e
+many_stop single script runs.Memory is stops = tt
+many_stop single script runs.Full is stops = subst (λ b. FillsBy b script) (sym is) stops
+many_stop single script runs.Thread is stops = is
+many_stop single script runs.Checkers is stops = absurd stops
 
-pub stopped_by_many : (single : Bool) (script : Scripted) (result : Result RunResult RunError) → single ≡ false → (result ≡ Err runs.Checkers → ⊥) → IfErr result (StopsThreads script) → IfErr result (StopsBy single script)
+pub stopped_by_many : (single : Bool) (script : Scripted) (result : Result RunResult RunError) → single ≡ false → (result ≡ Err runs.Checkers → ⊥) → IfErr result (λ e. (e ≡ runs.Checkers) ⊎ StopsGuest script e) →
+    IfErr result (StopsBy single script)
 stopped_by_many single script (Ok run) is able stops = tt
-stopped_by_many single script (Err e) is able stops = many_stop single script e is (λ same. able (ap Err same)) stops
+stopped_by_many single script (Err e) is able (inl same) = absurd (able (ap Err same))
+stopped_by_many single script (Err e) is able (inr stops) = many_stop single script e is stops
 
 -- ---- what the program says
 

@@ -9,7 +9,7 @@ use Rattle.pg_threads.proofs.WholeRuns.{whole_run, says_yes}
 use Rattle.pg_threads.proofs.ending.result_of.Goals as goal
 
 pub returns-clause-ok : goal.returns-clause-ok
-returns-clause-ok c =
+returns-clause-ok g c =
     let script = c.args.script.now in
     let end = c.args.board.world in
     let trace = c.into_record-trace.result in
@@ -21,6 +21,6 @@ returns-clause-ok c =
     let told = c.in_ok-transcripts.ensures ∙ ap (λ (gs : List Held). map (λ (h : Held). h.transcript) gs) c.finish-world.ensures.processors in
     record {
       run = whole_run script end c.args.board.processors trace _ c.header-header.ensures.kept is_record c.requires.script c.requires.ended same told;
-      report = c.in_ok-report.ensures.ok;
-      yes = says_yes script end c.args.board.processors trace c.in_ok-report.report c.requires.script same c.in_ok-report.ensures.ok;
+      report = c.in-Ok.ensures.ok;
+      yes = says_yes script end c.args.board.processors trace c.in-Ok.report c.requires.script same c.in-Ok.ensures.ok;
     }
