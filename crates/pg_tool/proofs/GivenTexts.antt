@@ -1,5 +1,5 @@
 -- What is written for a record of which a text is asked, and what an error leaves.
-use Rattle.std.proofs.Common.{◌≡◌, ℕ, List, Option, Some, None, Ok, Err, IfSome, refl, inl, inr}
+use Rattle.std.proofs.Common.{ℕ, List, Option, Some, None, Ok, Err, IfSome, inl, inr}
 use Rattle.pg_event.specs.declared.version.Version.TheVariants.{Two}
 use Rattle.pg_event.specs.Spelling.{Recorded}
 use Rattle.pg_report.specs.declared.error.AuditError.{AuditError}

@@ -2,7 +2,7 @@ use Rattle.std.proofs.Common.{refl, subst, sym}
 use Rattle.std.proofs.KnownBytes.{Keeps-refl}
 use Rattle.pg_event.specs.Spelling.{Recorded}
 use Rattle.pg_tool.specs.Explanations.{IsExplanationOf}
-use Rattle.pg_tool.proofs.GivenTexts.{reading_fails, memory_fails, text_written, text_fails}
+use Rattle.pg_tool.proofs.GivenTexts.{reading_fails, text_written, text_fails}
 use Rattle.pg_tool.proofs.explanations.write_explanation.Goals as goal
 
 pub returns-in-Err : goal.returns-in-Err
