@@ -23,33 +23,38 @@ cpu 0x1001 1
 1 read 0x5123 user
 ";
 
-/// Gives two processors a turn each, until both have ended or this many turns came.
-fn turn_both(board: &mut Board<'_>) -> usize {
-    let mut ended = 0;
+/// Gives two processors a turn each, until both have ended; says whether they have.
+fn turn_both(board: &mut Board<'_>) -> bool {
+    let mut before = false;
     for k in 0..100u16 {
         let p = k % 2;
         if p as usize >= board.count() {
-            return 0;
+            return false;
         }
-        ended = match board.turn(p) {
-            Advance::Ended => ended + 1,
-            Advance::Read(_) | Advance::Assisted(_) | Advance::Done(_) | Advance::Stopped(_) => 0,
-        };
-        if ended == 2 {
-            return k as usize;
+        let ended = matches!(board.turn(p), Advance::Ended);
+        if ended && before {
+            return true;
         }
+        before = ended;
     }
-    0
+    false
 }
 
 #[test]
 fn counts_after_the_last_turn(rt: HostRuntime) -> Result<(), Fail> {
     let script = Script::read(rt.alloc(), SCRIPT)?;
     let (progress, publisher, mut seats) = Progress::open(rt.alloc(), 1)?;
-    let mut seat = seats.pop().ok_or("no reader")?;
+    let Some(mut seat) = seats.pop() else {
+        return Err(Fail::from("no reader"));
+    };
+    let none = Counts {
+        events: 0,
+        segments: 0,
+    };
+    assert_eq!(rt; progress.read(&mut seat), none);
     let mut board = Board::new(rt.alloc(), &script, publisher, &progress)?;
     assert!(rt; board.is_of(&script));
-    assert!(rt; turn_both(&mut board) > 0);
+    assert!(rt; turn_both(&mut board));
     assert!(rt; board.take_sealed(rt.alloc())?.is_none());
     assert!(rt; board.is_of(&script));
     let finished = board.finish();
