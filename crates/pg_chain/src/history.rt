@@ -1,4 +1,5 @@
-ghost use Rattle.std.specs.Prelude.{◌≡◌, ◌+◌, ◌<◌, ◌≤◌, ◌^◌, List, [], ◌∷◌, ◌++◌, length, true};
+ghost use Rattle.std.specs.Prelude.{◌≡◌, ◌+◌, ◌-◌, ◌<◌, ◌≤◌, ◌^◌, List, [], ◌∷◌, ◌++◌, length};
+ghost use Rattle.std.specs.Prelude.{not, true};
 ghost use Rattle.std.specs.Prelude.{IfOk, IsOk, OnOk, OnErr};
 ghost use Rattle.std.specs.List.{AllByRecursion};
 ghost use Rattle.pg_event.specs.declared.event.Event.{Event};
@@ -10,6 +11,7 @@ ghost use Rattle.pg_event.specs.Invalidation.{structure_key, translation_key};
 ghost use Rattle.pg_event.specs.Invalidation.{must_drop_structure, must_drop_translation};
 ghost use Rattle.pg_event.specs.Witness.{survives};
 ghost use Rattle.pg_inval.specs.Drops.{may_drop, IsTableLevel, IsPageShift};
+ghost use Rattle.pg_inval.specs.Lists.{IsFirstDrop};
 ghost use Rattle.pg_chain.specs.Standing.{IsPast, IsNext, processor_count, changes_nothing};
 
 use pg_entry::{Cfg, Entry, Level, marked};
@@ -17,12 +19,15 @@ use pg_event::{Control, Event, Header, Outcome, Version, processor_of, says_dirt
 use pg_inval::Drops;
 use pg_moment::Versions;
 use pg_state::Controls;
+use pg_timeline::Probes;
 use std::alloc::{AllocError, Global};
 
 /// What a run did up to some event, as far as it was noted. A moment is the number of an event, and
 /// lies just before it.
 #[derive(Debug, Drop)]
 pub struct Past {
+    /// Where memory for it comes from.
+    pub alloc: Global,
     /// What memory was.
     pub versions: Versions,
     /// What the control registers were.
@@ -38,6 +43,7 @@ impl Past {
         ensures { IfOk result (λ past. IsPast past header.now []) }
     {
         Ok(Past {
+            alloc,
             versions: Versions::new(alloc),
             controls: Controls::new(alloc, header)?,
             drops: Drops::new(alloc),
@@ -182,10 +188,9 @@ impl Past {
         !self.drops.structure_dropped(p, pcid, level, la, from, to)
     }
 
-    /// Whether the translation of a linear address by a page of 2 to the power of `shift` bytes
-    /// (12, 21 or 30) under a PCID survives on a processor from one moment up to, not with,
-    /// another.
-    pub fn translation_survives(
+    /// The first event from this moment on at which a processor had to drop the translation of a
+    /// linear address by a page of 2 to the power of `shift` bytes (12, 21 or 30) under a PCID.
+    pub fn first_drop_of_translation(
         &self,
         p: u16,
         pcid: u16,
@@ -193,15 +198,16 @@ impl Past {
         la: u64,
         global: bool,
         from: u32,
-        to: u32,
-    ) -> bool
+    ) -> Option<u32>
         requires { IsPageShift shift }
         ensures { let key = translation_key pcid shift global la in
             (head : Head) (events : List Event) → IsPast self.now head events →
-            result ≡ survives head events p (λ c e. must_drop_translation c e key) from to }
+            IsFirstDrop
+            (λ a b. not (survives head events p (λ c e. must_drop_translation c e key) a b))
+            from (2 ^ 32 - 1) result }
     {
-        !self
-            .drops
-            .translation_dropped(p, pcid, shift, la, global, from, to)
+        let mut probes = Probes::new();
+        self.drops
+            .first_drop_of_translation(p, pcid, shift, la, global, from, u32::MAX, &mut probes)
     }
 }

@@ -38,7 +38,7 @@ fn failing_marks(cfg: Cfg, update: &Update, chain: Chain) -> Option<Reason>
 }
 
 /// The least reason that fails for an assist with these moments.
-pub fn failing_assist(past: &Past, update: &Update, moments: &Moments) -> Option<Reason>
+pub(crate) fn failing_assist(past: &Past, update: &Update, moments: &Moments) -> Option<Reason>
     requires { update.now.p < processor_count past.now }
     ensures { (head : Head) (events : List Event) → IsPast past.now head events →
         result ≡ failing_assist head events update.now moments.now }

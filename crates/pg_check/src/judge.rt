@@ -10,13 +10,14 @@ ghost use Rattle.pg_chain.specs.Standing.{IsPast, processor_count};
 
 use crate::access::failing_access;
 use crate::assist::failing_assist;
-use pg_chain::Past;
+use crate::memo::Memo;
 use pg_event::{Claim, Event, Reason, Update, access_kind, says_dirty};
 
 /// The least reason that fails for an event with this number.
-pub(crate) fn failing(past: &Past, number: u32, event: &Event) -> Option<Reason>
-    requires { processor_of event.now < processor_count past.now }
-    ensures { (head : Head) (events : List Event) → IsPast past.now head events →
+pub(crate) fn failing(memo: &mut Memo<'_>, number: u32, event: &Event) -> Option<Reason>
+    requires { processor_of event.now < processor_count memo.old }
+    ensures past { memo.new ≡ memo.old }
+    ensures failing { (head : Head) (events : List Event) → IsPast memo.old head events →
         result ≡ failing_event head events number event.now }
 {
     match *event {
@@ -34,7 +35,7 @@ pub(crate) fn failing(past: &Past, number: u32, event: &Event) -> Option<Reason>
                 la,
                 outcome,
             };
-            failing_access(past, &claim, &moments)
+            failing_access(memo, &claim, &moments)
         }
         Event::Assist {
             p,
@@ -51,7 +52,7 @@ pub(crate) fn failing(past: &Past, number: u32, event: &Event) -> Option<Reason>
                 word,
                 dirty: says_dirty(flags),
             };
-            failing_assist(past, &update, &moments)
+            failing_assist(memo.past(), &update, &moments)
         }
         Event::Write { .. }
         | Event::MovCr3 { .. }
@@ -62,16 +63,21 @@ pub(crate) fn failing(past: &Past, number: u32, event: &Event) -> Option<Reason>
 }
 
 /// The least of some events that is not witnessed, where the first of them has this number.
-pub(crate) fn first_bad_of(past: &Past, first: u64, events: &[Event]) -> Option<(u64, Reason)>
+pub(crate) fn first_bad_of(
+    memo: &mut Memo<'_>,
+    first: u64,
+    events: &[Event],
+) -> Option<(u64, Reason)>
     requires processors { AllByRecursion
-        (λ e. processor_of e < processor_count past.now) events.now }
+        (λ e. processor_of e < processor_count memo.old) events.now }
     requires count { first + length events.now ≤ 2 ^ 32 }
-    ensures { (head : Head) (all : List Event) → IsPast past.now head all →
+    ensures past { memo.new ≡ memo.old }
+    ensures first { (head : Head) (all : List Event) → IsPast memo.old head all →
         result ≡ first_bad_from head all first events.now }
 {
     for (i, event) in events.iter().enumerate() {
         let number = first + i as u64;
-        if let Some(reason) = failing(past, number as u32, event) {
+        if let Some(reason) = failing(memo, number as u32, event) {
             return Some((number, reason));
         }
     }

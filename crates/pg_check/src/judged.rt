@@ -13,6 +13,7 @@ ghost use Rattle.pg_check.specs.Judging.{Awaits, IsFound, IsJudged, MayFollow};
 ghost use Rattle.pg_check.specs.Stretches.{IsStretch};
 
 use crate::judge::first_bad_of;
+use crate::memo::Memo;
 use crate::stretch::Stretch;
 use pg_chain::Past;
 use pg_event::{Event, Header, Reason};
@@ -119,7 +120,10 @@ impl Judged {
         self.note(events)?;
         let found = match self.first_bad {
             Some(_) => None,
-            None => first_bad_of(&self.past, self.count, events),
+            None => {
+                let mut memo = Memo::new(&self.past, events.len());
+                first_bad_of(&mut memo, self.count, events)
+            }
         };
         self.settle(events, found);
         Ok(())

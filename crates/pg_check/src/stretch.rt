@@ -6,6 +6,7 @@ ghost use Rattle.pg_check.specs.Segments.{segment_verdict};
 ghost use Rattle.pg_check.specs.Stretches.{IsStretch, HasSegment};
 
 use crate::judge::first_bad_of;
+use crate::memo::Memo;
 use pg_chain::Past;
 use pg_event::{Event, Reason};
 
@@ -31,11 +32,20 @@ pub struct Stretch<'a> {
     pub events: &'a [Event],
 }
 
-impl Stretch<'_> {
+impl<'a> Stretch<'a> {
+    /// A memo of walks for one thread's judging, with none as yet.
+    pub fn memo(&self) -> Memo<'a>
+        ensures { result ≡ self.now.past.now }
+    {
+        Memo::new(self.past, self.events.len())
+    }
+
     /// Checks the events of one segment, in their order, up to the first that is not witnessed.
-    pub fn check_segment(&self, k: u64) -> SegmentVerdict
-        requires { HasSegment self.now k }
-        ensures { (r : Recorded) → IsStretch self.now r → result ≡ segment_verdict r k }
+    pub fn check_segment(&self, memo: &mut Memo<'_>, k: u64) -> SegmentVerdict
+        requires segment { HasSegment self.now k }
+        requires memo { memo.old ≡ self.now.past.now }
+        ensures memo { memo.new ≡ memo.old }
+        ensures verdict { (r : Recorded) → IsStretch self.now r → result ≡ segment_verdict r k }
     {
         let size = self.segment as u64;
         let start = k * size - self.first;
@@ -43,7 +53,7 @@ impl Stretch<'_> {
         let events = &self.events[start as usize..end as usize];
         SegmentVerdict {
             number: k,
-            first_bad: first_bad_of(self.past, k * size, events),
+            first_bad: first_bad_of(memo, k * size, events),
         }
     }
 }

@@ -9,7 +9,7 @@ use pg_chain::{Chain, Past, chain};
 use pg_event::{Moments, Reason, Want};
 
 /// Whether moments do not decrease, and none is above `last`, the number of the event.
-fn is_in_order(moments: &[u32], last: u32) -> bool
+pub fn is_in_order(moments: &[u32], last: u32) -> bool
     requires { 1 ≤ length moments.now }
     ensures { result ≡ is_in_order moments.now last }
 {

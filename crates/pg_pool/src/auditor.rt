@@ -10,7 +10,7 @@ use crate::gate::Gate;
 use crate::judge::Judge;
 use crate::judging::judge_round;
 use crate::round::Round;
-use pg_check::{SegmentVerdict, Stretch};
+use pg_check::{Memo, SegmentVerdict, Stretch};
 use std::alloc::Global;
 use std::marker::Model;
 use std::sync::Wait;
@@ -46,8 +46,14 @@ impl<'a> Judge for Segments<'a> {
     ghost finds = { λ s found.
         (r : Recorded) × IsStretch s.stretch r × (found ≡ first_bad_of_segment r) };
 
-    fn judge(&self, number: u32) -> SegmentVerdict {
-        self.stretch.check_segment(number as u64)
+    ghost past = { λ s. s.stretch.past.now };
+
+    fn memo(&self) -> Memo<'_> {
+        self.stretch.memo()
+    }
+
+    fn judge(&self, memo: &mut Memo<'_>, number: u32) -> SegmentVerdict {
+        self.stretch.check_segment(memo, number as u64)
     }
 }
 

@@ -40,6 +40,7 @@ pub fn work<J: Judge, G: Gate>(alloc: Global, judge: &J, gate: &G, mut seat: Sea
 {
     let worker = seat.number();
     let round = seat.round();
+    let mut memo = judge.memo();
     let mut verdicts = Vec::new(alloc);
     let mut refused = false;
     // Each turn takes another number, so no more turns than numbers are needed.
@@ -52,7 +53,7 @@ pub fn work<J: Judge, G: Gate>(alloc: Global, judge: &J, gate: &G, mut seat: Sea
             break;
         };
         gate.enter(worker, number as u64);
-        verdicts.push_reserved(judge.judge(number));
+        verdicts.push_reserved(judge.judge(&mut memo, number));
         gate.leave(worker, number as u64);
     }
     Done {

@@ -46,7 +46,7 @@ pub fn judge_left<J: Judge, G: Gate>(
 {
     for number in left {
         gate.enter(worker, *number as u64);
-        verdicts[(*number - first) as usize] = judge.judge(*number);
+        verdicts[(*number - first) as usize] = judge.judge(&mut judge.memo(), *number);
         gate.leave(worker, *number as u64);
     }
 }

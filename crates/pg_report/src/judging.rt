@@ -18,13 +18,13 @@ use pg_event::{Event, Version};
 use std::alloc::{AllocError, Global};
 
 /// Events are judged once so many wait, and then let go; the last segment may bring more.
-const WINDOW: usize = 1 << 14;
+const WINDOW: usize = 1 << 16;
 
 /// Judges the events of a window once they are many, and lets them go.
 fn judge_many(judged: &mut Judged, window: &mut Vec<Event>) -> Result<(), AllocError>
     requires next { MayFollow judged.old window.old.items }
     requires whole { BeginsSegment judged.old window.old.items }
-    ensures few { OnOk result (length window.new.items < 2 ^ 14) }
+    ensures few { OnOk result (length window.new.items < 2 ^ 16) }
     ensures whole { OnOk result (BeginsSegment judged.new window.new.items) }
     ensures moved { (head : Head) (before : List Event) → IsJudged judged.old head before →
         AreWellFormed head window.old.items → OnOk result

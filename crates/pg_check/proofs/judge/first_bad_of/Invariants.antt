@@ -6,5 +6,7 @@ use Rattle.pg_chain.specs.Standing.{IsPast}
 use Rattle.pg_check.proofs.judge.first_bad_of.Given as goal
 
 abbrev pub invariant-loop-i : goal.invariant-loop-i
-invariant-loop-i l = (head : Head) (all : List Event) → IsPast l.past head all →
-    first_bad_from head all l.first l.events ≡ first_bad_from head all (l.first + l.i) (drop l.i l.events)
+invariant-loop-i l =
+    (l.memo ≡ l.fn.memo)
+    × ((head : Head) (all : List Event) → IsPast l.memo head all →
+    first_bad_from head all l.first l.events ≡ first_bad_from head all (l.first + l.i) (drop l.i l.events))

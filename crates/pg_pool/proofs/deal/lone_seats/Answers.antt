@@ -1,8 +1,7 @@
-use Rattle.std.proofs.Common.{rules, ◌≡◌, ◌∙◌, ◌∷◌, ◌++◌, [], ap, sym, subst}
+use Rattle.std.proofs.Common.{rules, ◌∙◌, ◌∷◌, [], ap, sym, subst}
 use Rattle.crossbeam_deque.specs.Handles.{worker_deque}
 use Rattle.pg_pool.specs.declared.hand.Hand.{Hand}
-use Rattle.pg_pool.specs.Rounds.{dealt}
-use Rattle.pg_pool.specs.Seats.{Part, part_of, untouched, IsDeal}
+use Rattle.pg_pool.specs.Seats.{part_of, IsDeal}
 use Rattle.pg_pool.proofs.Deals.{lone_deal, Lone-more}
 use Rattle.pg_pool.proofs.deal.lone_seats.Goals as goal
 

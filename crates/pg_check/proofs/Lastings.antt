@@ -1,0 +1,54 @@
+-- What the first event that drops a translation says of an access.
+use Rattle.std.proofs.Common.{◌≡◌, ℕ, ◌+◌, ◌-◌, ◌<◌, ◌≤◌, Bool, true, false, not, nat_lt, List, Some, None, ◌⊎◌, inl, inr, sym, subst, ◌∙◌, arith}
+use Rattle.std.proofs.lemmas.Bool.{ltb-true, lt-ltb, false≢true, false_from_ne_true, cases_lt}
+use Rattle.pg_event.specs.declared.event.Event.{Event}
+use Rattle.pg_event.specs.Heads.{Head}
+use Rattle.pg_event.specs.Walk.{Reading}
+use Rattle.pg_event.specs.Witness.{any_from}
+use Rattle.pg_entry.specs.declared.Kind.{Kind}
+use Rattle.pg_entry.specs.declared.Kind.TheVariants.{Table, Absent, Reserved}
+use Rattle.pg_inval.specs.Lists.{IsFirstDrop}
+use Rattle.pg_check.specs.Lasting.{LastsTo}
+use Rattle.pg_inval.proofs.AnyFrom.{same_truth, not-not, any_from-at, any_from-passes}
+
+-- whether a number of a window passes a test, said twice not
+abbrev passes_in : (ℕ → Bool) → ℕ → ℕ → Bool
+passes_in test a b = not (not (any_from test a (b - a)))
+
+-- no number of a window passes, if none of a longer one does
+pub none_shorter : (test : ℕ → Bool) (from to number : ℕ) → number ≤ to → passes_in test from to ≡ false → false ≡ any_from test from (number - from)
+none_shorter test from to number within none =
+    sym (false_from_ne_true (any_from test from (number - from)) (λ passes.
+    let r = any_from-passes test from (number - from) passes in
+    let low : from ≤ r.at = r.low in
+    let high : r.at < from + (number - from) = r.high in
+    let longer : any_from test from (to - from) ≡ true = any_from-at test from (to - from) r.at low (omega arith) r.passes in
+    false≢true (sym none ∙ not-not (any_from test from (to - from)) ∙ longer)))
+
+-- the first number that passes lies below another, or no number below that one passes
+pub first_below : (test : ℕ → Bool) (from to number m : ℕ) → IsFirstDrop (passes_in test) from to (Some m) → nat_lt m number ≡ any_from test from (number - from)
+first_below test from to number m first =
+    let low : from ≤ m = first.0 in
+    let r = any_from-passes test m (m + 1 - m) (sym (not-not (any_from test m (m + 1 - m))) ∙ first.3) in
+    let here : r.at ≡ m = omega (arith, r.low, r.high) in
+    same_truth (nat_lt m number) (any_from test from (number - from))
+    (λ below.
+    let lt : m < number = ltb-true m number below in
+    any_from-at test from (number - from) r.at (omega arith) (omega arith) r.passes)
+    (λ passes.
+    let s = any_from-passes test from (number - from) passes in
+    let start : from ≤ s.at = s.low in
+    let end : s.at < from + (number - from) = s.high in
+    elim (cases_lt m number) [
+      | inl lt ↦ lt-ltb m number lt
+      | inr ge ↦
+          let before : any_from test from (m - from) ≡ true = any_from-at test from (m - from) s.at start (omega arith) s.passes in
+          absurd (false≢true (sym first.2 ∙ not-not (any_from test from (m - from)) ∙ before))
+    ])
+
+-- nothing is said of an end that gives no translation
+pub nothing_lasts : (head : Head) (events : List Event) (p la pcid : ℕ) (r : Reading) (k : Kind) →
+    ((x : ℕ) × (k ≡ Table x)) ⊎ ((k ≡ Absent) ⊎ (k ≡ Reserved)) → LastsTo head events p la pcid r k false None
+nothing_lasts head events p la pcid r k (inl (x, e)) = subst (λ (j : Kind). LastsTo head events p la pcid r j false None) (sym e) tt
+nothing_lasts head events p la pcid r k (inr (inl e)) = subst (λ (j : Kind). LastsTo head events p la pcid r j false None) (sym e) tt
+nothing_lasts head events p la pcid r k (inr (inr e)) = subst (λ (j : Kind). LastsTo head events p la pcid r j false None) (sym e) tt

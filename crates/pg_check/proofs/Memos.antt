@@ -1,0 +1,24 @@
+-- What a slot of a memo says of the walk that it names.
+use Rattle.std.proofs.Common.{◌≡◌, ℕ, suc, zero, ◌<◌, List, [], ◌∷◌, length, get_or, Option, Some, Ok, subst, arith}
+use Rattle.pg_event.specs.declared.event.Event.{Event}
+use Rattle.pg_event.specs.declared.event.Want.TheVariants as wants
+use Rattle.pg_event.specs.Heads.{Head}
+use Rattle.pg_chain.specs.declared.history.Past.{Past}
+use Rattle.pg_chain.specs.Standing.{IsPast}
+use Rattle.pg_check.specs.declared.memo.Slot.{Slot}
+use Rattle.pg_check.specs.Lasting.{IsWalk}
+use Rattle.pg_check.specs.Remembered.{HasWalk, HaveWalks}
+
+-- what holds of each slot holds of the one at a place
+pub slot_at : (past : Past) (slots : List (Option Slot)) (i : ℕ) (d : Option Slot) → HaveWalks past slots → i < length slots → HasWalk past (get_or slots i d)
+slot_at past [] i d all h = absurd (omega arith)
+slot_at past (x ∷ xs) zero d all h = all.0
+slot_at past (x ∷ xs) (suc i) d all h = slot_at past xs i d all.1 (omega arith)
+
+-- a slot says what the walk comes to that it names
+pub walk_of_slot : (past : Past) (s : Slot) (p page : ℕ) (ws : List ℕ) → HasWalk past (Some s) → (s.p ≡ p) × (s.page ≡ page) × (s.moments ≡ ws) →
+    (head : Head) (events : List Event) → IsPast past head events → IsWalk head events p page wants.Leaf ws (Ok s.walk)
+walk_of_slot past s p page ws has same head events h =
+    subst (λ q. IsWalk head events q page wants.Leaf ws (Ok s.walk)) same.0
+    (subst (λ la. IsWalk head events s.p la wants.Leaf ws (Ok s.walk)) same.1
+    (subst (λ vs. IsWalk head events s.p s.page wants.Leaf vs (Ok s.walk)) same.2 (has head events h)))

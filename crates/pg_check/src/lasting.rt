@@ -1,0 +1,93 @@
+//! Walks by moments, and how long the translations last that they give.
+
+ghost use Rattle.std.specs.Prelude.{◌≡◌, ◌&&◌, ◌<◌, ◌≤◌, ◌^◌, List};
+ghost use Rattle.pg_entry.specs.Kinds.{kind_of};
+ghost use Rattle.pg_event.specs.declared.event.Event.{Event};
+ghost use Rattle.pg_event.specs.Heads.{Head};
+ghost use Rattle.pg_event.specs.Values.{control_at};
+ghost use Rattle.pg_chain.specs.Standing.{IsPast, processor_count};
+ghost use Rattle.pg_check.specs.Ends.{IsSmallLeaf};
+ghost use Rattle.pg_check.specs.Lasting.{IsLasting, IsWalk};
+
+use pg_chain::{Chain, Past, Step, chain};
+use pg_entry::{Cfg, Entry, Kind, classify};
+use pg_event::{Moments, Reason, Want};
+
+/// A walk by moments, and what becomes of the translation that it gives.
+#[derive(Clone, Copy, PartialEq, Eq, Debug)]
+pub struct Lasting {
+    pub chain: Chain,
+    /// Whether the translation is global.
+    pub global: bool,
+    /// The first event from the last reading on at which the translation had to go.
+    pub dropped: Option<u32>,
+}
+
+/// What the entry of a step is, with a leaf's page within the physical addresses.
+pub fn kind_at(cfg: Cfg, step: Step) -> Kind
+    requires { (36 ≤ cfg.m) × (cfg.m ≤ 52) }
+    ensures kind { result ≡ kind_of cfg step.level step.value }
+    ensures small { IsSmallLeaf result }
+{
+    classify(cfg, step.level, Entry(step.value))
+}
+
+/// Whether a translation that a leaf gives is global: the leaf's bit 8 is set, and CR4.PGE was when
+/// it was read.
+fn is_global(past: &Past, p: u16, moment: u32, global_bit: bool) -> bool
+    requires { p < processor_count past.now }
+    ensures { (head : Head) (events : List Event) → IsPast past.now head events →
+        result ≡ (global_bit && (control_at head events p moment).pge) }
+{
+    global_bit && past.control_at(p, moment).pge
+}
+
+/// How long the translation lasts that a walk gives.
+fn with_drop(past: &Past, p: u16, la: u64, chain: Chain) -> Lasting
+    requires { p < processor_count past.now }
+    ensures chain { result.chain ≡ chain }
+    ensures lasting { (head : Head) (events : List Event) → IsPast past.now head events →
+        IsLasting head events p la result }
+{
+    let end = chain.end;
+    match kind_at(past.cfg(), end) {
+        Kind::Leaf {
+            shift,
+            global_bit,
+            ..
+        } => {
+            let global = is_global(past, p, end.moment, global_bit);
+            Lasting {
+                chain,
+                global,
+                dropped: past.first_drop_of_translation(
+                    p, chain.pcid, shift, la, global, end.moment,
+                ),
+            }
+        }
+        Kind::Table { .. } | Kind::Absent | Kind::Reserved => Lasting {
+            chain,
+            global: false,
+            dropped: None,
+        },
+    }
+}
+
+/// The walk of an access by its moments, and how long its translation lasts, or the least of the
+/// reasons `Entry`, `Context` and `StructureDropped`.
+pub fn lasting_walk(
+    past: &Past,
+    p: u16,
+    la: u64,
+    moments: &Moments,
+    want: Want,
+) -> Result<Lasting, Reason>
+    requires { p < processor_count past.now }
+    ensures { (head : Head) (events : List Event) → IsPast past.now head events →
+        IsWalk head events p la want moments.now result }
+{
+    match chain(past, p, la, moments, want) {
+        Ok(chain) => Ok(with_drop(past, p, la, chain)),
+        Err(reason) => Err(reason),
+    }
+}

@@ -1,0 +1,159 @@
+//! Walks that were made, kept so that they need not be made again.
+
+ghost use Rattle.std.specs.Prelude.{◌≡◌, ◌<◌, List, Some, Ok, IfSome, IsTrue};
+ghost use Rattle.pg_event.specs.declared.event.Event.{Event};
+ghost use Rattle.pg_event.specs.declared.event.Want.TheVariants.{Leaf};
+ghost use Rattle.pg_event.specs.Heads.{Head};
+ghost use Rattle.pg_chain.specs.Standing.{IsPast, processor_count};
+ghost use Rattle.pg_check.specs.Lasting.{IsWalk};
+ghost use Rattle.pg_check.specs.Remembered.{HasWalk};
+
+use crate::lasting::{Lasting, lasting_walk};
+use pg_chain::Past;
+use pg_event::{Moments, Reason, Want};
+use std::marker::Model;
+
+/// A walk that was made: which one, and what it came to. The page is told by its first address: no
+/// walk depends on the offset in it.
+#[derive(Clone, Copy, PartialEq, Eq, Debug)]
+pub struct Slot {
+    pub p: u16,
+    pub page: u64,
+    pub moments: Moments,
+    pub walk: Lasting,
+}
+
+/// The walks that were made by a past, those of them that are found again: in an accepted record
+/// most accesses have one that another had before. A slot that is needed for another walk is taken.
+#[derive(Debug, Drop)]
+pub struct Memo<'a> {
+    past: &'a Past,
+    slots: Vec<Option<Slot>>,
+}
+
+impl<'a> Model for Memo<'a> {
+    ghost use Rattle.pg_chain.specs.declared.history.Past.{Past};
+
+    ghost Value = { Past };
+
+    ghost use Rattle.pg_check.specs.Remembered.{HaveWalks};
+
+    ghost view = { λ memo. memo.past.now };
+
+    ghost invariant = { λ memo. HaveWalks memo.past.now memo.slots.items };
+}
+
+/// So many walks are kept at most.
+const MOST_SLOTS: usize = 32_768;
+
+/// An odd number whose bits are spread, which spreads those of what it is multiplied by.
+const SPREAD: u64 = 0x9e37_79b9_7f4a_7c15;
+
+/// Whether a slot has the walk of a processor to a page by these moments.
+fn is_of(slot: &Slot, p: u16, page: u64, moments: &Moments) -> bool
+    ensures { IsTrue result → (slot.now.p ≡ p) × (slot.now.page ≡ page)
+        × (slot.now.moments ≡ moments.now) }
+{
+    slot.p == p && slot.page == page && slot.moments.as_slice() == moments.as_slice()
+}
+
+impl<'a> Memo<'a> {
+    /// No walk. There is room for as many as `events`, up to a limit; where memory is refused, each
+    /// walk is made anew.
+    pub fn new(past: &'a Past, events: usize) -> Memo<'a>
+        ensures { result ≡ past.now }
+    {
+        let count = events.min(MOST_SLOTS);
+        let slots = match Vec::from_elem(past.alloc, None, count) {
+            Ok(slots) => slots,
+            Err(_) => Vec::new(past.alloc),
+        };
+        Memo { past, slots }
+    }
+
+    /// What the run did.
+    pub fn past(&self) -> &Past
+        ensures { result.now ≡ self.now }
+    {
+        self.past
+    }
+
+    /// The place of a walk to a page, where there are any.
+    fn place_of(&self, p: u16, page: u64, moments: &Moments) -> usize {
+        let all = moments.as_slice();
+        let last = all[all.len() - 1] as u64;
+        let named = page ^ (last << 12) ^ ((p as u64) << 48);
+        (named.wrapping_mul(SPREAD) >> 32) as usize % self.slots.len().max(1)
+    }
+
+    /// What the slot at a place has of a walk to a page.
+    fn kept(&self, place: usize, p: u16, page: u64, moments: &Moments) -> Option<Lasting>
+        ensures { (head : Head) (events : List Event) → IsPast self.now head events →
+            IfSome result (λ l. IsWalk head events p page Leaf moments.now (Ok l)) }
+    {
+        let slot = (*self.slots.get(place)?)?;
+        if is_of(&slot, p, page, moments) {
+            Some(slot.walk)
+        } else {
+            None
+        }
+    }
+
+    /// Keeps a walk at a place, where there is one.
+    fn keep(&mut self, place: usize, slot: Slot)
+        requires { HasWalk self.old (Some slot) }
+        ensures { self.new ≡ self.old }
+    {
+        if place < self.slots.len() {
+            self.slots[place] = Some(slot);
+        }
+    }
+
+    /// The walk of an access to a page by its moments.
+    fn page_walk(&mut self, p: u16, page: u64, moments: &Moments) -> Result<Lasting, Reason>
+        requires { p < processor_count self.old }
+        ensures past { self.new ≡ self.old }
+        ensures walk { (head : Head) (events : List Event) → IsPast self.old head events →
+            IsWalk head events p page Leaf moments.now result }
+    {
+        let place = self.place_of(p, page, moments);
+        if let Some(walk) = self.kept(place, p, page, moments) {
+            return Ok(walk);
+        }
+        match lasting_walk(self.past, p, page, moments, Want::Leaf) {
+            Ok(walk) => {
+                let slot = Slot {
+                    p,
+                    page,
+                    moments: *moments,
+                    walk,
+                };
+                self.keep(place, slot);
+                Ok(walk)
+            }
+            Err(reason) => Err(reason),
+        }
+    }
+
+    /// The walk of an access by its moments, and how long its translation lasts, or the least of
+    /// the reasons `Entry`, `Context` and `StructureDropped`.
+    pub fn walk(
+        &mut self,
+        p: u16,
+        la: u64,
+        moments: &Moments,
+        want: Want,
+    ) -> Result<Lasting, Reason>
+        requires { p < processor_count self.old }
+        ensures past { self.new ≡ self.old }
+        ensures walk { (head : Head) (events : List Event) → IsPast self.old head events →
+            IsWalk head events p la want moments.now result }
+    {
+        match want {
+            Want::Leaf => self.page_walk(p, la - la % 4096, moments),
+            Want::Absent | Want::Reserved | Want::Present => {
+                lasting_walk(self.past, p, la, moments, want)
+            }
+        }
+    }
+}
