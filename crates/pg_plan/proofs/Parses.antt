@@ -17,7 +17,7 @@ use Rattle.clap.specs.Faults.{fault_of, is_simple_and_free}
 use Rattle.clap.proofs.OnLiterals.{clap_on_literals}
 use Rattle.pg_plan.specs.declared.request.Plan.{Plan}
 use Rattle.pg_plan.specs.declared.request.Command.{Command}
-use Rattle.pg_plan.specs.Commands.{AreAsked, AreFrom1To64, Asks, AsksOnly, IsPlanOf, command_line, command_word, faults, is_on}
+use Rattle.pg_plan.specs.Commands.{AreAsked, AreFrom1To64, Asks, AsksOnly, IsAsked, IsNumberIn, IsPlanOf, command_line, command_word, faults, is_on}
 
 is_plain : is_simple_and_free command_line ≡ true
 unfolding clap_on_literals
@@ -64,7 +64,17 @@ is_asked words plan taken plans = ((taken, (plans plan).0 refl), only)
 
 pub asked_range : (o : Option Text) (n : ℕ) → AreAsked o n → AreFrom1To64 n
 asked_range None n is = (omega arith, omega arith)
-asked_range (Some text) n is = is.2
+asked_range (Some text) n is = is.1
+
+-- a number in a text may be one of checkers, is too small or too large, or there is none
+pub counts_few : (text : Text) (k : ℕ) → ((n : ℕ) → (Some k ≡ Some n) ↔ IsNumberIn text n) → AreFrom1To64 k → (n : ℕ) → (Some k ≡ Some n) ↔ AreAsked (Some text) n
+counts_few text k is few n = (λ e. let same : k ≡ n = cc in ((is n).0 e, subst AreFrom1To64 same few), λ h. (is n).1 h.0)
+
+pub counts_others : (text : Text) (k : ℕ) → ((n : ℕ) → (Some k ≡ Some n) ↔ IsNumberIn text n) → (AreFrom1To64 k → ⊥) → (n : ℕ) → (None ≡ Some n) ↔ AreAsked (Some text) n
+counts_others text k is others n = (λ e. absurd cc, λ h. let e : Some k ≡ Some n = (is n).1 h.0 in let same : n ≡ k = cc in absurd (others (subst AreFrom1To64 same h.1)))
+
+pub counts_none : (text : Text) → ((n : ℕ) → (None ≡ Some n) ↔ IsNumberIn text n) → (n : ℕ) → (None ≡ Some n) ↔ AreAsked (Some text) n
+counts_none text is n = (λ e. absurd cc, λ h. let e : None ≡ Some n = (is n).1 h.0 in absurd cc)
 
 -- a text is given only where it may be asked for
 pub text_named : (kind : ErrorKind) (app : App) (words : List Text) (error : Error) → app ≡ command_line → (is_simple_and_free app ≡ true → HasKind (fault_of app words) error) → kind_of error ≡ kind → (kind ≡ OutOfMemory → ⊥) → IsAmong kind (faults words)
@@ -90,27 +100,67 @@ joined (Some x) name rows a b = cc
 parts : {A B : Type 0} (p q : A × B) → Some p ≡ Some q → (p.0 ≡ q.0) × (p.1 ≡ q.1)
 parts p q e = (ap (λ o. option_map_or (λ r. r.0) o p.0) e, ap (λ o. option_map_or (λ r. r.1) o p.1) e)
 
-abbrev made : Command → Bool → Bool → ℕ → Plan
-made command single bytes checkers = record { command = command; checkers = checkers; single = single; bytes = bytes }
+abbrev made : Command → ℕ → Bool → Bool → ℕ → ℕ → Plan
+made command checkers single bytes from to = record { command = command; checkers = checkers; single = single; bytes = bytes; from = from; to = to }
 
-pub plan_is : (found : Option (Text × List Row)) (name : Text) (rows : List Row) (command : Command) (count : Option ℕ) (single bytes : Bool) → found ≡ Some (name, rows)
-    → ((c : Command) → (Some command ≡ Some c) ↔ (name ≡ command_word c)) → ((n : ℕ) → (count ≡ Some n) ↔ AreAsked (first_of (codes "checkers") rows) n)
-    → single ≡ is_on (first_of (codes "single") rows) → bytes ≡ is_on (first_of (codes "bytes") rows)
-    → (plan : Plan) → (option_map (made command single bytes) count ≡ Some plan) ↔ IsPlanOf found plan
-plan_is found name rows command count single bytes found_is commands counts single_is bytes_is plan = (there count refl, back)
+same_plan : (plan other : Plan) → plan.command ≡ other.command → plan.checkers ≡ other.checkers → plan.single ≡ other.single → plan.bytes ≡ other.bytes → plan.from ≡ other.from → plan.to ≡ other.to → plan ≡ other
+same_plan plan other a b c d e f =
+    ap (λ v. made v plan.checkers plan.single plan.bytes plan.from plan.to) a
+    ∙ ap (λ v. made other.command v plan.single plan.bytes plan.from plan.to) b
+    ∙ ap (λ v. made other.command other.checkers v plan.bytes plan.from plan.to) c
+    ∙ ap (λ v. made other.command other.checkers other.single v plan.from plan.to) d
+    ∙ ap (λ v. made other.command other.checkers other.single other.bytes v plan.to) e
+    ∙ ap (λ v. made other.command other.checkers other.single other.bytes other.from v) f
+
+-- a plan that was made of what the rows say is theirs, and no other is
+pub plan_is : (found : Option (Text × List Row)) (name : Text) (rows : List Row) (plan : Plan) → found ≡ Some (name, rows)
+    → ((c : Command) → (Some plan.command ≡ Some c) ↔ (name ≡ command_word c))
+    → ((n : ℕ) → (Some plan.checkers ≡ Some n) ↔ AreAsked (first_of (codes "checkers") rows) n)
+    → ((n : ℕ) → (Some plan.from ≡ Some n) ↔ IsAsked 0 (first_of (codes "from") rows) n)
+    → ((n : ℕ) → (Some plan.to ≡ Some n) ↔ IsAsked 4294967295 (first_of (codes "to") rows) n)
+    → plan.single ≡ is_on (first_of (codes "single") rows) → plan.bytes ≡ is_on (first_of (codes "bytes") rows)
+    → (other : Plan) → (Some plan ≡ Some other) ↔ IsPlanOf found other
+plan_is found name rows plan found_is commands counts froms tos single_is bytes_is other = (there, back)
   where
-    there : (r : Option ℕ) → count ≡ r → option_map (made command single bytes) r ≡ Some plan → IsPlanOf found plan
-    there None is e = cc
-    there (Some n) is e =
-        let same : made command single bytes n ≡ plan = cc in
-        subst (IsPlanOf found) same (record { rows = rows; command = found_is ∙ ap (λ w. Some (w, rows)) ((commands command).0 refl); checkers = (counts n).0 is; single = single_is; bytes = bytes_is })
+    there : Some plan ≡ Some other → IsPlanOf found other
+    there e =
+        let same : plan ≡ other = cc in
+        subst (IsPlanOf found) same (record {
+          rows = rows;
+          command = found_is ∙ ap (λ w. Some (w, rows)) ((commands plan.command).0 refl);
+          checkers = (counts plan.checkers).0 refl;
+          single = single_is;
+          bytes = bytes_is;
+          from = (froms plan.from).0 refl;
+          to = (tos plan.to).0 refl;
+        })
 
-    back : IsPlanOf found plan → option_map (made command single bytes) count ≡ Some plan
+    back : IsPlanOf found other → Some plan ≡ Some other
+    back h =
+        let both = parts (name, rows) (command_word other.command, h.rows) (sym found_is ∙ h.command) in
+        let here : Some plan.command ≡ Some other.command = (commands other.command).1 both.0 in
+        let command_is : plan.command ≡ other.command = cc in
+        let counted : Some plan.checkers ≡ Some other.checkers = (counts other.checkers).1 (subst (λ r. AreAsked (first_of (codes "checkers") r) other.checkers) (sym both.1) h.checkers) in
+        let started : Some plan.from ≡ Some other.from = (froms other.from).1 (subst (λ r. IsAsked 0 (first_of (codes "from") r) other.from) (sym both.1) h.from) in
+        let ended : Some plan.to ≡ Some other.to = (tos other.to).1 (subst (λ r. IsAsked 4294967295 (first_of (codes "to") r) other.to) (sym both.1) h.to) in
+        let alone : plan.single ≡ other.single = single_is ∙ ap (λ r. is_on (first_of (codes "single") r)) both.1 ∙ sym h.single in
+        let written : plan.bytes ≡ other.bytes = bytes_is ∙ ap (λ r. is_on (first_of (codes "bytes") r)) both.1 ∙ sym h.bytes in
+        let checkers_is : plan.checkers ≡ other.checkers = cc in
+        let from_is : plan.from ≡ other.from = cc in
+        let to_is : plan.to ≡ other.to = cc in
+        ap (λ x. Some x) (same_plan plan other command_is checkers_is alone written from_is to_is)
+
+-- rows of which a number is refused have no plan
+pub no_plan : (found : Option (Text × List Row)) (name : Text) (rows : List Row) → found ≡ Some (name, rows)
+    → ((plan : Plan) (h : IsPlanOf found plan) → h.rows ≡ rows → ⊥) → (plan : Plan) → (None ≡ Some plan) ↔ IsPlanOf found plan
+no_plan found name rows found_is refused plan = (λ e. absurd cc, back)
+  where
+    back : IsPlanOf found plan → None ≡ Some plan
     back h =
         let both = parts (name, rows) (command_word plan.command, h.rows) (sym found_is ∙ h.command) in
-        let here : Some command ≡ Some plan.command = (commands plan.command).1 both.0 in
-        let command_is : command ≡ plan.command = cc in
-        let counted : count ≡ Some plan.checkers = (counts plan.checkers).1 (subst (λ r. AreAsked (first_of (codes "checkers") r) plan.checkers) (sym both.1) h.checkers) in
-        let alone : single ≡ plan.single = single_is ∙ ap (λ r. is_on (first_of (codes "single") r)) both.1 ∙ sym h.single in
-        let written : bytes ≡ plan.bytes = bytes_is ∙ ap (λ r. is_on (first_of (codes "bytes") r)) both.1 ∙ sym h.bytes in
-        ap (option_map (made command single bytes)) counted ∙ ap (λ c. Some (made c single bytes plan.checkers)) command_is ∙ ap (λ b. Some (made plan.command b bytes plan.checkers)) alone ∙ ap (λ b. Some (made plan.command plan.single b plan.checkers)) written
+        absurd (refused plan h (sym both.1))
+
+pub not_asked : (Asked : Option Text → ℕ → Type 0) (key : Text) (rows : List Row) → ((n : ℕ) → (None ≡ Some n) ↔ Asked (first_of key rows) n) → (n : ℕ) (own : List Row) → own ≡ rows → Asked (first_of key own) n → ⊥
+not_asked Asked key rows none n own is asked =
+    let e : None ≡ Some n = (none n).1 (subst (λ r. Asked (first_of key r) n) is asked) in
+    cc

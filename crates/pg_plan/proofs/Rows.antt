@@ -6,8 +6,8 @@ use Rattle.clap.specs.Walk.{Row, Text, first_of}
 use Rattle.clap.specs.Kinds.{Kinds}
 use Rattle.clap.specs.declared.error.kind.ErrorKind.TheVariants.{DisplayHelp, DisplayVersion, InvalidSubcommand, MissingSubcommand, UnknownArgument, ValueValidation, ArgumentConflict}
 use Rattle.clap.proofs.OnLiterals.{clap_on_literals}
-use Rattle.pg_plan.specs.Commands.{AreAsked, Asks, command_line}
-use Rattle.pg_plan.specs.declared.request.Command.TheVariants.{Check, Run}
+use Rattle.pg_plan.specs.Commands.{AreAsked, Asks, IsAsked, command_line}
+use Rattle.pg_plan.specs.declared.request.Command.TheVariants.{Check, Run, Show}
 
 abbrev Gives : List Text → Kinds → Type 0
 Gives words kinds = fault_of command_line words ≡ kinds
@@ -106,9 +106,9 @@ checkers_of_run_of : Gives (codes "run-of" ∷ codes "--checkers" ∷ codes "2" 
 unfolding clap_on_literals
 checkers_of_run_of = refl
 
-asks_one : Asks (codes "check" ∷ []) (record { command = Check; checkers = 1; single = false; bytes = false })
+asks_one : Asks (codes "check" ∷ []) (record { command = Check; checkers = 1; single = false; bytes = false; from = 0; to = 4294967295 })
 unfolding clap_on_literals
-asks_one = (refl, record { rows = []; command = refl; checkers = refl; single = refl; bytes = refl })
+asks_one = (refl, record { rows = []; command = refl; checkers = refl; single = refl; bytes = refl; from = refl; to = refl })
 
 -- ---- the switches of `run`
 
@@ -135,6 +135,38 @@ two : first_of (codes "checkers") run_options ≡ Some (codes "2")
 unfolding clap_on_literals
 two = refl
 
-asks_run : Asks run_words (record { command = Run; checkers = 2; single = true; bytes = true })
+asks_run : Asks run_words (record { command = Run; checkers = 2; single = true; bytes = true; from = 0; to = 4294967295 })
 unfolding clap_on_literals
-asks_run = (refl, record { rows = run_options; command = refl; checkers = subst (λ o. AreAsked o 2) (sym two) ((omega arith, (omega arith, tt)), refl, (omega arith, omega arith)); single = refl; bytes = refl })
+asks_run = (refl, record { rows = run_options; command = refl; checkers = subst (λ o. AreAsked o 2) (sym two) (((omega arith, (omega arith, tt)), refl, omega arith), (omega arith, omega arith)); single = refl; bytes = refl; from = refl; to = refl })
+
+-- ---- the event numbers of `show`
+
+show : Gives (codes "show" ∷ []) []
+unfolding clap_on_literals
+show = refl
+
+too_large : Gives (codes "show" ∷ codes "--to" ∷ codes "4294967296" ∷ []) (ValueValidation ∷ [])
+unfolding clap_on_literals
+too_large = refl
+
+from_of_explain : Gives (codes "explain" ∷ codes "--from" ∷ codes "2" ∷ []) (UnknownArgument ∷ [])
+unfolding clap_on_literals
+from_of_explain = refl
+
+abbrev show_words : List Text
+show_words = codes "show" ∷ codes "--from" ∷ codes "5" ∷ codes "--to" ∷ codes "7" ∷ []
+
+abbrev show_options : List Row
+show_options = options (subcommand_of command_line show_words)
+
+five : first_of (codes "from") show_options ≡ Some (codes "5")
+unfolding clap_on_literals
+five = refl
+
+seven : first_of (codes "to") show_options ≡ Some (codes "7")
+unfolding clap_on_literals
+seven = refl
+
+asks_show : Asks show_words (record { command = Show; checkers = 1; single = false; bytes = false; from = 5; to = 7 })
+unfolding clap_on_literals
+asks_show = (refl, record { rows = show_options; command = refl; checkers = refl; single = refl; bytes = refl; from = subst (λ o. IsAsked 0 o 5) (sym five) ((omega arith, (omega arith, tt)), refl, omega arith); to = subst (λ o. IsAsked 4294967295 o 7) (sym seven) ((omega arith, (omega arith, tt)), refl, omega arith) })

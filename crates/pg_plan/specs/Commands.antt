@@ -1,5 +1,5 @@
 -- What the words of a command line ask for, by what `clap` makes of them.
-use Rattle.std.specs.Prelude.{◌≡◌, ℕ, ◌≤◌, Bool, true, false, pos, List, [], ◌∷◌}
+use Rattle.std.specs.Prelude.{◌≡◌, ℕ, ◌≤◌, ◌<◌, ◌^◌, Bool, true, false, pos, List, [], ◌∷◌}
 use Rattle.std.specs.Prelude.{Option, Some, None, codes}
 use Rattle.std.specs.Str.{bytes_eq}
 use Rattle.std.specs.Str.Parse.{IsNumeral, digits_value}
@@ -12,7 +12,8 @@ use Rattle.clap.specs.declared.builder.action.ArgAction.TheVariants.{Set, SetTru
 use Rattle.clap.specs.declared.builder.value_parser.ValueParser.TheVariants as parsers
 use Rattle.clap.specs.declared.error.kind.ErrorKind.TheVariants.{DisplayHelp, DisplayVersion}
 use Rattle.pg_plan.specs.declared.request.Command.{Command}
-use Rattle.pg_plan.specs.declared.request.Command.TheVariants.{Check, Run, RunOf, Explain, Upgrade}
+use Rattle.pg_plan.specs.declared.request.Command.TheVariants.{Check, Run, RunOf, Explain, Show}
+use Rattle.pg_plan.specs.declared.request.Command.TheVariants.{Upgrade}
 use Rattle.pg_plan.specs.declared.request.Plan.{Plan}
 use Rattle.pg_plan.specs.declared.request.Usage.{Usage}
 use Rattle.pg_plan.specs.declared.request.Usage.TheVariants.{Help, Version, Fault}
@@ -23,9 +24,10 @@ command_word Check = codes "check"
 command_word Run = codes "run"
 command_word RunOf = codes "run-of"
 command_word Explain = codes "explain"
+command_word Show = codes "show"
 command_word Upgrade = codes "upgrade"
 
--- ---- the command line: one of the commands, of which `check` and `run` have options
+-- ---- the command line: one of the commands, of which `check`, `run` and `show` have options
 
 abbrev pub bare_line : App
 bare_line = on_top (λ s. record s {
@@ -55,7 +57,21 @@ run_line =
     let line = with_rule (new_app (command_word Run)) checkers_rule in
     with_rule (with_rule line (switch_rule (codes "single"))) (switch_rule (codes "bytes"))
 
--- the commands that have options
+-- an event number behind `--` and a name
+abbrev pub number_rule : Text → Rule
+number_rule name = record (new_rule name) {
+  long = Some name;
+  action = Some Set;
+  value_names = 1;
+  parser = Some (parsers.Signed (pos 0) (pos 4294967295));
+}
+
+abbrev pub show_line : App
+show_line =
+    let line = with_rule (new_app (command_word Show)) (number_rule (codes "from")) in
+    with_rule line (number_rule (codes "to"))
+
+-- the commands that judge by so many checkers
 abbrev pub options_line : App
 options_line = with_subcommand (with_subcommand bare_line check_line.top) run_line.top
 
@@ -66,7 +82,9 @@ records_line =
     (new_app (command_word Explain)).top
 
 abbrev pub command_line : App
-command_line = with_subcommand records_line (new_app (command_word Upgrade)).top
+command_line =
+    with_subcommand (with_subcommand records_line show_line.top)
+    (new_app (command_word Upgrade)).top
 
 -- the kinds of error that `clap` gives for the words: none where they are taken
 abbrev pub faults : List Text → Kinds
@@ -77,10 +95,19 @@ faults words = fault_of command_line words
 abbrev pub AreFrom1To64 : ℕ → Type 0
 AreFrom1To64 n = (1 ≤ n) × (n ≤ 64)
 
--- so many checkers: one where no number is given, and else what its digits say, without a sign
+-- a text spells a number of 32 bits by digits alone, without a sign
+abbrev pub IsNumberIn : Text → ℕ → Type 0
+IsNumberIn text n = IsNumeral 10 text × (digits_value 10 text ≡ n) × (n < 2 ^ 32)
+
+-- so many checkers: one where no number is given, and else what its digits say
 abbrev pub AreAsked : Option Text → ℕ → Type 0
 AreAsked None n = n ≡ 1
-AreAsked (Some text) n = IsNumeral 10 text × (digits_value 10 text ≡ n) × AreFrom1To64 n
+AreAsked (Some text) n = IsNumberIn text n × AreFrom1To64 n
+
+-- this event number: another one where none is given, and else what its digits say
+abbrev pub IsAsked : ℕ → Option Text → ℕ → Type 0
+IsAsked other None n = n ≡ other
+IsAsked other (Some text) n = IsNumberIn text n
 
 -- a switch was given
 abbrev pub is_on : Option Text → Bool
@@ -94,6 +121,8 @@ pub record IsPlanOf (found : Option (Text × List Row)) (plan : Plan) : Type 0 w
   pub checkers : AreAsked (first_of (codes "checkers") rows) plan.checkers
   pub single : plan.single ≡ is_on (first_of (codes "single") rows)
   pub bytes : plan.bytes ≡ is_on (first_of (codes "bytes") rows)
+  pub from : IsAsked 0 (first_of (codes "from") rows) plan.from
+  pub to : IsAsked 4294967295 (first_of (codes "to") rows) plan.to
 
 -- the words are taken, and this is their plan
 abbrev pub Asks : List Text → Plan → Type 0

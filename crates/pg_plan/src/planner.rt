@@ -6,9 +6,10 @@ ghost use Rattle.clap.specs.Matches.{first_value, found_of};
 ghost use Rattle.clap.specs.Walk.{rule_of};
 ghost use Rattle.clap.specs.declared.builder.command.Command.TheViews.{out-Command as fields_of};
 ghost use Rattle.pg_plan.specs.Commands.{texts, bare_line, check_line, run_line, options_line};
-ghost use Rattle.pg_plan.specs.Commands.{records_line};
-ghost use Rattle.pg_plan.specs.Commands.{checkers_rule, switch_rule, command_line, is_on};
-ghost use Rattle.pg_plan.specs.Commands.{command_word, AreAsked, AreFrom1To64};
+ghost use Rattle.pg_plan.specs.Commands.{records_line, show_line};
+ghost use Rattle.pg_plan.specs.Commands.{checkers_rule, number_rule, switch_rule, command_line};
+ghost use Rattle.pg_plan.specs.Commands.{command_word, AreAsked, AreFrom1To64, is_on};
+ghost use Rattle.pg_plan.specs.Commands.{IsAsked, IsNumberIn};
 ghost use Rattle.pg_plan.specs.Commands.{Asks, AsksOnly, IsPlanOf};
 ghost use Rattle.pg_plan.specs.Commands.{AsksHelp, AsksVersion, NamesHelp, NamesVersion};
 ghost use Rattle.pg_plan.specs.Commands.{IsHelp, IsVersion, IsFault};
@@ -39,6 +40,10 @@ const EXPLAIN: &str = "explain";
 const EXPLAIN_ABOUT: &str = "Reads a record from standard input, and writes its report and, where \
     it is no, what stands behind it";
 
+const SHOW: &str = "show";
+
+const SHOW_ABOUT: &str = "Reads a record from standard input, and writes its events, a line each";
+
 const UPGRADE: &str = "upgrade";
 
 const UPGRADE_ABOUT: &str = "Reads a version 1 record from standard input, and writes the \
@@ -59,7 +64,19 @@ const BYTES: &str = "bytes";
 
 const BYTES_ABOUT: &str = "Write the record itself";
 
-const NO_NUMBER: &str = "error: the number of checkers is given by digits alone\n\n\
+const FROM: &str = "from";
+
+const FROM_ABOUT: &str = "The number of the first event that is written; 0 where left out";
+
+const TO: &str = "to";
+
+const TO_ABOUT: &str =
+    "The number of the last event that is written, which is the record's last where left out";
+
+/// What no event has as its number.
+const PAST_EVENTS: u32 = 4_294_967_295;
+
+const NO_NUMBER: &str = "error: a number is given by digits alone\n\n\
     For more information, try '--help'.\n";
 
 fn bare_line<'a>(alloc: Global) -> CommandLine<'a>
@@ -114,7 +131,30 @@ fn run_line<'a>(alloc: Global) -> Result<CommandLine<'a>, AllocError>
         .arg(switch(alloc, BYTES, BYTES_ABOUT))
 }
 
-/// The commands that have options.
+/// An event number behind `--` and a name.
+fn number_option<'a>(alloc: Global, name: &'a str, value: &'a str, about: &'a str) -> Arg<'a>
+    ensures rule { rule_of result ≡ number_rule name.entry.now }
+    ensures local { result.global ≡ false }
+{
+    Arg::new(alloc, name)
+        .long(name)
+        .value_name(value)
+        .help(about)
+        .action(ArgAction::Set)
+        .value_parser(value_parser!(u32))
+}
+
+fn show_line<'a>(alloc: Global) -> Result<CommandLine<'a>, AllocError>
+    ensures line { IfOk result (λ line. app_of line ≡ show_line) }
+    ensures local { IfOk result (λ line. (fields_of line).has_globals ≡ false) }
+{
+    CommandLine::new(alloc, SHOW)
+        .about(SHOW_ABOUT)
+        .arg(number_option(alloc, FROM, "A", FROM_ABOUT))?
+        .arg(number_option(alloc, TO, "B", TO_ABOUT))
+}
+
+/// The commands that judge by so many checkers.
 fn options_line<'a>(alloc: Global) -> Result<CommandLine<'a>, AllocError>
     ensures { IfOk result (λ line. app_of line ≡ options_line) }
 {
@@ -135,7 +175,9 @@ fn records_line<'a>(alloc: Global) -> Result<CommandLine<'a>, AllocError>
 fn command_line<'a>(alloc: Global) -> Result<CommandLine<'a>, AllocError>
     ensures { IfOk result (λ line. app_of line ≡ command_line) }
 {
-    records_line(alloc)?.subcommand(CommandLine::new(alloc, UPGRADE).about(UPGRADE_ABOUT))
+    records_line(alloc)?
+        .subcommand(show_line(alloc)?)?
+        .subcommand(CommandLine::new(alloc, UPGRADE).about(UPGRADE_ABOUT))
 }
 
 fn usage_of(alloc: Global, error: Error) -> Usage
@@ -167,9 +209,21 @@ fn command_of(name: &str) -> Option<Command>
         RUN => Some(Command::Run),
         RUN_OF => Some(Command::RunOf),
         EXPLAIN => Some(Command::Explain),
+        SHOW => Some(Command::Show),
         UPGRADE => Some(Command::Upgrade),
         _ => None,
     }
+}
+
+/// The number that a text spells by digits alone.
+fn number_in(text: &str) -> Option<u32>
+    ensures { (n : ℕ) → (result ≡ Some n) ↔ IsNumberIn text.now n }
+{
+    // `parse` takes a plus sign too.
+    if text.as_bytes().first() == Some(&b'+') {
+        return None;
+    }
+    text.parse::<u32>().ok()
 }
 
 /// So many checkers, if the text spells their number by digits alone.
@@ -179,13 +233,20 @@ fn checkers_of(text: Option<&str>) -> Option<u16>
     let Some(text) = text else {
         return Some(1);
     };
-    // `parse` takes a plus sign too.
-    if text.as_bytes().first() == Some(&b'+') {
+    let checkers = number_in(text)?;
+    if checkers < 1 || checkers > 64 {
         return None;
     }
-    match text.parse::<u16>() {
-        Ok(checkers) if checkers >= 1 && checkers <= 64 => Some(checkers),
-        _ => None,
+    Some(checkers as u16)
+}
+
+/// The event number that the text spells by digits alone, and `other` where there is no text.
+fn number_of(text: Option<&str>, other: u32) -> Option<u32>
+    ensures { (n : ℕ) → (result ≡ Some n) ↔ IsAsked other (option_map (λ s. s.now) text.entry) n }
+{
+    match text {
+        Some(text) => number_in(text),
+        None => Some(other),
     }
 }
 
@@ -207,11 +268,15 @@ fn plan_of(matches: &ArgMatches<'_>) -> Option<Plan>
     let (name, own) = matches.subcommand()?;
     let command = command_of(name)?;
     let checkers = checkers_of(own.get_str(CHECKERS))?;
+    let from = number_of(own.get_str(FROM), 0)?;
+    let to = number_of(own.get_str(TO), PAST_EVENTS)?;
     Some(Plan {
         command,
         checkers,
         single: is_on(own.get_str(SINGLE)),
         bytes: is_on(own.get_str(BYTES)),
+        from,
+        to,
     })
 }
 
@@ -259,6 +324,8 @@ mod tests {
             checkers,
             single: false,
             bytes: false,
+            from: 0,
+            to: 4_294_967_295,
         })
     }
 
@@ -275,6 +342,7 @@ mod tests {
             plan(alloc, &["upgrade"]).ok(),
             planned(Command::Upgrade, 1)
         );
+        assert_eq!(rt; plan(alloc, &["show"]).ok(), planned(Command::Show, 1));
         Ok(())
     }
 
@@ -316,6 +384,8 @@ mod tests {
             checkers: 3,
             single: true,
             bytes: true,
+            from: 0,
+            to: 4_294_967_295,
         });
         let words = ["run", "--bytes", "--checkers", "3", "--single"];
         assert_eq!(rt; plan(alloc, &words).ok(), full);
@@ -326,6 +396,50 @@ mod tests {
             )
         );
         assert!(rt; matches!(plan(alloc, &["run", "more"]), Err(Usage::Fault(_))));
+        Ok(())
+    }
+
+    fn shown(from: u32, to: u32) -> Option<Plan> {
+        Some(Plan {
+            command: Command::Show,
+            checkers: 1,
+            single: false,
+            bytes: false,
+            from,
+            to,
+        })
+    }
+
+    #[test]
+    fn reads_the_event_numbers_of_show(rt: HostRuntime) -> Result<(), Fail> {
+        let alloc = rt.alloc();
+        let most = 4_294_967_295;
+        let both = ["show", "--from", "3", "--to", "12"];
+        assert_eq!(rt; plan(alloc, &both).ok(), shown(3, 12));
+        let turned = ["show", "--to=3", "--from=012"];
+        assert_eq!(rt; plan(alloc, &turned).ok(), shown(12, 3));
+        assert_eq!(rt; plan(alloc, &["show", "--from", "7"]).ok(), shown(7, most));
+        assert_eq!(rt; plan(alloc, &["show", "--to", "0"]).ok(), shown(0, 0));
+        let last = ["show", "--from", "4294967295"];
+        assert_eq!(rt; plan(alloc, &last).ok(), shown(most, most));
+        Ok(())
+    }
+
+    #[test]
+    fn refuses_other_event_numbers(rt: HostRuntime) -> Result<(), Fail> {
+        let alloc = rt.alloc();
+        for number in ["4294967296", "+2", "-1", "", "two", "0x5", "1 "] {
+            let from = plan(alloc, &["show", "--from", number]);
+            assert!(rt; matches!(from, Err(Usage::Fault(_))));
+            let to = plan(alloc, &["show", "--to", number]);
+            assert!(rt; matches!(to, Err(Usage::Fault(_))));
+        }
+        assert!(rt; matches!(plan(alloc, &["show", "--from"]), Err(Usage::Fault(_))));
+        let twice = ["show", "--to", "1", "--to", "2"];
+        assert!(rt; matches!(plan(alloc, &twice), Err(Usage::Fault(_))));
+        assert!(rt; matches!(plan(alloc, &["show", "5"]), Err(Usage::Fault(_))));
+        let other = ["explain", "--from", "2"];
+        assert!(rt; matches!(plan(alloc, &other), Err(Usage::Fault(_))));
         Ok(())
     }
 

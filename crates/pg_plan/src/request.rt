@@ -9,6 +9,8 @@ pub enum Command {
     RunOf,
     /// Read a record, and write its report and, where it is no, what stands behind it.
     Explain,
+    /// Read a record, and write its events, a line each.
+    Show,
     /// Read a version 1 record, and write the version 2 record of the same events; its report goes
     /// to standard error.
     Upgrade,
@@ -25,6 +27,11 @@ pub struct Plan {
     pub single: bool,
     /// Whether `run` writes the record in the place of its report.
     pub bytes: bool,
+    /// The number of the first event that `show` writes. It is 0 where the words say nothing.
+    pub from: u32,
+    /// The number of the last event that `show` writes. It is 4,294,967,295, which no event has,
+    /// where the words say nothing.
+    pub to: u32,
 }
 
 /// Why the words of a command line give no plan.

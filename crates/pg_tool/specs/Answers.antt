@@ -2,7 +2,7 @@
 use Rattle.std.specs.Prelude.{◌≡◌, ◌⊎◌, ℕ, List, string_bytes}
 use Rattle.pg_plan.specs.declared.request.Command.{Command}
 use Rattle.pg_plan.specs.declared.request.Command.TheVariants.{Check, Run, RunOf}
-use Rattle.pg_plan.specs.declared.request.Command.TheVariants.{Explain, Upgrade}
+use Rattle.pg_plan.specs.declared.request.Command.TheVariants.{Explain, Show, Upgrade}
 use Rattle.pg_plan.specs.declared.request.Plan.{Plan}
 use Rattle.pg_plan.specs.declared.request.Usage.{Usage}
 use Rattle.pg_plan.specs.declared.request.Usage.TheVariants.{Help, Version, Fault, Memory}
@@ -12,6 +12,7 @@ use Rattle.pg_report.specs.declared.error.AuditError.TheVariants.{Device}
 use Rattle.pg_report.specs.Changes.{Change, Fails, Works, Adds, AddsSome}
 use Rattle.pg_tool.specs.Explanations.{ExplainsRecord}
 use Rattle.pg_tool.specs.Guests.{RunsGuest}
+use Rattle.pg_tool.specs.Lines.{ShowsRecord}
 use Rattle.pg_tool.specs.Refusals.{StaysSame, Tells, refusal_line, memory_line}
 use Rattle.pg_tool.specs.Status.{Checks, ShowsRun}
 use Rattle.pg_tool.specs.Streams.{Streams}
@@ -52,6 +53,7 @@ DoesCommand Check plan s status = Checks plan.checkers s status
 DoesCommand Run plan s status = RunsGuest plan.single plan.bytes s status
 DoesCommand RunOf plan s status = ShowsRun s status
 DoesCommand Explain plan s status = ExplainsRecord s status
+DoesCommand Show plan s status = ShowsRecord plan.from plan.to s status
 DoesCommand Upgrade plan s status = Upgrades s status
 
 abbrev pub Does : Plan → Streams → ℕ → Type 0

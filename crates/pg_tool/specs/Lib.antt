@@ -5,6 +5,7 @@ pub mod Refusals
 pub mod Status
 pub mod Upgrades
 pub mod Guests
+pub mod Lines
 pub mod Texts
 pub mod Explanations
 pub mod Answers

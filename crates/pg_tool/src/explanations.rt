@@ -12,18 +12,12 @@ ghost use Rattle.pg_tool.specs.Texts.{IsTextGiven};
 
 use crate::program::status_of;
 use crate::refusals::tell_error;
+use crate::shown::ToldText;
 use pg_check::History;
 use pg_codec::{Sink, Source};
 use pg_explain::explanation_text;
 use pg_report::{AuditError, Verdict, read_record, report_of, write_text};
 use std::alloc::{AllocError, Global};
-
-/// A verdict, and the text that tells it.
-#[derive(Debug, Drop)]
-pub struct ToldText {
-    pub verdict: Verdict,
-    pub text: String,
-}
 
 /// Appends what stands behind the reason of an event that is not witnessed.
 fn push_explanation(

@@ -5,6 +5,7 @@ mod explanations;
 mod guest_error;
 mod guest_refusals;
 mod guests;
+mod lines;
 mod program;
 mod refusals;
 mod replayer;
@@ -14,6 +15,7 @@ mod upgrader;
 
 pub use explanations::explain;
 pub use guest_error::GuestError;
+pub use lines::show;
 pub use pg_plan::{Command, Plan, Usage, plan};
 pub use program::{check, pcid_audit, run, run_of, upgrade};
 pub use refusals::tell_memory;

@@ -1,4 +1,4 @@
-use pg_report::Report;
+use pg_report::{Report, Verdict};
 
 /// What `run-of` wrote.
 #[derive(Clone, Copy, Debug, PartialEq, Eq)]
@@ -13,5 +13,12 @@ pub enum Shown {
 #[derive(Debug, Drop)]
 pub struct ReportText {
     pub report: Report,
+    pub text: String,
+}
+
+/// A record's verdict, and what is written of the record.
+#[derive(Debug, Drop)]
+pub struct ToldText {
+    pub verdict: Verdict,
     pub text: String,
 }

@@ -1,0 +1,12 @@
+use Rattle.std.proofs.Common.{arith}
+use Rattle.pg_plan.proofs.Parses.{counts_few, counts_none, counts_others}
+use Rattle.pg_plan.proofs.planner.checkers_of.Goals as goal
+
+pub returns-in_err-checkers : goal.returns-in_err-checkers
+returns-in_err-checkers c = rw (c.in-Some.is, c.from_residual.ensures) (counts_none c.in-Some.text.now c.in_err-checkers.ensures)
+
+pub returns-then-checkers-lt1 : goal.returns-then-checkers-lt1
+returns-then-checkers-lt1 c = rw c.in-Some.is (counts_others c.in-Some.text.now c.in_ok-checkers.checkers c.in_ok-checkers.ensures (λ few. omega (arith, few.0, few.1, c.then-checkers-lt1.either)))
+
+pub returns : goal.returns
+returns c = rw c.in-Some.is (counts_few c.in-Some.text.now c.in_ok-checkers.checkers c.in_ok-checkers.ensures (c.if-checkers-lt1.false, c.if-checkers-gt64.false))
