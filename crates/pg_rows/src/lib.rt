@@ -6,11 +6,17 @@ mod cells;
 #[cfg(test)]
 mod crews;
 #[cfg(test)]
+mod explanations;
+#[cfg(test)]
 mod headers;
 #[cfg(test)]
 mod invalidations;
 #[cfg(test)]
+mod lines;
+#[cfg(test)]
 mod long_run;
+#[cfg(test)]
+mod many_lines;
 #[cfg(test)]
 mod pieces;
 #[cfg(test)]

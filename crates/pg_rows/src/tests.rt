@@ -1,5 +1,5 @@
 use crate::row::run;
-use crate::{headers, invalidations, refusals, rights, runs, versions, walks};
+use crate::{explanations, headers, invalidations, lines, refusals, rights, runs, versions, walks};
 use std::test::Fail;
 
 #[test]
@@ -55,6 +55,22 @@ fn runs_step_by_step(rt: HostRuntime) -> Result<(), Fail> {
 #[test]
 fn records_of_version_2(rt: HostRuntime) -> Result<(), Fail> {
     for row in &versions::ROWS {
+        run(&rt, row)?;
+    }
+    Ok(())
+}
+
+#[test]
+fn what_stands_behind_a_no(rt: HostRuntime) -> Result<(), Fail> {
+    for row in &explanations::ROWS {
+        run(&rt, row)?;
+    }
+    Ok(())
+}
+
+#[test]
+fn events_a_line_each(rt: HostRuntime) -> Result<(), Fail> {
+    for row in &lines::ROWS {
         run(&rt, row)?;
     }
     Ok(())

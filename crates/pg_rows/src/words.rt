@@ -34,7 +34,11 @@ fn words_of_no_command(rt: HostRuntime) -> Result<(), Fail> {
     expect_usage(&rt, &["check", "--checkers", "+2"])?;
     expect_usage(&rt, &["check", "--checkers", "2", "--checkers", "2"])?;
     expect_usage(&rt, &["run-of", "--checkers", "2"])?;
-    expect_usage(&rt, &["run", "--checkers", "65"])
+    expect_usage(&rt, &["run", "--checkers", "65"])?;
+    expect_usage(&rt, &["show", "--from", "+1"])?;
+    expect_usage(&rt, &["show", "--to", "4294967296"])?;
+    expect_usage(&rt, &["show", "3"])?;
+    expect_usage(&rt, &["explain", "--from", "3"])
 }
 
 /// Words that ask for a text, which goes to standard output.
