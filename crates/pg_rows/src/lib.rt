@@ -2,9 +2,15 @@
 #![tactic(auto)]
 
 #[cfg(test)]
+mod bent;
+#[cfg(test)]
+mod bent_scripts;
+#[cfg(test)]
 mod cells;
 #[cfg(test)]
 mod crews;
+#[cfg(test)]
+mod devices;
 #[cfg(test)]
 mod explanations;
 #[cfg(test)]
@@ -18,6 +24,8 @@ mod long_run;
 #[cfg(test)]
 mod many_lines;
 #[cfg(test)]
+mod new_headers;
+#[cfg(test)]
 mod pieces;
 #[cfg(test)]
 mod refusals;
@@ -29,6 +37,8 @@ mod row;
 mod runs;
 #[cfg(test)]
 mod scripts;
+#[cfg(test)]
+mod spliced;
 #[cfg(test)]
 mod streams;
 #[cfg(test)]

@@ -86,7 +86,13 @@ fn push_segment(bytes: &mut Vec<u8>, number: u32, count: u32) -> Result<(), Allo
     bytes.extend_from_slice(&count.to_le_bytes())
 }
 
-fn push_record(alloc: Global, events: u32, segment: u32, bad: u32) -> Result<Vec<u8>, AllocError>
+/// A record of so many events in segments of so many; one event is bad, if it has that number.
+pub fn push_record(
+    alloc: Global,
+    events: u32,
+    segment: u32,
+    bad: u32,
+) -> Result<Vec<u8>, AllocError>
     requires { 1 ≤ segment }
 {
     let mut bytes = Vec::new(alloc);

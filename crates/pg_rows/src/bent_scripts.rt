@@ -1,0 +1,174 @@
+//! Scripts that end early, and of which one byte is bent: each byte to each other value. One thread
+//! and a thread for the processor say the same of each.
+
+use pg_codec::Watched;
+use pg_tool::pcid_audit;
+use std::alloc::{AllocError, AllocGlobal, Global};
+use std::process::Abort;
+use std::sync::Wait;
+use std::test::Fail;
+use std::thread::Threads;
+
+/// A page mapped, read, taken away, read from what is cached, invalidated and read again.
+const SCRIPT: &str = "pcid-guest 1\nmachine 40 wp nxe\nsegment 16\ncpu 0x1001 1\n\
+    0 write 0x1000 0x2007\n\
+    0 write 0x2000 0x3007\n\
+    0 write 0x3000 0x4007\n\
+    0 write 0x4028 0x9007\n\
+    0 read 0x5123 user\n\
+    0 write 0x4028 0x0\n\
+    0 read 0x5123 user\n\
+    0 invlpg 0x5000\n\
+    0 read 0x5123 user\n";
+
+/// What the program answers and writes.
+#[derive(Drop, PartialEq, Eq, Debug)]
+struct Came {
+    status: u8,
+    output: Vec<u8>,
+    errors: Vec<u8>,
+}
+
+fn come<T: AllocGlobal + Abort + Threads + Wait + Sync>(
+    rt: &T,
+    words: &[&str],
+    text: &[u8],
+) -> Came {
+    let mut input = Watched::new(text);
+    let mut output = Watched::new(Vec::new(rt.alloc()));
+    let mut errors = Watched::new(Vec::new(rt.alloc()));
+    let status = pcid_audit(rt, words, &mut input, &mut output, &mut errors);
+    Came {
+        status,
+        output: output.inner,
+        errors: errors.inner,
+    }
+}
+
+/// What `run` comes to, which a thread for the processor and one thread for all have to say alike.
+fn ran<T: AllocGlobal + Abort + Threads + Wait + Sync>(rt: &T, text: &[u8]) -> Came {
+    let alone = come(rt, &["run", "--single"], text);
+    let by_threads = come(rt, &["run"], text);
+    assert_eq!(rt; alone, by_threads);
+    alone
+}
+
+/// How many lines are ended.
+fn whole_lines(text: &[u8]) -> usize {
+    let mut lines = 0usize;
+    for byte in text {
+        if *byte == b'\n' {
+            lines = lines.wrapping_add(1);
+        }
+    }
+    lines
+}
+
+/// Why the text is refused that has so many lines of the script, the last of them whole or not.
+fn refusal(lines: usize, is_whole: bool) -> Option<&'static str> {
+    match lines {
+        _ if !is_whole => Some("8 line end"),
+        0 => Some("1 first line"),
+        1 => Some("2 machine"),
+        2 => Some("3 segment"),
+        3 => Some("4 cpu"),
+        _ => None,
+    }
+}
+
+/// What a proper beginning of the script comes to: it lacks a line, its last one is cut, or it is
+/// a script of fewer instructions.
+fn beginning(alloc: Global, text: &[u8]) -> Result<Came, AllocError> {
+    let lines = whole_lines(text);
+    let is_whole = text.is_empty() || text.ends_with(b"\n");
+    Ok(match refusal(lines, is_whole) {
+        Some(name) => {
+            let line = lines.wrapping_add(1);
+            let told = format!(in alloc; "pcid-audit: script line {line} refused {name}\n")?;
+            Came {
+                status: 2,
+                output: Vec::new(alloc),
+                errors: told.into_bytes(),
+            }
+        }
+        None => {
+            let events = lines.wrapping_sub(4);
+            let segments = events.min(1);
+            let report = format!(in alloc;
+                "verdict: yes\nevents: {events}\nsegments: {segments}\n"
+            )?;
+            Came {
+                status: 0,
+                output: report.into_bytes(),
+                errors: Vec::new(alloc),
+            }
+        }
+    })
+}
+
+#[test]
+fn each_proper_beginning_of_a_script(rt: HostRuntime) -> Result<(), Fail> {
+    let text = SCRIPT.as_bytes();
+    for k in 0..text.len() {
+        let wanted = beginning(rt.alloc(), &text[..k])?;
+        assert_eq!(rt; ran(&rt, &text[..k]), wanted, "{k}");
+    }
+    Ok(())
+}
+
+/// A script with another byte at a place.
+fn bent(alloc: Global, script: &str, at: usize, value: u8) -> Result<Vec<u8>, AllocError> {
+    let mut text = Vec::from_slice(alloc, script.as_bytes())?;
+    if let Some(byte) = text.get_mut(at) {
+        *byte = value;
+    }
+    Ok(text)
+}
+
+/// Bends each byte of a script to each other value: it is run, which is a yes, or refused with its
+/// line, and then nothing is written.
+fn bend_each<T: AllocGlobal + Abort + Threads + Wait + Sync>(
+    rt: &T,
+    script: &str,
+) -> Result<(), Fail> {
+    for (at, byte) in script.as_bytes().iter().enumerate() {
+        for value in 0..=255u8 {
+            if value != *byte {
+                let came = ran(rt, &bent(rt.alloc(), script, at, value)?);
+                if came.status == 0 {
+                    assert!(rt; came.output.starts_with(b"verdict: yes\n"), "{at} {value}");
+                    assert!(rt; came.errors.is_empty(), "{at} {value}");
+                } else {
+                    assert_eq!(rt; came.status, 2, "{at} {value}");
+                    assert!(rt; came.output.is_empty(), "{at} {value}");
+                    assert!(rt;
+                        came.errors.starts_with(b"pcid-audit: script line "),
+                        "{at} {value}"
+                    );
+                }
+            }
+        }
+    }
+    Ok(())
+}
+
+#[test]
+fn each_byte_of_a_script(rt: HostRuntime) -> Result<(), Fail> {
+    bend_each(&rt, SCRIPT)
+}
+
+const NEW_SCRIPT: &str = "pcid-guest 2\nmachine 40 wp nxe\nsegment 16\ncpu 0x1001 1\n\
+    0 write 0x1000 0x2007\n\
+    0 write 0x2000 0x3007\n\
+    0 write 0x3000 0x4007\n\
+    0 write 0x4028 0x9007\n\
+    0 store 0x5123 user\n\
+    0 invpcid 0 0x1 0x5000\n\
+    0 cr3 0x8000000000001002\n\
+    0 pge 0\n\
+    0 fetch 0x5123 super-ac\n";
+
+#[test]
+fn each_byte_of_a_script_of_version_2(rt: HostRuntime) -> Result<(), Fail> {
+    bend_each(&rt, NEW_SCRIPT)
+}
