@@ -1,17 +1,25 @@
-/* Refuses one growth of the program that it is preloaded into: the one whose number REFUSE gives, counted from 1. */
+/* Refuses one growth of the program that it is preloaded into, the one whose number REFUSE gives, or
+ * one thread, the one whose number REFUSE_THREAD gives; both are counted from 1, in all threads. */
 #define _GNU_SOURCE
 #include <dlfcn.h>
 #include <errno.h>
+#include <pthread.h>
+#include <stdatomic.h>
 #include <stdlib.h>
+
+static long refused_growth, refused_thread;
+static atomic_long growths, threads;
+
+__attribute__((constructor)) static void begin(void)
+{
+    const char *growth = getenv("REFUSE"), *thread = getenv("REFUSE_THREAD");
+    refused_growth = growth ? atol(growth) : 0;
+    refused_thread = thread ? atol(thread) : 0;
+}
 
 static int is_refused(void)
 {
-    static long refused = -1, growths;
-    if (refused < 0) {
-        const char *number = getenv("REFUSE");
-        refused = number ? atol(number) : 0;
-    }
-    return ++growths == refused;
+    return atomic_fetch_add(&growths, 1) + 1 == refused_growth;
 }
 
 void *malloc(size_t size)
@@ -58,4 +66,14 @@ int posix_memalign(void **out, size_t alignment, size_t size)
     if (is_refused())
         return ENOMEM;
     return next(out, alignment, size);
+}
+
+int pthread_create(pthread_t *thread, const pthread_attr_t *attributes, void *(*start)(void *), void *argument)
+{
+    static int (*next)(pthread_t *, const pthread_attr_t *, void *(*)(void *), void *);
+    if (!next)
+        next = dlsym(RTLD_NEXT, "pthread_create");
+    if (atomic_fetch_add(&threads, 1) + 1 == refused_thread)
+        return EAGAIN;
+    return next(thread, attributes, start, argument);
 }

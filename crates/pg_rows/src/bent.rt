@@ -1,5 +1,5 @@
-//! Records of which one byte is bent, each byte to each other value, and that end early: one checker
-//! and two say the same of each.
+//! Records that end early, and of which one byte is bent, each byte to each other value: one
+//! checker and two say the same of each.
 
 use crate::row::{Row, bytes_of};
 use crate::versions;

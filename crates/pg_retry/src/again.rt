@@ -1,0 +1,81 @@
+//! Calls that are called once more where memory was refused: the first has left all as it was.
+
+ghost use Rattle.std.specs.Prelude.{◌≡◌, ◌+◌, ◌<◌, ◌^◌, ◌++◌, length, OnOk, OnErr};
+ghost use Rattle.pg_check.specs.Kept.{AreWellFormed};
+ghost use Rattle.pg_guest.specs.Runs.{ArePlaced};
+ghost use Rattle.pg_machine.specs.Listed.{state_of};
+ghost use Rattle.pg_machine.specs.Machine.{MayTake, after};
+
+use pg_check::History;
+use pg_event::Event;
+use pg_guest::Processor;
+use pg_home::{Advance, Stop};
+use pg_machine::{Machine, Step, Stuck};
+use pg_world::World;
+use std::alloc::{AllocError, Global};
+
+/// A turn of the processor at a place. Where it is stopped for want of memory another one begins
+/// the instruction again.
+pub fn turn(world: &mut World, guests: &mut [Processor], p: u16, refused: &mut u64) -> Advance
+    requires placed { ArePlaced world.old.head guests.old }
+    requires within { p < length guests.old }
+    ensures placed { ArePlaced world.new.head guests.new }
+    ensures count { length guests.new ≡ length guests.old }
+{
+    let answer = pg_runner::turn(world, guests, p);
+    if answer != Advance::Stopped(Stop::Memory) {
+        return answer;
+    }
+    *refused = refused.wrapping_add(1);
+    pg_runner::turn(world, guests, p)
+}
+
+/// The next segment that is sealed.
+pub fn take_sealed(
+    alloc: Global,
+    world: &mut World,
+    refused: &mut u64,
+) -> Result<Option<Vec<Event>>, AllocError>
+    ensures err { OnErr result (world.new ≡ world.old) }
+{
+    match world.take_sealed(alloc) {
+        Ok(segment) => Ok(segment),
+        Err(_) => {
+            *refused = refused.wrapping_add(1);
+            world.take_sealed(alloc)
+        }
+    }
+}
+
+/// Adds events to a history.
+pub fn extend(history: &mut History, events: &[Event], refused: &mut u64) -> Result<(), AllocError>
+    requires well { AreWellFormed history.old.head events.now }
+    requires count { length history.old.events + length events.now < 2 ^ 32 }
+    ensures ok { OnOk result (history.new
+        ≡ record { head = history.old.head; events = history.old.events ++ events.now }) }
+    ensures err { OnErr result (history.new ≡ history.old) }
+{
+    match history.extend(events) {
+        Ok(()) => Ok(()),
+        Err(_) => {
+            *refused = refused.wrapping_add(1);
+            history.extend(events)
+        }
+    }
+}
+
+/// Has the machine take a step.
+pub fn step(machine: &mut Machine, step: &Step, refused: &mut u64) -> Result<(), Stuck>
+    ensures taken { OnOk result (MayTake machine.old.head (state_of machine.old) step.now) }
+    ensures after { OnOk result
+        (state_of machine.new ≡ after machine.old.head (state_of machine.old) step.now) }
+    ensures err { OnErr result (machine.new ≡ machine.old) }
+{
+    match machine.step(step) {
+        Err(Stuck::Memory) => {
+            *refused = refused.wrapping_add(1);
+            machine.step(step)
+        }
+        answer => answer,
+    }
+}
