@@ -229,19 +229,20 @@ fn tell_event(
 
 /// What stands behind the least reason that fails for an event, or `None` where the event is
 /// witnessed. It takes a few passes over the events. `Err` is for want of memory alone.
-pub fn explain(alloc: Global, history: &History, i: u32) -> Result<Option<Explanation>, AllocError>
+pub fn explain(alloc: Global, history: &History, i: u64) -> Result<Option<Explanation>, AllocError>
     requires { i < length history.now.events }
     ensures { IfOk result (λ x. MatchOption x
         (Witnessed history.now.head history.now.events i)
         (IsExplained history.now.head history.now.events i)) }
 {
     let event = history.events()[i as usize];
-    match tell_event(alloc, history, i, &event)? {
+    let number = i as u32;
+    match tell_event(alloc, history, number, &event)? {
         None => Ok(None),
         Some(Told { walk, finding }) => {
             let other = find_moments(alloc, history, i)?;
             Ok(Some(Explanation {
-                number: i,
+                number,
                 walk,
                 finding,
                 other,

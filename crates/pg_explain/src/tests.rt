@@ -94,7 +94,7 @@ fn explained(alloc: Global, history: &History) -> Result<Option<Explanation>, Fa
     if count == 0 {
         return Err(Fail::from("no event"));
     }
-    Ok(explain(alloc, history, (count - 1) as u32)?)
+    Ok(explain(alloc, history, count - 1)?)
 }
 
 /// Wants this explanation of the last event.

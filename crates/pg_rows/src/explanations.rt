@@ -2,7 +2,8 @@
 
 use crate::row::Row;
 
-pub const ROWS: [Row; 23] = [
+/// The records in `samples/`, and one of them without its last byte.
+pub const SAMPLES: [Row; 8] = [
     Row {
         name: "sample_fresh_walk",
         words: &["explain"],
@@ -146,94 +147,23 @@ segments: 1
         status: 0,
     },
     Row {
-        name: "bit_flipped_in_an_answer",
+        name: "explanation_of_a_truncated_record",
         words: &["explain"],
         input: &[
-            "50475245434f5244010028030110000000011000000000000001",
-            "010000000005000000",
-            "100000100000000000000720000000000000",
-            "100000200000000000000730000000000000",
-            "100000300000000000000740000000000000",
-            "100028400000000000000790000000000000",
-            "11000423510000000000000033910000000000000404000000040000000400000004000000",
-            "0205000000",
+            "50475245434f52440100280301100000000110000000000000010100000000070000001000001000",
+            "00000000000720000000000000100000200000000000000730000000000000100000300000000000",
+            "00074000000000000010002840000000000000079000000000000010002840000000000000000000",
+            "00000000001300005000000000000011000423510000000000000023910000000000000404000000",
+            "04000000040000000400000002070000",
         ],
-        output: "verdict: no
-event: 4
-reason: 9 answer
-events: 5
-segments: 1
-event: 4 cpu 0 user read 0x5123 -> 0x9133 moments 4 4 4 4
-level 4: moment 4 pcid 0x1 [0x1000] = 0x2007 table, written by event 0
-level 3: moment 4 pcid 0x1 [0x2000] = 0x3007 table, written by event 1
-level 2: moment 4 pcid 0x1 [0x3000] = 0x4007 table, written by event 2
-level 1: moment 4 pcid 0x1 [0x4028] = 0x9007 leaf, written by event 3
-expected: 0x9123
-final: no moments prove this access
-",
-        line: "",
-        status: 1,
+        output: "",
+        line: "pcid-audit: refused 8 truncated\n",
+        status: 2,
     },
-    Row {
-        name: "rights_kept_from_an_old_leaf",
-        words: &["explain"],
-        input: &[
-            "50475245434f5244010028030110000000011000000000000001",
-            "010000000007000000",
-            "100000100000000000000720000000000000",
-            "100000200000000000000730000000000000",
-            "100000300000000000000740000000000000",
-            "100028400000000000000790000000000000",
-            "100028400000000000000590000000000000",
-            "13000050000000000000",
-            "11000523510000000000000023910000000000000406000000060000000600000006000000",
-            "0207000000",
-        ],
-        output: "verdict: no
-event: 6
-reason: 8 rights
-events: 7
-segments: 1
-event: 6 cpu 0 user write 0x5123 -> 0x9123 moments 6 6 6 6
-level 4: moment 6 pcid 0x1 [0x1000] = 0x2007 table, written by event 0
-level 3: moment 6 pcid 0x1 [0x2000] = 0x3007 table, written by event 1
-level 2: moment 6 pcid 0x1 [0x3000] = 0x4007 table, written by event 2
-level 1: moment 6 pcid 0x1 [0x4028] = 0x9005 leaf, written by event 4
-rights: -u- deny user write
-final: no moments prove this access
-",
-        line: "",
-        status: 1,
-    },
-    Row {
-        name: "fault_of_a_fetch_without_bit_4",
-        words: &["explain"],
-        input: &[
-            "50475245434f5244010028030110000000011000000000000001",
-            "010000000005000000",
-            "100000100000000000000720000000000000",
-            "100000200000000000000730000000000000",
-            "100000300000000000000740000000000000",
-            "100028400000000000000790000000000000",
-            "11000600600000000000000104000404000000040000000400000004000000",
-            "0205000000",
-        ],
-        output: "verdict: no
-event: 4
-reason: 10 code
-events: 5
-segments: 1
-event: 4 cpu 0 user fetch 0x6000 -> fault 0x4 (user) moments 4 4 4 4
-level 4: moment 4 pcid 0x1 [0x1000] = 0x2007 table, written by event 0
-level 3: moment 4 pcid 0x1 [0x2000] = 0x3007 table, written by event 1
-level 2: moment 4 pcid 0x1 [0x3000] = 0x4007 table, written by event 2
-level 1: moment 4 pcid 0x1 [0x4030] = 0x0 absent, never written
-expected: fault 0x14 (user fetch)
-final: no moments prove this access
-",
-        line: "",
-        status: 1,
-    },
+];
+
+/// Walks that no entries of the moments make.
+pub const WALKS: [Row; 4] = [
     Row {
         name: "moments_out_of_order",
         words: &["explain"],
@@ -352,6 +282,10 @@ other moments would: 5 5 5 5
         line: "",
         status: 1,
     },
+];
+
+/// Entries that may not be used at the event.
+pub const CACHED: [Row; 3] = [
     Row {
         name: "large_page_dropped_at_level_2",
         words: &["explain"],
@@ -433,6 +367,99 @@ other moments would: 1 1
         line: "",
         status: 1,
     },
+];
+
+/// Answers and codes that the entries do not give.
+pub const ANSWERS: [Row; 4] = [
+    Row {
+        name: "bit_flipped_in_an_answer",
+        words: &["explain"],
+        input: &[
+            "50475245434f5244010028030110000000011000000000000001",
+            "010000000005000000",
+            "100000100000000000000720000000000000",
+            "100000200000000000000730000000000000",
+            "100000300000000000000740000000000000",
+            "100028400000000000000790000000000000",
+            "11000423510000000000000033910000000000000404000000040000000400000004000000",
+            "0205000000",
+        ],
+        output: "verdict: no
+event: 4
+reason: 9 answer
+events: 5
+segments: 1
+event: 4 cpu 0 user read 0x5123 -> 0x9133 moments 4 4 4 4
+level 4: moment 4 pcid 0x1 [0x1000] = 0x2007 table, written by event 0
+level 3: moment 4 pcid 0x1 [0x2000] = 0x3007 table, written by event 1
+level 2: moment 4 pcid 0x1 [0x3000] = 0x4007 table, written by event 2
+level 1: moment 4 pcid 0x1 [0x4028] = 0x9007 leaf, written by event 3
+expected: 0x9123
+final: no moments prove this access
+",
+        line: "",
+        status: 1,
+    },
+    Row {
+        name: "rights_kept_from_an_old_leaf",
+        words: &["explain"],
+        input: &[
+            "50475245434f5244010028030110000000011000000000000001",
+            "010000000007000000",
+            "100000100000000000000720000000000000",
+            "100000200000000000000730000000000000",
+            "100000300000000000000740000000000000",
+            "100028400000000000000790000000000000",
+            "100028400000000000000590000000000000",
+            "13000050000000000000",
+            "11000523510000000000000023910000000000000406000000060000000600000006000000",
+            "0207000000",
+        ],
+        output: "verdict: no
+event: 6
+reason: 8 rights
+events: 7
+segments: 1
+event: 6 cpu 0 user write 0x5123 -> 0x9123 moments 6 6 6 6
+level 4: moment 6 pcid 0x1 [0x1000] = 0x2007 table, written by event 0
+level 3: moment 6 pcid 0x1 [0x2000] = 0x3007 table, written by event 1
+level 2: moment 6 pcid 0x1 [0x3000] = 0x4007 table, written by event 2
+level 1: moment 6 pcid 0x1 [0x4028] = 0x9005 leaf, written by event 4
+rights: -u- deny user write
+final: no moments prove this access
+",
+        line: "",
+        status: 1,
+    },
+    Row {
+        name: "fault_of_a_fetch_without_bit_4",
+        words: &["explain"],
+        input: &[
+            "50475245434f5244010028030110000000011000000000000001",
+            "010000000005000000",
+            "100000100000000000000720000000000000",
+            "100000200000000000000730000000000000",
+            "100000300000000000000740000000000000",
+            "100028400000000000000790000000000000",
+            "11000600600000000000000104000404000000040000000400000004000000",
+            "0205000000",
+        ],
+        output: "verdict: no
+event: 4
+reason: 10 code
+events: 5
+segments: 1
+event: 4 cpu 0 user fetch 0x6000 -> fault 0x4 (user) moments 4 4 4 4
+level 4: moment 4 pcid 0x1 [0x1000] = 0x2007 table, written by event 0
+level 3: moment 4 pcid 0x1 [0x2000] = 0x3007 table, written by event 1
+level 2: moment 4 pcid 0x1 [0x3000] = 0x4007 table, written by event 2
+level 1: moment 4 pcid 0x1 [0x4030] = 0x0 absent, never written
+expected: fault 0x14 (user fetch)
+final: no moments prove this access
+",
+        line: "",
+        status: 1,
+    },
     Row {
         name: "denied_write_of_a_writable_page",
         words: &["explain"],
@@ -462,6 +489,10 @@ final: no moments prove this access
         line: "",
         status: 1,
     },
+];
+
+/// Accessed and dirty flags, of version 2.
+pub const FLAGS: [Row; 4] = [
     Row {
         name: "version_2_write_of_clean_leaf",
         words: &["explain"],
@@ -577,19 +608,5 @@ final: no moments prove this assist
 ",
         line: "",
         status: 1,
-    },
-    Row {
-        name: "explanation_of_a_truncated_record",
-        words: &["explain"],
-        input: &[
-            "50475245434f52440100280301100000000110000000000000010100000000070000001000001000",
-            "00000000000720000000000000100000200000000000000730000000000000100000300000000000",
-            "00074000000000000010002840000000000000079000000000000010002840000000000000000000",
-            "00000000001300005000000000000011000423510000000000000023910000000000000404000000",
-            "04000000040000000400000002070000",
-        ],
-        output: "",
-        line: "pcid-audit: refused 8 truncated\n",
-        status: 2,
     },
 ];

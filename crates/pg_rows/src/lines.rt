@@ -1,8 +1,9 @@
-//! Events of records, a line each: the samples, and ranges of events.
+//! Events of records, a line each.
 
 use crate::row::Row;
 
-pub const ROWS: [Row; 19] = [
+/// The records in `samples/`.
+pub const SAMPLES: [Row; 7] = [
     Row {
         name: "sample_fresh_walk",
         words: &["show"],
@@ -138,6 +139,10 @@ pub const ROWS: [Row; 19] = [
         line: "",
         status: 0,
     },
+];
+
+/// Some events of a record, and other records.
+pub const RANGES: [Row; 12] = [
     Row {
         name: "from_event_5_on",
         words: &["show", "--from", "5"],

@@ -61,16 +61,56 @@ fn records_of_version_2(rt: HostRuntime) -> Result<(), Fail> {
 }
 
 #[test]
-fn what_stands_behind_a_no(rt: HostRuntime) -> Result<(), Fail> {
-    for row in &explanations::ROWS {
+fn samples_explained(rt: HostRuntime) -> Result<(), Fail> {
+    for row in &explanations::SAMPLES {
         run(&rt, row)?;
     }
     Ok(())
 }
 
 #[test]
-fn events_a_line_each(rt: HostRuntime) -> Result<(), Fail> {
-    for row in &lines::ROWS {
+fn walks_explained(rt: HostRuntime) -> Result<(), Fail> {
+    for row in &explanations::WALKS {
+        run(&rt, row)?;
+    }
+    Ok(())
+}
+
+#[test]
+fn cached_entries_explained(rt: HostRuntime) -> Result<(), Fail> {
+    for row in &explanations::CACHED {
+        run(&rt, row)?;
+    }
+    Ok(())
+}
+
+#[test]
+fn answers_explained(rt: HostRuntime) -> Result<(), Fail> {
+    for row in &explanations::ANSWERS {
+        run(&rt, row)?;
+    }
+    Ok(())
+}
+
+#[test]
+fn flags_explained(rt: HostRuntime) -> Result<(), Fail> {
+    for row in &explanations::FLAGS {
+        run(&rt, row)?;
+    }
+    Ok(())
+}
+
+#[test]
+fn samples_a_line_an_event(rt: HostRuntime) -> Result<(), Fail> {
+    for row in &lines::SAMPLES {
+        run(&rt, row)?;
+    }
+    Ok(())
+}
+
+#[test]
+fn ranges_of_events(rt: HostRuntime) -> Result<(), Fail> {
+    for row in &lines::RANGES {
         run(&rt, row)?;
     }
     Ok(())

@@ -17,7 +17,7 @@ use pg_machine::Translation;
 use std::alloc::AllocError;
 
 /// The moments and one more.
-pub fn next_moments(trail: Option<Moments>, moment: u32) -> Moments
+pub(crate) fn next_moments(trail: Option<Moments>, moment: u32) -> Moments
     requires { length (trail_of trail) < 4 }
     ensures { result ≡ trail_of trail ++ moment ∷ [] }
 {
@@ -155,7 +155,7 @@ fn add_spot(
 }
 
 /// Puts in the tables that are read now from spots.
-pub fn add_spots(
+pub(crate) fn add_spots(
     into: &mut Vec<HeldSpot>,
     history: &History,
     now: Now,
@@ -246,7 +246,7 @@ fn add_found(
 }
 
 /// Puts in the translations that are read now from spots.
-pub fn add_founds(
+pub(crate) fn add_founds(
     into: &mut Vec<HeldFound>,
     history: &History,
     now: Now,

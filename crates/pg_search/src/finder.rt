@@ -2,6 +2,7 @@ ghost use Rattle.std.specs.Prelude.{◌≡◌, ◌<◌, ◌^◌, true, map, filt
 ghost use Rattle.std.specs.Prelude.{IfOk, IfSome, IfNone};
 ghost use Rattle.pg_entry.specs.declared.Level.TheVariants.{Four, Three, Two, One};
 ghost use Rattle.pg_event.specs.Form.{processor_of};
+ghost use Rattle.pg_event.specs.Witness.{claim_of, update_of};
 ghost use Rattle.pg_search.specs.Sweep.{entry_at, read_at, standing};
 ghost use Rattle.pg_search.specs.Found.{moments_of, gives, finds, found_in, found_access};
 ghost use Rattle.pg_search.specs.Found.{found_assist, found, IsPick};
@@ -17,7 +18,7 @@ use crate::sought::{Sought, gives, is_sought};
 use crate::sweeper::{Sweep, sweep_to};
 use pg_check::History;
 use pg_entry::Level;
-use pg_event::{Claim, Event, Header, Moments, Update, access_kind, says_dirty};
+use pg_event::{Claim, Event, Header, Moments, Outcome, Update, access_kind, says_dirty};
 use std::alloc::{AllocError, Global};
 
 /// Whether an event names moments: accesses and assists do.
@@ -129,6 +130,33 @@ fn find_assist(
     Ok(best_in(history, now, &Sought::Word(update), &sweep))
 }
 
+/// What an access claims.
+fn claim_of(number: u32, p: u16, flags: u8, la: u64, outcome: Outcome) -> Claim
+    ensures { result ≡ claim_of number p flags la outcome }
+{
+    Claim {
+        number,
+        p,
+        kind: access_kind(flags),
+        la,
+        outcome,
+    }
+}
+
+/// What an assist names.
+fn update_of(number: u32, p: u16, flags: u8, la: u64, word: u64) -> Update
+    ensures { result ≡ update_of number p flags la word }
+{
+    Update {
+        number,
+        p,
+        kind: access_kind(flags),
+        la,
+        word,
+        dirty: says_dirty(flags),
+    }
+}
+
 /// Moments for an event of this number, whatever moments it names itself.
 fn found_for(
     alloc: Global,
@@ -147,35 +175,14 @@ fn found_for(
             la,
             outcome,
             ..
-        } => find_access(
-            alloc,
-            history,
-            Claim {
-                number: i,
-                p,
-                kind: access_kind(flags),
-                la,
-                outcome,
-            },
-        ),
+        } => find_access(alloc, history, claim_of(i, p, flags, la, outcome)),
         Event::Assist {
             p,
             flags,
             la,
             word,
             ..
-        } => find_assist(
-            alloc,
-            history,
-            Update {
-                number: i,
-                p,
-                kind: access_kind(flags),
-                la,
-                word,
-                dirty: says_dirty(flags),
-            },
-        ),
+        } => find_assist(alloc, history, update_of(i, p, flags, la, word)),
         Event::Write { .. }
         | Event::MovCr3 { .. }
         | Event::Invlpg { .. }
@@ -192,7 +199,7 @@ fn found_for(
 /// among these those whose last but one is, and so on; of two that end alike, the shorter.
 ///
 /// It takes one pass over the events up to this one. It fails only where memory is refused.
-pub fn find_moments(alloc: Global, history: &History, i: u32) -> Result<Option<Moments>, AllocError>
+pub fn find_moments(alloc: Global, history: &History, i: u64) -> Result<Option<Moments>, AllocError>
     requires within { i < length history.now.events }
     requires names { IfSome (slice_get history.now.events i) (λ e. names_moments e ≡ true) }
     ensures some { IfOk result
@@ -202,5 +209,6 @@ pub fn find_moments(alloc: Global, history: &History, i: u32) -> Result<Option<M
     ensures run { IfOk result (λ found. IfNone found
         (RunBeginsWith history.now.head history.now.events i → ⊥)) }
 {
-    found_for(alloc, history, i, &history.events()[i as usize])
+    let event = &history.events()[i as usize];
+    found_for(alloc, history, i as u32, event)
 }

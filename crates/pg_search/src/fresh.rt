@@ -16,7 +16,7 @@ fn are_fresher(a: &[u32], b: &[u32]) -> bool {
 
 /// The fresher of two choices: whose last moment is the larger, or the same and its last but one,
 /// and so on.
-pub fn fresher(a: Option<Moments>, b: Option<Moments>) -> Option<Moments>
+pub(crate) fn fresher(a: Option<Moments>, b: Option<Moments>) -> Option<Moments>
     ensures either { (result ≡ a) ⊎ (result ≡ b) }
     ensures none { result ≡ None → (a ≡ None) × (b ≡ None) }
 {

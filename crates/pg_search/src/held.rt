@@ -10,7 +10,7 @@ use std::marker::Model;
 
 /// A table that a walk under a PCID may go on in, and the moments that lead to it.
 #[derive(Clone, Copy, PartialEq, Eq, Debug)]
-pub struct Spot {
+pub(crate) struct Spot {
     pub from: Parent,
     pub pcid: u16,
     /// None at the root.
@@ -21,13 +21,13 @@ pub struct Spot {
 
 /// A translation, and the moments that made it.
 #[derive(Clone, Copy, PartialEq, Eq, Debug)]
-pub struct Found {
+pub(crate) struct Found {
     pub translation: Translation,
     pub moments: Moments,
 }
 
 /// What an address holds after an event.
-pub fn written(address: u64, value: u64, event: &Event) -> u64
+pub(crate) fn written(address: u64, value: u64, event: &Event) -> u64
     ensures { result ≡ written address value event.now }
 {
     match *event {
@@ -53,7 +53,7 @@ pub fn written(address: u64, value: u64, event: &Event) -> u64
 
 /// A spot whose table is at a physical address.
 #[derive(Debug, Drop)]
-pub struct HeldSpot(Spot);
+pub(crate) struct HeldSpot(Spot);
 
 impl Model for HeldSpot {
     ghost use Rattle.std.specs.Prelude.{◌<◌, ◌^◌};
@@ -68,14 +68,14 @@ impl Model for HeldSpot {
 }
 
 impl HeldSpot {
-    pub fn new(spot: Spot) -> HeldSpot
+    pub(crate) fn new(spot: Spot) -> HeldSpot
         requires { spot.from.table < 2 ^ 52 }
         ensures { result ≡ place_of spot }
     {
         HeldSpot(spot)
     }
 
-    pub fn get(&self) -> Spot
+    pub(crate) fn get(&self) -> Spot
         ensures value { place_of result ≡ self.now }
         ensures within { result.from.table < 2 ^ 52 }
     {
@@ -83,7 +83,7 @@ impl HeldSpot {
     }
 
     /// Changes the entry as an event does, where the spot is at this level.
-    pub fn see(&mut self, level: Level, la: u64, event: &Event)
+    pub(crate) fn see(&mut self, level: Level, la: u64, event: &Event)
         ensures { self.new ≡ record self.old {
           word = written (entry_address self.old.from.table level la) self.old.word event.now;
         } }
@@ -95,7 +95,7 @@ impl HeldSpot {
 
 /// A translation whose page is at a physical address, and of at most 1 GByte.
 #[derive(Debug, Drop)]
-pub struct HeldFound(Found);
+pub(crate) struct HeldFound(Found);
 
 impl Model for HeldFound {
     ghost use Rattle.std.specs.Prelude.{◌<◌, ◌≤◌, ◌^◌};
@@ -111,7 +111,7 @@ impl Model for HeldFound {
 }
 
 impl HeldFound {
-    pub fn new(found: Found) -> HeldFound
+    pub(crate) fn new(found: Found) -> HeldFound
         requires size { found.translation.key.shift ≤ 30 }
         requires within { found.translation.frame < 2 ^ 52 }
         ensures { result ≡ made_from found }
@@ -119,7 +119,7 @@ impl HeldFound {
         HeldFound(found)
     }
 
-    pub fn get(&self) -> Found
+    pub(crate) fn get(&self) -> Found
         ensures value { made_from result ≡ self.now }
         ensures size { result.translation.key.shift ≤ 30 }
         ensures within { result.translation.frame < 2 ^ 52 }

@@ -13,7 +13,7 @@ use pg_event::{Control, Event, entry_address, root_of};
 /// A processor and a linear address at a moment, with the control registers that the processor has
 /// there and the entry that level 4 has for the address.
 #[derive(Clone, Copy, PartialEq, Eq, Debug)]
-pub struct Now {
+pub(crate) struct Now {
     pub p: u16,
     pub la: u64,
     pub moment: u32,
@@ -30,7 +30,7 @@ fn word_of(history: &History, la: u64, moment: u32, control: Control) -> u64
 }
 
 /// A processor and address before the first event.
-pub fn at_start(history: &History, p: u16, la: u64) -> Now
+pub(crate) fn at_start(history: &History, p: u16, la: u64) -> Now
     requires { p < length history.now.head.processors }
     ensures now { IsNow history.now result }
     ensures asked { (result.p ≡ p) × (result.la ≡ la) }
@@ -64,7 +64,7 @@ fn next_word(history: &History, now: Now, event: &Event, control: Control) -> u6
 }
 
 /// The same processor and address after an event.
-pub fn after(history: &History, now: Now, event: &Event) -> Now
+pub(crate) fn after(history: &History, now: Now, event: &Event) -> Now
     requires now { IsNow history.now now }
     requires event { slice_get history.now.events now.moment ≡ Some event.now }
     requires room { now.moment + 1 < 2 ^ 32 }
@@ -103,7 +103,7 @@ fn next_control(history: &History, now: Now, event: &Event) -> Control
 }
 
 /// Where a walk begins now.
-pub fn root_spot(now: Now) -> HeldSpot
+pub(crate) fn root_spot(now: Now) -> HeldSpot
     requires { now.control.root < 2 ^ 52 }
     ensures { result ≡ record {
       from = root_of now.control;

@@ -20,7 +20,7 @@ use pg_machine::Translation;
 
 /// What an event needs of an entry that a walk may read at its moment.
 #[derive(Clone, Copy, Drop)]
-pub enum Sought {
+pub(crate) enum Sought {
     /// It is the one of the fault that an access claims: absent, or with a reserved bit set.
     Fault(Claim),
     /// It is the one that an assist names: present with no reserved bit and, where the assist is
@@ -79,7 +79,7 @@ fn serves(version: Version, claim: &Claim, t: &Translation) -> bool
 }
 
 /// Whether a translation may be used under a PCID and gives what an access claims.
-pub fn gives(header: &Header, pcid: u16, claim: &Claim, x: &HeldFound) -> bool
+pub(crate) fn gives(header: &Header, pcid: u16, claim: &Claim, x: &HeldFound) -> bool
     ensures { result ≡ gives header.now pcid claim.now x.now }
 {
     let t = x.get().translation;
@@ -122,7 +122,7 @@ fn is_named(cfg: Cfg, update: &Update, level: Level, spot: Spot, kind: Kind) -> 
 }
 
 /// Whether the entry of a spot at a level is what is sought.
-pub fn is_sought(cfg: Cfg, sought: &Sought, level: Level, spot: Spot) -> bool
+pub(crate) fn is_sought(cfg: Cfg, sought: &Sought, level: Level, spot: Spot) -> bool
     requires width { (36 ≤ cfg.m) × (cfg.m ≤ 52) }
     requires within { spot.from.table < 2 ^ 52 }
     ensures { result ≡ is_sought cfg sought.now level spot.from spot.word }

@@ -23,7 +23,7 @@ use std::alloc::{AllocError, Global};
 /// What may stand at a moment, for one processor and address: tables to read in at each level below
 /// the root's, and translations.
 #[derive(Debug, Drop)]
-pub struct Sweep {
+pub(crate) struct Sweep {
     pub threes: Vec<HeldSpot>,
     pub twos: Vec<HeldSpot>,
     pub ones: Vec<HeldSpot>,
@@ -151,7 +151,7 @@ fn leave(sweep: &mut Sweep, history: &History, now: &Now, event: &Event)
 /// What stands at a moment, after its fills, and the control registers there. It takes one pass
 /// over the events before: an entry is looked up where a table or a root is new, and else changed
 /// as the events say.
-pub fn sweep_to(
+pub(crate) fn sweep_to(
     alloc: Global,
     history: &History,
     p: u16,

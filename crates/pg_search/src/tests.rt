@@ -76,7 +76,7 @@ fn found(alloc: Global, history: &History, expected: Option<&[u32]>) -> Result<(
     if count == 0 || !names_moments(&history.events()[(count - 1) as usize]) {
         return Err(Fail::from("names no moments"));
     }
-    let given = find_moments(alloc, history, (count - 1) as u32)?;
+    let given = find_moments(alloc, history, count - 1)?;
     let is_right = match (&given, expected) {
         (Some(moments), Some(wanted)) => moments.as_slice() == wanted,
         (None, None) => true,
@@ -146,6 +146,17 @@ fn either_table_is_found_where_one_was_replaced(rt: HostRuntime) -> Result<(), F
     found(rt.alloc(), &history, Some(&[4, 6, 6, 6]))?;
     access(&mut history, READ, Outcome::Fault(0x4))?;
     found(rt.alloc(), &history, Some(&[7, 7]))
+}
+
+/// The root's entry is replaced by event 1, so that a walk at event 2 finds no entry of level 3 in
+/// the new table, nor in the old one. Moments 1 and 2 would do, and 2 and 2 are fresher.
+#[test]
+fn freshest_of_two_walks_is_found(rt: HostRuntime) -> Result<(), Fail> {
+    let mut history = History::new(rt.alloc(), one_processor(rt.alloc(), Version::One)?)?;
+    write(&mut history, 0x1000, 0x2007)?;
+    write(&mut history, 0x1000, 0x6007)?;
+    access(&mut history, READ, Outcome::Fault(0x4))?;
+    found(rt.alloc(), &history, Some(&[2, 2]))
 }
 
 /// In version 2 an entry is used only once A is set, and a leaf for a write only once D is: the

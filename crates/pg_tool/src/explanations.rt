@@ -34,7 +34,7 @@ fn push_explanation(
         ≡ string_bytes text.old ++ explanation_text history.now.events x)) }
 {
     let events = history.events();
-    match pg_explain::explain(alloc, history, number as u32)? {
+    match pg_explain::explain(alloc, history, number)? {
         Some(explanation) => {
             let told = explanation_text(alloc, events, &explanation)?;
             text.push_str(told.as_str())?;
