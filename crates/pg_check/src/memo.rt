@@ -58,12 +58,12 @@ fn is_of(slot: &Slot, p: u16, page: u64, moments: &Moments) -> bool
 }
 
 impl<'a> Memo<'a> {
-    /// No walk. There is room for as many as `events`, up to a limit; where memory is refused, each
-    /// walk is made anew.
-    pub fn new(past: &'a Past, events: usize) -> Memo<'a>
+    /// No walk. There is room for so many, up to a limit; where memory is refused, each walk is
+    /// made anew.
+    pub(crate) fn new(past: &'a Past, walks: usize) -> Memo<'a>
         ensures { result ≡ past.now }
     {
-        let count = events.min(MOST_SLOTS);
+        let count = walks.min(MOST_SLOTS);
         let slots = match Vec::from_elem(past.alloc, None, count) {
             Ok(slots) => slots,
             Err(_) => Vec::new(past.alloc),
@@ -72,7 +72,7 @@ impl<'a> Memo<'a> {
     }
 
     /// What the run did.
-    pub fn past(&self) -> &Past
+    pub(crate) fn past(&self) -> &Past
         ensures { result.now ≡ self.now }
     {
         self.past
@@ -137,7 +137,7 @@ impl<'a> Memo<'a> {
 
     /// The walk of an access by its moments, and how long its translation lasts, or the least of
     /// the reasons `Entry`, `Context` and `StructureDropped`.
-    pub fn walk(
+    pub(crate) fn walk(
         &mut self,
         p: u16,
         la: u64,

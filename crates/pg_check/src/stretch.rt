@@ -33,11 +33,11 @@ pub struct Stretch<'a> {
 }
 
 impl<'a> Stretch<'a> {
-    /// A memo of walks for one thread's judging, with none as yet.
-    pub fn memo(&self) -> Memo<'a>
+    /// A memo for one thread's judging, with room for so many walks, up to a limit, and none as yet.
+    pub fn memo(&self, walks: usize) -> Memo<'a>
         ensures { result ≡ self.now.past.now }
     {
-        Memo::new(self.past, self.events.len())
+        Memo::new(self.past, walks)
     }
 
     /// Checks the events of one segment, in their order, up to the first that is not witnessed.

@@ -21,6 +21,8 @@ use std::thread::Threads;
 struct Segments<'a> {
     stretch: Stretch<'a>,
     round: Round,
+    /// So many walks a checker's memo has room for.
+    walks: usize,
 }
 
 impl<'a> Model for Segments<'a> {
@@ -49,7 +51,7 @@ impl<'a> Judge for Segments<'a> {
     ghost past = { λ s. s.stretch.past.now };
 
     fn memo(&self) -> Memo<'_> {
-        self.stretch.memo()
+        self.stretch.memo(self.walks)
     }
 
     fn judge(&self, memo: &mut Memo<'_>, number: u32) -> SegmentVerdict {
@@ -79,6 +81,12 @@ pub fn audit_round<R: Threads + Wait + Sync, G: Gate>(
     if checkers == 0 || checkers > 64 {
         return Err(PoolError::Checkers);
     }
-    let segments = Segments { stretch, round };
+    // A checker judges its share of the events, or somewhat more.
+    let walks = stretch.events.len() / checkers as usize;
+    let segments = Segments {
+        stretch,
+        round,
+        walks,
+    };
     judge_round(rt, alloc, &segments, gate, round, checkers)
 }
