@@ -34,6 +34,10 @@ pub(crate) fn next_starts<R: Source>(
     Ok(starts)
 }
 
+/// Room for at most so many events is taken before they have come. What a segment's head says costs
+/// no more, and room for the others is taken as they come.
+const AHEAD: u32 = 4096;
+
 /// So many events, of which the first has the number `before`, in the memory of a list whose own
 /// events are let go.
 pub(crate) fn next_events<R: Source>(
@@ -54,7 +58,7 @@ pub(crate) fn next_events<R: Source>(
 {
     let mut events = room;
     events.clear();
-    events.reserve(count as usize)?;
+    events.reserve(count.min(AHEAD) as usize)?;
     for i in 0..count {
         let event = next_event(buffer, source, header, (before + i) as u64)?;
         events.push(event)?;

@@ -1,6 +1,6 @@
 //! The processors' threads.
 
-ghost use Rattle.std.specs.Prelude.{◌≡◌, IfErr, length};
+ghost use Rattle.std.specs.Prelude.{◌≡◌, ◌≢◌, ◌⊎◌, ◌↔◌, true, Err, IfErr, length};
 ghost use Rattle.pg_threads.specs.Live.{IsWant};
 
 use crate::lookout::{Lookout, watch};
@@ -26,9 +26,15 @@ enum Met {
     NoThread,
 }
 
-/// What the processors' threads and the rounds beside them met: want of memory goes before a
-/// refused thread.
-fn outcome(refused: bool, short: bool, live: Result<Watched, RunError>) -> Met {
+/// What the processors' threads and the rounds beside them met, by the lowest number of what
+/// occurred: `refused` where memory was in a processor's thread, `short` where such a thread was.
+fn outcome(refused: bool, short: bool, live: Result<Watched, RunError>) -> Met
+    requires { IfErr live IsWant }
+    ensures memory { (result ≡ Met.NoMemory) ↔
+        ((refused ≡ true) ⊎ (live ≡ Err RunError.Memory)) }
+    ensures thread { (result ≡ Met.NoThread) ↔ ((result ≢ Met.NoMemory)
+        × ((short ≡ true) ⊎ (live ≡ Err RunError.Thread))) }
+{
     match live {
         Err(RunError::Memory) => Met::NoMemory,
         Err(RunError::Thread | RunError::Checkers | RunError::Full) => {
@@ -57,9 +63,9 @@ fn processor_count(script: &Script) -> u16
     script.header().processors.len() as u16
 }
 
-/// Lets each processor of a script carry its instructions out in a thread of its own, and judges
-/// what they seal. All threads that were started are joined before it answers, also where a thread
-/// was refused.
+/// Lets each processor of a script carry its instructions out in a thread of its own, if it has
+/// any, and judges what they seal. All threads that were started are joined before it answers, also
+/// where a thread was refused.
 fn run_all<R: Threads + Wait + Sync, G: Gate, H: Gate>(
     crew: &Crew<'_, R, H>,
     shared: &Mutex<Board<'_>>,
@@ -76,11 +82,18 @@ fn run_all<R: Threads + Wait + Sync, G: Gate, H: Gate>(
         let Ok(mut handles) = Vec::with_capacity(crew.alloc, count as usize) else {
             return Met::NoMemory;
         };
+        let mut short = false;
         for p in 0..count {
             let instructions = script.instructions(p).len();
+            if instructions == 0 {
+                continue;
+            }
             match scope.spawn(move || run_processor(rt, shared, p, instructions, ended, gate)) {
                 Ok(handle) => handles.push_reserved(handle),
-                Err(_) => break,
+                Err(_) => {
+                    short = true;
+                    break;
+                }
             }
         }
         let started = handles.len();
@@ -89,13 +102,13 @@ fn run_all<R: Threads + Wait + Sync, G: Gate, H: Gate>(
         for handle in handles {
             refused = handle.join(rt) || refused;
         }
-        outcome(refused, started < count as usize, live)
+        outcome(refused, short, live)
     })
 }
 
-/// Runs all processors of a script, each in a thread of its own, and gives what was judged while
-/// they ran. It answers once all threads have ended, and by want of memory where there was that as
-/// well as a refused thread.
+/// Runs all processors of a script, each that has instructions in a thread of its own, and gives
+/// what was judged while they ran. It answers once all threads have ended, and by want of memory
+/// where there was that as well as a refused thread.
 pub(crate) fn run_processors<R: Threads + Wait + Sync, G: Gate, H: Gate>(
     crew: &Crew<'_, R, H>,
     shared: &Mutex<Board<'_>>,
