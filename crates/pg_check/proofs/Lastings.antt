@@ -1,14 +1,14 @@
 -- What the first event that drops a translation says of an access.
-use Rattle.std.proofs.Common.{◌≡◌, ℕ, ◌+◌, ◌-◌, ◌<◌, ◌≤◌, Bool, true, false, not, nat_lt, List, Some, None, ◌⊎◌, inl, inr, sym, subst, ◌∙◌, arith}
+use Rattle.std.proofs.Common.{◌≡◌, ℕ, ◌+◌, ◌-◌, ◌<◌, ◌≤◌, Bool, true, false, not, nat_lt, List, Some, ◌⊎◌, inl, inr, sym, ap, subst, ◌∙◌, arith}
 use Rattle.std.proofs.lemmas.Bool.{ltb-true, lt-ltb, false≢true, false_from_ne_true, cases_lt}
 use Rattle.pg_event.specs.declared.event.Event.{Event}
 use Rattle.pg_event.specs.Heads.{Head}
-use Rattle.pg_event.specs.Walk.{Reading}
 use Rattle.pg_event.specs.Witness.{any_from}
 use Rattle.pg_entry.specs.declared.Kind.{Kind}
 use Rattle.pg_entry.specs.declared.Kind.TheVariants.{Table, Absent, Reserved}
 use Rattle.pg_inval.specs.Lists.{IsFirstDrop}
-use Rattle.pg_check.specs.Lasting.{LastsTo}
+use Rattle.pg_check.specs.declared.lasting.Lasting.{Lasting}
+use Rattle.pg_check.specs.Lasting.{LastsTo, IsAsked}
 use Rattle.pg_inval.proofs.AnyFrom.{same_truth, not-not, any_from-at, any_from-passes}
 
 -- whether a number of a window passes a test, said twice not
@@ -47,8 +47,17 @@ first_below test from to number m first =
     ])
 
 -- nothing is said of an end that gives no translation
-pub nothing_lasts : (head : Head) (events : List Event) (p la pcid : ℕ) (r : Reading) (k : Kind) →
-    ((x : ℕ) × (k ≡ Table x)) ⊎ ((k ≡ Absent) ⊎ (k ≡ Reserved)) → LastsTo head events p la pcid r k false None
-nothing_lasts head events p la pcid r k (inl (x, e)) = subst (λ (j : Kind). LastsTo head events p la pcid r j false None) (sym e) tt
-nothing_lasts head events p la pcid r k (inr (inl e)) = subst (λ (j : Kind). LastsTo head events p la pcid r j false None) (sym e) tt
-nothing_lasts head events p la pcid r k (inr (inr e)) = subst (λ (j : Kind). LastsTo head events p la pcid r j false None) (sym e) tt
+pub nothing_lasts : (head : Head) (events : List Event) (p la : ℕ) (l : Lasting) (k : Kind) →
+    ((x : ℕ) × (k ≡ Table x)) ⊎ ((k ≡ Absent) ⊎ (k ≡ Reserved)) → LastsTo head events p la l k
+nothing_lasts head events p la l k (inl (x, e)) = subst (λ (j : Kind). LastsTo head events p la l j) (sym e) tt
+nothing_lasts head events p la l k (inr (inl e)) = subst (λ (j : Kind). LastsTo head events p la l j) (sym e) tt
+nothing_lasts head events p la l k (inr (inr e)) = subst (λ (j : Kind). LastsTo head events p la l j) (sym e) tt
+
+-- no number lies in a window that ends where it begins, or before
+pub none_at_once : (test : ℕ → Bool) (from number : ℕ) → number ≤ from → false ≡ any_from test from (number - from)
+none_at_once test from number h = let none : number - from ≡ 0 = omega (arith, h) in ap (λ n. any_from test from n) (sym none)
+
+-- it was asked of a walk that an event comes after
+pub was_asked : (number : ℕ) (l : Lasting) → IsAsked number l → l.chain.end.moment < number → l.asked ≡ true
+was_asked number l (inl at_once) h = absurd (omega arith)
+was_asked number l (inr asked) h = asked

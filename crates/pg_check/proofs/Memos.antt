@@ -1,5 +1,5 @@
 -- What a slot of a memo says of the walk that it names.
-use Rattle.std.proofs.Common.{◌≡◌, ℕ, suc, zero, ◌<◌, List, [], ◌∷◌, length, get_or, Option, Some, Ok, subst, arith}
+use Rattle.std.proofs.Common.{◌≡◌, ℕ, suc, zero, ◌<◌, List, [], ◌∷◌, length, get_or, set, Option, Some, Ok, subst, arith}
 use Rattle.pg_event.specs.declared.event.Event.{Event}
 use Rattle.pg_event.specs.declared.event.Want.TheVariants as wants
 use Rattle.pg_event.specs.Heads.{Head}
@@ -22,3 +22,9 @@ walk_of_slot past s p page ws has same head events h =
     subst (λ q. IsWalk head events q page wants.Leaf ws (Ok s.walk)) same.0
     (subst (λ la. IsWalk head events s.p la wants.Leaf ws (Ok s.walk)) same.1
     (subst (λ vs. IsWalk head events s.p s.page wants.Leaf vs (Ok s.walk)) same.2 (has head events h)))
+
+-- a slot may be written at any place
+pub slots_kept : (past : Past) (slots : List (Option Slot)) (i : ℕ) (s : Option Slot) → HaveWalks past slots → HasWalk past s → HaveWalks past (set slots i s)
+slots_kept past [] i s all has = all
+slots_kept past (x ∷ xs) zero s all has = (has, all.1)
+slots_kept past (x ∷ xs) (suc i) s all has = (all.0, slots_kept past xs i s all.1 has)

@@ -1,5 +1,5 @@
 -- A walk depends on the page of its address alone.
-use Rattle.std.proofs.Common.{◌≡◌, ℕ, ◌+◌, ◌-◌, ◌*◌, ◌/◌, ◌%◌, ◌^◌, Bool, true, false, not, cond, ◌&&◌, List, [], ◌∷◌, Option, Some, None, Result, Ok, Err, inl, inr, refl, sym, ap, subst, ◌∙◌, arith}
+use Rattle.std.proofs.Common.{◌≡◌, ℕ, ◌+◌, ◌-◌, ◌*◌, ◌/◌, ◌%◌, ◌^◌, Bool, true, false, not, cond, ◌&&◌, List, [], ◌∷◌, Some, None, Result, Ok, Err, inl, inr, refl, sym, ap, subst, ◌∙◌, arith}
 use Rattle.std.proofs.Math.Nat.{div-div-eq-div-mul, mod-lt}
 use Rattle.std.proofs.lemmas.Nat.{div-mul-add, div-add-mod', mod-pow-add, pow_pos, pow-add}
 use Rattle.pg_entry.specs.declared.Cfg.{Cfg}
@@ -20,14 +20,13 @@ use Rattle.pg_event.specs.declared.keys.TranslationKey.{TranslationKey}
 use Rattle.pg_event.specs.declared.control.Control.{Control}
 use Rattle.pg_event.specs.Heads.{Head}
 use Rattle.pg_event.specs.Values.{mem_at, control_at}
-use Rattle.pg_event.specs.Invalidation.{bits_from, structure_key, must_drop_structure, must_drop_translation}
+use Rattle.pg_event.specs.Invalidation.{bits_from, structure_key, must_drop_structure}
 use Rattle.pg_event.specs.Walk.{Reading, readings, below, entry_address, root_of}
 use Rattle.pg_event.specs.Witness.{leads_to, last_or, survives, structures_survive, is_one_context, tables_accessed, walked}
 use Rattle.pg_inval.specs.Drops.{IsPageShift}
-use Rattle.pg_inval.specs.Lists.{IsFirstDrop}
-use Rattle.pg_chain.specs.Walked.{chain_of, chain_through, ended, reading_of}
+use Rattle.pg_chain.specs.Walked.{chain_of, chain_through, ended}
 use Rattle.pg_check.specs.declared.lasting.Lasting.{Lasting}
-use Rattle.pg_check.specs.Lasting.{LastsTo, IsWalk}
+use Rattle.pg_check.specs.Lasting.{IsDroppedAt, LastsTo, IsWalk}
 
 -- the first address of a page
 abbrev pub start_of : ℕ → ℕ
@@ -157,20 +156,20 @@ kind_paged cfg level e =
     (either_paged (is_reserved cfg level e) Reserved (target cfg.m e (leaf_shift level e)) tt (target_paged cfg.m e level))
 
 -- no event drops a translation for one of its addresses alone
-same_lasting : (head : Head) (events : List Event) (p la pcid : ℕ) (r : Reading) (k : Kind) (global : Bool) (dropped : Option ℕ) → IsPaged k →
-    LastsTo head events p (start_of la) pcid r k global dropped → LastsTo head events p la pcid r k global dropped
-same_lasting head events p la pcid r (Leaf frame shift global_bit) global dropped paged lasts =
-    (lasts.0, subst (λ (n : ℕ). IsFirstDrop (λ a b. not (survives head events p (λ c e. must_drop_translation c e (with_number pcid shift global n)) a b)) r.moment (2 ^ 32 - 1) dropped) (same_number la shift paged) lasts.1)
-same_lasting head events p la pcid r (Table addr) global dropped paged lasts = tt
-same_lasting head events p la pcid r Absent global dropped paged lasts = tt
-same_lasting head events p la pcid r Reserved global dropped paged lasts = tt
+same_lasting : (head : Head) (events : List Event) (p la : ℕ) (l : Lasting) (k : Kind) → IsPaged k →
+    LastsTo head events p (start_of la) l k → LastsTo head events p la l k
+same_lasting head events p la l (Leaf frame shift global_bit) paged lasts =
+    (lasts.0, λ asked. subst (λ (n : ℕ). IsDroppedAt head events p (with_number l.chain.pcid shift l.global n) l.chain.end.moment l.dropped) (same_number la shift paged) (lasts.1 asked))
+same_lasting head events p la l (Table addr) paged lasts = tt
+same_lasting head events p la l Absent paged lasts = tt
+same_lasting head events p la l Reserved paged lasts = tt
 
 -- what a walk to the first address of a page comes to, a walk to each of its addresses does
 pub walk_of_page : (head : Head) (events : List Event) (p la : ℕ) (want : Want) (ws : List ℕ) (result : Result Lasting Reason) →
     IsWalk head events p (start_of la) want ws result → IsWalk head events p la want ws result
 walk_of_page head events p la want ws (Ok l) walk =
-    let end : Reading = reading_of l.chain.end in (
+    let end = l.chain.end in (
       sym (same_chain head events p la ws want) ∙ walk.0,
-      same_lasting head events p la l.chain.pcid end (kind_of head.cfg end.level end.value) l.global l.dropped (kind_paged head.cfg end.level end.value) walk.1,
+      same_lasting head events p la l (kind_of head.cfg end.level end.value) (kind_paged head.cfg end.level end.value) walk.1,
     )
 walk_of_page head events p la want ws (Err reason) walk = sym (same_chain head events p la ws want) ∙ walk

@@ -1,5 +1,6 @@
 -- How long the translation lasts that a walk gives.
-use Rattle.std.specs.Prelude.{◌≡◌, ℕ, ◌-◌, ◌^◌, Bool, not, ◌&&◌, List, Option, Result, Ok, Err}
+use Rattle.std.specs.Prelude.{◌≡◌, ℕ, ◌-◌, ◌^◌, ◌≤◌, ◌⊎◌, true, not, ◌&&◌, List, Option}
+use Rattle.std.specs.Prelude.{Result, Ok, Err}
 use Rattle.std.specs.Prelude.{MatchResult}
 use Rattle.pg_entry.specs.declared.Kind.{Kind}
 use Rattle.pg_entry.specs.declared.Kind.TheVariants as kinds
@@ -10,32 +11,39 @@ use Rattle.pg_event.specs.declared.event.Want.{Want}
 use Rattle.pg_event.specs.Heads.{Head}
 use Rattle.pg_event.specs.Values.{control_at}
 use Rattle.pg_event.specs.Invalidation.{translation_key, must_drop_translation}
-use Rattle.pg_event.specs.Walk.{Reading}
+use Rattle.pg_event.specs.declared.keys.TranslationKey.{TranslationKey}
 use Rattle.pg_event.specs.Witness.{survives}
 use Rattle.pg_inval.specs.Lists.{IsFirstDrop}
-use Rattle.pg_chain.specs.Walked.{chain_of, reading_of}
+use Rattle.pg_chain.specs.Walked.{chain_of}
 use Rattle.pg_check.specs.declared.lasting.Lasting.{Lasting}
 
--- whether the translation that a leaf gives is global, and the first event from its reading on that
--- drops it; nothing is said of what gives no translation
-abbrev pub LastsTo :
-    Head → List Event → ℕ → ℕ → ℕ → Reading → Kind → Bool → Option ℕ → Type 0
-LastsTo head events p la pcid r (kinds.Leaf frame shift global_bit) global dropped =
-    let key = translation_key pcid shift global la in
-    (global ≡ (global_bit && (control_at head events p r.moment).pge))
-    × IsFirstDrop
+-- the first event from a moment on that drops a translation
+abbrev pub IsDroppedAt : Head → List Event → ℕ → TranslationKey → ℕ → Option ℕ → Type 0
+IsDroppedAt head events p key moment dropped =
+    IsFirstDrop
     (λ a b. not (survives head events p (λ c e. must_drop_translation c e key) a b))
-    r.moment (2 ^ 32 - 1) dropped
-LastsTo head events p la pcid r (kinds.Table addr) global dropped = Unit {0}
-LastsTo head events p la pcid r kinds.Absent global dropped = Unit {0}
-LastsTo head events p la pcid r kinds.Reserved global dropped = Unit {0}
+    moment (2 ^ 32 - 1) dropped
+
+-- whether the translation that a leaf gives is global and, if that was asked, the first event from
+-- its reading on that drops it; nothing is said of what gives no translation
+abbrev pub LastsTo : Head → List Event → ℕ → ℕ → Lasting → Kind → Type 0
+LastsTo head events p la l (kinds.Leaf frame shift global_bit) =
+    (l.global ≡ (global_bit && (control_at head events p l.chain.end.moment).pge))
+    × (l.asked ≡ true →
+    IsDroppedAt head events p (translation_key l.chain.pcid shift l.global la)
+    l.chain.end.moment l.dropped)
+LastsTo head events p la l (kinds.Table addr) = Unit {0}
+LastsTo head events p la l kinds.Absent = Unit {0}
+LastsTo head events p la l kinds.Reserved = Unit {0}
 
 -- the same of the end of a walk
 abbrev pub IsLasting : Head → List Event → ℕ → ℕ → Lasting → Type 0
 IsLasting head events p la l =
-    let end = l.chain.end in
-    LastsTo head events p la l.chain.pcid (reading_of end) (kind_of head.cfg end.level end.value)
-    l.global l.dropped
+    LastsTo head events p la l (kind_of head.cfg l.chain.end.level l.chain.end.value)
+
+-- it was asked, if an event with this number comes after the last reading
+abbrev pub IsAsked : ℕ → Lasting → Type 0
+IsAsked number l = (number ≤ l.chain.end.moment) ⊎ (l.asked ≡ true)
 
 -- what the moments of an access to an address by processor p come to, and how long it lasts
 abbrev pub IsWalk : Head → List Event → ℕ → ℕ → Want → List ℕ → Result Lasting Reason → Type 0

@@ -1,13 +1,13 @@
 //! Walks by moments, and how long the translations last that they give.
 
-ghost use Rattle.std.specs.Prelude.{◌≡◌, ◌&&◌, ◌<◌, ◌≤◌, ◌^◌, List};
+ghost use Rattle.std.specs.Prelude.{◌≡◌, ◌&&◌, ◌<◌, ◌≤◌, ◌^◌, List, IfOk};
 ghost use Rattle.pg_entry.specs.Kinds.{kind_of};
 ghost use Rattle.pg_event.specs.declared.event.Event.{Event};
 ghost use Rattle.pg_event.specs.Heads.{Head};
 ghost use Rattle.pg_event.specs.Values.{control_at};
 ghost use Rattle.pg_chain.specs.Standing.{IsPast, processor_count};
 ghost use Rattle.pg_check.specs.Ends.{IsSmallLeaf};
-ghost use Rattle.pg_check.specs.Lasting.{IsLasting, IsWalk};
+ghost use Rattle.pg_check.specs.Lasting.{IsLasting, IsAsked, IsWalk};
 
 use pg_chain::{Chain, Past, Step, chain};
 use pg_entry::{Cfg, Entry, Kind, classify};
@@ -19,7 +19,10 @@ pub struct Lasting {
     pub chain: Chain,
     /// Whether the translation is global.
     pub global: bool,
-    /// The first event from the last reading on at which the translation had to go.
+    /// Whether it was looked up when the translation had to go, which nobody needs to know where it
+    /// is used at once.
+    pub asked: bool,
+    /// The first event from the last reading on at which it had to go, if that was looked up.
     pub dropped: Option<u32>,
 }
 
@@ -42,10 +45,11 @@ fn is_global(past: &Past, p: u16, moment: u32, global_bit: bool) -> bool
     global_bit && past.control_at(p, moment).pge
 }
 
-/// How long the translation lasts that a walk gives.
-fn with_drop(past: &Past, p: u16, la: u64, chain: Chain) -> Lasting
+/// How long the translation lasts that a walk gives, as far as the event with this number asks.
+pub fn lasting_chain(past: &Past, p: u16, la: u64, chain: Chain, number: u32) -> Lasting
     requires { p < processor_count past.now }
     ensures chain { result.chain ≡ chain }
+    ensures asked { IsAsked number result }
     ensures lasting { (head : Head) (events : List Event) → IsPast past.now head events →
         IsLasting head events p la result }
 {
@@ -57,17 +61,23 @@ fn with_drop(past: &Past, p: u16, la: u64, chain: Chain) -> Lasting
             ..
         } => {
             let global = is_global(past, p, end.moment, global_bit);
+            let asked = end.moment < number;
+            let dropped = if asked {
+                past.first_drop_of_translation(p, chain.pcid, shift, la, global, end.moment)
+            } else {
+                None
+            };
             Lasting {
                 chain,
                 global,
-                dropped: past.first_drop_of_translation(
-                    p, chain.pcid, shift, la, global, end.moment,
-                ),
+                asked,
+                dropped,
             }
         }
         Kind::Table { .. } | Kind::Absent | Kind::Reserved => Lasting {
             chain,
             global: false,
+            asked: true,
             dropped: None,
         },
     }
@@ -77,17 +87,19 @@ fn with_drop(past: &Past, p: u16, la: u64, chain: Chain) -> Lasting
 /// reasons `Entry`, `Context` and `StructureDropped`.
 pub fn lasting_walk(
     past: &Past,
+    number: u32,
     p: u16,
     la: u64,
     moments: &Moments,
     want: Want,
 ) -> Result<Lasting, Reason>
     requires { p < processor_count past.now }
-    ensures { (head : Head) (events : List Event) → IsPast past.now head events →
+    ensures asked { IfOk result (IsAsked number) }
+    ensures walk { (head : Head) (events : List Event) → IsPast past.now head events →
         IsWalk head events p la want moments.now result }
 {
     match chain(past, p, la, moments, want) {
-        Ok(chain) => Ok(with_drop(past, p, la, chain)),
+        Ok(chain) => Ok(lasting_chain(past, p, la, chain, number)),
         Err(reason) => Err(reason),
     }
 }

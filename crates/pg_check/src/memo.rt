@@ -1,14 +1,14 @@
 //! Walks that were made, kept so that they need not be made again.
 
-ghost use Rattle.std.specs.Prelude.{◌≡◌, ◌<◌, List, Some, Ok, IfSome, IsTrue};
+ghost use Rattle.std.specs.Prelude.{◌≡◌, ◌<◌, List, Some, Ok, IfOk, IfSome, IsTrue};
 ghost use Rattle.pg_event.specs.declared.event.Event.{Event};
 ghost use Rattle.pg_event.specs.declared.event.Want.TheVariants.{Leaf};
 ghost use Rattle.pg_event.specs.Heads.{Head};
 ghost use Rattle.pg_chain.specs.Standing.{IsPast, processor_count};
-ghost use Rattle.pg_check.specs.Lasting.{IsWalk};
+ghost use Rattle.pg_check.specs.Lasting.{IsAsked, IsWalk};
 ghost use Rattle.pg_check.specs.Remembered.{HasWalk};
 
-use crate::lasting::{Lasting, lasting_walk};
+use crate::lasting::{Lasting, lasting_chain, lasting_walk};
 use pg_chain::Past;
 use pg_event::{Moments, Reason, Want};
 use std::marker::Model;
@@ -23,8 +23,8 @@ pub struct Slot {
     pub walk: Lasting,
 }
 
-/// The walks that were made by a past, those of them that are found again: in an accepted record
-/// most accesses have one that another had before. A slot that is needed for another walk is taken.
+/// Walks that were made by a past. Where levels are read long before they are used, most accesses
+/// have a walk that another had before. A slot that is needed for another walk is taken.
 #[derive(Debug, Drop)]
 pub struct Memo<'a> {
     past: &'a Past,
@@ -82,16 +82,19 @@ impl<'a> Memo<'a> {
     fn place_of(&self, p: u16, page: u64, moments: &Moments) -> usize {
         let all = moments.as_slice();
         let last = all[all.len() - 1] as u64;
-        let named = page ^ (last << 12) ^ ((p as u64) << 48);
-        (named.wrapping_mul(SPREAD) >> 32) as usize % self.slots.len().max(1)
+        let spread = (page >> 12).wrapping_mul(SPREAD) ^ (last << 16 | p as u64);
+        // The upper bits depend on all others, and the place is told by the lower ones.
+        let mixed = spread.wrapping_mul(SPREAD);
+        let place = (mixed ^ (mixed >> 32)).wrapping_mul(SPREAD) >> 32;
+        place as usize % self.slots.len().max(1)
     }
 
-    /// What the slot at a place has of a walk to a page.
-    fn kept(&self, place: usize, p: u16, page: u64, moments: &Moments) -> Option<Lasting>
+    /// What was kept of a walk to a page.
+    fn kept(&self, p: u16, page: u64, moments: &Moments) -> Option<Lasting>
         ensures { (head : Head) (events : List Event) → IsPast self.now head events →
             IfSome result (λ l. IsWalk head events p page Leaf moments.now (Ok l)) }
     {
-        let slot = (*self.slots.get(place)?)?;
+        let slot = (*self.slots.get(self.place_of(p, page, moments))?)?;
         if is_of(&slot, p, page, moments) {
             Some(slot.walk)
         } else {
@@ -109,36 +112,95 @@ impl<'a> Memo<'a> {
         }
     }
 
-    /// The walk of an access to a page by its moments.
-    fn page_walk(&mut self, p: u16, page: u64, moments: &Moments) -> Result<Lasting, Reason>
+    /// Keeps what a walk to a page came to.
+    fn remember(&mut self, p: u16, page: u64, moments: &Moments, walk: Lasting)
+        requires { (head : Head) (events : List Event) → IsPast self.old head events →
+            IsWalk head events p page Leaf moments.now (Ok walk) }
+        ensures { self.new ≡ self.old }
+    {
+        let slot = Slot {
+            p,
+            page,
+            moments: *moments,
+            walk,
+        };
+        self.keep(self.place_of(p, page, moments), slot);
+    }
+
+    /// A walk that was kept, with what an event with this number asks of it.
+    fn walk_again(
+        &mut self,
+        number: u32,
+        p: u16,
+        page: u64,
+        moments: &Moments,
+        walk: Lasting,
+    ) -> Lasting
+        requires processor { p < processor_count self.old }
+        requires walk { (head : Head) (events : List Event) → IsPast self.old head events →
+            IsWalk head events p page Leaf moments.now (Ok walk) }
+        ensures past { self.new ≡ self.old }
+        ensures asked { IsAsked number result }
+        ensures walk { (head : Head) (events : List Event) → IsPast self.old head events →
+            IsWalk head events p page Leaf moments.now (Ok result) }
+    {
+        if walk.asked || number <= walk.chain.end.moment {
+            return walk;
+        }
+        let asked = lasting_chain(self.past, p, page, walk.chain, number);
+        self.remember(p, page, moments, asked);
+        asked
+    }
+
+    /// A walk that was not kept.
+    fn walk_anew(
+        &mut self,
+        number: u32,
+        p: u16,
+        page: u64,
+        moments: &Moments,
+    ) -> Result<Lasting, Reason>
         requires { p < processor_count self.old }
         ensures past { self.new ≡ self.old }
+        ensures asked { IfOk result (IsAsked number) }
         ensures walk { (head : Head) (events : List Event) → IsPast self.old head events →
             IsWalk head events p page Leaf moments.now result }
     {
-        let place = self.place_of(p, page, moments);
-        if let Some(walk) = self.kept(place, p, page, moments) {
-            return Ok(walk);
-        }
-        match lasting_walk(self.past, p, page, moments, Want::Leaf) {
+        match lasting_walk(self.past, number, p, page, moments, Want::Leaf) {
             Ok(walk) => {
-                let slot = Slot {
-                    p,
-                    page,
-                    moments: *moments,
-                    walk,
-                };
-                self.keep(place, slot);
+                self.remember(p, page, moments, walk);
                 Ok(walk)
             }
             Err(reason) => Err(reason),
         }
     }
 
-    /// The walk of an access by its moments, and how long its translation lasts, or the least of
-    /// the reasons `Entry`, `Context` and `StructureDropped`.
+    /// The walk of an access to a page by its moments, at an event with this number.
+    fn page_walk(
+        &mut self,
+        number: u32,
+        p: u16,
+        page: u64,
+        moments: &Moments,
+    ) -> Result<Lasting, Reason>
+        requires { p < processor_count self.old }
+        ensures past { self.new ≡ self.old }
+        ensures asked { IfOk result (IsAsked number) }
+        ensures walk { (head : Head) (events : List Event) → IsPast self.old head events →
+            IsWalk head events p page Leaf moments.now result }
+    {
+        match self.kept(p, page, moments) {
+            Some(walk) => Ok(self.walk_again(number, p, page, moments, walk)),
+            None => self.walk_anew(number, p, page, moments),
+        }
+    }
+
+    /// The walk of an access by its moments, and how long its translation lasts as far as the event
+    /// with this number asks, or the least of the reasons `Entry`, `Context` and
+    /// `StructureDropped`.
     pub(crate) fn walk(
         &mut self,
+        number: u32,
         p: u16,
         la: u64,
         moments: &Moments,
@@ -146,13 +208,14 @@ impl<'a> Memo<'a> {
     ) -> Result<Lasting, Reason>
         requires { p < processor_count self.old }
         ensures past { self.new ≡ self.old }
+        ensures asked { IfOk result (IsAsked number) }
         ensures walk { (head : Head) (events : List Event) → IsPast self.old head events →
             IsWalk head events p la want moments.now result }
     {
         match want {
-            Want::Leaf => self.page_walk(p, la - la % 4096, moments),
+            Want::Leaf => self.page_walk(number, p, la - la % 4096, moments),
             Want::Absent | Want::Reserved | Want::Present => {
-                lasting_walk(self.past, p, la, moments, want)
+                lasting_walk(self.past, number, p, la, moments, want)
             }
         }
     }

@@ -44,9 +44,13 @@ pub fn judge_left<J: Judge, G: Gate>(
     ensures { (found : Found) → J.finds judge.now found →
         verdicts.new ≡ placed first verdicts.old (map (verdict found) left.now) }
 {
+    if left.is_empty() {
+        return;
+    }
+    let mut memo = judge.memo();
     for number in left {
         gate.enter(worker, *number as u64);
-        verdicts[(*number - first) as usize] = judge.judge(&mut judge.memo(), *number);
+        verdicts[(*number - first) as usize] = judge.judge(&mut memo, *number);
         gate.leave(worker, *number as u64);
     }
 }

@@ -17,7 +17,7 @@ returns-in-Leaf c = λ head events h lasts.
     let kind : kind_of head.cfg r.level r.value ≡ c.kind_at.result =
     sym (c.kind_at.ensures.kind ∙ ap (λ (x : Cfg). kind_of x r.level r.value) (c.cfg-cfg.ensures.run head events h)) in
     c.failing_translation.ensures head events c.in-Leaf.global_bit h
-    (subst (λ (k : Kind). LastsTo head events claim.p claim.la walk.chain.pcid r k walk.global walk.dropped) (kind ∙ c.in-Leaf.is) lasts)
+    (subst (λ (k : Kind). LastsTo head events claim.p claim.la walk k) (kind ∙ c.in-Leaf.is) lasts)
     ∙ ap (λ (k : Kind). failing_end head events claim walk.chain.pcid r k) (sym c.in-Leaf.is ∙ sym kind)
 
 pub returns-in-Absent : goal.returns-in-Absent

@@ -12,10 +12,10 @@ returns-then-is_of c = λ head events h.
     let found = c.in_ok-get.field-0.now in
     let at = c.in_ok-get.ensures.lookup in
     let slot = c.in_ok-slot.slot in
-    let within : c.args.place < length memo.slots.items = subst (λ (xs : List (Option Slot)). c.args.place < length xs) c.deref.ensures.value at.3.0 in
+    let within : c.place_of.result < length memo.slots.items = subst (λ (xs : List (Option Slot)). c.place_of.result < length xs) c.deref.ensures.value at.3.0 in
     let read = at.3.1 found in
     let has : HasWalk memo.past.now (Some slot) =
-    subst (λ (s : Option Slot). HasWalk memo.past.now s) (sym (read ∙ ap (λ (xs : List (Option Slot)). get_or xs c.args.place found) c.deref.ensures.value) ∙ c.in_ok-slot.was)
-    (slot_at memo.past.now memo.slots.items c.args.place found c.self.invariant within) in
+    subst (λ (s : Option Slot). HasWalk memo.past.now s) (sym (read ∙ ap (λ (xs : List (Option Slot)). get_or xs c.place_of.result found) c.deref.ensures.value) ∙ c.in_ok-slot.was)
+    (slot_at memo.past.now memo.slots.items c.place_of.result found c.self.invariant within) in
     walk_of_slot memo.past.now slot c.args.p c.args.page c.args.moments.now has (c.if-is_of.ensures refl)
     head events (subst (λ (x : Past). IsPast x head events) (sym c.self.view_is) h)
