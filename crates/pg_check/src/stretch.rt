@@ -33,7 +33,7 @@ pub struct Stretch<'a> {
 }
 
 impl<'a> Stretch<'a> {
-    /// A memo for one thread's judging, with room for so many walks, up to a limit, and none as yet.
+    /// A memo for one thread's judging, with room for so many walks, up to a limit.
     pub fn memo(&self, walks: usize) -> Memo<'a>
         ensures { result ≡ self.now.past.now }
     {
