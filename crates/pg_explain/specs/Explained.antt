@@ -7,7 +7,7 @@ use Rattle.pg_event.specs.declared.event.Event.TheVariants.{Invpcid, MovCr4Pge}
 use Rattle.pg_event.specs.declared.event.Reason.{Reason}
 use Rattle.pg_event.specs.Heads.{Head}
 use Rattle.pg_event.specs.Witness.{failing}
-use Rattle.pg_search.specs.Law.{WitnessedBy, CanBeWitnessed, RunBeginsWith}
+use Rattle.pg_search.specs.Law.{WitnessedBy, AreFreshest, CanBeWitnessed, RunBeginsWith}
 use Rattle.pg_explain.specs.declared.entry.WalkEntry.{WalkEntry}
 use Rattle.pg_explain.specs.declared.explainer.Explanation.{Explanation}
 use Rattle.pg_explain.specs.declared.explainer.Told.{Told}
@@ -35,8 +35,9 @@ TellsEvent failing found IsRight told =
     (λ x. (failing ≡ Some (reason_of x.finding)) × (found ≡ Some x.finding)
     × IsRight x.walk.items)
 
--- event i is not witnessed, and this is what stands behind it. Where no other moments are told, no
--- moments prove it, and no run of the machine begins with the events up to it
+-- event i is not witnessed, and this is what stands behind it. Other moments that are told are the
+-- freshest that prove it. Where none are, no moments prove it, and no run of the machine begins
+-- with the events up to it
 pub record IsExplained (head : Head) (events : List Event) (i : ℕ) (x : Explanation) :
     Type 0 where
   pub number : x.number ≡ i
@@ -44,5 +45,6 @@ pub record IsExplained (head : Head) (events : List Event) (i : ℕ) (x : Explan
   pub finding : finding head events i ≡ Some x.finding
   pub walk : IfSome (slice_get events i) (λ e. IsWalkOf head events e x.walk.items)
   pub other : IfSome x.other (WitnessedBy head events i)
+  pub freshest : IfSome x.other (AreFreshest head events i)
   pub none : IfNone x.other (CanBeWitnessed head events i → ⊥)
   pub final : IfNone x.other (RunBeginsWith head events i → ⊥)

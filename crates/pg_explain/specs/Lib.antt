@@ -1,4 +1,5 @@
 pub mod Line
+pub mod Names
 pub mod Drops
 pub mod Findings
 pub mod Walk

@@ -13,7 +13,6 @@ use Rattle.pg_entry.specs.declared.AccessKind.{AccessKind}
 use Rattle.pg_entry.specs.declared.Kind.{Kind}
 use Rattle.pg_entry.specs.declared.Kind.TheVariants as kinds
 use Rattle.pg_entry.specs.declared.Level.{Level}
-use Rattle.pg_entry.specs.declared.Level.TheVariants as levels
 use Rattle.pg_entry.specs.declared.Rights.{Rights}
 use Rattle.pg_event.specs.declared.event.Event.{Event}
 use Rattle.pg_event.specs.declared.event.Event.TheVariants.{Write, Access, Assist, MovCr3, Invlpg}
@@ -32,6 +31,7 @@ use Rattle.pg_explain.specs.declared.finding.Misfit.{Misfit}
 use Rattle.pg_explain.specs.declared.finding.Misfit.TheVariants as misfits
 use Rattle.pg_explain.specs.declared.finding.Finding.{Finding}
 use Rattle.pg_explain.specs.declared.finding.Finding.TheVariants as findings
+use Rattle.pg_explain.specs.Names.{level_number, rights_text}
 use Rattle.pg_explain.specs.Line.{hex, word_text, numbers_text, kind_text, code_text, event_line}
 
 -- the line of an event by its number, where there is one
@@ -42,26 +42,11 @@ line_at number (Some e) = event_line number e
 abbrev pub numbered_text : List Event → ℕ → List ℕ
 numbered_text events number = line_at number (slice_get events number)
 
-abbrev pub level_number : Level → ℕ
-level_number levels.Four = 4
-level_number levels.Three = 3
-level_number levels.Two = 2
-level_number levels.One = 1
-
 abbrev pub kind_name : Kind → List ℕ
 kind_name kinds.Absent = codes "absent"
 kind_name kinds.Reserved = codes "reserved"
 kind_name (kinds.Table addr) = codes "table"
 kind_name (kinds.Leaf frame shift global_bit) = codes "leaf"
-
--- a letter where the right is given, else a dash
-abbrev pub mark : Bool → List ℕ → List ℕ
-mark given letter = if given then letter else codes "-"
-
--- `w` for write, `u` for user, `n` for not executable
-abbrev pub rights_text : Rights → List ℕ
-rights_text r =
-    mark r.write (codes "w") ++ (mark r.user (codes "u") ++ mark r.xd (codes "n"))
 
 -- ---- the walk
 

@@ -2,14 +2,15 @@
 
 ghost use Rattle.std.specs.Prelude.{◌≡◌, ◌++◌, OnOk, string_bytes, codes};
 ghost use Rattle.pg_explain.specs.Line.{hex, word_text, code_text};
-ghost use Rattle.pg_explain.specs.Text.{numbered_text, rights_text, limit_text};
+ghost use Rattle.pg_explain.specs.Text.{numbered_text, limit_text};
 ghost use Rattle.pg_explain.specs.Text.{order_text, want_name, wish_name, wish_text, tag_text};
 ghost use Rattle.pg_explain.specs.Text.{tags_text, drop_text, now_text, verb, right_text};
 ghost use Rattle.pg_explain.specs.Text.{flag_text, misfit_text, finding_text};
 
 use crate::finding::{Finding, Limit, Misfit, Tagged, Wish};
 use crate::line::{push_code, push_event, push_kind, push_word};
-use crate::walk_text::{kind_name, level_number, push_held};
+use crate::names::{level_number, rights_text};
+use crate::walk_text::{kind_name, push_held};
 use pg_entry::{AccessKind, Kind, Level, Rights};
 use pg_event::{Event, Want};
 use std::alloc::AllocError;
@@ -26,21 +27,6 @@ pub(crate) fn push_numbered(
     match events.get(number as usize) {
         Some(event) => push_event(text, number as u64, event),
         None => Ok(()),
-    }
-}
-
-fn rights_text(rights: Rights) -> &'static str
-    ensures { result.now ≡ rights_text rights }
-{
-    match (rights.write, rights.user, rights.xd) {
-        (true, true, true) => "wun",
-        (true, true, false) => "wu-",
-        (true, false, true) => "w-n",
-        (true, false, false) => "w--",
-        (false, true, true) => "-un",
-        (false, true, false) => "-u-",
-        (false, false, true) => "--n",
-        (false, false, false) => "---",
     }
 }
 

@@ -9,6 +9,7 @@ mod finding;
 mod finding_text;
 mod flag_finding;
 mod line;
+mod names;
 #[cfg(test)]
 mod tests;
 mod text;
@@ -19,4 +20,5 @@ pub use entry::WalkEntry;
 pub use explainer::{Explanation, explain};
 pub use finding::{Finding, Limit, Misfit, Tagged, Wish};
 pub use line::{push_event, show_text};
+pub use names::{level_number, rights_text};
 pub use text::explanation_text;

@@ -2,26 +2,16 @@
 
 ghost use Rattle.std.specs.Prelude.{◌≡◌, ◌++◌, OnOk, string_bytes};
 ghost use Rattle.pg_event.specs.Wants.{is_table};
-ghost use Rattle.pg_explain.specs.Text.{level_number, kind_name, held_text, read_text, writer_text};
+ghost use Rattle.pg_explain.specs.Text.{kind_name, held_text, read_text, writer_text};
 ghost use Rattle.pg_explain.specs.Text.{entry_text, walk_text};
 
 use crate::entry::WalkEntry;
 use crate::line::push_word;
+use crate::names::level_number;
 use crate::walk_finding::is_table;
 use pg_chain::Step;
 use pg_entry::{Kind, Level};
 use std::alloc::AllocError;
-
-pub(crate) fn level_number(level: Level) -> u8
-    ensures { result ≡ level_number level }
-{
-    match level {
-        Level::Four => 4,
-        Level::Three => 3,
-        Level::Two => 2,
-        Level::One => 1,
-    }
-}
 
 pub(crate) fn kind_name(kind: Kind) -> &'static str
     ensures { result.now ≡ kind_name kind }

@@ -5,10 +5,11 @@ use Rattle.pg_event.specs.declared.event.Event.{Event}
 use Rattle.pg_event.specs.Heads.{Head}
 use Rattle.pg_event.specs.Form.{broken_rule}
 use Rattle.pg_search.specs.Found.{found, IsPick}
-use Rattle.pg_search.specs.Law.{names_moments, AreWitness, WitnessedBy, CanBeWitnessed, RunBeginsWith}
+use Rattle.pg_search.specs.Law.{names_moments, AreFreshest, AreWitness, WitnessedBy, CanBeWitnessed, RunBeginsWith}
 use Rattle.pg_search.proofs.Runs.{unwitnessed_events_have_no_run}
 use Rattle.pg_search.proofs.Found.{found_moments_witness}
-use Rattle.pg_search.proofs.Complete.{none_found_none_witness}
+use Rattle.pg_search.proofs.Complete.{fresh_found, none_found_none_witness}
+use Rattle.pg_search.proofs.Freshness.{fresh_trans}
 
 some_same : (x y : Event) → Some x ≡ Some y → x ≡ y
 some_same x y h = cc
@@ -16,7 +17,15 @@ some_same x y h = cc
 pub witnessed : (head : Head) (events : List Event) (i : ℕ) (e : Event) (r : Option (List ℕ)) → slice_get events i ≡ Some e → broken_rule head e ≡ None → IsPick (found head events i e) r →
     IfSome r (WitnessedBy head events i)
 witnessed head events i e None at well h = tt
-witnessed head events i e (Some ws) at well h = (e, at, found_moments_witness head events i e ws well h)
+witnessed head events i e (Some ws) at well h = (e, at, found_moments_witness head events i e ws well h.0)
+
+pub freshest : (head : Head) (events : List Event) (i : ℕ) (e : Event) (r : Option (List ℕ)) → slice_get events i ≡ Some e → names_moments e ≡ true → IsPick (found head events i e) r →
+    IfSome r (AreFreshest head events i)
+freshest head events i e None at names h = tt
+freshest head events i e (Some ws) at names h = λ us can.
+    let same : can.0 ≡ e = some_same can.0 e (sym can.1 ∙ at) in
+    let other = fresh_found head events i e us names (subst (λ x. AreWitness head events i x us) same can.2) in
+    fresh_trans ws other.0 us (h.1 other.0 other.1) other.2
 
 pub unwitnessed : (head : Head) (events : List Event) (i : ℕ) (e : Event) (r : Option (List ℕ)) → slice_get events i ≡ Some e → names_moments e ≡ true → IsPick (found head events i e) r →
     IfNone r (CanBeWitnessed head events i → ⊥)

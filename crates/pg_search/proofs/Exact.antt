@@ -1,5 +1,6 @@
 -- The sweep has exactly what moments lead to.
-use Rattle.std.proofs.Common.{◌≡◌, ℕ, List, [], ◌∷◌, refl, ap, sym, ◌∙◌, subst, true, inl, inr, Bool}
+use Rattle.std.proofs.Common.{◌≡◌, ℕ, List, [], ◌∷◌, ◌++◌, append-nil, refl, ap, sym, ◌∙◌, subst, true, inl, inr, Bool}
+use Rattle.std.proofs.lemmas.List.{append_assoc}
 use Rattle.pg_entry.specs.declared.Level.{Level}
 use Rattle.pg_entry.specs.declared.Level.TheVariants.{Four, Three, Two, One}
 use Rattle.pg_entry.specs.declared.Rights.{Rights}
@@ -39,24 +40,26 @@ chain_of head all p la pcid w level from (x ∷ []) at to h =
 chain_of head all p la pcid w level from (x ∷ y ∷ ys) at to h =
     (record { low = h.0.low; alike = h.0.alike; table = h.0.table; cached = h.0.cached; kept = h.0.kept }, chain_of head all p la pcid w (below level) (given head.cfg.m (mem_at all) la level from x) (y ∷ ys) at to h.1)
 
-chain_stands : (head : Head) (all : List Event) (v : Walker) (w : ℕ) (level : Level) (from : Parent) (ws : List ℕ) (at : Level) (to : Parent) →
-    IsChain head all v w level from ws at to → HasPlace head all v.p v.la (first_or w ws) level v.pcid from → HasPlace head all v.p v.la w at v.pcid to
-chain_stands head all v w level from [] at to h has =
-    subst (λ f. HasPlace head all v.p v.la w at v.pcid f) h.1 (subst (λ l. HasPlace head all v.p v.la w l v.pcid from) h.0 has)
-chain_stands head all v w level from (x ∷ xs) at to h has =
+chain_stands : (head : Head) (all : List Event) (v : Walker) (w : ℕ) (level : Level) (from : Parent) (before ws : List ℕ) (at : Level) (to : Parent) →
+    IsChain head all v w level from ws at to → HasPlace head all v.p v.la (first_or w ws) level v.pcid from before → HasPlace head all v.p v.la w at v.pcid to (before ++ ws)
+chain_stands head all v w level from before [] at to h has =
+    subst (λ xs. HasPlace head all v.p v.la w at v.pcid to xs) (sym (append-nil before))
+    (subst (λ f. HasPlace head all v.p v.la w at v.pcid f before) h.1 (subst (λ l. HasPlace head all v.p v.la w l v.pcid from before) h.0 has))
+chain_stands head all v w level from before (x ∷ xs) at to h has =
     let link = h.0 in
     let gave : Parent = given head.cfg.m (mem_at all) v.la level from x in
     let deep : level ≡ One → ⊥ = λ e. no_table_below head.cfg _ (subst (λ l. is_table (kind_of head.cfg l (seen (mem_at all) v.la level from x)) ≡ true) e link.table) in
-    let next = fills_table head all v.p v.la x level v.pcid from has link.alike link.table link.cached in
-    chain_stands head all v w (below level) gave xs at to h.1 (place_lasts head all v.p v.la level v.pcid gave x (first_or w xs) deep link.low next link.kept)
+    let next = fills_table head all v.p v.la x level v.pcid from before has link.alike link.table link.cached in
+    subst (λ ys. HasPlace head all v.p v.la w at v.pcid to ys) (append_assoc before (x ∷ []) xs)
+    (chain_stands head all v w (below level) gave (before ++ x ∷ []) xs at to h.1 (place_lasts head all v.p v.la level v.pcid gave (before ++ x ∷ []) x (first_or w xs) deep link.low next link.kept))
 
 -- the moments of a way lead to a place
 way_stands : (head : Head) (all : List Event) (v : Walker) (w : ℕ) (ws : List ℕ) (level : Level) (from : Parent) → IsWayFromRoot head all v w ws level from →
-    HasPlace head all v.p v.la w level v.pcid from
+    HasPlace head all v.p v.la w level v.pcid from ws
 way_stands head all v w ws level from h =
     let x : ℕ = first_or w ws in
-    let root : HasPlace head all v.p v.la x Four v.pcid (root_at head all v.p x) = (root_place head all v.p v.la x, inl refl, ap (λ n. (n, root_at head all v.p x)) h.0) in
-    chain_stands head all v w Four (root_at head all v.p x) ws level from h.1 root
+    let root : HasPlace head all v.p v.la x Four v.pcid (root_at head all v.p x) [] = (root_place head all v.p v.la x, inl refl, ap (λ n. (n, root_at head all v.p x)) h.0, refl) in
+    chain_stands head all v w Four (root_at head all v.p x) [] ws level from h.1 root
 
 -- the PCID where a chain begins
 begins : (head : Head) (all : List Event) (p la w : ℕ) (level : Level) (x : Place) → IsIn x (places level (standing head all p la w)) → (ws : List ℕ) →
@@ -113,19 +116,19 @@ making head all p la w x k =
       },
     )
 
-made_stands : (head : Head) (all : List Event) (p la w : ℕ) (t : Translation) (k : Making) → IsMaking head all p la w t k → HasMade head all p la w t
+made_stands : (head : Head) (all : List Event) (p la w : ℕ) (t : Translation) (k : Making) → IsMaking head all p la w t k → HasMade head all p la w t (k.ws ++ k.last ∷ [])
 made_stands head all p la w t k h =
     let pcid : ℕ = t.key.pcid in
-    let has : HasPlace head all p la k.last k.level pcid k.from = way_stands head all (walker_of p la t) k.last k.ws k.level k.from h.way in
+    let has : HasPlace head all p la k.last k.level pcid k.from k.ws = way_stands head all (walker_of p la t) k.last k.ws k.level k.from h.way in
     let entry : ℕ = seen (mem_at all) la k.level k.from k.last in
     let it : Translation = leaf_by head all p la k.last k.level pcid k.from t.frame t.key.shift k.global_bit in
     let make : TranslationKey → Rights → Bool → Translation = λ key rights d. record { key = key; frame = t.frame; rights = rights; dirty = d } in
     let same : it ≡ t = ap (λ key. make key (joined k.from.rights entry) (dirty entry)) h.key ∙ ap (λ rights. make t.key rights (dirty entry)) h.rights ∙ ap (make t.key t.rights) h.dirty in
-    let made : HasMade head all p la k.last it = fills_leaf head all p la k.last k.level pcid k.from t.frame t.key.shift k.global_bit has h.alike h.leaf h.cached in
-    made_lasts head all p la t k.last w h.low (subst (λ y. HasMade head all p la k.last y) same made) h.kept
+    let made : HasMade head all p la k.last it (k.ws ++ k.last ∷ []) = fills_leaf head all p la k.last k.level pcid k.from t.frame t.key.shift k.global_bit k.ws has h.alike h.leaf h.cached in
+    made_lasts head all p la t (k.ws ++ k.last ∷ []) k.last w h.low (subst (λ y. HasMade head all p la k.last y (k.ws ++ k.last ∷ [])) same made) h.kept
 
 pub made_is_exact : MadeIsExact
 made_is_exact head all p la w t = (
   λ h. subst (λ y. HasMaking head all p la w y) h.2 (making head all p la w h.0 ((standing_sound head all p la w).made h.0 h.1)),
-  λ h. made_stands head all p la w t h.0 h.1,
+  λ h. let made = made_stands head all p la w t h.0 h.1 in (made.0, made.1, made.2),
 )

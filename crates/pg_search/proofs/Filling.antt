@@ -21,9 +21,9 @@ pub root_is : (r : Recorded) (now : Now) (x : Place) → IsNow r now → x ≡ r
 root_is r now x is h =
     ap (λ y. y ∷ []) (h ∙ ap (root_by now.control) is.word ∙ ap (λ (c : Control). root_by c (entry_at r.events now.la now.moment Four (root_of c))) is.control)
 
-pub each_are : {X Y : Type 0} (same : X → X → Bool) (give : Y → Option X) (ys zs : List Y) (xs ws r : List X) → r ≡ with_each same give ys xs → ys ≡ zs → xs ≡ ws →
-    r ≡ with_each same give zs ws
-each_are same give ys zs xs ws r h e f = h ∙ ap (λ v. with_each same give v xs) e ∙ ap (λ v. with_each same give zs v) f
+pub each_are : {X Y : Type 0} (same : X → X → Bool) (moments : X → List ℕ) (give : Y → Option X) (ys zs : List Y) (xs ws r : List X) → r ≡ with_each same moments give ys xs → ys ≡ zs → xs ≡ ws →
+    r ≡ with_each same moments give zs ws
+each_are same moments give ys zs xs ws r h e f = h ∙ ap (λ v. with_each same moments give v xs) e ∙ ap (λ v. with_each same moments give zs v) f
 
 pub starts : (head : Head) (events : List Event) (p la : ℕ) (s : Sweep) → s.threes.items ≡ [] → s.twos.items ≡ [] → s.ones.items ≡ [] → s.made.items ≡ [] → IsSweep s (swept head events p la 0)
 starts head events p la s a b c d = subst (IsSweep s) (sym (swept_none head events p la)) (record { threes = a; twos = b; ones = c; made = d })

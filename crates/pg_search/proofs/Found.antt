@@ -39,7 +39,8 @@ use Rattle.pg_run_of.proofs.Chains.{Comes, reading_at, pass, IsFlagged, access_n
 use Rattle.pg_search.specs.declared.sought.Sought.{Sought}
 use Rattle.pg_search.specs.declared.sought.Sought.TheVariants as soughts
 use Rattle.pg_search.specs.Sweep.{Place, Made, Standing, places, read_at, standing}
-use Rattle.pg_search.specs.Found.{is_none, is_answered, serves, gives, is_code, is_fault, finds, found_at, found_in, moments_of, found_access}
+use Rattle.pg_search.specs.Found.{is_none, is_answered, serves, gives, is_code, is_fault, finds, found_at, found_in, found_access}
+use Rattle.pg_search.specs.Sweep.{moments_of}
 use Rattle.pg_search.specs.Law.{FoundMomentsWitness}
 use Rattle.pg_search.proofs.Lists.{in_either, in_mapped}
 use Rattle.pg_search.proofs.Sound.{PlaceRead, MadeRead, standing_sound}

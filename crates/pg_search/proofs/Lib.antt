@@ -1,3 +1,4 @@
+mod Freshness
 mod Lists
 mod Swept
 mod Stepping

@@ -1,16 +1,19 @@
 -- Lists that stand for sets: what is put in, and what is there.
-use Rattle.std.proofs.Common.{◌≡◌, ℕ, ◌+◌, ◌<◌, length, get_or, take, Bool, true, not, List, [], ◌∷◌, ◌++◌, refl, ap, sym, ◌∙◌, Option, Some, None, inl, inr, ◌⊎◌, map}
+use Rattle.std.proofs.Common.{◌≡◌, ℕ, ◌+◌, ◌<◌, length, get_or, take, Bool, true, false, not, ◌&&◌, ◌||◌, cond, subst, List, [], ◌∷◌, ◌++◌, refl, ap, sym, ◌∙◌, Option, Some, None, inl, inr, ◌⊎◌, map}
 use Rattle.std.specs.Prelude.{filter, option_map}
-use Rattle.std.proofs.lemmas.Bool.{cases_Bool}
+use Rattle.std.specs.List.{list_any}
+use Rattle.std.proofs.lemmas.Bool.{cases_Bool, and_parts}
 use Rattle.std.proofs.lemmas.List.{take_more}
 use Rattle.pg_machine.specs.Machine.{IsIn}
 use Rattle.pg_run_of.proofs.Kept.{in_filtered}
 use Rattle.pg_run_of.proofs.Standing.{in-filter}
+use Rattle.pg_search.specs.Freshness.{is_as_fresh}
 use Rattle.pg_search.specs.Sweep.{with_new, with_each}
+use Rattle.pg_search.proofs.Freshness.{fresh_refl, fresh_trans, fresh_total}
 
--- an element with this key
-abbrev pub Has : {X K : Type 0} → (X → K) → List X → K → Type 0
-Has {X = X} key xs k = (x : X) × IsIn x xs × (key x ≡ k)
+-- an element with this key, whose moments are as fresh as these
+abbrev pub Has : {X K : Type 0} → (X → K) → (X → List ℕ) → List X → K → List ℕ → Type 0
+Has {X = X} key moments xs k ws = (x : X) × IsIn x xs × (key x ≡ k) × (is_as_fresh (moments x) ws ≡ true)
 
 pub in_left : {X : Type 0} (x : X) (xs ys : List X) → IsIn x xs → IsIn x (xs ++ ys)
 in_left x [] ys h = absurd h
@@ -26,6 +29,10 @@ in_either x [] ys h = inr h
 in_either x (z ∷ zs) ys (inl e) = inl (inl e)
 in_either x (z ∷ zs) ys (inr h) = elim (in_either x zs ys h) [ inl a ↦ inl (inr a) | inr b ↦ inr b ]
 
+or_false : (a b : Bool) → (a || b) ≡ false → (a ≡ false) × (b ≡ false)
+or_false true b h = absurd (cc)
+or_false false b h = (refl, h)
+
 pub in_map : {X Y : Type 0} (f : X → Y) (x : X) (xs : List X) → IsIn x xs → IsIn (f x) (map f xs)
 in_map f x [] h = absurd h
 in_map f x (y ∷ ys) (inl e) = inl (ap f e)
@@ -38,64 +45,106 @@ in_mapped f y (x ∷ xs) (inr h) = let more = in_mapped f y xs h in (more.0, inr
 
 -- what is put in
 
-pub in_new : {X : Type 0} (same : X → X → Bool) (x : X) (xs : List X) (o : Option X) → IsIn x (with_new same xs o) → IsIn x xs ⊎ (o ≡ Some x)
-in_new same x xs None h = inl h
-in_new same x xs (Some y) h =
-    elim (in_either x (filter (λ z. not (same z y)) xs) (y ∷ []) h) [
-      | inl a ↦ inl (in_filtered (λ z. not (same z y)) x xs a).0
-      | inr b ↦ elim b [ inl e ↦ inr (ap (λ z. Some z) e) | inr not_there ↦ absurd not_there ]
+abbrev Covers : {X : Type 0} → (X → X → Bool) → (X → List ℕ) → X → X → Bool
+Covers same moments x y = same y x && is_as_fresh (moments y) (moments x)
+
+-- one of the list covers what is to be put in, or it is put in
+new_is : {X : Type 0} (same : X → X → Bool) (moments : X → List ℕ) (x : X) (xs : List X) (P : List X → Type 0) →
+    (list_any (Covers same moments x) xs ≡ true → P xs) → (list_any (Covers same moments x) xs ≡ false → P (filter (λ y. not (same y x)) xs ++ x ∷ [])) →
+    P (with_new same moments xs (Some x))
+new_is same moments x xs P stays goes =
+    let rest : List _ = filter (λ y. not (same y x)) xs ++ x ∷ [] in
+    elim (cases_Bool (list_any (Covers same moments x) xs)) as (λ _. P (with_new same moments xs (Some x))) [
+      | inl t ↦ subst P (sym (ap (λ b. cond b xs rest) t)) (stays t)
+      | inr f ↦ subst P (sym (ap (λ b. cond b xs rest) f)) (goes f)
     ]
 
-pub in_each : {X Y : Type 0} (same : X → X → Bool) (give : Y → Option X) (x : X) (ys : List Y) (xs : List X) → IsIn x (with_each same give ys xs) →
+pub in_new : {X : Type 0} (same : X → X → Bool) (moments : X → List ℕ) (x : X) (xs : List X) (o : Option X) → IsIn x (with_new same moments xs o) → IsIn x xs ⊎ (o ≡ Some x)
+in_new same moments x xs None h = inl h
+in_new same moments x xs (Some y) h =
+    new_is same moments y xs (λ zs. IsIn x zs → IsIn x xs ⊎ (Some y ≡ Some x)) (λ _ h. inl h)
+    (λ _ h. elim (in_either x (filter (λ z. not (same z y)) xs) (y ∷ []) h) [
+      | inl a ↦ inl (in_filtered (λ z. not (same z y)) x xs a).0
+      | inr b ↦ elim b [ inl e ↦ inr (ap (λ z. Some z) e) | inr not_there ↦ absurd not_there ]
+    ]) h
+
+pub in_each : {X Y : Type 0} (same : X → X → Bool) (moments : X → List ℕ) (give : Y → Option X) (x : X) (ys : List Y) (xs : List X) → IsIn x (with_each same moments give ys xs) →
     IsIn x xs ⊎ ((y : Y) × IsIn y ys × (give y ≡ Some x))
-in_each same give x [] xs h = inl h
-in_each same give x (y ∷ ys) xs h =
-    elim (in_each same give x ys (with_new same xs (give y)) h) [
-      | inl a ↦ elim (in_new same x xs (give y) a) [ inl b ↦ inl b | inr e ↦ inr (y, inl refl, e) ]
+in_each same moments give x [] xs h = inl h
+in_each same moments give x (y ∷ ys) xs h =
+    elim (in_each same moments give x ys (with_new same moments xs (give y)) h) [
+      | inl a ↦ elim (in_new same moments x xs (give y) a) [ inl b ↦ inl b | inr e ↦ inr (y, inl refl, e) ]
       | inr more ↦ inr (more.0, inr more.1, more.2)
     ]
 
--- what is there stays, up to its key
+-- what is there stays, up to its key and to fresher moments
 
 abbrev pub Tells : {X K : Type 0} → (X → X → Bool) → (X → K) → Type 0
 Tells {X = X} same key = (a b : X) → same a b ≡ true → key a ≡ key b
 
-stays_new : {X K : Type 0} (same : X → X → Bool) (key : X → K) → Tells same key → (k : K) (xs : List X) (o : Option X) → Has key xs k → Has key (with_new same xs o) k
-stays_new same key tells k xs None h = h
-stays_new same key tells k xs (Some y) h =
-    elim (cases_Bool (same h.0 y)) as (λ _. Has key (with_new same xs (Some y)) k) [
-      | inl t ↦ (y, in_right y (filter (λ z. not (same z y)) xs) (y ∷ []) (inl refl), sym (tells h.0 y t) ∙ h.2)
-      | inr f ↦ (h.0, in_left h.0 (filter (λ z. not (same z y)) xs) (y ∷ []) (in-filter (λ z. not (same z y)) h.0 xs h.1 (ap not f)), h.2)
+any_in : {X : Type 0} (test : X → Bool) (xs : List X) → list_any test xs ≡ true → (x : X) × IsIn x xs × (test x ≡ true)
+any_in test [] h = absurd (cc)
+any_in test (x ∷ xs) h =
+    elim (cases_Bool (test x)) as (λ _. (y : _) × IsIn y (x ∷ xs) × (test y ≡ true)) [
+      | inl t ↦ (x, inl refl, t)
+      | inr f ↦ let more = any_in test xs (sym (ap (λ b. b || list_any test xs) f) ∙ h) in (more.0, inr more.1, more.2)
     ]
 
-pub has_stays : {X Y K : Type 0} (same : X → X → Bool) (key : X → K) → Tells same key → (give : Y → Option X) (k : K) (ys : List Y) (xs : List X) → Has key xs k → Has key (with_each same give ys xs) k
-has_stays same key tells give k [] xs h = h
-has_stays same key tells give k (y ∷ ys) xs h = has_stays same key tells give k ys (with_new same xs (give y)) (stays_new same key tells k xs (give y) h)
+none_in : {X : Type 0} (test : X → Bool) (x : X) (xs : List X) → list_any test xs ≡ false → IsIn x xs → test x ≡ false
+none_in test x [] h i = absurd i
+none_in test x (y ∷ ys) h (inl e) =
+    let parts = or_false (test y) (list_any test ys) h in sym (ap test e) ∙ parts.0
+none_in test x (y ∷ ys) h (inr i) =
+    let parts = or_false (test y) (list_any test ys) h in none_in test x ys parts.1 i
 
--- what is given is there, up to its key
+stays_new : {X K : Type 0} (same : X → X → Bool) (moments : X → List ℕ) (key : X → K) → Tells same key → (k : K) (ws : List ℕ) (xs : List X) (o : Option X) → Has key moments xs k ws →
+    Has key moments (with_new same moments xs o) k ws
+stays_new same moments key tells k ws xs None h = h
+stays_new same moments key tells k ws xs (Some y) h =
+    let rest : List _ = filter (λ z. not (same z y)) xs in
+    new_is same moments y xs (λ zs. Has key moments zs k ws) (λ _. h)
+    (λ none. elim (cases_Bool (same h.0 y)) as (λ _. Has key moments (rest ++ y ∷ []) k ws) [
+      | inl t ↦
+          let older : is_as_fresh (moments h.0) (moments y) ≡ false = sym (ap (λ b. b && is_as_fresh (moments h.0) (moments y)) t) ∙ none_in (Covers same moments y) h.0 xs none h.1 in
+          (y, in_right y rest (y ∷ []) (inl refl), sym (tells h.0 y t) ∙ h.2, fresh_trans (moments y) (moments h.0) ws (fresh_total (moments h.0) (moments y) older) h.3)
+      | inr f ↦ (h.0, in_left h.0 rest (y ∷ []) (in-filter (λ z. not (same z y)) h.0 xs h.1 (ap not f)), h.2, h.3)
+    ])
 
-has_new : {X K : Type 0} (same : X → X → Bool) (key : X → K) (x : X) (xs : List X) (o : Option X) → o ≡ Some x → Has key (with_new same xs o) (key x)
-has_new same key x xs o e = rw e (x, in_right x (filter (λ z. not (same z x)) xs) (x ∷ []) (inl refl), refl)
+pub has_stays : {X Y K : Type 0} (same : X → X → Bool) (moments : X → List ℕ) (key : X → K) → Tells same key → (give : Y → Option X) (k : K) (ws : List ℕ) (ys : List Y) (xs : List X) → Has key moments xs k ws →
+    Has key moments (with_each same moments give ys xs) k ws
+has_stays same moments key tells give k ws [] xs h = h
+has_stays same moments key tells give k ws (y ∷ ys) xs h = has_stays same moments key tells give k ws ys (with_new same moments xs (give y)) (stays_new same moments key tells k ws xs (give y) h)
 
-pub has_each : {X Y K : Type 0} (same : X → X → Bool) (key : X → K) → Tells same key → (give : Y → Option X) (x : X) (y : Y) (ys : List Y) (xs : List X) →
-    IsIn y ys → give y ≡ Some x → Has key (with_each same give ys xs) (key x)
-has_each same key tells give x y [] xs h e = absurd h
-has_each same key tells give x y (z ∷ zs) xs (inl s) e =
-    has_stays same key tells give (key x) zs (with_new same xs (give z)) (has_new same key x xs (give z) (ap give s ∙ e))
-has_each same key tells give x y (z ∷ zs) xs (inr h) e = has_each same key tells give x y zs (with_new same xs (give z)) h e
+-- what is given is there, up to its key and to fresher moments
+
+has_new : {X K : Type 0} (same : X → X → Bool) (moments : X → List ℕ) (key : X → K) → Tells same key → (x : X) (xs : List X) (o : Option X) → o ≡ Some x →
+    Has key moments (with_new same moments xs o) (key x) (moments x)
+has_new same moments key tells x xs o e =
+    let rest : List _ = filter (λ z. not (same z x)) xs in
+    rw e (new_is same moments x xs (λ zs. Has key moments zs (key x) (moments x))
+    (λ some. let y = any_in (Covers same moments x) xs some in let parts = and_parts (same y.0 x) (is_as_fresh (moments y.0) (moments x)) y.2 in (y.0, y.1, tells y.0 x parts.0, parts.1))
+    (λ _. (x, in_right x rest (x ∷ []) (inl refl), refl, fresh_refl (moments x))))
+
+pub has_each : {X Y K : Type 0} (same : X → X → Bool) (moments : X → List ℕ) (key : X → K) → Tells same key → (give : Y → Option X) (x : X) (y : Y) (ys : List Y) (xs : List X) →
+    IsIn y ys → give y ≡ Some x → Has key moments (with_each same moments give ys xs) (key x) (moments x)
+has_each same moments key tells give x y [] xs h e = absurd h
+has_each same moments key tells give x y (z ∷ zs) xs (inl s) e =
+    has_stays same moments key tells give (key x) (moments x) zs (with_new same moments xs (give z)) (has_new same moments key tells x xs (give z) (ap give s ∙ e))
+has_each same moments key tells give x y (z ∷ zs) xs (inr h) e = has_each same moments key tells give x y zs (with_new same moments xs (give z)) h e
 
 -- going through a list
 
-each_append : {X Y : Type 0} (same : X → X → Bool) (give : Y → Option X) (ys zs : List Y) (xs : List X) → with_each same give (ys ++ zs) xs ≡ with_each same give zs (with_each same give ys xs)
-each_append same give [] zs xs = refl
-each_append same give (y ∷ ys) zs xs = each_append same give ys zs (with_new same xs (give y))
+each_append : {X Y : Type 0} (same : X → X → Bool) (moments : X → List ℕ) (give : Y → Option X) (ys zs : List Y) (xs : List X) →
+    with_each same moments give (ys ++ zs) xs ≡ with_each same moments give zs (with_each same moments give ys xs)
+each_append same moments give [] zs xs = refl
+each_append same moments give (y ∷ ys) zs xs = each_append same moments give ys zs (with_new same moments xs (give y))
 
-pub each_more : {X Y : Type 0} (same : X → X → Bool) (give : Y → Option X) (ys : List Y) (i : ℕ) (y : Y) (xs now : List X) → i < length ys →
-    y ≡ get_or ys i y → now ≡ with_each same give (take i ys) xs → with_new same now (give y) ≡ with_each same give (take (i + 1) ys) xs
-each_more same give ys i y xs now lt at done =
+pub each_more : {X Y : Type 0} (same : X → X → Bool) (moments : X → List ℕ) (give : Y → Option X) (ys : List Y) (i : ℕ) (y : Y) (xs now : List X) → i < length ys →
+    y ≡ get_or ys i y → now ≡ with_each same moments give (take i ys) xs → with_new same moments now (give y) ≡ with_each same moments give (take (i + 1) ys) xs
+each_more same moments give ys i y xs now lt at done =
     let more : take (i + 1) ys ≡ take i ys ++ y ∷ [] = take_more ys i y lt ∙ ap (λ v. take i ys ++ v ∷ []) (sym at) in
-    ap (λ v. with_new same v (give y)) done
-    ∙ sym (each_append same give (take i ys) (y ∷ []) xs) ∙ ap (λ v. with_each same give v xs) (sym more)
+    ap (λ v. with_new same moments v (give y)) done
+    ∙ sym (each_append same moments give (take i ys) (y ∷ []) xs) ∙ ap (λ v. with_each same moments give v xs) (sym more)
 
 -- what an option's map gives
 pub option_given : {X Y : Type 0} (f : X → Y) (o : Option X) (y : Y) → option_map f o ≡ Some y → (x : X) × (o ≡ Some x) × (f x ≡ y)

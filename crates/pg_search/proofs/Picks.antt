@@ -1,27 +1,41 @@
 -- One of a list, if it has any.
-use Rattle.std.proofs.Common.{◌≡◌, ℕ, ◌+◌, ◌<◌, Bool, true, false, List, [], ◌∷◌, ◌++◌, length, get_or, take, refl, ap, sym, ◌∙◌, subst, cond, inl, inr, ◌⊎◌, Option, Some, None, map}
+use Rattle.std.proofs.Common.{◌≡◌, ℕ, ◌+◌, ◌<◌, Bool, true, false, List, [], ◌∷◌, ◌++◌, length, get_or, take, refl, ap, sym, ◌∙◌, subst, cond, inl, inr, ◌⊎◌, ⊎_elim, IfSome, Option, Some, None, map}
 use Rattle.std.specs.Prelude.{filter}
 use Rattle.std.proofs.lemmas.Bool.{cases_Bool}
 use Rattle.std.proofs.lemmas.List.{take_more}
 use Rattle.pg_machine.specs.Machine.{IsIn}
 use Rattle.pg_search.specs.Found.{IsPick}
-use Rattle.pg_search.proofs.Lists.{in_left, in_right}
+use Rattle.pg_search.specs.Freshness.{is_as_fresh, IsAsFresh}
+use Rattle.pg_search.proofs.Freshness.{fresh_refl, fresh_trans}
+use Rattle.pg_search.proofs.Lists.{in_left, in_right, in_either}
 
--- one of two picks, and none only where both are, is a pick of both lists
-abbrev pub IsOneOf : {X : Type 0} → Option X → Option X → Option X → Type 0
-IsOneOf a b r = ((r ≡ a) ⊎ (r ≡ b)) × (r ≡ None → (a ≡ None) × (b ≡ None))
+-- one of two picks that is as fresh as both, and none only where both are, is a pick of both lists
+pub record IsOneOf (a b r : Option (List ℕ)) : Type 0 where
+  pub either : (r ≡ a) ⊎ (r ≡ b)
+  pub none : r ≡ None → (a ≡ None) × (b ≡ None)
+  pub first : IfSome r (λ x. IsAsFresh x a)
+  pub second : IfSome r (λ x. IsAsFresh x b)
 
-pub pick_either : {X : Type 0} (xs ys : List X) (a b r : Option X) → IsPick xs a → IsPick ys b → IsOneOf a b r → IsPick (xs ++ ys) r
+as_fresh_as : (xs : List (List ℕ)) (a : Option (List ℕ)) (x y : List ℕ) → IsPick xs a → IsAsFresh x a → IsIn y xs → is_as_fresh x y ≡ true
+as_fresh_as xs None x y p f i = absurd (subst (IsIn y) p i)
+as_fresh_as xs (Some z) x y p f i = fresh_trans x z y f (p.1 y i)
+
+pub pick_either : (xs ys : List (List ℕ)) (a b r : Option (List ℕ)) → IsPick xs a → IsPick ys b → IsOneOf a b r → IsPick (xs ++ ys) r
 pick_either xs ys a b None p q h =
-    let none = h.1 refl in
+    let none = h.none refl in
     let left : xs ≡ [] = subst (IsPick xs) none.0 p in
     let right : ys ≡ [] = subst (IsPick ys) none.1 q in
     ap (λ zs. zs ++ ys) left ∙ right
-pick_either xs ys a b (Some x) p q h =
-    elim h.0 as (λ _. IsIn x (xs ++ ys)) [
-      | inl e ↦ in_left x xs ys (subst (IsPick xs) (sym e) p)
-      | inr e ↦ in_right x xs ys (subst (IsPick ys) (sym e) q)
-    ]
+pick_either xs ys a b (Some x) p q h = (
+  elim h.either as (λ _. IsIn x (xs ++ ys)) [
+    | inl e ↦ in_left x xs ys (subst (IsPick xs) (sym e) p).0
+    | inr e ↦ in_right x xs ys (subst (IsPick ys) (sym e) q).0
+  ],
+  λ y i. ⊎_elim (λ l. as_fresh_as xs a x y p h.first l) (λ l. as_fresh_as ys b x y q h.second l) (in_either y xs ys i),
+)
+
+pick_one : (x : List ℕ) → IsPick (x ∷ []) (Some x)
+pick_one x = (inl refl, λ y i. ⊎_elim (λ e. subst (λ z. is_as_fresh x z ≡ true) e (fresh_refl x)) (λ none. absurd none) i)
 
 -- going through a list
 
@@ -47,14 +61,14 @@ append_none : {X : Type 0} (xs : List X) → xs ++ [] ≡ xs
 append_none [] = refl
 append_none (x ∷ xs) = ap (λ zs. x ∷ zs) (append_none xs)
 
-pub pick_passing : {X Y : Type 0} (f : X → Y) (test : X → Bool) (xs : List X) (i : ℕ) (x : X) (a r : Option Y) → i < length xs → x ≡ get_or xs i x → test x ≡ true →
+pub pick_passing : {X : Type 0} (f : X → List ℕ) (test : X → Bool) (xs : List X) (i : ℕ) (x : X) (a r : Option (List ℕ)) → i < length xs → x ≡ get_or xs i x → test x ≡ true →
     IsPick (map f (filter test (take i xs))) a → IsOneOf a (Some (f x)) r → IsPick (map f (filter test (take (i + 1) xs))) r
 pick_passing f test xs i x a r lt at t p h =
     let one : one_if f test x ≡ f x ∷ [] = ap (λ b. cond b (f x ∷ []) []) t in
     let same = passed_more f test xs i x lt at ∙ ap (λ zs. map f (filter test (take i xs)) ++ zs) one in
-    subst (λ zs. IsPick zs r) (sym same) (pick_either (map f (filter test (take i xs))) (f x ∷ []) a (Some (f x)) r p (inl refl) h)
+    subst (λ zs. IsPick zs r) (sym same) (pick_either (map f (filter test (take i xs))) (f x ∷ []) a (Some (f x)) r p (pick_one (f x)) h)
 
-pub pick_passed : {X Y : Type 0} (f : X → Y) (test : X → Bool) (xs : List X) (i : ℕ) (x : X) (a : Option Y) → i < length xs → x ≡ get_or xs i x → test x ≡ false →
+pub pick_passed : {X : Type 0} (f : X → List ℕ) (test : X → Bool) (xs : List X) (i : ℕ) (x : X) (a : Option (List ℕ)) → i < length xs → x ≡ get_or xs i x → test x ≡ false →
     IsPick (map f (filter test (take i xs))) a → IsPick (map f (filter test (take (i + 1) xs))) a
 pick_passed f test xs i x a lt at t p =
     let none : one_if f test x ≡ [] = ap (λ b. cond b (f x ∷ []) []) t in

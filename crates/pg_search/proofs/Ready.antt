@@ -13,7 +13,7 @@ use Rattle.pg_event.specs.Walk.{below}
 use Rattle.pg_machine.specs.Machine.{IsIn}
 use Rattle.pg_run_of.specs.Plan.{root_at}
 use Rattle.pg_run_of.proofs.Chains.{next_or, short}
-use Rattle.pg_search.specs.Sweep.{Place, Standing, places, nothing, with_each, same_place, entry_at, place_at, next_table, read_at, next_place, stays, renewed, staying, left, swept, standing}
+use Rattle.pg_search.specs.Sweep.{Place, Standing, places, nothing, with_each, same_place, entry_at, place_at, next_table, read_at, next_place, stays, renewed, staying, left, swept, standing, moments_to}
 use Rattle.pg_search.specs.Held.{AreCurrent, AreReady}
 use Rattle.pg_search.proofs.Lists.{in_each, in_mapped, option_given}
 use Rattle.pg_search.proofs.Swept.{swept_none, swept_more}
@@ -47,17 +47,17 @@ gives_current head all p la w level y x h =
     subst (IsCurrent all la w (below level)) gave.2 refl
 
 each_in : (head : Head) (all : List Event) (p la w : ℕ) (level : Level) (ys xs : List Place) → Current all la w (below level) xs →
-    Current all la w (below level) (with_each same_place (next_place head all p la w level) ys xs)
+    Current all la w (below level) (with_each same_place moments_to (next_place head all p la w level) ys xs)
 each_in head all p la w level ys xs here x h =
-    elim (in_each same_place (next_place head all p la w level) x ys xs h) [
+    elim (in_each same_place moments_to (next_place head all p la w level) x ys xs h) [
       | inl a ↦ here x a
       | inr m ↦ gives_current head all p la w level m.0 x m.2
     ]
 
 pub each_current : (head : Head) (all : List Event) (p la w : ℕ) (level : Level) (ys xs : List Place) → AreCurrent all la w (below level) xs →
-    AreCurrent all la w (below level) (with_each same_place (next_place head all p la w level) ys xs)
+    AreCurrent all la w (below level) (with_each same_place moments_to (next_place head all p la w level) ys xs)
 each_current head all p la w level ys xs h =
-    all_in (IsCurrent all la w (below level)) (with_each same_place (next_place head all p la w level) ys xs)
+    all_in (IsCurrent all la w (below level)) (with_each same_place moments_to (next_place head all p la w level) ys xs)
     (each_in head all p la w level ys xs (in_all (IsCurrent all la w (below level)) xs h))
 
 -- what an event leaves is

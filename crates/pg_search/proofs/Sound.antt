@@ -25,7 +25,7 @@ use Rattle.pg_run_of.proofs.Standing.{seen, given}
 use Rattle.pg_run_of.proofs.Walks.{no_table_below}
 use Rattle.pg_run_of.proofs.Kept.{in_filtered, survives_none}
 use Rattle.pg_run_of.proofs.Chains.{next_or, IsHop, Comes, come_on, next_or-push}
-use Rattle.pg_search.specs.Sweep.{Place, Made, Standing, places, nothing, with_each, same_place, same_made, place_at, next_table, next_place, next_leaf, made_by, read_at, next_made, root_place, filled, stays, renewed, staying, left, swept, standing}
+use Rattle.pg_search.specs.Sweep.{Place, Made, Standing, places, nothing, with_each, same_place, same_made, place_at, next_table, next_place, next_leaf, made_by, read_at, next_made, root_place, filled, stays, renewed, staying, left, swept, standing, moments_to, moments_of}
 use Rattle.pg_search.proofs.Lists.{in_each, in_mapped, option_given}
 use Rattle.pg_search.proofs.Swept.{swept_none, swept_more, above, above_below, not_four, more_survives}
 
@@ -140,9 +140,9 @@ root_reads head all p la w x (inl e) = subst (λ y. PlaceRead head all p la w Fo
 root_reads head all p la w x (inr h) = absurd h
 
 each_reads : (head : Head) (all : List Event) (p la w : ℕ) (level : Level) (ys xs : List Place) → Reads head all p la w level ys → Reads head all p la w (below level) xs →
-    Reads head all p la w (below level) (with_each same_place (next_place head all p la w level) ys xs)
+    Reads head all p la w (below level) (with_each same_place moments_to (next_place head all p la w level) ys xs)
 each_reads head all p la w level ys xs above here x h =
-    elim (in_each same_place (next_place head all p la w level) x ys xs h) [
+    elim (in_each same_place moments_to (next_place head all p la w level) x ys xs h) [
       | inl a ↦ here x a
       | inr m ↦ place_next head all p la w level m.0 x (above m.0 m.1) m.2
     ]
@@ -151,9 +151,9 @@ abbrev Makes : Head → List Event → ℕ → ℕ → ℕ → List Made → Typ
 Makes head all p la w xs = (x : Made) → IsIn x xs → MadeRead head all p la w x
 
 each_makes : (head : Head) (all : List Event) (p la w : ℕ) (level : Level) (ys : List Place) (xs : List Made) → Reads head all p la w level ys → Makes head all p la w xs →
-    Makes head all p la w (with_each same_made (next_made head all p la w level) ys xs)
+    Makes head all p la w (with_each same_made moments_of (next_made head all p la w level) ys xs)
 each_makes head all p la w level ys xs reads here x h =
-    elim (in_each same_made (next_made head all p la w level) x ys xs h) [
+    elim (in_each same_made moments_of (next_made head all p la w level) x ys xs h) [
       | inl a ↦ here x a
       | inr m ↦ made_next head all p la w level m.0 x (reads m.0 m.1) m.2
     ]

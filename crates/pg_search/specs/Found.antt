@@ -31,6 +31,8 @@ use Rattle.pg_machine.specs.Machine.{IsIn}
 use Rattle.pg_search.specs.declared.sought.Sought.{Sought}
 use Rattle.pg_search.specs.declared.sought.Sought.TheVariants as soughts
 use Rattle.pg_search.specs.Sweep.{Place, Made, Standing, places, entry_at, read_at, standing}
+use Rattle.pg_search.specs.Sweep.{moments_of}
+use Rattle.pg_search.specs.Freshness.{is_as_fresh}
 
 abbrev pub is_none : {X : Type 0} → Option X → Bool
 is_none None = true
@@ -92,9 +94,6 @@ found_in head events i p la sought s =
     found_at head events i p la sought s Four ++ (found_at head events i p la sought s Three
     ++ (found_at head events i p la sought s Two ++ found_at head events i p la sought s One))
 
-abbrev pub moments_of : Made → List ℕ
-moments_of x = x.moments
-
 -- the moments of each translation that gives what an access claims, and of each walk that faults
 abbrev pub found_access : Head → List Event → Claim → List (List ℕ)
 found_access head events c =
@@ -119,7 +118,7 @@ found head events i (Invlpg p la) = []
 found head events i (Invpcid p kind pcid la) = []
 found head events i (MovCr4Pge p on) = []
 
--- one of the list, if it has any
-abbrev pub IsPick : {X : Type 0} → List X → Option X → Type 0
+-- the freshest of the list, if it has any
+abbrev pub IsPick : List (List ℕ) → Option (List ℕ) → Type 0
 IsPick xs None = xs ≡ []
-IsPick xs (Some x) = IsIn x xs
+IsPick xs (Some x) = IsIn x xs × ((y : List ℕ) → IsIn y xs → is_as_fresh x y ≡ true)

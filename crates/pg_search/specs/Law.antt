@@ -11,6 +11,7 @@ use Rattle.pg_machine.specs.declared.step.Step.{Step}
 use Rattle.pg_machine.specs.Machine.{IsIn, IsRun, visible}
 use Rattle.pg_run_of.specs.Converse.{AreSameButMoments}
 use Rattle.pg_search.specs.Found.{found}
+use Rattle.pg_search.specs.Freshness.{is_as_fresh}
 
 -- the event names moments: it is an access or an assist
 abbrev pub names_moments : Event → Bool
@@ -47,6 +48,11 @@ WitnessedBy head events i ws =
 -- event i is witnessed with some moments in place of its own
 abbrev pub CanBeWitnessed : Head → List Event → ℕ → Type 0
 CanBeWitnessed head events i = (ws : List ℕ) × WitnessedBy head events i ws
+
+-- no moments that witness event i are fresher than these
+abbrev pub AreFreshest : Head → List Event → ℕ → List ℕ → Type 0
+AreFreshest head events i ws =
+    (us : List ℕ) → WitnessedBy head events i us → is_as_fresh ws us ≡ true
 
 -- a run of the machine begins with the events up to event i, but for their moments
 abbrev pub RunBeginsWith : Head → List Event → ℕ → Type 0

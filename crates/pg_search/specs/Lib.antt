@@ -1,3 +1,4 @@
+pub mod Freshness
 pub mod Sweep
 pub mod Found
 pub mod Law

@@ -5,6 +5,7 @@
 use Rattle.std.specs.Prelude.{ℕ, zero, suc, Bool, not, ◌&&◌, ◌==◌, if◌then◌else◌}
 use Rattle.std.specs.Prelude.{List, [], ◌∷◌, ◌++◌, map, filter, Option, Some, None, slice_get}
 use Rattle.std.specs.Prelude.{option_map}
+use Rattle.std.specs.List.{list_any}
 use Rattle.pg_entry.specs.declared.Level.{Level}
 use Rattle.pg_entry.specs.declared.Level.TheVariants.{Four, Three, Two, One}
 use Rattle.pg_entry.specs.Kinds.{table_of, kind_of}
@@ -21,6 +22,7 @@ use Rattle.pg_event.specs.Wants.{is_table}
 use Rattle.pg_event.specs.Witness.{takes_out}
 use Rattle.pg_machine.specs.declared.step.Translation.{Translation}
 use Rattle.pg_machine.specs.Machine.{may_cache, translation_at, same_rights, same_translation}
+use Rattle.pg_search.specs.Freshness.{is_as_fresh}
 
 -- a table that a walk may go on in, at level 4 the root and below it by a paging-structure-cache
 -- entry (4.10.3.1): its PCID, the moments of the readings that lead to it, and the entry that the
@@ -61,15 +63,27 @@ same_place a b =
 abbrev pub same_made : Made → Made → Bool
 same_made a b = same_translation a.translation b.translation
 
--- the list with one more in the place of those that are the same
-abbrev pub with_new : {X : Type 0} → (X → X → Bool) → List X → Option X → List X
-with_new same xs None = xs
-with_new same xs (Some x) = filter (λ y. not (same y x)) xs ++ x ∷ []
+abbrev pub moments_to : Place → List ℕ
+moments_to x = x.moments
 
--- the list with what each of the others gives
-abbrev pub with_each : {X Y : Type 0} → (X → X → Bool) → (Y → Option X) → List Y → List X → List X
-with_each same give [] xs = xs
-with_each same give (y ∷ ys) xs = with_each same give ys (with_new same xs (give y))
+abbrev pub moments_of : Made → List ℕ
+moments_of x = x.moments
+
+module _ {X : Type 0} (same : X → X → Bool) (moments : X → List ℕ) where
+  -- the one stands for the other, with moments as fresh or fresher
+  abbrev pub covers : X → X → Bool
+  covers y x = same y x && is_as_fresh (moments y) (moments x)
+
+  -- the list with one more in the place of those that are the same, if none of them covers it
+  abbrev pub with_new : List X → Option X → List X
+  with_new xs None = xs
+  with_new xs (Some x) =
+      if list_any (λ y. covers y x) xs then xs else filter (λ y. not (same y x)) xs ++ x ∷ []
+
+  -- the list with what each of the others gives
+  abbrev pub with_each : {Y : Type 0} → (Y → Option X) → List Y → List X → List X
+  with_each give [] xs = xs
+  with_each give (y ∷ ys) xs = with_each give ys (with_new xs (give y))
 
 -- the entry that a level has at moment w in a table (4.5)
 abbrev pub entry_at : List Event → ℕ → ℕ → Level → Parent → ℕ
@@ -130,13 +144,16 @@ root_place head events p la w =
 abbrev pub filled : Head → List Event → ℕ → ℕ → ℕ → Standing → Standing
 filled head events p la w s =
     let fours = root_place head events p la w ∷ [] in
-    let threes = with_each same_place (next_place head events p la w Four) fours s.threes in
-    let twos = with_each same_place (next_place head events p la w Three) threes s.twos in
-    let ones = with_each same_place (next_place head events p la w Two) twos s.ones in
-    let made = with_each same_made (next_made head events p la w Four) fours s.made in
-    let made = with_each same_made (next_made head events p la w Three) threes made in
-    let made = with_each same_made (next_made head events p la w Two) twos made in
-    let made = with_each same_made (next_made head events p la w One) ones made in
+    let threes =
+    with_each same_place moments_to (next_place head events p la w Four) fours s.threes in
+    let twos =
+    with_each same_place moments_to (next_place head events p la w Three) threes s.twos in
+    let ones =
+    with_each same_place moments_to (next_place head events p la w Two) twos s.ones in
+    let made = with_each same_made moments_of (next_made head events p la w Four) fours s.made in
+    let made = with_each same_made moments_of (next_made head events p la w Three) threes made in
+    let made = with_each same_made moments_of (next_made head events p la w Two) twos made in
+    let made = with_each same_made moments_of (next_made head events p la w One) ones made in
     record { fours = fours; threes = threes; twos = twos; ones = ones; made = made }
 
 -- event w does not take out what the test says

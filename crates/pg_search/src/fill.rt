@@ -3,11 +3,14 @@ ghost use Rattle.std.specs.Prelude.{Some, None, option_map, OnOk, IfSome};
 ghost use Rattle.pg_entry.specs.Kinds.{kind_of};
 ghost use Rattle.pg_event.specs.Walk.{below};
 ghost use Rattle.pg_machine.specs.Machine.{may_cache};
-ghost use Rattle.pg_search.specs.Sweep.{same_place, same_made, with_new, with_each, entry_at};
+ghost use Rattle.std.specs.List.{list_any};
+ghost use Rattle.pg_search.specs.Sweep.{same_place, same_made, moments_to, moments_of, covers};
+ghost use Rattle.pg_search.specs.Sweep.{with_new, with_each, entry_at};
 ghost use Rattle.pg_search.specs.Sweep.{table_by, next_table, next_leaf, next_place, next_made};
 ghost use Rattle.pg_search.specs.Held.{trail_of, place_of, made_from, IsNow, AreCurrent, AreReady};
 ghost use Rattle.pg_check.specs.Ends.{IsSmallLeaf};
 
+use crate::fresh::are_as_fresh;
 use crate::held::{Found, HeldFound, HeldSpot, Spot};
 use crate::now::Now;
 use pg_check::History;
@@ -100,24 +103,70 @@ fn same_made(a: &Found, b: &Found) -> bool
     a.translation == b.translation
 }
 
-/// Puts a spot in the place of one that is the same but for its moments.
+/// The moments that lead to a spot.
+fn trail(spot: &Spot) -> &[u32]
+    ensures { result.now ≡ trail_of spot.now.trail }
+{
+    match &spot.trail {
+        Some(moments) => moments.as_slice(),
+        None => &[],
+    }
+}
+
+/// Whether a spot is the same as another, and its moments are as fresh.
+fn covers_spot(a: &Spot, b: &Spot) -> bool
+    ensures { result ≡ covers same_place moments_to (place_of a.now) (place_of b.now) }
+{
+    same_place(a, b) && are_as_fresh(trail(a), trail(b))
+}
+
+fn is_spot_covered(spots: &[HeldSpot], spot: &Spot) -> bool
+    ensures { result
+        ≡ list_any (λ x. covers same_place moments_to x (place_of spot.now)) spots.now }
+{
+    spots.iter().any(|x| covers_spot(&x.get(), spot))
+}
+
+/// Puts a spot in the place of one that is the same but for its moments, unless that has moments as
+/// fresh.
 fn put_spot(into: &mut Vec<HeldSpot>, spot: Spot) -> Result<(), AllocError>
     requires { spot.from.table < 2 ^ 52 }
-    ensures { OnOk result
-        (into.new.items ≡ with_new same_place into.old.items (Some (place_of spot))) }
+    ensures { OnOk result (into.new.items
+        ≡ with_new same_place moments_to into.old.items (Some (place_of spot))) }
 {
+    if is_spot_covered(into, &spot) {
+        return Ok(());
+    }
     into.retain(|x| !same_place(&x.get(), &spot));
     into.push(HeldSpot::new(spot))?;
     Ok(())
 }
 
-/// Puts a translation in the place of one that is the same but for its moments.
+/// Whether a translation is the same as another, and its moments are as fresh.
+fn covers_found(a: &Found, b: &Found) -> bool
+    ensures { result ≡ covers same_made moments_of (made_from a.now) (made_from b.now) }
+{
+    same_made(a, b) && are_as_fresh(a.moments.as_slice(), b.moments.as_slice())
+}
+
+fn is_found_covered(made: &[HeldFound], found: &Found) -> bool
+    ensures { result
+        ≡ list_any (λ x. covers same_made moments_of x (made_from found.now)) made.now }
+{
+    made.iter().any(|x| covers_found(&x.get(), found))
+}
+
+/// Puts a translation in the place of one that is the same but for its moments, unless that has
+/// moments as fresh.
 fn put_found(into: &mut Vec<HeldFound>, found: Found) -> Result<(), AllocError>
     requires size { found.translation.key.shift ≤ 30 }
     requires within { found.translation.frame < 2 ^ 52 }
-    ensures { OnOk result
-        (into.new.items ≡ with_new same_made into.old.items (Some (made_from found))) }
+    ensures { OnOk result (into.new.items
+        ≡ with_new same_made moments_of into.old.items (Some (made_from found))) }
 {
+    if is_found_covered(into, &found) {
+        return Ok(());
+    }
     into.retain(|x| !same_made(&x.get(), &found));
     into.push(HeldFound::new(found))?;
     Ok(())
@@ -137,7 +186,7 @@ fn add_spot(
         ≡ entry_at history.now.events now.la now.moment level spot.from }
     requires current { AreCurrent history.now.events now.la now.moment (below level)
         into.old.items }
-    ensures { OnOk result (into.new.items ≡ with_new same_place into.old.items
+    ensures { OnOk result (into.new.items ≡ with_new same_place moments_to into.old.items
         (next_place history.now.head history.now.events now.p now.la now.moment level
         (place_of spot))) }
 {
@@ -166,7 +215,7 @@ pub(crate) fn add_spots(
     requires ready { AreReady history.now.events now.la now.moment level spots.now }
     requires current { AreCurrent history.now.events now.la now.moment (below level)
         into.old.items }
-    ensures { OnOk result (into.new.items ≡ with_each same_place
+    ensures { OnOk result (into.new.items ≡ with_each same_place moments_to
         (next_place history.now.head history.now.events now.p now.la now.moment level)
         spots.now into.old.items) }
 {
@@ -227,7 +276,7 @@ fn add_found(
     requires few { length (trail_of spot.trail) ≤ 3 }
     requires word { spot.word
         ≡ entry_at history.now.events now.la now.moment level spot.from }
-    ensures { OnOk result (into.new.items ≡ with_new same_made into.old.items
+    ensures { OnOk result (into.new.items ≡ with_new same_made moments_of into.old.items
         (next_made history.now.head history.now.events now.p now.la now.moment level
         (place_of spot))) }
 {
@@ -255,7 +304,7 @@ pub(crate) fn add_founds(
 ) -> Result<(), AllocError>
     requires now { IsNow history.now now }
     requires ready { AreReady history.now.events now.la now.moment level spots.now }
-    ensures { OnOk result (into.new.items ≡ with_each same_made
+    ensures { OnOk result (into.new.items ≡ with_each same_made moments_of
         (next_made history.now.head history.now.events now.p now.la now.moment level)
         spots.now into.old.items) }
 {

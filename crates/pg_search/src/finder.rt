@@ -3,12 +3,13 @@ ghost use Rattle.std.specs.Prelude.{IfOk, IfSome, IfNone};
 ghost use Rattle.pg_entry.specs.declared.Level.TheVariants.{Four, Three, Two, One};
 ghost use Rattle.pg_event.specs.Form.{processor_of};
 ghost use Rattle.pg_event.specs.Witness.{claim_of, update_of};
-ghost use Rattle.pg_search.specs.Sweep.{entry_at, read_at, standing};
-ghost use Rattle.pg_search.specs.Found.{moments_of, gives, finds, found_in, found_access};
+ghost use Rattle.pg_search.specs.Sweep.{entry_at, moments_of, read_at, standing};
+ghost use Rattle.pg_search.specs.Found.{gives, finds, found_in, found_access};
 ghost use Rattle.pg_search.specs.Found.{found_assist, found, IsPick};
 ghost use Rattle.pg_search.specs.Held.{place_of, IsNow, AreReady};
 ghost use Rattle.pg_search.specs.Swept.{IsSweep};
-ghost use Rattle.pg_search.specs.Law.{names_moments, WitnessedBy, CanBeWitnessed, RunBeginsWith};
+ghost use Rattle.pg_search.specs.Law.{names_moments, WitnessedBy, AreFreshest};
+ghost use Rattle.pg_search.specs.Law.{CanBeWitnessed, RunBeginsWith};
 
 use crate::fill::next_moments;
 use crate::fresh::fresher;
@@ -204,6 +205,8 @@ pub fn find_moments(alloc: Global, history: &History, i: u64) -> Result<Option<M
     requires names { IfSome (slice_get history.now.events i) (λ e. names_moments e ≡ true) }
     ensures some { IfOk result
         (λ found. IfSome found (WitnessedBy history.now.head history.now.events i)) }
+    ensures freshest { IfOk result
+        (λ found. IfSome found (AreFreshest history.now.head history.now.events i)) }
     ensures none { IfOk result (λ found. IfNone found
         (CanBeWitnessed history.now.head history.now.events i → ⊥)) }
     ensures run { IfOk result (λ found. IfNone found

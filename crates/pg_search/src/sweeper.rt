@@ -5,7 +5,8 @@ ghost use Rattle.pg_event.specs.Form.{processor_of};
 ghost use Rattle.pg_event.specs.Invalidation.{structure_key};
 ghost use Rattle.pg_event.specs.Invalidation.{must_drop_structure, must_drop_translation};
 ghost use Rattle.pg_event.specs.Walk.{below};
-ghost use Rattle.pg_search.specs.Sweep.{same_place, same_made, with_each, next_place, next_made};
+ghost use Rattle.pg_search.specs.Sweep.{same_place, same_made, moments_to, moments_of, with_each};
+ghost use Rattle.pg_search.specs.Sweep.{next_place, next_made};
 ghost use Rattle.pg_search.specs.Sweep.{staying, staying_made, swept, standing};
 ghost use Rattle.pg_search.specs.Held.{IsNow, AreCurrent, AreReady, seen_by};
 ghost use Rattle.pg_search.specs.Swept.{IsSweep};
@@ -43,10 +44,10 @@ fn fill_level(
     requires ready { AreReady history.now.events now.la now.moment level spots.now }
     requires current { AreCurrent history.now.events now.la now.moment (below level)
         under.old.items }
-    ensures made { OnOk result (made.new.items ≡ with_each same_made
+    ensures made { OnOk result (made.new.items ≡ with_each same_made moments_of
         (next_made history.now.head history.now.events now.p now.la now.moment level)
         spots.now made.old.items) }
-    ensures under { OnOk result (under.new.items ≡ with_each same_place
+    ensures under { OnOk result (under.new.items ≡ with_each same_place moments_to
         (next_place history.now.head history.now.events now.p now.la now.moment level)
         spots.now under.old.items) }
 {

@@ -1,11 +1,8 @@
 -- The text of a run: one line a step.
-use Rattle.std.specs.Prelude.{◌≡◌, ℕ, ◌+◌, Bool, false, if◌then◌else◌, List, [], ◌∷◌, ◌++◌, codes}
-use Rattle.std.specs.Prelude.{decimal}
+use Rattle.std.specs.Prelude.{◌≡◌, ℕ, ◌+◌, false, List, [], ◌∷◌, ◌++◌, codes, decimal}
 use Rattle.std.specs.Fmt.{digits}
-use Rattle.pg_entry.specs.declared.Level.{Level}
-use Rattle.pg_entry.specs.declared.Level.TheVariants.{Four, Three, Two, One}
-use Rattle.pg_entry.specs.declared.Rights.{Rights}
 use Rattle.pg_event.specs.declared.walk.Parent.{Parent}
+use Rattle.pg_explain.specs.Names.{level_number, rights_text}
 use Rattle.pg_machine.specs.declared.step.Step.{Step}
 use Rattle.pg_machine.specs.declared.step.Step.TheVariants.{Fill4, Fill3, Fill2, FillLeaf, Drop, Do}
 
@@ -22,21 +19,6 @@ PushesLine old new words = new ≡ old ++ line_of words
 -- an address: hexadecimal in lower case, with `0x` and no leading zeros
 abbrev pub address_text : ℕ → List ℕ
 address_text a = codes "0x" ++ digits 16 false a
-
-abbrev pub level_number : Level → ℕ
-level_number Four = 4
-level_number Three = 3
-level_number Two = 2
-level_number One = 1
-
--- a letter where the right is given, else a dash
-abbrev pub mark : Bool → List ℕ → List ℕ
-mark given letter = if given then letter else codes "-"
-
--- `w` for write, `u` for user, `n` for not executable
-abbrev pub rights_text : Rights → List ℕ
-rights_text r =
-    mark r.write (codes "w") ++ (mark r.user (codes "u") ++ mark r.xd (codes "n"))
 
 -- a table, and the rights down to it
 abbrev pub parent_words : Parent → List (List ℕ)

@@ -2,39 +2,15 @@
 
 ghost use Rattle.std.specs.Prelude.{◌≡◌, ◌+◌, ◌<◌, ◌^◌, ◌∷◌, ◌++◌, IfOk, OnOk, codes, decimal};
 ghost use Rattle.std.specs.Prelude.{string_bytes};
-ghost use Rattle.pg_tool.specs.Runs.{line_of, PushesLine, address_text, level_number, rights_text};
+ghost use Rattle.pg_explain.specs.Names.{level_number};
+ghost use Rattle.pg_tool.specs.Runs.{line_of, PushesLine, address_text};
 ghost use Rattle.pg_tool.specs.Runs.{parent_words, step_text, next_number, run_text};
 
-use pg_entry::{Level, Rights};
+use pg_entry::Level;
 use pg_event::Parent;
+use pg_explain::{level_number, rights_text};
 use pg_machine::Step;
 use std::alloc::{AllocError, Global};
-
-fn level_number(level: Level) -> u8
-    ensures { result ≡ level_number level }
-{
-    match level {
-        Level::Four => 4,
-        Level::Three => 3,
-        Level::Two => 2,
-        Level::One => 1,
-    }
-}
-
-fn rights_text(rights: Rights) -> &'static str
-    ensures { result.now ≡ rights_text rights }
-{
-    match (rights.write, rights.user, rights.xd) {
-        (true, true, true) => "wun",
-        (true, true, false) => "wu-",
-        (true, false, true) => "w-n",
-        (true, false, false) => "w--",
-        (false, true, true) => "-un",
-        (false, true, false) => "-u-",
-        (false, false, true) => "--n",
-        (false, false, false) => "---",
-    }
-}
 
 /// Appends the line of a fill that reads a table below the root.
 fn push_fill(text: &mut String, name: &str, p: u16, la: u64, from: Parent) -> Result<(), AllocError>

@@ -18,7 +18,7 @@ loop-x-preserved c =
       | then-finds b ↦
           let got : b.next_moments.result ≡ read_at w x = b.next_moments.ensures ∙ ap (read_at w) c.get-spot.ensures.value in
           let one : IsOneOf c.loop-x.best (Some (read_at w x)) b.fresher-best.result =
-          subst (λ (ws : List ℕ). IsOneOf c.loop-x.best (Some ws) b.fresher-best.result) got (b.fresher-best.ensures.either, b.fresher-best.ensures.none) in
+          subst (λ (ws : List ℕ). IsOneOf c.loop-x.best (Some ws) b.fresher-best.result) got (record { either = b.fresher-best.ensures.either; none = b.fresher-best.ensures.none; first = b.fresher-best.ensures.first; second = b.fresher-best.ensures.second }) in
           subst (IsPick all) (sym b.best-is)
           (pick_passing (read_at w) test spots i x c.loop-x.best b.fresher-best.result c.loop-x-test.true c.x-item.is (ap test (sym c.get-spot.ensures.value) ∙ sym c.finds.ensures ∙ b.if-finds.true) c.loop-x.invariant one)
       | else-finds b ↦

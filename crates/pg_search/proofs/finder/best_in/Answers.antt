@@ -41,6 +41,6 @@ returns c =
     let three : IsPick (at Three) c.best_at-three.result = subst (λ xs. IsPick (from Three xs) c.best_at-three.result) (c.deref.ensures.value ∙ c.requires.sweep.threes) c.best_at-three.ensures in
     let two : IsPick (at Two) c.best_at-two.result = subst (λ xs. IsPick (from Two xs) c.best_at-two.result) (c.deref-2.ensures.value ∙ c.requires.sweep.twos) c.best_at-two.ensures in
     let one : IsPick (at One) c.best_at-one.result = subst (λ xs. IsPick (from One xs) c.best_at-one.result) (c.deref-3.ensures.value ∙ c.requires.sweep.ones) c.best_at-one.ensures in
-    let low = pick_either (at Two) (at One) c.best_at-two.result c.best_at-one.result c.fresher.result two one (c.fresher.ensures.either, c.fresher.ensures.none) in
-    let lower = pick_either (at Three) (at Two ++ at One) c.best_at-three.result c.fresher.result c.fresher-2.result three low (c.fresher-2.ensures.either, c.fresher-2.ensures.none) in
-    pick_either (at Four) (at Three ++ (at Two ++ at One)) c.best_at-four.result c.fresher-2.result c.fresher-3.result four lower (c.fresher-3.ensures.either, c.fresher-3.ensures.none)
+    let low = pick_either (at Two) (at One) c.best_at-two.result c.best_at-one.result c.fresher.result two one (record { either = c.fresher.ensures.either; none = c.fresher.ensures.none; first = c.fresher.ensures.first; second = c.fresher.ensures.second }) in
+    let lower = pick_either (at Three) (at Two ++ at One) c.best_at-three.result c.fresher.result c.fresher-2.result three low (record { either = c.fresher-2.ensures.either; none = c.fresher-2.ensures.none; first = c.fresher-2.ensures.first; second = c.fresher-2.ensures.second }) in
+    pick_either (at Four) (at Three ++ (at Two ++ at One)) c.best_at-four.result c.fresher-2.result c.fresher-3.result four lower (record { either = c.fresher-3.ensures.either; none = c.fresher-3.ensures.none; first = c.fresher-3.ensures.first; second = c.fresher-3.ensures.second })

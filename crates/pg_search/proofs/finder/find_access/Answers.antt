@@ -7,7 +7,8 @@ use Rattle.pg_event.specs.Values.{control_at}
 use Rattle.pg_search.specs.declared.now.Now.{Now}
 use Rattle.pg_search.specs.declared.sought.Sought.TheVariants.{Fault}
 use Rattle.pg_search.specs.Sweep.{Made, Standing, standing}
-use Rattle.pg_search.specs.Found.{moments_of, gives, found_in, IsPick}
+use Rattle.pg_search.specs.Found.{gives, found_in, IsPick}
+use Rattle.pg_search.specs.Sweep.{moments_of}
 use Rattle.pg_search.proofs.Picks.{pick_either}
 use Rattle.pg_search.proofs.finder.find_access.Goals as goal
 
@@ -31,4 +32,4 @@ returns c =
     ap (λ q. words q now.la now.moment) asked.0 ∙ ap (λ la. words claim.p la now.moment) asked.1 ∙ ap (λ w. words claim.p claim.la w) asked.2 in
     let word = subst (λ xs. IsPick xs c.best_in-word.result) same c.best_in-word.ensures in
     pick_either (passing head (control_at head events claim.p claim.number).pcid s.made) (words claim.p claim.la claim.number) c.best_made-made.result c.best_in-word.result c.fresher.result made word
-    (c.fresher.ensures.either, c.fresher.ensures.none)
+    (record { either = c.fresher.ensures.either; none = c.fresher.ensures.none; first = c.fresher.ensures.first; second = c.fresher.ensures.second })

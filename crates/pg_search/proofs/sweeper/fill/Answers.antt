@@ -5,7 +5,7 @@ use Rattle.pg_entry.specs.declared.Level.TheVariants.{Four, Three, Two, One}
 use Rattle.pg_event.specs.declared.event.Event.{Event}
 use Rattle.pg_event.specs.Heads.{Head}
 use Rattle.pg_search.specs.declared.now.Now.{Now}
-use Rattle.pg_search.specs.Sweep.{Place, Made, Standing, same_place, same_made, with_each, next_place, next_made, swept, standing}
+use Rattle.pg_search.specs.Sweep.{Place, Made, Standing, same_place, same_made, with_each, next_place, next_made, swept, standing, moments_to, moments_of}
 use Rattle.pg_search.specs.Held.{AreCurrent, AreReady}
 use Rattle.pg_search.proofs.Ready.{swept_current, standing_ready}
 use Rattle.pg_search.proofs.Filling.{root_is, each_are}
@@ -36,7 +36,7 @@ fill_level-requires-2-clause-ready c =
     let give : Level → Place → Option Place = next_place head events now.p now.la now.moment in
     let root = root_is c.args.history.now now c.root_spot.result c.requires.now c.root_spot.ensures in
     let threes : c.fill_level.new.under.items ≡ t.threes =
-    each_are same_place (give Four) (c.root_spot.result ∷ []) t.fours c.args.sweep.now.threes.items s.threes c.fill_level.new.under.items c.in_ok-fill_level.ensures.under root c.requires.before.threes in
+    each_are same_place moments_to (give Four) (c.root_spot.result ∷ []) t.fours c.args.sweep.now.threes.items s.threes c.fill_level.new.under.items c.in_ok-fill_level.ensures.under root c.requires.before.threes in
     subst (AreReady events now.la now.moment Three) (sym (c.deref.ensures.value ∙ threes)) (standing_ready head events now.p now.la now.moment Three)
 
 pub fill_level-requires-3-clause-ready : goal.fill_level-requires-3-clause-ready
@@ -49,9 +49,9 @@ fill_level-requires-3-clause-ready c =
     let give : Level → Place → Option Place = next_place head events now.p now.la now.moment in
     let root = root_is c.args.history.now now c.root_spot.result c.requires.now c.root_spot.ensures in
     let threes : c.fill_level.new.under.items ≡ t.threes =
-    each_are same_place (give Four) (c.root_spot.result ∷ []) t.fours c.args.sweep.now.threes.items s.threes c.fill_level.new.under.items c.in_ok-fill_level.ensures.under root c.requires.before.threes in
+    each_are same_place moments_to (give Four) (c.root_spot.result ∷ []) t.fours c.args.sweep.now.threes.items s.threes c.fill_level.new.under.items c.in_ok-fill_level.ensures.under root c.requires.before.threes in
     let twos : c.fill_level-2.new.under.items ≡ t.twos =
-    each_are same_place (give Three) c.deref.result.now t.threes c.args.sweep.now.twos.items s.twos c.fill_level-2.new.under.items c.in_ok-fill_level-2.ensures.under (c.deref.ensures.value ∙ threes) c.requires.before.twos in
+    each_are same_place moments_to (give Three) c.deref.result.now t.threes c.args.sweep.now.twos.items s.twos c.fill_level-2.new.under.items c.in_ok-fill_level-2.ensures.under (c.deref.ensures.value ∙ threes) c.requires.before.twos in
     subst (AreReady events now.la now.moment Two) (sym (c.deref-2.ensures.value ∙ twos)) (standing_ready head events now.p now.la now.moment Two)
 
 pub add_founds-requires-clause-ready : goal.add_founds-requires-clause-ready
@@ -64,11 +64,11 @@ add_founds-requires-clause-ready c =
     let give : Level → Place → Option Place = next_place head events now.p now.la now.moment in
     let root = root_is c.args.history.now now c.root_spot.result c.requires.now c.root_spot.ensures in
     let threes : c.fill_level.new.under.items ≡ t.threes =
-    each_are same_place (give Four) (c.root_spot.result ∷ []) t.fours c.args.sweep.now.threes.items s.threes c.fill_level.new.under.items c.in_ok-fill_level.ensures.under root c.requires.before.threes in
+    each_are same_place moments_to (give Four) (c.root_spot.result ∷ []) t.fours c.args.sweep.now.threes.items s.threes c.fill_level.new.under.items c.in_ok-fill_level.ensures.under root c.requires.before.threes in
     let twos : c.fill_level-2.new.under.items ≡ t.twos =
-    each_are same_place (give Three) c.deref.result.now t.threes c.args.sweep.now.twos.items s.twos c.fill_level-2.new.under.items c.in_ok-fill_level-2.ensures.under (c.deref.ensures.value ∙ threes) c.requires.before.twos in
+    each_are same_place moments_to (give Three) c.deref.result.now t.threes c.args.sweep.now.twos.items s.twos c.fill_level-2.new.under.items c.in_ok-fill_level-2.ensures.under (c.deref.ensures.value ∙ threes) c.requires.before.twos in
     let ones : c.fill_level-3.new.under.items ≡ t.ones =
-    each_are same_place (give Two) c.deref-2.result.now t.twos c.args.sweep.now.ones.items s.ones c.fill_level-3.new.under.items c.in_ok-fill_level-3.ensures.under (c.deref-2.ensures.value ∙ twos) c.requires.before.ones in
+    each_are same_place moments_to (give Two) c.deref-2.result.now t.twos c.args.sweep.now.ones.items s.ones c.fill_level-3.new.under.items c.in_ok-fill_level-3.ensures.under (c.deref-2.ensures.value ∙ twos) c.requires.before.ones in
     subst (AreReady events now.la now.moment One) (sym (c.deref-3.ensures.value ∙ ones)) (standing_ready head events now.p now.la now.moment One)
 
 pub returns : goal.returns
@@ -81,23 +81,23 @@ returns c =
     let give : Level → Place → Option Place = next_place head events now.p now.la now.moment in
     let root = root_is c.args.history.now now c.root_spot.result c.requires.now c.root_spot.ensures in
     let threes : c.fill_level.new.under.items ≡ t.threes =
-    each_are same_place (give Four) (c.root_spot.result ∷ []) t.fours c.args.sweep.now.threes.items s.threes c.fill_level.new.under.items c.in_ok-fill_level.ensures.under root c.requires.before.threes in
+    each_are same_place moments_to (give Four) (c.root_spot.result ∷ []) t.fours c.args.sweep.now.threes.items s.threes c.fill_level.new.under.items c.in_ok-fill_level.ensures.under root c.requires.before.threes in
     let twos : c.fill_level-2.new.under.items ≡ t.twos =
-    each_are same_place (give Three) c.deref.result.now t.threes c.args.sweep.now.twos.items s.twos c.fill_level-2.new.under.items c.in_ok-fill_level-2.ensures.under (c.deref.ensures.value ∙ threes) c.requires.before.twos in
+    each_are same_place moments_to (give Three) c.deref.result.now t.threes c.args.sweep.now.twos.items s.twos c.fill_level-2.new.under.items c.in_ok-fill_level-2.ensures.under (c.deref.ensures.value ∙ threes) c.requires.before.twos in
     let ones : c.fill_level-3.new.under.items ≡ t.ones =
-    each_are same_place (give Two) c.deref-2.result.now t.twos c.args.sweep.now.ones.items s.ones c.fill_level-3.new.under.items c.in_ok-fill_level-3.ensures.under (c.deref-2.ensures.value ∙ twos) c.requires.before.ones in
+    each_are same_place moments_to (give Two) c.deref-2.result.now t.twos c.args.sweep.now.ones.items s.ones c.fill_level-3.new.under.items c.in_ok-fill_level-3.ensures.under (c.deref-2.ensures.value ∙ twos) c.requires.before.ones in
     let make : Level → Place → Option Made = next_made head events now.p now.la now.moment in
-    let made1 : c.fill_level.new.made.items ≡ with_each same_made (make Four) t.fours s.made =
-    each_are same_made (make Four) (c.root_spot.result ∷ []) t.fours c.args.sweep.now.made.items s.made c.fill_level.new.made.items c.in_ok-fill_level.ensures.made root c.requires.before.made in
-    let made2 : c.fill_level-2.new.made.items ≡ with_each same_made (make Three) t.threes (with_each same_made (make Four) t.fours s.made) =
-    each_are same_made (make Three) c.deref.result.now t.threes c.fill_level.new.made.items (with_each same_made (make Four) t.fours s.made) c.fill_level-2.new.made.items c.in_ok-fill_level-2.ensures.made (c.deref.ensures.value ∙ threes) made1 in
-    let made3 : c.fill_level-3.new.made.items ≡ with_each same_made (make Two) t.twos (with_each same_made (make Three) t.threes (with_each same_made (make Four) t.fours s.made)) =
-    each_are same_made (make Two) c.deref-2.result.now t.twos c.fill_level-2.new.made.items (with_each same_made (make Three) t.threes (with_each same_made (make Four) t.fours s.made)) c.fill_level-3.new.made.items c.in_ok-fill_level-3.ensures.made (c.deref-2.ensures.value ∙ twos) made2 in
+    let made1 : c.fill_level.new.made.items ≡ with_each same_made moments_of (make Four) t.fours s.made =
+    each_are same_made moments_of (make Four) (c.root_spot.result ∷ []) t.fours c.args.sweep.now.made.items s.made c.fill_level.new.made.items c.in_ok-fill_level.ensures.made root c.requires.before.made in
+    let made2 : c.fill_level-2.new.made.items ≡ with_each same_made moments_of (make Three) t.threes (with_each same_made moments_of (make Four) t.fours s.made) =
+    each_are same_made moments_of (make Three) c.deref.result.now t.threes c.fill_level.new.made.items (with_each same_made moments_of (make Four) t.fours s.made) c.fill_level-2.new.made.items c.in_ok-fill_level-2.ensures.made (c.deref.ensures.value ∙ threes) made1 in
+    let made3 : c.fill_level-3.new.made.items ≡ with_each same_made moments_of (make Two) t.twos (with_each same_made moments_of (make Three) t.threes (with_each same_made moments_of (make Four) t.fours s.made)) =
+    each_are same_made moments_of (make Two) c.deref-2.result.now t.twos c.fill_level-2.new.made.items (with_each same_made moments_of (make Three) t.threes (with_each same_made moments_of (make Four) t.fours s.made)) c.fill_level-3.new.made.items c.in_ok-fill_level-3.ensures.made (c.deref-2.ensures.value ∙ twos) made2 in
     on_ok_weaker c.add_founds.result
     (λ last. record {
       threes = threes;
       twos = twos;
       ones = ones;
-      made = each_are same_made (make One) c.deref-3.result.now t.ones c.fill_level-3.new.made.items (with_each same_made (make Two) t.twos (with_each same_made (make Three) t.threes (with_each same_made (make Four) t.fours s.made))) c.add_founds.new.into.items last (c.deref-3.ensures.value ∙ ones) made3;
+      made = each_are same_made moments_of (make One) c.deref-3.result.now t.ones c.fill_level-3.new.made.items (with_each same_made moments_of (make Two) t.twos (with_each same_made moments_of (make Three) t.threes (with_each same_made moments_of (make Four) t.fours s.made))) c.add_founds.new.into.items last (c.deref-3.ensures.value ∙ ones) made3;
     })
     c.add_founds.ensures
