@@ -3,12 +3,13 @@ use Rattle.std.proofs.Common.{◌≡◌, ℕ, ◌+◌, ◌<◌, length, get_or, 
 use Rattle.std.specs.Prelude.{filter, option_map}
 use Rattle.std.specs.List.{list_any}
 use Rattle.std.proofs.lemmas.Bool.{cases_Bool, and_parts}
-use Rattle.std.proofs.lemmas.List.{take_more}
+use Rattle.std.proofs.lemmas.List.{take_more, append-nil}
+use Rattle.std.proofs.lemmas.List.Elements.{filter-append}
 use Rattle.pg_machine.specs.Machine.{IsIn}
 use Rattle.pg_run_of.proofs.Kept.{in_filtered}
 use Rattle.pg_run_of.proofs.Standing.{in-filter}
 use Rattle.pg_search.specs.Freshness.{is_as_fresh}
-use Rattle.pg_search.specs.Sweep.{with_new, with_each}
+use Rattle.pg_search.specs.Sweep.{if_kept, with_new, with_each}
 use Rattle.pg_search.proofs.Freshness.{fresh_refl, fresh_trans, fresh_total}
 
 -- an element with this key, whose moments are as fresh as these
@@ -131,6 +132,93 @@ has_each same moments key tells give x y [] xs h e = absurd h
 has_each same moments key tells give x y (z ∷ zs) xs (inl s) e =
     has_stays same moments key tells give (key x) (moments x) zs (with_new same moments xs (give z)) (has_new same moments key tells x xs (give z) (ap give s ∙ e))
 has_each same moments key tells give x y (z ∷ zs) xs (inr h) e = has_each same moments key tells give x y zs (with_new same moments xs (give z)) h e
+
+-- those of a list that are kept
+
+pub kept_within : {X : Type 0} (test keep : X → Bool) (xs : List X) → ((x : X) → test x ≡ true → keep x ≡ true) → filter test (filter keep xs) ≡ filter test xs
+kept_within test keep [] imp = refl
+kept_within test keep (x ∷ xs) imp =
+    elim (cases_Bool (keep x)) as (λ _. filter test (filter keep (x ∷ xs)) ≡ filter test (x ∷ xs)) [
+      | inl k ↦ elim (cases_Bool (test x)) as (λ _. filter test (filter keep (x ∷ xs)) ≡ filter test (x ∷ xs)) [
+        | inl t ↦ rw (k, t) (ap (λ ys. x ∷ ys) (kept_within test keep xs imp))
+        | inr f ↦ rw (k, f) (kept_within test keep xs imp)
+      ]
+      | inr n ↦ elim (cases_Bool (test x)) as (λ _. filter test (filter keep (x ∷ xs)) ≡ filter test (x ∷ xs)) [
+        | inl t ↦ absurd (apart (sym (imp x t) ∙ n))
+        | inr f ↦ rw (n, f) (kept_within test keep xs imp)
+      ]
+    ]
+  where
+    apart : true ≡ false → ⊥
+    apart e = cc
+
+pub kept_both : {X : Type 0} (test keep : X → Bool) (xs : List X) → filter test (filter keep xs) ≡ filter keep (filter test xs)
+kept_both test keep [] = refl
+kept_both test keep (x ∷ xs) =
+    elim (cases_Bool (keep x)) as (λ _. filter test (filter keep (x ∷ xs)) ≡ filter keep (filter test (x ∷ xs))) [
+      | inl k ↦ elim (cases_Bool (test x)) as (λ _. filter test (filter keep (x ∷ xs)) ≡ filter keep (filter test (x ∷ xs))) [
+        | inl t ↦ rw (k, t, k) (ap (λ ys. x ∷ ys) (kept_both test keep xs))
+        | inr f ↦ rw (k, f) (kept_both test keep xs)
+      ]
+      | inr n ↦ elim (cases_Bool (test x)) as (λ _. filter test (filter keep (x ∷ xs)) ≡ filter keep (filter test (x ∷ xs))) [
+        | inl t ↦ rw (n, t, n) (kept_both test keep xs)
+        | inr f ↦ rw (n, f) (kept_both test keep xs)
+      ]
+    ]
+
+any_within : {X : Type 0} (test keep : X → Bool) (xs : List X) → ((x : X) → test x ≡ true → keep x ≡ true) → list_any test (filter keep xs) ≡ list_any test xs
+any_within test keep [] imp = refl
+any_within test keep (x ∷ xs) imp =
+    elim (cases_Bool (keep x)) as (λ _. list_any test (filter keep (x ∷ xs)) ≡ list_any test (x ∷ xs)) [
+      | inl k ↦ rw k (ap (λ b. test x || b) (any_within test keep xs imp))
+      | inr n ↦ elim (cases_Bool (test x)) as (λ _. list_any test (filter keep (x ∷ xs)) ≡ list_any test (x ∷ xs)) [
+        | inl t ↦ absurd (apart (sym (imp x t) ∙ n))
+        | inr f ↦ rw (n, f) (any_within test keep xs imp)
+      ]
+    ]
+  where
+    apart : true ≡ false → ⊥
+    apart e = cc
+
+-- what is the same is kept alike
+abbrev pub KeptAlike : {X : Type 0} → (X → X → Bool) → (X → Bool) → Type 0
+KeptAlike {X = X} same keep = (a b : X) → same a b ≡ true → keep a ≡ keep b
+
+kept_new : {X : Type 0} (same : X → X → Bool) (moments : X → List ℕ) (keep : X → Bool) → KeptAlike same keep → (xs : List X) (o : Option X) →
+    filter keep (with_new same moments xs o) ≡ with_new same moments (filter keep xs) (if_kept keep o)
+kept_new same moments keep alike xs None = refl
+kept_new {X = X} same moments keep alike xs (Some x) =
+    let others : X → Bool = λ y. not (same y x) in
+    let test : X → Bool = Covers same moments x in
+    elim (cases_Bool (keep x)) as (λ _. filter keep (with_new same moments xs (Some x)) ≡ with_new same moments (filter keep xs) (if_kept keep (Some x))) [
+      | inl k ↦
+          let any : list_any test (filter keep xs) ≡ list_any test xs = any_within test keep xs (λ y t. alike y x (and_parts (same y x) (is_as_fresh (moments y) (moments x)) t).0 ∙ k) in
+          let put : filter keep (filter others xs ++ x ∷ []) ≡ filter others (filter keep xs) ++ x ∷ [] =
+          filter-append keep (filter others xs) (x ∷ []) ∙ ap (λ b. filter keep (filter others xs) ++ cond b (x ∷ []) []) k ∙ ap (λ ys. ys ++ x ∷ []) (sym (kept_both others keep xs)) in
+          let given : with_new same moments (filter keep xs) (if_kept keep (Some x)) ≡ with_new same moments (filter keep xs) (Some x) = ap (λ b. with_new same moments (filter keep xs) (cond b (Some x) None)) k in
+          new_is same moments x xs (λ zs. filter keep zs ≡ with_new same moments (filter keep xs) (if_kept keep (Some x)))
+          (λ some. sym (given ∙ ap (λ b. cond b (filter keep xs) (filter others (filter keep xs) ++ x ∷ [])) (any ∙ some)))
+          (λ none. put ∙ sym (given ∙ ap (λ b. cond b (filter keep xs) (filter others (filter keep xs) ++ x ∷ [])) (any ∙ none)))
+      | inr n ↦
+          let given : with_new same moments (filter keep xs) (if_kept keep (Some x)) ≡ filter keep xs = ap (λ b. with_new same moments (filter keep xs) (cond b (Some x) None)) n in
+          let put : filter keep (filter others xs ++ x ∷ []) ≡ filter keep xs =
+          filter-append keep (filter others xs) (x ∷ []) ∙ ap (λ b. filter keep (filter others xs) ++ cond b (x ∷ []) []) n
+          ∙ append-nil (filter keep (filter others xs)) ∙ kept_within keep others xs (λ y k. other (same y x) (λ t. apart (sym k ∙ alike y x t ∙ n))) in
+          new_is same moments x xs (λ zs. filter keep zs ≡ with_new same moments (filter keep xs) (if_kept keep (Some x))) (λ some. sym given) (λ none. put ∙ sym given)
+    ]
+  where
+    apart : true ≡ false → ⊥
+    apart e = cc
+
+    other : (b : Bool) → (b ≡ true → ⊥) → not b ≡ true
+    other true h = absurd (h refl)
+    other false h = refl
+
+pub kept_each : {X Y : Type 0} (same : X → X → Bool) (moments : X → List ℕ) (keep : X → Bool) → KeptAlike same keep → (give : Y → Option X) (ys : List Y) (xs : List X) →
+    filter keep (with_each same moments give ys xs) ≡ with_each same moments (λ y. if_kept keep (give y)) ys (filter keep xs)
+kept_each same moments keep alike give [] xs = refl
+kept_each same moments keep alike give (y ∷ ys) xs =
+    kept_each same moments keep alike give ys (with_new same moments xs (give y)) ∙ ap (with_each same moments (λ z. if_kept keep (give z)) ys) (kept_new same moments keep alike xs (give y))
 
 -- going through a list
 

@@ -31,7 +31,7 @@ use Rattle.pg_machine.specs.Machine.{IsIn}
 use Rattle.pg_search.specs.declared.sought.Sought.{Sought}
 use Rattle.pg_search.specs.declared.sought.Sought.TheVariants as soughts
 use Rattle.pg_search.specs.Sweep.{Place, Made, Standing, places, entry_at, read_at, standing}
-use Rattle.pg_search.specs.Sweep.{moments_of}
+use Rattle.pg_search.specs.Sweep.{if_kept, moments_of, next_made}
 use Rattle.pg_search.specs.Freshness.{is_as_fresh}
 
 abbrev pub is_none : {X : Type 0} → Option X → Bool
@@ -48,12 +48,26 @@ is_answered cfg c t =
 abbrev pub serves : Head → Claim → Translation → Bool
 serves head c t = not (judges_accessed head.version && is_done_write c.kind c.outcome) || t.dirty
 
+-- a translation gives what an access claims
+abbrev pub is_claimed : Head → Claim → Translation → Bool
+is_claimed head c t =
+    uses_last (want_of c.outcome) && (is_answered head.cfg c t && serves head c t)
+
 -- a translation may be used under this PCID (4.10.2.4) and gives what an access claims
 abbrev pub gives : Head → ℕ → Claim → Made → Bool
 gives head pcid c x =
     let t = x.translation in
-    (pcid == t.key.pcid || t.key.global) && (uses_last (want_of c.outcome)
-    && (is_answered head.cfg c t && serves head c t))
+    (pcid == t.key.pcid || t.key.global) && is_claimed head c t
+
+-- a translation is of use where this is sought: it gives what the access claims; an assist has none
+abbrev pub is_useful : Head → Sought → Made → Bool
+is_useful head (soughts.Fault c) x = is_claimed head c x.translation
+is_useful head (soughts.Word u) x = false
+
+-- the translation that reading a place at moment w makes, if it is of use
+abbrev pub next_useful : Head → List Event → Sought → ℕ → ℕ → ℕ → Level → Place → Option Made
+next_useful head events sought p la w level x =
+    if_kept (is_useful head sought) (next_made head events p la w level x)
 
 -- the outcome is the code of a fault with this cause (4.7)
 abbrev pub is_code : Cfg → AccessKind → Cause → Outcome → Bool

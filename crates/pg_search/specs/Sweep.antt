@@ -93,6 +93,11 @@ entry_at events la w level from = mem_at events w (entry_address from.table leve
 abbrev pub table_by : ℕ → Parent → ℕ → Parent
 table_by m from entry = record { table = table_of m entry; rights = joined from.rights entry }
 
+-- what is given, if it passes a test
+abbrev pub if_kept : {X : Type 0} → (X → Bool) → Option X → Option X
+if_kept keep None = None
+if_kept keep (Some x) = if keep x then Some x else None
+
 -- a place at a level at moment w
 abbrev pub place_at : List Event → ℕ → ℕ → Level → ℕ → List ℕ → Parent → Place
 place_at events la w level pcid moments from =

@@ -6,6 +6,7 @@ ghost use Rattle.pg_machine.specs.Machine.{may_cache};
 ghost use Rattle.std.specs.List.{list_any};
 ghost use Rattle.pg_search.specs.Sweep.{same_place, same_made, moments_to, moments_of, covers};
 ghost use Rattle.pg_search.specs.Sweep.{with_new, with_each, entry_at};
+ghost use Rattle.pg_search.specs.Found.{next_useful};
 ghost use Rattle.pg_search.specs.Sweep.{table_by, next_table, next_leaf, next_place, next_made};
 ghost use Rattle.pg_search.specs.Held.{trail_of, place_of, made_from, IsNow, AreCurrent, AreReady};
 ghost use Rattle.pg_check.specs.Ends.{IsSmallLeaf};
@@ -13,6 +14,7 @@ ghost use Rattle.pg_check.specs.Ends.{IsSmallLeaf};
 use crate::fresh::are_as_fresh;
 use crate::held::{Found, HeldFound, HeldSpot, Spot};
 use crate::now::Now;
+use crate::sought::{Sought, is_useful};
 use pg_check::History;
 use pg_entry::{Cfg, Entry, Kind, Level, accessed, classify, combine, dirty, table_of};
 use pg_event::{Header, Moments, Parent, Version, below, entry_address, translation_key};
@@ -264,11 +266,12 @@ fn next_leaf(header: &Header, now: Now, level: Level, spot: Spot) -> Option<Tran
     }
 }
 
-/// Puts in the translation that is read now from a spot, if it leads to one.
+/// Puts in the translation that is read now from a spot, if it leads to one that is of use.
 fn add_found(
     into: &mut Vec<HeldFound>,
     history: &History,
     now: Now,
+    sought: &Sought,
     level: Level,
     spot: Spot,
 ) -> Result<(), AllocError>
@@ -277,7 +280,7 @@ fn add_found(
     requires word { spot.word
         ≡ entry_at history.now.events now.la now.moment level spot.from }
     ensures { OnOk result (into.new.items ≡ with_new same_made moments_of into.old.items
-        (next_made history.now.head history.now.events now.p now.la now.moment level
+        (next_useful history.now.head history.now.events sought.now now.p now.la now.moment level
         (place_of spot))) }
 {
     let trail = spot.trail;
@@ -285,31 +288,33 @@ fn add_found(
         return Ok(());
     };
     let moments = next_moments(trail, now.moment);
-    put_found(
-        into,
-        Found {
-            translation,
-            moments,
-        },
-    )
+    let found = Found {
+        translation,
+        moments,
+    };
+    if !is_useful(history.header(), sought, &found) {
+        return Ok(());
+    }
+    put_found(into, found)
 }
 
-/// Puts in the translations that are read now from spots.
+/// Puts in the translations that are read now from spots and are of use.
 pub(crate) fn add_founds(
     into: &mut Vec<HeldFound>,
     history: &History,
     now: Now,
+    sought: &Sought,
     level: Level,
     spots: &[HeldSpot],
 ) -> Result<(), AllocError>
     requires now { IsNow history.now now }
     requires ready { AreReady history.now.events now.la now.moment level spots.now }
     ensures { OnOk result (into.new.items ≡ with_each same_made moments_of
-        (next_made history.now.head history.now.events now.p now.la now.moment level)
+        (next_useful history.now.head history.now.events sought.now now.p now.la now.moment level)
         spots.now into.old.items) }
 {
     for x in spots {
-        add_found(into, history, now, level, x.get())?;
+        add_found(into, history, now, sought, level, x.get())?;
     }
     Ok(())
 }

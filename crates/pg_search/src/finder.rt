@@ -4,7 +4,7 @@ ghost use Rattle.pg_entry.specs.declared.Level.TheVariants.{Four, Three, Two, On
 ghost use Rattle.pg_event.specs.Form.{processor_of};
 ghost use Rattle.pg_event.specs.Witness.{claim_of, update_of};
 ghost use Rattle.pg_search.specs.Sweep.{entry_at, moments_of, read_at, standing};
-ghost use Rattle.pg_search.specs.Found.{gives, finds, found_in, found_access};
+ghost use Rattle.pg_search.specs.Found.{is_useful, gives, finds, found_in, found_access};
 ghost use Rattle.pg_search.specs.Found.{found_assist, found, IsPick};
 ghost use Rattle.pg_search.specs.Held.{place_of, IsNow, AreReady};
 ghost use Rattle.pg_search.specs.Swept.{IsSweep};
@@ -88,7 +88,7 @@ fn best_at(
 /// The freshest moments of a walk that reads what is sought now.
 fn best_in(history: &History, now: Now, sought: &Sought, sweep: &Sweep) -> Option<Moments>
     requires now { IsNow history.now now }
-    requires sweep { IsSweep sweep.now
+    requires sweep { IsSweep (is_useful history.now.head sought.now) sweep.now
         (standing history.now.head history.now.events now.p now.la now.moment) }
     ensures { IsPick (found_in history.now.head history.now.events now.moment now.p now.la
         sought.now (standing history.now.head history.now.events now.p now.la now.moment)) result }
@@ -111,9 +111,10 @@ fn find_access(
     requires within { claim.number < length history.now.events }
     ensures { IfOk result (IsPick (found_access history.now.head history.now.events claim)) }
 {
-    let (sweep, now) = sweep_to(alloc, history, claim.p, claim.la, claim.number)?;
+    let sought = Sought::Fault(claim);
+    let (sweep, now) = sweep_to(alloc, history, claim.p, claim.la, claim.number, &sought)?;
     let made = best_made(history.header(), now.control.pcid, &claim, &sweep.made);
-    let word = best_in(history, now, &Sought::Fault(claim), &sweep);
+    let word = best_in(history, now, &sought, &sweep);
     Ok(fresher(made, word))
 }
 
@@ -127,8 +128,9 @@ fn find_assist(
     requires within { update.number < length history.now.events }
     ensures { IfOk result (IsPick (found_assist history.now.head history.now.events update)) }
 {
-    let (sweep, now) = sweep_to(alloc, history, update.p, update.la, update.number)?;
-    Ok(best_in(history, now, &Sought::Word(update), &sweep))
+    let sought = Sought::Word(update);
+    let (sweep, now) = sweep_to(alloc, history, update.p, update.la, update.number, &sought)?;
+    Ok(best_in(history, now, &sought, &sweep))
 }
 
 /// What an access claims.

@@ -6,9 +6,10 @@ ghost use Rattle.pg_event.specs.Walk.{entry_address};
 ghost use Rattle.pg_event.specs.Wants.{is_wanted, may_dirty};
 ghost use Rattle.pg_event.specs.Witness.{failing_leaf, is_done_write};
 ghost use Rattle.pg_search.specs.Found.{is_none, is_answered, gives, is_code, is_fault};
-ghost use Rattle.pg_search.specs.Found.{is_sought};
+ghost use Rattle.pg_search.specs.Found.{is_claimed, is_useful, is_sought};
+ghost use Rattle.pg_search.specs.Held.{made_from};
 
-use crate::held::{HeldFound, Spot};
+use crate::held::{Found, HeldFound, Spot};
 use pg_entry::{
     AccessKind, Cause, Cfg, Entry, Kind, Level, Rights, allowed, classify, combine, error_code,
 };
@@ -78,14 +79,34 @@ fn serves(version: Version, claim: &Claim, t: &Translation) -> bool
     }
 }
 
+/// Whether a translation gives what an access claims.
+fn is_claimed(header: &Header, claim: &Claim, t: &Translation) -> bool
+    requires size { t.now.key.shift ≤ 30 }
+    requires within { t.now.frame < 2 ^ 52 }
+    ensures { result ≡ is_claimed header.now claim.now t.now }
+{
+    uses_last(want_of(claim.outcome))
+        && (is_answered(header.cfg, claim, t) && serves(header.version, claim, t))
+}
+
 /// Whether a translation may be used under a PCID and gives what an access claims.
 pub(crate) fn gives(header: &Header, pcid: u16, claim: &Claim, x: &HeldFound) -> bool
     ensures { result ≡ gives header.now pcid claim.now x.now }
 {
     let t = x.get().translation;
-    (pcid == t.key.pcid || t.key.global)
-        && (uses_last(want_of(claim.outcome))
-            && (is_answered(header.cfg, claim, &t) && serves(header.version, claim, &t)))
+    (pcid == t.key.pcid || t.key.global) && is_claimed(header, claim, &t)
+}
+
+/// Whether a translation is of use where this is sought.
+pub(crate) fn is_useful(header: &Header, sought: &Sought, found: &Found) -> bool
+    requires size { found.now.translation.key.shift ≤ 30 }
+    requires within { found.now.translation.frame < 2 ^ 52 }
+    ensures { result ≡ is_useful header.now sought.now (made_from found.now) }
+{
+    match sought {
+        Sought::Fault(claim) => is_claimed(header, claim, &found.translation),
+        Sought::Word(_) => false,
+    }
 }
 
 fn is_code(cfg: Cfg, access: AccessKind, cause: Cause, outcome: Outcome) -> bool

@@ -6,14 +6,16 @@ ghost use Rattle.pg_event.specs.Invalidation.{structure_key};
 ghost use Rattle.pg_event.specs.Invalidation.{must_drop_structure, must_drop_translation};
 ghost use Rattle.pg_event.specs.Walk.{below};
 ghost use Rattle.pg_search.specs.Sweep.{same_place, same_made, moments_to, moments_of, with_each};
-ghost use Rattle.pg_search.specs.Sweep.{next_place, next_made};
+ghost use Rattle.pg_search.specs.Sweep.{next_place};
 ghost use Rattle.pg_search.specs.Sweep.{staying, staying_made, swept, standing};
 ghost use Rattle.pg_search.specs.Held.{IsNow, AreCurrent, AreReady, seen_by};
 ghost use Rattle.pg_search.specs.Swept.{IsSweep};
+ghost use Rattle.pg_search.specs.Found.{is_useful, next_useful};
 
 use crate::fill::{add_founds, add_spots};
 use crate::held::{HeldFound, HeldSpot};
 use crate::now::{Now, after, at_start, root_spot};
+use crate::sought::Sought;
 use pg_check::History;
 use pg_entry::Level;
 use pg_event::{
@@ -37,6 +39,7 @@ fn fill_level(
     under: &mut Vec<HeldSpot>,
     history: &History,
     now: Now,
+    sought: &Sought,
     level: Level,
     spots: &[HeldSpot],
 ) -> Result<(), AllocError>
@@ -45,22 +48,22 @@ fn fill_level(
     requires current { AreCurrent history.now.events now.la now.moment (below level)
         under.old.items }
     ensures made { OnOk result (made.new.items ≡ with_each same_made moments_of
-        (next_made history.now.head history.now.events now.p now.la now.moment level)
+        (next_useful history.now.head history.now.events sought.now now.p now.la now.moment level)
         spots.now made.old.items) }
     ensures under { OnOk result (under.new.items ≡ with_each same_place moments_to
         (next_place history.now.head history.now.events now.p now.la now.moment level)
         spots.now under.old.items) }
 {
-    add_founds(made, history, now, level, spots)?;
+    add_founds(made, history, now, sought, level, spots)?;
     add_spots(under, history, now, level, spots)
 }
 
 /// All fills of a moment, from level 4 down.
-fn fill(sweep: &mut Sweep, history: &History, now: Now) -> Result<(), AllocError>
+fn fill(sweep: &mut Sweep, history: &History, now: Now, sought: &Sought) -> Result<(), AllocError>
     requires now { IsNow history.now now }
-    requires before { IsSweep sweep.old
+    requires before { IsSweep (is_useful history.now.head sought.now) sweep.old
         (swept history.now.head history.now.events now.p now.la now.moment) }
-    ensures { OnOk result (IsSweep sweep.new
+    ensures { OnOk result (IsSweep (is_useful history.now.head sought.now) sweep.new
         (standing history.now.head history.now.events now.p now.la now.moment)) }
 {
     let Sweep {
@@ -70,10 +73,10 @@ fn fill(sweep: &mut Sweep, history: &History, now: Now) -> Result<(), AllocError
         made,
     } = sweep;
     let root = [root_spot(now)];
-    fill_level(made, threes, history, now, Level::Four, &root)?;
-    fill_level(made, twos, history, now, Level::Three, threes)?;
-    fill_level(made, ones, history, now, Level::Two, twos)?;
-    add_founds(made, history, now, Level::One, ones)
+    fill_level(made, threes, history, now, sought, Level::Four, &root)?;
+    fill_level(made, twos, history, now, sought, Level::Three, threes)?;
+    fill_level(made, ones, history, now, sought, Level::Two, twos)?;
+    add_founds(made, history, now, sought, Level::One, ones)
 }
 
 /// Whether an event leaves a spot that the level above gave.
@@ -135,12 +138,12 @@ fn leave_spots(spots: &mut Vec<HeldSpot>, history: &History, now: &Now, event: &
 }
 
 /// What an event leaves.
-fn leave(sweep: &mut Sweep, history: &History, now: &Now, event: &Event)
+fn leave(sweep: &mut Sweep, history: &History, now: &Now, sought: &Sought, event: &Event)
     requires now { IsNow history.now now.now }
     requires event { slice_get history.now.events now.now.moment ≡ Some event.now }
-    requires before { IsSweep sweep.old
+    requires before { IsSweep (is_useful history.now.head sought.now) sweep.old
         (standing history.now.head history.now.events now.now.p now.now.la now.now.moment) }
-    ensures { IsSweep sweep.new
+    ensures { IsSweep (is_useful history.now.head sought.now) sweep.new
         (swept history.now.head history.now.events now.now.p now.now.la (now.now.moment + 1)) }
 {
     leave_spots(&mut sweep.threes, history, now, event, Level::Four);
@@ -149,7 +152,8 @@ fn leave(sweep: &mut Sweep, history: &History, now: &Now, event: &Event)
     keep_founds(&mut sweep.made, now, event);
 }
 
-/// What stands at a moment, after its fills, and the control registers there. It takes one pass
+/// What stands at a moment, after its fills, of translations those that are of use where this is
+/// sought, and the control registers there. It takes one pass
 /// over the events before: an entry is looked up where a table or a root is new, and else changed
 /// as the events say.
 pub(crate) fn sweep_to(
@@ -158,10 +162,11 @@ pub(crate) fn sweep_to(
     p: u16,
     la: u64,
     moment: u32,
+    sought: &Sought,
 ) -> Result<(Sweep, Now), AllocError>
     requires processor { p < length history.now.head.processors }
     requires within { moment < length history.now.events }
-    ensures sweep { IfOk result (λ r. IsSweep r.0
+    ensures sweep { IfOk result (λ r. IsSweep (is_useful history.now.head sought.now) r.0
         (standing history.now.head history.now.events p la moment)) }
     ensures now { IfOk result (λ r. IsNow history.now r.1) }
     ensures asked { IfOk result (λ r. (r.1.p ≡ p) × (r.1.la ≡ la) × (r.1.moment ≡ moment)) }
@@ -174,10 +179,10 @@ pub(crate) fn sweep_to(
     };
     let mut now = at_start(history, p, la);
     for event in &history.events()[..moment as usize] {
-        fill(&mut sweep, history, now)?;
-        leave(&mut sweep, history, &now, event);
+        fill(&mut sweep, history, now, sought)?;
+        leave(&mut sweep, history, &now, sought, event);
         now = after(history, now, event);
     }
-    fill(&mut sweep, history, now)?;
+    fill(&mut sweep, history, now, sought)?;
     Ok((sweep, now))
 }

@@ -1,4 +1,5 @@
-use Rattle.std.proofs.Common.{◌≡◌, ◌∙◌, sym, subst, Option, List, [], ◌∷◌}
+use Rattle.std.proofs.Common.{◌≡◌, ◌∙◌, ap, sym, subst, Bool, Option, List, [], ◌∷◌}
+use Rattle.std.specs.Prelude.{filter}
 use Rattle.std.proofs.lemmas.Result.{on_ok_weaker}
 use Rattle.pg_entry.specs.declared.Level.{Level}
 use Rattle.pg_entry.specs.declared.Level.TheVariants.{Four, Three, Two, One}
@@ -8,7 +9,10 @@ use Rattle.pg_search.specs.declared.now.Now.{Now}
 use Rattle.pg_search.specs.Sweep.{Place, Made, Standing, same_place, same_made, with_each, next_place, next_made, swept, standing, moments_to, moments_of}
 use Rattle.pg_search.specs.Held.{AreCurrent, AreReady}
 use Rattle.pg_search.proofs.Ready.{swept_current, standing_ready}
-use Rattle.pg_search.proofs.Filling.{root_is, each_are}
+use Rattle.pg_search.specs.declared.sought.Sought.{Sought}
+use Rattle.pg_search.specs.Found.{is_useful, next_useful}
+use Rattle.pg_search.proofs.Lists.{kept_each}
+use Rattle.pg_search.proofs.Filling.{root_is, each_are, useful_alike}
 use Rattle.pg_search.proofs.sweeper.fill.Goals as goal
 
 pub fill_level-requires-clause-current : goal.fill_level-requires-clause-current
@@ -86,18 +90,30 @@ returns c =
     each_are same_place moments_to (give Three) c.deref.result.now t.threes c.args.sweep.now.twos.items s.twos c.fill_level-2.new.under.items c.in_ok-fill_level-2.ensures.under (c.deref.ensures.value ∙ threes) c.requires.before.twos in
     let ones : c.fill_level-3.new.under.items ≡ t.ones =
     each_are same_place moments_to (give Two) c.deref-2.result.now t.twos c.args.sweep.now.ones.items s.ones c.fill_level-3.new.under.items c.in_ok-fill_level-3.ensures.under (c.deref-2.ensures.value ∙ twos) c.requires.before.ones in
-    let make : Level → Place → Option Made = next_made head events now.p now.la now.moment in
-    let made1 : c.fill_level.new.made.items ≡ with_each same_made moments_of (make Four) t.fours s.made =
-    each_are same_made moments_of (make Four) (c.root_spot.result ∷ []) t.fours c.args.sweep.now.made.items s.made c.fill_level.new.made.items c.in_ok-fill_level.ensures.made root c.requires.before.made in
-    let made2 : c.fill_level-2.new.made.items ≡ with_each same_made moments_of (make Three) t.threes (with_each same_made moments_of (make Four) t.fours s.made) =
-    each_are same_made moments_of (make Three) c.deref.result.now t.threes c.fill_level.new.made.items (with_each same_made moments_of (make Four) t.fours s.made) c.fill_level-2.new.made.items c.in_ok-fill_level-2.ensures.made (c.deref.ensures.value ∙ threes) made1 in
-    let made3 : c.fill_level-3.new.made.items ≡ with_each same_made moments_of (make Two) t.twos (with_each same_made moments_of (make Three) t.threes (with_each same_made moments_of (make Four) t.fours s.made)) =
-    each_are same_made moments_of (make Two) c.deref-2.result.now t.twos c.fill_level-2.new.made.items (with_each same_made moments_of (make Three) t.threes (with_each same_made moments_of (make Four) t.fours s.made)) c.fill_level-3.new.made.items c.in_ok-fill_level-3.ensures.made (c.deref-2.ensures.value ∙ twos) made2 in
+    let sought : Sought = c.args.sought.now in
+    let keep : Made → Bool = is_useful head sought in
+    let make : Level → Place → Option Made = next_useful head events sought now.p now.la now.moment in
+    let plain : Level → Place → Option Made = next_made head events now.p now.la now.moment in
+    let made1 : c.fill_level.new.made.items ≡ with_each same_made moments_of (make Four) t.fours (filter keep s.made) =
+    each_are same_made moments_of (make Four) (c.root_spot.result ∷ []) t.fours c.args.sweep.now.made.items (filter keep s.made) c.fill_level.new.made.items c.in_ok-fill_level.ensures.made root c.requires.before.made in
+    let made2 : c.fill_level-2.new.made.items ≡ with_each same_made moments_of (make Three) t.threes (with_each same_made moments_of (make Four) t.fours (filter keep s.made)) =
+    each_are same_made moments_of (make Three) c.deref.result.now t.threes c.fill_level.new.made.items (with_each same_made moments_of (make Four) t.fours (filter keep s.made)) c.fill_level-2.new.made.items c.in_ok-fill_level-2.ensures.made (c.deref.ensures.value ∙ threes) made1 in
+    let made3 : c.fill_level-3.new.made.items ≡ with_each same_made moments_of (make Two) t.twos (with_each same_made moments_of (make Three) t.threes (with_each same_made moments_of (make Four) t.fours (filter keep s.made))) =
+    each_are same_made moments_of (make Two) c.deref-2.result.now t.twos c.fill_level-2.new.made.items (with_each same_made moments_of (make Three) t.threes (with_each same_made moments_of (make Four) t.fours (filter keep s.made))) c.fill_level-3.new.made.items c.in_ok-fill_level-3.ensures.made (c.deref-2.ensures.value ∙ twos) made2 in
+    let alike = useful_alike head sought in
+    let each : Level → List Place → List Made → List Made = λ level ys xs. with_each same_made moments_of (make level) ys xs in
+    let kept : (level : Level) (ys : List Place) (xs : List Made) → filter keep (with_each same_made moments_of (plain level) ys xs) ≡ each level ys (filter keep xs) =
+    λ level ys xs. kept_each same_made moments_of keep alike (plain level) ys xs in
+    let m1 : List Made = with_each same_made moments_of (plain Four) t.fours s.made in
+    let m2 : List Made = with_each same_made moments_of (plain Three) t.threes m1 in
+    let m3 : List Made = with_each same_made moments_of (plain Two) t.twos m2 in
+    let whole : filter keep t.made ≡ each One t.ones (each Two t.twos (each Three t.threes (each Four t.fours (filter keep s.made)))) =
+    kept One t.ones m3 ∙ ap (each One t.ones) (kept Two t.twos m2 ∙ ap (each Two t.twos) (kept Three t.threes m1 ∙ ap (each Three t.threes) (kept Four t.fours s.made))) in
     on_ok_weaker c.add_founds.result
     (λ last. record {
       threes = threes;
       twos = twos;
       ones = ones;
-      made = each_are same_made moments_of (make One) c.deref-3.result.now t.ones c.fill_level-3.new.made.items (with_each same_made moments_of (make Two) t.twos (with_each same_made moments_of (make Three) t.threes (with_each same_made moments_of (make Four) t.fours s.made))) c.add_founds.new.into.items last (c.deref-3.ensures.value ∙ ones) made3;
+      made = each_are same_made moments_of (make One) c.deref-3.result.now t.ones c.fill_level-3.new.made.items (with_each same_made moments_of (make Two) t.twos (with_each same_made moments_of (make Three) t.threes (with_each same_made moments_of (make Four) t.fours (filter keep s.made)))) c.add_founds.new.into.items last (c.deref-3.ensures.value ∙ ones) made3 ∙ sym whole;
     })
     c.add_founds.ensures

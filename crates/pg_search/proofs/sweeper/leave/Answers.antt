@@ -4,10 +4,13 @@ use Rattle.pg_event.specs.Heads.{Head}
 use Rattle.pg_event.specs.declared.event.Event.{Event}
 use Rattle.std.proofs.Common.{List}
 use Rattle.pg_search.specs.declared.now.Now.{Now}
-use Rattle.pg_search.specs.Sweep.{Standing, staying, staying_made, left, swept, standing}
+use Rattle.pg_event.specs.Invalidation.{must_drop_translation}
+use Rattle.pg_search.specs.Found.{is_useful}
+use Rattle.pg_search.specs.Sweep.{Standing, stays, staying, staying_made, left, swept, standing}
 use Rattle.pg_search.specs.Held.{AreCurrent}
 use Rattle.pg_search.specs.Swept.{IsSweep}
 use Rattle.pg_search.proofs.Ready.{standing_current}
+use Rattle.pg_search.proofs.Lists.{kept_both}
 use Rattle.pg_search.proofs.Stepping.{founds_are}
 use Rattle.pg_search.proofs.Swept.{swept_more}
 use Rattle.pg_search.proofs.sweeper.leave.Goals as goal
@@ -37,10 +40,11 @@ returns c =
     let n : suc now.moment ≡ now.moment + 1 = omega arith in
     let next : left head events now.p now.la now.moment s ≡ swept head events now.p now.la (now.moment + 1) =
     sym (swept_more head events now.p now.la now.moment) ∙ ap (swept head events now.p now.la) n in
-    subst (IsSweep (record { threes = c.leave_spots.new.spots; twos = c.leave_spots-2.new.spots; ones = c.leave_spots-3.new.spots; made = c.keep_founds.new.made })) next (record {
+    subst (IsSweep (is_useful head c.args.sought.now) (record { threes = c.leave_spots.new.spots; twos = c.leave_spots-2.new.spots; ones = c.leave_spots-3.new.spots; made = c.keep_founds.new.made })) next (record {
       threes = c.leave_spots.ensures ∙ ap (staying head events now.p now.la now.moment Four) c.requires.before.threes;
       twos = c.leave_spots-2.ensures ∙ ap (staying head events now.p now.la now.moment Three) c.requires.before.twos;
       ones = c.leave_spots-3.ensures ∙ ap (staying head events now.p now.la now.moment Two) c.requires.before.ones;
       made = c.keep_founds.ensures ∙ founds_are head events now e c.args.sweep.now.made.items c.requires.now.control c.requires.event
-          ∙ ap (staying_made head events now.p now.moment) c.requires.before.made;
+          ∙ ap (staying_made head events now.p now.moment) c.requires.before.made
+          ∙ kept_both (λ x. stays head events now.p (λ d e. must_drop_translation d e x.translation.key) now.moment) (is_useful head c.args.sought.now) s.made;
     })

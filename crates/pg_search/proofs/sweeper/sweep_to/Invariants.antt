@@ -1,12 +1,13 @@
 use Rattle.std.proofs.Common.{◌≡◌}
 use Rattle.pg_search.specs.Sweep.{swept}
+use Rattle.pg_search.specs.Found.{is_useful}
 use Rattle.pg_search.specs.Held.{IsNow}
 use Rattle.pg_search.specs.Swept.{IsSweep}
 use Rattle.pg_search.proofs.sweeper.sweep_to.Given as goal
 
 abbrev pub invariant-loop-event : goal.invariant-loop-event
 invariant-loop-event l = record {
-  sweep : IsSweep l.sweep (swept l.history.head l.history.events l.p l.la l.event-index);
+  sweep : IsSweep (is_useful l.history.head l.sought) l.sweep (swept l.history.head l.history.events l.p l.la l.event-index);
   now : IsNow l.history l.now;
   p : l.now.p ≡ l.p;
   la : l.now.la ≡ l.la;
