@@ -5,3 +5,4 @@ pub mod Reach
 pub mod Instructions
 pub mod Runs
 pub mod Placed
+pub mod Stopped

@@ -5,7 +5,11 @@ use Rattle.pg_event.specs.Witness.{Accepted}
 use Rattle.pg_script.specs.Reading.{Scripted}
 use Rattle.pg_script.specs.Tasks.{instructions_of}
 use Rattle.pg_world.specs.Recording.{Recording}
+use Rattle.pg_home.specs.declared.advance.Advance.{Advance}
+use Rattle.pg_home.specs.declared.advance.Advance.TheVariants.{Stopped}
+use Rattle.pg_home.specs.declared.advance.Stop.{Stop}
 use Rattle.pg_home.specs.Turn.{Processor, fresh}
+use Rattle.pg_shadow.specs.declared.entries.Found.TheVariants.{Miss}
 use Rattle.pg_home.specs.Home.{IsAtHome}
 use Rattle.pg_home.specs.Laws.{KeepsHome}
 use Rattle.pg_guest.specs.Held.{Held, seen}
@@ -15,6 +19,12 @@ use Rattle.pg_guest.specs.Steps.{IsOfRun}
 abbrev pub StaysAtHome : ℕ → Recording → Recording → Processor → Processor → Type 0
 StaysAtHome p old new before after =
     Accepted old.head old.events → IsAtHome old.head old.events p before → KeepsHome p old new after
+
+-- a turn that was stopped left the record as it was, and of the processor all but the walk under way,
+-- which was given up: the next turn begins the instruction again
+abbrev pub StaysIfStopped : Recording → Recording → Processor → Processor → Advance → Type 0
+StaysIfStopped old new before after answer =
+    (why : Stop) → answer ≡ Stopped why → (new ≡ old) × (after ≡ record before { way = Miss })
 
 -- each processor stands at the place that is its number, and is of the run
 pub record IsPlaced (head : Head) (p : ℕ) (h : Held) : Type 0 where

@@ -16,7 +16,7 @@ ghost use Rattle.pg_home.specs.Turn.{turned_by, has_table, has_page, ComesTo};
 ghost use Rattle.pg_home.specs.Leaves.{Leaves};
 ghost use Rattle.pg_home.specs.Transcripts.{KeepsTold};
 ghost use Rattle.pg_guest.specs.Held.{seen};
-ghost use Rattle.pg_guest.specs.Runs.{StaysAtHome};
+ghost use Rattle.pg_guest.specs.Runs.{StaysAtHome, StaysIfStopped};
 ghost use Rattle.pg_guest.specs.Steps.{IsOfRun, IsOwnEvent};
 
 use crate::calls::{cfg_of, read_level, record};
@@ -441,6 +441,8 @@ impl Processor {
             (seen self.new) }
         ensures told { KeepsTold self.old.number world.old world.new (seen self.old)
             (seen self.new) }
+        ensures stopped { StaysIfStopped world.old world.new (seen self.old) (seen self.new)
+            result }
     {
         self.turn(world)
     }

@@ -125,36 +125,73 @@ fn bent(alloc: Global, script: &str, at: usize, value: u8) -> Result<Vec<u8>, Al
     Ok(text)
 }
 
-/// Bends each byte of a script to each other value: it is run, which is a yes, or refused with its
-/// line, and then nothing is written.
+/// The refusals of a script, by their numbers from 1.
+const REFUSALS: [&str; 8] = [
+    " refused 1 first line\n",
+    " refused 2 machine\n",
+    " refused 3 segment\n",
+    " refused 4 cpu\n",
+    " refused 5 instruction\n",
+    " refused 6 number\n",
+    " refused 7 malformed\n",
+    " refused 8 line end\n",
+];
+
+/// The number of the refusal that a line tells, and 0 where it tells none.
+fn number_told(line: &[u8]) -> usize {
+    for (i, refusal) in REFUSALS.iter().enumerate() {
+        if line.ends_with(refusal.as_bytes()) {
+            return i.wrapping_add(1);
+        }
+    }
+    0
+}
+
+/// What a bent script comes to, as the number of its refusal: it is run, which is a yes, and then
+/// that is 0, or refused with its line, and then nothing is written.
+fn number_of<T: AllocGlobal + Abort + Threads + Wait + Sync>(rt: &T, text: &[u8]) -> usize {
+    let came = ran(rt, text);
+    let number = number_told(&came.errors);
+    if number == 0 {
+        assert_eq!(rt; came.status, 0);
+        assert!(rt; came.output.starts_with(b"verdict: yes\n"));
+        assert!(rt; came.errors.is_empty());
+    } else {
+        assert_eq!(rt; came.status, 2);
+        assert!(rt; came.output.is_empty());
+        assert!(rt; came.errors.starts_with(b"pcid-audit: script line "));
+    }
+    number
+}
+
+/// Bends each byte of a script to each other value, and counts what comes of it by the number of
+/// the refusal.
 fn bend_each<T: AllocGlobal + Abort + Threads + Wait + Sync>(
     rt: &T,
     script: &str,
-) -> Result<(), Fail> {
+) -> Result<[u32; 9], Fail> {
+    let mut counts = [0u32; 9];
     for (at, byte) in script.as_bytes().iter().enumerate() {
         for value in 0..=255u8 {
             if value != *byte {
-                let came = ran(rt, &bent(rt.alloc(), script, at, value)?);
-                if came.status == 0 {
-                    assert!(rt; came.output.starts_with(b"verdict: yes\n"), "{at} {value}");
-                    assert!(rt; came.errors.is_empty(), "{at} {value}");
-                } else {
-                    assert_eq!(rt; came.status, 2, "{at} {value}");
-                    assert!(rt; came.output.is_empty(), "{at} {value}");
-                    assert!(rt;
-                        came.errors.starts_with(b"pcid-audit: script line "),
-                        "{at} {value}"
-                    );
+                let number = number_of(rt, &bent(rt.alloc(), script, at, value)?);
+                if let Some(count) = counts.get_mut(number) {
+                    *count = count.wrapping_add(1);
                 }
             }
         }
     }
-    Ok(())
+    Ok(counts)
 }
+
+// The counts are those of a reader of scripts in another language, written from docs/SCRIPT.md.
 
 #[test]
 fn each_byte_of_a_script(rt: HostRuntime) -> Result<(), Fail> {
-    bend_each(&rt, SCRIPT)
+    let counts = bend_each(&rt, SCRIPT)?;
+    let wanted = [1142, 1234, 1698, 1028, 1150, 8094, 7703, 181, 37695];
+    assert_eq!(rt; counts, wanted);
+    Ok(())
 }
 
 const NEW_SCRIPT: &str = "pcid-guest 2\nmachine 40 wp nxe\nsegment 16\ncpu 0x1001 1\n\
@@ -170,5 +207,8 @@ const NEW_SCRIPT: &str = "pcid-guest 2\nmachine 40 wp nxe\nsegment 16\ncpu 0x100
 
 #[test]
 fn each_byte_of_a_script_of_version_2(rt: HostRuntime) -> Result<(), Fail> {
-    bend_each(&rt, NEW_SCRIPT)
+    let counts = bend_each(&rt, NEW_SCRIPT)?;
+    let wanted = [1206, 1234, 1698, 1028, 1150, 8182, 8192, 300, 38975];
+    assert_eq!(rt; counts, wanted);
+    Ok(())
 }

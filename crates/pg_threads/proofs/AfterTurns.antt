@@ -4,9 +4,6 @@ use Rattle.std.specs.Prelude.{slice_get}
 use Rattle.std.proofs.lemmas.Bool.{cases_eq}
 use Rattle.std.proofs.lemmas.Option.{slice_get_within}
 use Rattle.pg_event.specs.declared.version.Version.TheVariants.{Two}
-use Rattle.pg_event.specs.Form.{access_kind}
-use Rattle.pg_script.specs.declared.instruction.Instruction.{Instruction}
-use Rattle.pg_script.specs.declared.instruction.Instruction.TheVariants.{Write, Access, MovCr3, Invlpg, Invpcid, MovCr4Pge}
 use Rattle.pg_script.specs.Reading.{Scripted, IsScript}
 use Rattle.pg_guest.specs.Held.{Held, seen}
 use Rattle.pg_home.specs.declared.advance.Advance.{Advance}
@@ -14,8 +11,8 @@ use Rattle.pg_home.specs.declared.advance.Advance.TheVariants.{Stopped}
 use Rattle.pg_home.specs.declared.advance.Stop.{Stop}
 use Rattle.pg_home.specs.declared.advance.Stop.TheVariants as stops
 use Rattle.pg_home.specs.CoreRun.{IsCoreRun}
-use Rattle.pg_home.specs.Turn.{Processor, Turned, begun, turned, turned_by, IsTurn}
-use Rattle.pg_home.proofs.Cases.{goes_on_any}
+use Rattle.pg_home.specs.Turn.{Processor, Turned, turned, IsTurn}
+use Rattle.pg_guest.proofs.Stopped.{never_stops}
 use Rattle.pg_home.specs.Transcripts.{AreTold}
 use Rattle.pg_home.proofs.Runs.{set_other}
 use Rattle.pg_world.specs.Recording.{Recording, is_full}
@@ -47,24 +44,6 @@ all_told n xs same told p x at = told p (omega (arith, same, slice_get_within xs
 
 first_same : (a b : Advance) (xs ys : List Advance) → a ∷ xs ≡ b ∷ ys → a ≡ b
 first_same a b xs ys e = cc
-
--- what a turn comes to by itself is never a stop
-never_stops : (p : ℕ) (r : Recording) (x : Processor) (why : Stop) → (turned p r x).answer ≡ Stopped why → ⊥
-never_stops p r x why is = never_by (slice_get x.instructions x.place) is
-  where
-    never_by : (o : Option Instruction) → (turned_by p r x o).answer ≡ Stopped why → ⊥
-    never_by None e = absurd (cc)
-    never_by (Some (Write addr value)) e = absurd (cc)
-    never_by (Some (Access flags la)) e = goes_on_any (λ t. t.answer ≡ Stopped why → ⊥) p r x flags la (record {
-      hit = λ outcome moments e. absurd (cc);
-      fault = λ code moments e. absurd (cc);
-      assist = λ way bits word moments e. absurd (cc);
-      read = λ level way caches e. absurd (cc);
-    }) (begun r.head x.caches la (access_kind flags) x.way) e
-    never_by (Some (MovCr3 operand)) e = absurd (cc)
-    never_by (Some (Invlpg la)) e = absurd (cc)
-    never_by (Some (Invpcid kind pcid la)) e = absurd (cc)
-    never_by (Some (MovCr4Pge on)) e = absurd (cc)
 
 fills_by : (script : Scripted) (r : Recording) (hs : List Held) (p : ℕ) (x : Processor) (t : Turned) → IsRunOf script r hs → script.head.version ≡ Two → slice_get (map seen hs) p ≡ Some x
     → IsTurn p r x t → t.answer ≡ Stopped stops.Full → FillsRecord script

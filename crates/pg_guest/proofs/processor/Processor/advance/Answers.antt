@@ -5,6 +5,7 @@ use Rattle.pg_home.proofs.Turns.{turns_keep_home}
 use Rattle.pg_guest.specs.Held.{seen}
 use Rattle.pg_guest.specs.Steps.{IsOfRun}
 use Rattle.pg_guest.proofs.Runs.{stays_of_run}
+use Rattle.pg_guest.proofs.Stopped.{stays_if_stopped}
 use Rattle.pg_guest.proofs.processor.Processor.advance.Goals as goal
 
 pub returns-clause-leaves : goal.returns-clause-leaves
@@ -23,3 +24,7 @@ returns-clause-home c = λ accepted home.
 pub returns-clause-told : goal.returns-clause-told
 returns-clause-told c =
     turns_are_told c.args.self.now.number c.args.world.now (seen c.args.self.now) _ c.requires.well c.turn.ensures.turn
+
+pub returns-clause-stopped : goal.returns-clause-stopped
+returns-clause-stopped c = λ why is.
+    stays_if_stopped c.args.self.now.number c.args.world.now (seen c.args.self.now) _ c.turn.ensures.turn why is
