@@ -1,10 +1,10 @@
 -- What one turn leaves of a run of a script.
-use Rattle.std.proofs.Common.{◌≡◌, ◌≢◌, ℕ, ◌+◌, ◌<◌, List, [], ◌∷◌, length, map, refl, sym, ◌∙◌, ap, subst, arith, Option, Some, None, inl, inr}
+use Rattle.std.proofs.Common.{◌≡◌, ℕ, ◌+◌, ◌<◌, List, [], ◌∷◌, length, map, sym, ◌∙◌, ap, subst, arith, Some, inl, inr}
 use Rattle.std.specs.Prelude.{slice_get}
 use Rattle.std.proofs.lemmas.Bool.{cases_eq}
 use Rattle.std.proofs.lemmas.Option.{slice_get_within}
 use Rattle.pg_event.specs.declared.version.Version.TheVariants.{Two}
-use Rattle.pg_script.specs.Reading.{Scripted, IsScript}
+use Rattle.pg_script.specs.Reading.{Scripted}
 use Rattle.pg_guest.specs.Held.{Held, seen}
 use Rattle.pg_home.specs.declared.advance.Advance.{Advance}
 use Rattle.pg_home.specs.declared.advance.Advance.TheVariants.{Stopped}
@@ -13,9 +13,8 @@ use Rattle.pg_home.specs.declared.advance.Stop.TheVariants as stops
 use Rattle.pg_home.specs.CoreRun.{IsCoreRun}
 use Rattle.pg_home.specs.Turn.{Processor, Turned, turned, IsTurn}
 use Rattle.pg_guest.proofs.Stopped.{never_stops}
-use Rattle.pg_home.specs.Transcripts.{AreTold}
 use Rattle.pg_home.proofs.Runs.{set_other}
-use Rattle.pg_world.specs.Recording.{Recording, is_full}
+use Rattle.pg_world.specs.Recording.{Recording}
 use Rattle.pg_runner.specs.Runs.{FillsRecord}
 use Rattle.pg_runner.proofs.ByTurns.{is_full_where}
 use Rattle.pg_board.specs.Boards.{HasToldAll, IsRunOf, untaken}

@@ -1,12 +1,10 @@
 -- Where all processors of a script have told all, the run is whole.
-use Rattle.std.proofs.Common.{◌≡◌, ℕ, List, [], ◌∷◌, length, map, refl, sym, ◌∙◌, ap, subst, Some}
-use Rattle.std.specs.Prelude.{slice_get}
+use Rattle.std.proofs.Common.{◌≡◌, List, length, map, refl, sym, ◌∙◌, ap, subst}
 use Rattle.std.proofs.lemmas.List.{length-map}
 use Rattle.pg_event.specs.declared.record.Record.{Record}
 use Rattle.pg_event.specs.Heads.{Head}
 use Rattle.pg_event.specs.Spelling.{IsRecord}
 use Rattle.pg_script.specs.Reading.{Scripted, IsScript}
-use Rattle.pg_script.specs.Tasks.{instructions_of}
 use Rattle.pg_world.specs.declared.receipt.Receipt.{Receipt}
 use Rattle.pg_world.specs.Recording.{Recording, recorded}
 use Rattle.pg_guest.specs.Held.{Held, seen}

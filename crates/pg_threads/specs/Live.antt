@@ -1,5 +1,5 @@
 -- What is judged while processors run.
-use Rattle.std.specs.Prelude.{◌≡◌, ℕ, ◌%◌, List, ◌++◌, drop, length}
+use Rattle.std.specs.Prelude.{◌≡◌, ◌%◌, List, ◌++◌, drop, length}
 use Rattle.pg_check.specs.Judging.{Findings, IsJudged}
 use Rattle.pg_event.specs.declared.event.Event.{Event}
 use Rattle.pg_event.specs.Spelling.{Recorded}

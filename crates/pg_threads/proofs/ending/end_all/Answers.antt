@@ -1,7 +1,6 @@
-use Rattle.std.proofs.Common.{◌≡◌, ◌∙◌, length, map, ap, sym, arith}
+use Rattle.std.proofs.Common.{◌≡◌, ◌∙◌, length, map, ap, arith}
 use Rattle.std.proofs.lemmas.List.{length-map}
 use Rattle.pg_event.specs.Heads.{Head}
-use Rattle.pg_event.proofs.Headers.{most_processors_le}
 use Rattle.pg_guest.specs.Held.{seen}
 use Rattle.pg_runner.proofs.Started.{count_of}
 use Rattle.pg_board.specs.Boards.{untaken}

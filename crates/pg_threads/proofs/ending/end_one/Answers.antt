@@ -1,4 +1,4 @@
-use Rattle.std.proofs.Common.{◌≡◌, ◌∙◌, [], ◌∷◌, map, ap, sym, subst}
+use Rattle.std.proofs.Common.{◌∙◌, [], ◌∷◌, map, ap, sym, subst}
 use Rattle.pg_event.specs.Heads.{Head}
 use Rattle.pg_guest.specs.Held.{seen}
 use Rattle.pg_home.specs.declared.advance.Advance.{Advance}
