@@ -9,6 +9,9 @@
  *   invlpg   every second event is an INVLPG of a random page
  *   cr3      every second event is a MOV to CR3, which drops what its PCID has
  *   words    every second event writes a word of its own
+ *   scan     all events are reads, of 512 pages in their order again and again, each by entries that
+ *            were read once
+ *   fresh    all events are reads, each by entries that are read at it
  */
 #include "../../emit/pcid_record.h"
 
@@ -195,6 +198,22 @@ static void word(uint32_t p)
         read_page(p, what < 32 ? 7 : some_page(p));
 }
 
+/* A read of one page after another. */
+static void scan(uint32_t p)
+{
+    read_page(p, pcid_record_moment(&record) / PROCESSORS % 512);
+}
+
+/* A read by a walk from the root. */
+static void fresh(uint32_t p)
+{
+    const uint32_t page = some_page(p);
+
+    space_of(p)->pages[page].generation = 0;
+    space_of(p)->region = 0;
+    read_page(p, page);
+}
+
 /* A write of a word that no other event writes or reads. */
 static void write_own_word(uint32_t p)
 {
@@ -206,7 +225,8 @@ static void write_own_word(uint32_t p)
 static int is_kind(const char *kind)
 {
     return !strcmp(kind, "mixed") || !strcmp(kind, "word") || !strcmp(kind, "invlpg") ||
-           !strcmp(kind, "cr3") || !strcmp(kind, "words");
+           !strcmp(kind, "cr3") || !strcmp(kind, "words") || !strcmp(kind, "scan") ||
+           !strcmp(kind, "fresh");
 }
 
 int main(int count, char **words)
@@ -220,7 +240,7 @@ int main(int count, char **words)
     uint32_t k, p;
 
     if (events < 8192 || !is_kind(kind)) {
-        fprintf(stderr, "usage: records mixed|word|invlpg|cr3|words EVENTS, at least 8192\n");
+        fprintf(stderr, "usage: records mixed|word|invlpg|cr3|words|scan|fresh EVENTS, at least 8192\n");
         return 64;
     }
     for (p = 0; p < PROCESSORS; p++) {
@@ -240,6 +260,10 @@ int main(int count, char **words)
             mixed(p);
         else if (!strcmp(kind, "word"))
             word(p);
+        else if (!strcmp(kind, "scan"))
+            scan(p);
+        else if (!strcmp(kind, "fresh"))
+            fresh(p);
         else if (pcid_record_moment(&record) % 2)
             read_page(p, some_page(p));
         else if (!strcmp(kind, "invlpg"))
