@@ -20,8 +20,8 @@ abbrev pub StaysAtHome : ℕ → Recording → Recording → Processor → Proce
 StaysAtHome p old new before after =
     Accepted old.head old.events → IsAtHome old.head old.events p before → KeepsHome p old new after
 
--- a turn that was stopped left the record as it was, and of the processor all but the walk under way,
--- which was given up: the next turn begins the instruction again
+-- a turn that was stopped left the record as it was, and of the processor all but the walk under
+-- way, which was given up: the next turn begins the instruction again
 abbrev pub StaysIfStopped : Recording → Recording → Processor → Processor → Advance → Type 0
 StaysIfStopped old new before after answer =
     (why : Stop) → answer ≡ Stopped why → (new ≡ old) × (after ≡ record before { way = Miss })

@@ -184,7 +184,7 @@ fn bend_each<T: AllocGlobal + Abort + Threads + Wait + Sync>(
     Ok(counts)
 }
 
-// The counts are those of a reader of scripts in another language, written from docs/SCRIPT.md.
+// The counts are those of checks/scripts/reader.py, which is written from docs/SCRIPT.md alone.
 
 #[test]
 fn each_byte_of_a_script(rt: HostRuntime) -> Result<(), Fail> {
