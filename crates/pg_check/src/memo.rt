@@ -49,6 +49,18 @@ const MOST_SLOTS: usize = 32_768;
 /// An odd number whose bits are spread, which spreads those of what it is multiplied by.
 const SPREAD: u64 = 0x9e37_79b9_7f4a_7c15;
 
+/// Whether a walk of an event with this number is worth a slot: one to a leaf that was read before
+/// the event. A walk that ends at its own event may never come again.
+fn may_be_kept(number: u32, moments: &Moments, want: Want) -> bool
+    ensures { IsTrue result → want ≡ Leaf }
+{
+    let all = moments.as_slice();
+    match want {
+        Want::Leaf => all[all.len() - 1] < number,
+        Want::Absent | Want::Reserved | Want::Present => false,
+    }
+}
+
 /// Whether a slot has the walk of a processor to a page by these moments.
 fn is_of(slot: &Slot, p: u16, page: u64, moments: &Moments) -> bool
     ensures { IsTrue result → (slot.now.p ≡ p) × (slot.now.page ≡ page)
@@ -212,11 +224,10 @@ impl<'a> Memo<'a> {
         ensures walk { (head : Head) (events : List Event) → IsPast self.old head events →
             IsWalk head events p la want moments.now result }
     {
-        match want {
-            Want::Leaf => self.page_walk(number, p, la - la % 4096, moments),
-            Want::Absent | Want::Reserved | Want::Present => {
-                lasting_walk(self.past, number, p, la, moments, want)
-            }
+        if may_be_kept(number, moments, want) {
+            self.page_walk(number, p, la - la % 4096, moments)
+        } else {
+            lasting_walk(self.past, number, p, la, moments, want)
         }
     }
 }
