@@ -43,8 +43,8 @@ impl<'a> Model for Memo<'a> {
     ghost invariant = { λ memo. HaveWalks memo.past.now memo.slots.items };
 }
 
-/// So many walks are kept at most.
-const MOST_SLOTS: usize = 32_768;
+/// So many walks are kept at most: more would not stay in a cache of the processor that judges.
+const MOST_SLOTS: usize = 8_192;
 
 /// An odd number whose bits are spread, which spreads those of what it is multiplied by.
 const SPREAD: u64 = 0x9e37_79b9_7f4a_7c15;
