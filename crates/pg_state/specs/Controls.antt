@@ -1,6 +1,6 @@
 -- What is known of the control registers, and what it is of a run.
-use Rattle.std.specs.Prelude.{◌≡◌, ℕ, ◌+◌, ◌<◌, ◌≤◌, ◌^◌, Bool, true, false, nat_lt, nat_eq, min}
-use Rattle.std.specs.Prelude.{if◌then◌else◌, List, [], ◌∷◌, length, slice_get}
+use Rattle.std.specs.Prelude.{◌≡◌, ℕ, ◌+◌, ◌<◌, ◌≤◌, ◌^◌, Bool, true, false, nat_lt, min}
+use Rattle.std.specs.Prelude.{if◌then◌else◌, List, [], ◌∷◌, length, slice_get, slice_index_or}
 use Rattle.std.specs.Option.{unwrap_or}
 use Rattle.pg_entry.specs.declared.Cfg.{Cfg}
 use Rattle.pg_event.specs.declared.version.Version.{Version}
@@ -12,13 +12,18 @@ use Rattle.pg_event.specs.Heads.{Head}
 use Rattle.pg_event.specs.Values.{started, controlled, control_at}
 use Rattle.pg_timeline.specs.declared.timeline.Stamp.{Stamp}
 use Rattle.pg_timeline.specs.Timelines.{last_before}
-use Rattle.pg_timeline.specs.Keyed as keyed
-use Rattle.pg_timeline.specs.Keyed.{Keyed, stamps_at, stamps_in, EndsBefore}
+use Rattle.pg_timeline.specs.Keyed.{AreBelow}
 
--- the settings of a run, and the registers that its changes left, by processors
+-- the settings of a run, the registers that its changes left, by processors, and the least moment
+-- that a further change may have
 pub record Registers : Type 0 where
   pub head : Head
-  pub changes : Keyed ℕ Control
+  pub changes : List (List (Stamp Control))
+  pub next : ℕ
+
+-- the registers that the changes of a processor left
+abbrev pub changes_of : List (List (Stamp Control)) → ℕ → List (Stamp Control)
+changes_of changes p = slice_index_or changes p []
 
 -- whether an event may change the control registers of its processor
 abbrev pub is_change : Event → Bool
@@ -42,14 +47,14 @@ version_of r = r.head.version
 
 -- the least moment that a further event may have
 abbrev pub next_moment : Registers → ℕ
-next_moment r = keyed.next_moment r.changes
+next_moment r = r.next
 
 abbrev pub processor_count : Registers → ℕ
 processor_count r = length r.head.processors
 
 -- the control registers of p at a moment
 abbrev pub control_in : Registers → ℕ → ℕ → Control
-control_in r p w = unwrap_or (last_before w (stamps_at nat_eq r.changes p)) (start_in r.head p)
+control_in r p w = unwrap_or (last_before w (changes_of r.changes p)) (start_in r.head p)
 
 -- one more event is known
 pub record IsNoted (old new : Registers) (moment : ℕ) (event : Event) : Type 0 where
@@ -82,10 +87,12 @@ abbrev pub AreLow : List (Stamp Control) → Type 0
 AreLow [] = Unit {0}
 AreLow (s ∷ ss) = (s.value.root < 2 ^ 52) × AreLow ss
 
--- physical addresses have 36 to 52 bits, tables lie within them, and moments are below the next
-pub record AreKept (head : Head) (entries : List (ℕ × List (Stamp Control))) (next : ℕ) :
+-- physical addresses have 36 to 52 bits, each processor has its changes, tables lie within those
+-- addresses, and moments are below the next
+pub record AreKept (head : Head) (changes : List (List (Stamp Control))) (next : ℕ) :
     Type 0 where
   pub low : 36 ≤ head.cfg.m
   pub high : head.cfg.m ≤ 52
-  pub ends : EndsBefore nat_eq entries next
-  pub roots : (p : ℕ) → AreLow (stamps_in nat_eq entries p)
+  pub count : length changes ≡ length head.processors
+  pub ends : (p : ℕ) → AreBelow next (changes_of changes p)
+  pub roots : (p : ℕ) → AreLow (changes_of changes p)

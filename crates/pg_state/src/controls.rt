@@ -1,31 +1,28 @@
-ghost use Rattle.std.specs.Prelude.{◌≡◌, ◌+◌, ◌<◌, ◌≤◌, ◌^◌, nat_eq, false, List, [], ◌∷◌, ◌++◌};
-ghost use Rattle.std.specs.Prelude.{length, IsOk, IfOk, OnOk, OnErr};
-ghost use Rattle.std.specs.HashMap.{IsUnchanged};
+ghost use Rattle.std.specs.Prelude.{◌≡◌, ◌+◌, ◌<◌, ◌≤◌, ◌^◌, false, List, [], ◌∷◌, ◌++◌, map};
+ghost use Rattle.std.specs.Prelude.{length, replicate, slice_set, IsOk, IfOk, OnOk, OnErr};
 ghost use Rattle.pg_event.specs.declared.event.Event.{Event};
 ghost use Rattle.pg_event.specs.Form.{processor_of};
 ghost use Rattle.pg_event.specs.Heads.{Head};
 ghost use Rattle.pg_event.specs.Spelling.{IsHead};
 ghost use Rattle.pg_event.specs.Values.{controlled, control_at};
-ghost use Rattle.pg_timeline.specs.Timelines.{end_of};
-ghost use Rattle.pg_timeline.specs.Keyed.{stamps_in, IsPushed, AreCut};
+ghost use Rattle.pg_timeline.specs.Timelines.{end_of, cut_at};
 ghost use Rattle.pg_state.specs.Controls.{is_change, start_in, cfg_of, version_of, next_moment};
-ghost use Rattle.pg_state.specs.Controls.{processor_count, control_in, IsNoted, IsSame, IsCutAt};
-ghost use Rattle.pg_state.specs.Controls.{StandsFor};
+ghost use Rattle.pg_state.specs.Controls.{processor_count, changes_of, control_in, IsNoted, IsSame};
+ghost use Rattle.pg_state.specs.Controls.{IsCutAt, StandsFor};
 
 use pg_entry::Cfg;
 use pg_event::{Control, Event, Header, Version, controlled, loaded, processor_of};
 use pg_timeline::{Probes, Timeline};
 use std::alloc::{AllocError, Global};
-use std::collections::HashMap;
 use std::marker::Model;
 
 /// The control registers of a run's processors at its moments, as far as they were noted.
 #[derive(Debug, Drop)]
 pub struct Controls {
-    alloc: Global,
     header: Header,
     next: u64,
-    by_processor: HashMap<u16, Timeline<Control>>,
+    /// The registers that each processor's changes left, by the processors' numbers.
+    by_processor: Vec<Timeline<Control>>,
 }
 
 impl Model for Controls {
@@ -35,10 +32,11 @@ impl Model for Controls {
 
     ghost view = { λ a. record {
       head = a.header;
-      changes = record { entries = a.by_processor.entries; next = a.next };
+      changes = a.by_processor.items;
+      next = a.next;
     } };
 
-    ghost invariant = { λ a. AreKept a.header a.by_processor.entries a.next };
+    ghost invariant = { λ a. AreKept a.header a.by_processor.items a.next };
 }
 
 /// Whether an event may change the control registers of its processor: MOV to CR3, and MOV to CR4
@@ -56,39 +54,45 @@ fn is_change(event: &Event) -> bool
     }
 }
 
-/// Adds registers at the end of the timeline of a processor, which may be its first.
-fn push_at(
-    by_processor: &mut HashMap<u16, Timeline<Control>>,
+/// A timeline without changes for each of some processors.
+fn unchanged(
     alloc: Global,
+    processors: &[(u64, bool)],
+) -> Result<Vec<Timeline<Control>>, AllocError>
+    ensures { IfOk result
+        (λ by_processor. by_processor.items ≡ replicate (length processors.now) []) }
+{
+    let mut by_processor = Vec::new(alloc);
+    for _ in processors {
+        by_processor.push(Timeline::new(alloc))?;
+    }
+    Ok(by_processor)
+}
+
+/// Adds registers at the end of the timeline of a processor.
+fn push_at(
+    by_processor: &mut Vec<Timeline<Control>>,
     p: u16,
     moment: u32,
     control: Control,
 ) -> Result<(), AllocError>
-    requires { end_of (stamps_in nat_eq by_processor.old.entries p) ≤ moment }
-    ensures ok { OnOk result
-        (IsPushed nat_eq by_processor.old.entries by_processor.new.entries p
-        (record { moment = moment; value = control })) }
-    ensures err { OnErr result (IsUnchanged by_processor.old by_processor.new) }
+    requires processor { p < length by_processor.old.items }
+    requires end { end_of (changes_of by_processor.old.items p) ≤ moment }
+    ensures ok { OnOk result (by_processor.new.items
+        ≡ slice_set by_processor.old.items p (changes_of by_processor.old.items p
+        ++ record { moment = moment; value = control } ∷ [])) }
+    ensures err { OnErr result (by_processor.new.items ≡ by_processor.old.items) }
 {
-    match by_processor.get_mut(&p) {
-        Some(timeline) => timeline.push(moment, control),
-        None => {
-            let mut timeline = Timeline::new(alloc);
-            timeline.push(moment, control)?;
-            by_processor.insert(p, timeline)?;
-            Ok(())
-        }
-    }
+    by_processor[p as usize].push(moment, control)
 }
 
 /// Forgets the registers of every processor from a moment on.
-fn cut_all(by_processor: &mut HashMap<u16, Timeline<Control>>, moment: u32)
-    ensures { AreCut nat_eq by_processor.old.entries by_processor.new.entries moment }
+fn cut_all(by_processor: &mut Vec<Timeline<Control>>, moment: u32)
+    ensures { by_processor.new.items ≡ map (cut_at moment) by_processor.old.items }
 {
-    by_processor.retain(|_, timeline| {
+    for timeline in by_processor.iter_mut() {
         timeline.forget_from(moment);
-        true
-    });
+    }
 }
 
 impl Controls {
@@ -97,11 +101,11 @@ impl Controls {
         requires { IsHead header.now }
         ensures start { IfOk result (λ controls. StandsFor controls header.now []) }
     {
+        let by_processor = unchanged(alloc, &header.processors)?;
         Ok(Controls {
-            alloc,
             header: header.clone()?,
             next: 0,
-            by_processor: HashMap::new(alloc),
+            by_processor,
         })
     }
 
@@ -154,7 +158,7 @@ impl Controls {
         if is_change(event) {
             let p = processor_of(event);
             let after = self.after(moment, event);
-            push_at(&mut self.by_processor, self.alloc, p, moment, after)?;
+            push_at(&mut self.by_processor, p, moment, after)?;
             self.next = moment as u64 + 1;
         }
         Ok(())
@@ -274,10 +278,9 @@ impl Controls {
         ensures root { result.root < 2 ^ 52 }
         ensures probes { (probes.old ≤ probes.new) × (probes.new ≤ probes.old + 34) }
     {
-        let start = self.start(p);
-        match self.by_processor.get(&p) {
-            Some(timeline) => timeline.last_before(moment, probes).unwrap_or(start),
-            None => start,
+        match self.by_processor[p as usize].last_before(moment, probes) {
+            Some(control) => control,
+            None => self.start(p),
         }
     }
 }
