@@ -21,7 +21,7 @@ pub walk_of_slot : (past : Past) (s : Slot) (p page : ℕ) (ws : List ℕ) → H
 walk_of_slot past s p page ws has same head events h =
     subst (λ q. IsWalk head events q page wants.Leaf ws (Ok s.walk)) same.0
     (subst (λ la. IsWalk head events s.p la wants.Leaf ws (Ok s.walk)) same.1
-    (subst (λ vs. IsWalk head events s.p s.page wants.Leaf vs (Ok s.walk)) same.2 (has head events h)))
+    (subst (λ vs. IsWalk head events s.p s.page wants.Leaf vs (Ok s.walk)) same.2 (has.1 head events h)))
 
 -- a slot may be written at any place
 pub slots_kept : (past : Past) (slots : List (Option Slot)) (i : ℕ) (s : Option Slot) → HaveWalks past slots → HasWalk past s → HaveWalks past (set slots i s)

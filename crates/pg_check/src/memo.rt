@@ -1,6 +1,6 @@
 //! Walks that were made, kept so that they need not be made again.
 
-ghost use Rattle.std.specs.Prelude.{◌≡◌, ◌<◌, List, Some, Ok, IfOk, IfSome, IsTrue};
+ghost use Rattle.std.specs.Prelude.{◌≡◌, ◌<◌, true, List, Some, Ok, IfOk, IfSome, IsTrue};
 ghost use Rattle.pg_event.specs.declared.event.Event.{Event};
 ghost use Rattle.pg_event.specs.declared.event.Want.TheVariants.{Leaf};
 ghost use Rattle.pg_event.specs.Heads.{Head};
@@ -8,7 +8,7 @@ ghost use Rattle.pg_chain.specs.Standing.{IsPast, processor_count};
 ghost use Rattle.pg_check.specs.Lasting.{IsAsked, IsWalk};
 ghost use Rattle.pg_check.specs.Remembered.{HasWalk};
 
-use crate::lasting::{Lasting, lasting_chain, lasting_walk};
+use crate::lasting::{Lasting, lasting_walk};
 use pg_chain::Past;
 use pg_event::{Moments, Reason, Want};
 use std::marker::Model;
@@ -103,7 +103,8 @@ impl<'a> Memo<'a> {
 
     /// What was kept of a walk to a page.
     fn kept(&self, p: u16, page: u64, moments: &Moments) -> Option<Lasting>
-        ensures { (head : Head) (events : List Event) → IsPast self.now head events →
+        ensures asked { IfSome result (λ l. l.asked ≡ true) }
+        ensures walk { (head : Head) (events : List Event) → IsPast self.now head events →
             IfSome result (λ l. IsWalk head events p page Leaf moments.now (Ok l)) }
     {
         let slot = (*self.slots.get(self.place_of(p, page, moments))?)?;
@@ -124,9 +125,10 @@ impl<'a> Memo<'a> {
         }
     }
 
-    /// Keeps what a walk to a page came to.
+    /// Keeps what a walk to a page came to, and when its translation had to go.
     fn remember(&mut self, p: u16, page: u64, moments: &Moments, walk: Lasting)
-        requires { (head : Head) (events : List Event) → IsPast self.old head events →
+        requires asked { walk.asked ≡ true }
+        requires walk { (head : Head) (events : List Event) → IsPast self.old head events →
             IsWalk head events p page Leaf moments.now (Ok walk) }
         ensures { self.new ≡ self.old }
     {
@@ -137,31 +139,6 @@ impl<'a> Memo<'a> {
             walk,
         };
         self.keep(self.place_of(p, page, moments), slot);
-    }
-
-    /// A walk that was kept, with what an event with this number asks of it.
-    fn walk_again(
-        &mut self,
-        number: u32,
-        p: u16,
-        page: u64,
-        moments: &Moments,
-        walk: Lasting,
-    ) -> Lasting
-        requires processor { p < processor_count self.old }
-        requires walk { (head : Head) (events : List Event) → IsPast self.old head events →
-            IsWalk head events p page Leaf moments.now (Ok walk) }
-        ensures past { self.new ≡ self.old }
-        ensures asked { IsAsked number result }
-        ensures walk { (head : Head) (events : List Event) → IsPast self.old head events →
-            IsWalk head events p page Leaf moments.now (Ok result) }
-    {
-        if walk.asked || number <= walk.chain.end.moment {
-            return walk;
-        }
-        let asked = lasting_chain(self.past, p, page, walk.chain, number);
-        self.remember(p, page, moments, asked);
-        asked
     }
 
     /// A walk that was not kept.
@@ -180,7 +157,10 @@ impl<'a> Memo<'a> {
     {
         match lasting_walk(self.past, number, p, page, moments, Want::Leaf) {
             Ok(walk) => {
-                self.remember(p, page, moments, walk);
+                // Only then does the slot serve every event.
+                if walk.asked {
+                    self.remember(p, page, moments, walk);
+                }
                 Ok(walk)
             }
             Err(reason) => Err(reason),
@@ -202,7 +182,7 @@ impl<'a> Memo<'a> {
             IsWalk head events p page Leaf moments.now result }
     {
         match self.kept(p, page, moments) {
-            Some(walk) => Ok(self.walk_again(number, p, page, moments, walk)),
+            Some(walk) => Ok(walk),
             None => self.walk_anew(number, p, page, moments),
         }
     }

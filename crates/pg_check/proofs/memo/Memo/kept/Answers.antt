@@ -7,7 +7,7 @@ use Rattle.pg_check.proofs.Memos.{slot_at, walk_of_slot}
 use Rattle.pg_check.proofs.memo.Memo.kept.Goals as goal
 
 pub returns-then-is_of : goal.returns-then-is_of
-returns-then-is_of c = λ head events h.
+returns-then-is_of c =
     let memo = c.self.inside in
     let found = c.in_ok-get.field-0.now in
     let at = c.in_ok-get.ensures.lookup in
@@ -17,5 +17,9 @@ returns-then-is_of c = λ head events h.
     let has : HasWalk memo.past.now (Some slot) =
     subst (λ (s : Option Slot). HasWalk memo.past.now s) (sym (read ∙ ap (λ (xs : List (Option Slot)). get_or xs c.place_of.result found) c.deref.ensures.value) ∙ c.in_ok-slot.was)
     (slot_at memo.past.now memo.slots.items c.place_of.result found c.self.invariant within) in
-    walk_of_slot memo.past.now slot c.args.p c.args.page c.args.moments.now has (c.if-is_of.ensures refl)
-    head events (subst (λ (x : Past). IsPast x head events) (sym c.self.view_is) h)
+    record {
+      asked = has.0;
+      walk = λ head events h.
+          walk_of_slot memo.past.now slot c.args.p c.args.page c.args.moments.now has (c.if-is_of.ensures refl)
+          head events (subst (λ (x : Past). IsPast x head events) (sym c.self.view_is) h);
+    }
