@@ -7,7 +7,7 @@ use Rattle.pg_event.specs.declared.event.Outcome.TheVariants.{Page, Fault}
 use Rattle.pg_event.specs.declared.control.Control.{Control}
 use Rattle.pg_event.specs.Invalidation.{changes_pge}
 use Rattle.pg_inval.specs.declared.key.DropKey.{DropKey}
-use Rattle.pg_inval.specs.declared.key.DropKey.TheVariants.{Structures, StructuresOf, Translations, Locals, LocalsOf}
+use Rattle.pg_inval.specs.declared.key.DropKey.TheVariants.{NotGlobal, Globals, StructuresOf, LocalsOf}
 use Rattle.pg_inval.specs.Keys.{structures_for, locals_for, globals_for, dropped_keys}
 use Rattle.pg_inval.specs.Lists.{AreDistinct}
 
@@ -24,9 +24,9 @@ dropped-distinct c (MovCr3 p operand) =
     where_chosen (has_bit operand 63) [] (StructuresOf p (operand % 2 ^ 12) ∷ LocalsOf p (operand % 2 ^ 12) ∷ []) tt (refl, (refl, tt))
 dropped-distinct c (Invlpg p la) = (refl, (refl, (refl, (refl, (refl, (refl, (refl, tt)))))))
 dropped-distinct c (Invpcid p kind pcid la) =
-    let rest : List DropKey = cond (nat_eq kind 2) (Structures p ∷ Translations p ∷ []) (Structures p ∷ Locals p ∷ []) in
+    let rest : List DropKey = cond (nat_eq kind 2) (NotGlobal p ∷ Globals p ∷ []) (NotGlobal p ∷ []) in
     where_chosen (nat_eq kind 0) (structures_for p pcid la ++ locals_for p pcid la) (cond (nat_eq kind 1) (StructuresOf p pcid ∷ LocalsOf p pcid ∷ []) rest)
     (refl, (refl, (refl, (refl, (refl, (refl, tt))))))
     (where_chosen (nat_eq kind 1) (StructuresOf p pcid ∷ LocalsOf p pcid ∷ []) rest (refl, (refl, tt))
-    (where_chosen (nat_eq kind 2) (Structures p ∷ Translations p ∷ []) (Structures p ∷ Locals p ∷ []) (refl, (refl, tt)) (refl, (refl, tt))))
-dropped-distinct c (MovCr4Pge p on) = where_chosen (changes_pge c on) (Structures p ∷ Translations p ∷ []) [] (refl, (refl, tt)) tt
+    (where_chosen (nat_eq kind 2) (NotGlobal p ∷ Globals p ∷ []) (NotGlobal p ∷ []) (refl, (refl, tt)) (refl, tt)))
+dropped-distinct c (MovCr4Pge p on) = where_chosen (changes_pge c on) (NotGlobal p ∷ Globals p ∷ []) [] (refl, (refl, tt)) tt

@@ -2,7 +2,7 @@
 use Rattle.std.proofs.Common.{◌≡◌, ℕ, Bool, true, false, ◌&&◌, nat_eq, refl, ap, sym, ◌∙◌}
 use Rattle.std.proofs.lemmas.Bool.{eqb-true, and_parts, false≢true}
 use Rattle.pg_inval.specs.declared.key.DropKey.{DropKey}
-use Rattle.pg_inval.specs.declared.key.DropKey.TheVariants.{Structures, StructuresOf, Structure, Translations, Locals, LocalsOf, Local, Global}
+use Rattle.pg_inval.specs.declared.key.DropKey.TheVariants.{NotGlobal, Globals, StructuresOf, Structure, LocalsOf, Local, Global}
 use Rattle.pg_inval.specs.Keys.{is_same_key}
 
 one : (make : ℕ → DropKey) (a b : ℕ) → nat_eq a b ≡ true → make a ≡ make b
@@ -24,67 +24,52 @@ four make a b c d e f g k h =
     ap (λ x. make x c e g) (eqb-true a b parts.0) ∙ three (make b) c d e f g k parts.1
 
 pub same_key : (a b : DropKey) → is_same_key a b ≡ true → a ≡ b
-same_key (Structures p) (Structures p') h = one Structures p p' h
-same_key (Structures p) (StructuresOf p' c') h = absurd (false≢true h)
-same_key (Structures p) (Structure s' p' c' n') h = absurd (false≢true h)
-same_key (Structures p) (Translations p') h = absurd (false≢true h)
-same_key (Structures p) (Locals p') h = absurd (false≢true h)
-same_key (Structures p) (LocalsOf p' c') h = absurd (false≢true h)
-same_key (Structures p) (Local s' p' c' n') h = absurd (false≢true h)
-same_key (Structures p) (Global s' p' n') h = absurd (false≢true h)
-same_key (StructuresOf p c) (Structures p') h = absurd (false≢true h)
+same_key (NotGlobal p) (NotGlobal p') h = one NotGlobal p p' h
+same_key (NotGlobal p) (Globals p') h = absurd (false≢true h)
+same_key (NotGlobal p) (StructuresOf p' c') h = absurd (false≢true h)
+same_key (NotGlobal p) (Structure s' p' c' n') h = absurd (false≢true h)
+same_key (NotGlobal p) (LocalsOf p' c') h = absurd (false≢true h)
+same_key (NotGlobal p) (Local s' p' c' n') h = absurd (false≢true h)
+same_key (NotGlobal p) (Global s' p' n') h = absurd (false≢true h)
+same_key (Globals p) (NotGlobal p') h = absurd (false≢true h)
+same_key (Globals p) (Globals p') h = one Globals p p' h
+same_key (Globals p) (StructuresOf p' c') h = absurd (false≢true h)
+same_key (Globals p) (Structure s' p' c' n') h = absurd (false≢true h)
+same_key (Globals p) (LocalsOf p' c') h = absurd (false≢true h)
+same_key (Globals p) (Local s' p' c' n') h = absurd (false≢true h)
+same_key (Globals p) (Global s' p' n') h = absurd (false≢true h)
+same_key (StructuresOf p c) (NotGlobal p') h = absurd (false≢true h)
+same_key (StructuresOf p c) (Globals p') h = absurd (false≢true h)
 same_key (StructuresOf p c) (StructuresOf p' c') h = two StructuresOf p p' c c' h
 same_key (StructuresOf p c) (Structure s' p' c' n') h = absurd (false≢true h)
-same_key (StructuresOf p c) (Translations p') h = absurd (false≢true h)
-same_key (StructuresOf p c) (Locals p') h = absurd (false≢true h)
 same_key (StructuresOf p c) (LocalsOf p' c') h = absurd (false≢true h)
 same_key (StructuresOf p c) (Local s' p' c' n') h = absurd (false≢true h)
 same_key (StructuresOf p c) (Global s' p' n') h = absurd (false≢true h)
-same_key (Structure s p c n) (Structures p') h = absurd (false≢true h)
+same_key (Structure s p c n) (NotGlobal p') h = absurd (false≢true h)
+same_key (Structure s p c n) (Globals p') h = absurd (false≢true h)
 same_key (Structure s p c n) (StructuresOf p' c') h = absurd (false≢true h)
 same_key (Structure s p c n) (Structure s' p' c' n') h = four Structure s s' p p' c c' n n' h
-same_key (Structure s p c n) (Translations p') h = absurd (false≢true h)
-same_key (Structure s p c n) (Locals p') h = absurd (false≢true h)
 same_key (Structure s p c n) (LocalsOf p' c') h = absurd (false≢true h)
 same_key (Structure s p c n) (Local s' p' c' n') h = absurd (false≢true h)
 same_key (Structure s p c n) (Global s' p' n') h = absurd (false≢true h)
-same_key (Translations p) (Structures p') h = absurd (false≢true h)
-same_key (Translations p) (StructuresOf p' c') h = absurd (false≢true h)
-same_key (Translations p) (Structure s' p' c' n') h = absurd (false≢true h)
-same_key (Translations p) (Translations p') h = one Translations p p' h
-same_key (Translations p) (Locals p') h = absurd (false≢true h)
-same_key (Translations p) (LocalsOf p' c') h = absurd (false≢true h)
-same_key (Translations p) (Local s' p' c' n') h = absurd (false≢true h)
-same_key (Translations p) (Global s' p' n') h = absurd (false≢true h)
-same_key (Locals p) (Structures p') h = absurd (false≢true h)
-same_key (Locals p) (StructuresOf p' c') h = absurd (false≢true h)
-same_key (Locals p) (Structure s' p' c' n') h = absurd (false≢true h)
-same_key (Locals p) (Translations p') h = absurd (false≢true h)
-same_key (Locals p) (Locals p') h = one Locals p p' h
-same_key (Locals p) (LocalsOf p' c') h = absurd (false≢true h)
-same_key (Locals p) (Local s' p' c' n') h = absurd (false≢true h)
-same_key (Locals p) (Global s' p' n') h = absurd (false≢true h)
-same_key (LocalsOf p c) (Structures p') h = absurd (false≢true h)
+same_key (LocalsOf p c) (NotGlobal p') h = absurd (false≢true h)
+same_key (LocalsOf p c) (Globals p') h = absurd (false≢true h)
 same_key (LocalsOf p c) (StructuresOf p' c') h = absurd (false≢true h)
 same_key (LocalsOf p c) (Structure s' p' c' n') h = absurd (false≢true h)
-same_key (LocalsOf p c) (Translations p') h = absurd (false≢true h)
-same_key (LocalsOf p c) (Locals p') h = absurd (false≢true h)
 same_key (LocalsOf p c) (LocalsOf p' c') h = two LocalsOf p p' c c' h
 same_key (LocalsOf p c) (Local s' p' c' n') h = absurd (false≢true h)
 same_key (LocalsOf p c) (Global s' p' n') h = absurd (false≢true h)
-same_key (Local s p c n) (Structures p') h = absurd (false≢true h)
+same_key (Local s p c n) (NotGlobal p') h = absurd (false≢true h)
+same_key (Local s p c n) (Globals p') h = absurd (false≢true h)
 same_key (Local s p c n) (StructuresOf p' c') h = absurd (false≢true h)
 same_key (Local s p c n) (Structure s' p' c' n') h = absurd (false≢true h)
-same_key (Local s p c n) (Translations p') h = absurd (false≢true h)
-same_key (Local s p c n) (Locals p') h = absurd (false≢true h)
 same_key (Local s p c n) (LocalsOf p' c') h = absurd (false≢true h)
 same_key (Local s p c n) (Local s' p' c' n') h = four Local s s' p p' c c' n n' h
 same_key (Local s p c n) (Global s' p' n') h = absurd (false≢true h)
-same_key (Global s p n) (Structures p') h = absurd (false≢true h)
+same_key (Global s p n) (NotGlobal p') h = absurd (false≢true h)
+same_key (Global s p n) (Globals p') h = absurd (false≢true h)
 same_key (Global s p n) (StructuresOf p' c') h = absurd (false≢true h)
 same_key (Global s p n) (Structure s' p' c' n') h = absurd (false≢true h)
-same_key (Global s p n) (Translations p') h = absurd (false≢true h)
-same_key (Global s p n) (Locals p') h = absurd (false≢true h)
 same_key (Global s p n) (LocalsOf p' c') h = absurd (false≢true h)
 same_key (Global s p n) (Local s' p' c' n') h = absurd (false≢true h)
 same_key (Global s p n) (Global s' p' n') h = three Global s s' p p' n n' h

@@ -92,7 +92,7 @@ loaded_structures false q p r pcid prefix level = or_false _ ∙ or_false _ ∙ 
 
 invpcid_structures : (zero one two : Bool) (q p c pcid la prefix : ℕ) (level : Level) → MayBeCached (Structure (structure_of pcid level prefix)) →
     is_hit (cond zero (structures_for q c la ++ locals_for q c la) (cond one (keys.StructuresOf q c ∷ keys.LocalsOf q c ∷ [])
-    (cond two (keys.Structures q ∷ keys.Translations q ∷ []) (keys.Structures q ∷ keys.Locals q ∷ [])))) (structure_keys p (structure_of pcid level prefix))
+    (cond two (keys.NotGlobal q ∷ keys.Globals q ∷ []) (keys.NotGlobal q ∷ [])))) (structure_keys p (structure_of pcid level prefix))
     ≡ (nat_eq q p && cond zero (nat_eq pcid c && nat_eq prefix (bits_from (level_shift level) la)) (cond one (nat_eq pcid c) true))
 invpcid_structures true one two q p c pcid la prefix level may = or_false _ ∙ structures_hit q p c pcid la prefix level may
 invpcid_structures false true two q p c pcid la prefix level may = or_false _ ∙ or_false _ ∙ one_flip (nat_eq q p) c pcid
@@ -100,7 +100,7 @@ invpcid_structures false false true q p c pcid la prefix level may = or_false _ 
 invpcid_structures false false false q p c pcid la prefix level may = or_false _ ∙ or_false _ ∙ sym (and_true (nat_eq q p))
 
 changed_structures : (h : Bool) (q p pcid prefix : ℕ) (level : Level) →
-    is_hit (cond h (keys.Structures q ∷ keys.Translations q ∷ []) []) (structure_keys p (structure_of pcid level prefix)) ≡ (nat_eq q p && h)
+    is_hit (cond h (keys.NotGlobal q ∷ keys.Globals q ∷ []) []) (structure_keys p (structure_of pcid level prefix)) ≡ (nat_eq q p && h)
 changed_structures true q p pcid prefix level = or_false _ ∙ or_false _ ∙ sym (and_true (nat_eq q p))
 changed_structures false q p pcid prefix level = sym (never (nat_eq q p))
 
@@ -170,7 +170,7 @@ loaded_translations false false q p r pcid number shift = or_false _ ∙ or_fals
 
 invpcid_translations : (zero one two g : Bool) (q p c pcid la number shift : ℕ) → IsPageShift shift →
     is_hit (cond zero (structures_for q c la ++ locals_for q c la) (cond one (keys.StructuresOf q c ∷ keys.LocalsOf q c ∷ [])
-    (cond two (keys.Structures q ∷ keys.Translations q ∷ []) (keys.Structures q ∷ keys.Locals q ∷ [])))) (translation_keys p (translation_of pcid shift number g))
+    (cond two (keys.NotGlobal q ∷ keys.Globals q ∷ []) (keys.NotGlobal q ∷ [])))) (translation_keys p (translation_of pcid shift number g))
     ≡ (nat_eq q p && cond zero (nat_eq pcid c && nat_eq number (bits_from shift la) && not g) (cond one (nat_eq pcid c && not g) (cond two true (not g))))
 invpcid_translations true one two true q p c pcid la number shift page = none_global (nat_eq q p) (nat_eq pcid c && nat_eq number (bits_from shift la))
 invpcid_translations true one two false q p c pcid la number shift page =
@@ -183,7 +183,7 @@ invpcid_translations false false false true q p c pcid la number shift page = sy
 invpcid_translations false false false false q p c pcid la number shift page = or_false _ ∙ or_false _ ∙ sym (and_true (nat_eq q p))
 
 changed_translations : (h g : Bool) (q p pcid number shift : ℕ) →
-    is_hit (cond h (keys.Structures q ∷ keys.Translations q ∷ []) []) (translation_keys p (translation_of pcid shift number g)) ≡ (nat_eq q p && h)
+    is_hit (cond h (keys.NotGlobal q ∷ keys.Globals q ∷ []) []) (translation_keys p (translation_of pcid shift number g)) ≡ (nat_eq q p && h)
 changed_translations true true q p pcid number shift = or_false _ ∙ or_false _ ∙ sym (and_true (nat_eq q p))
 changed_translations true false q p pcid number shift = or_false _ ∙ or_false _ ∙ sym (and_true (nat_eq q p))
 changed_translations false true q p pcid number shift = sym (never (nat_eq q p))

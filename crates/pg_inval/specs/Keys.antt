@@ -13,9 +13,8 @@ use Rattle.pg_event.specs.declared.keys.StructureKey.{StructureKey}
 use Rattle.pg_event.specs.declared.keys.TranslationKey.{TranslationKey}
 use Rattle.pg_event.specs.Invalidation.{level_shift, structure_key, translation_key, changes_pge}
 use Rattle.pg_inval.specs.declared.key.DropKey.{DropKey}
-use Rattle.pg_inval.specs.declared.key.DropKey.TheVariants.{Structures, StructuresOf, Structure}
-use Rattle.pg_inval.specs.declared.key.DropKey.TheVariants.{Translations, Locals, LocalsOf}
-use Rattle.pg_inval.specs.declared.key.DropKey.TheVariants.{Local, Global}
+use Rattle.pg_inval.specs.declared.key.DropKey.TheVariants.{NotGlobal, Globals, StructuresOf, Structure}
+use Rattle.pg_inval.specs.declared.key.DropKey.TheVariants.{LocalsOf, Local, Global}
 use Rattle.pg_inval.specs.contracts.key.DropKeyPartialEq.TheImpl as impl
 
 -- whether two keys are the same: the derived `==`
@@ -38,12 +37,12 @@ global_at p t = Global t.shift p t.number
 
 -- by what an entry of p is dropped
 abbrev pub structure_keys : ℕ → StructureKey → List DropKey
-structure_keys p s = Structures p ∷ StructuresOf p s.pcid ∷ structure_at p s ∷ []
+structure_keys p s = NotGlobal p ∷ StructuresOf p s.pcid ∷ structure_at p s ∷ []
 
 abbrev pub translation_keys : ℕ → TranslationKey → List DropKey
 translation_keys p t =
-    if t.global then Translations p ∷ global_at p t ∷ []
-    else Translations p ∷ Locals p ∷ LocalsOf p t.pcid ∷ local_at p t ∷ []
+    if t.global then Globals p ∷ global_at p t ∷ []
+    else NotGlobal p ∷ LocalsOf p t.pcid ∷ local_at p t ∷ []
 
 -- the entries of p that would be used for an address under a PCID
 abbrev pub structures_for : ℕ → ℕ → ℕ → List DropKey
@@ -69,7 +68,7 @@ abbrev pub invpcid_keys : ℕ → ℕ → ℕ → ℕ → List DropKey
 invpcid_keys p kind pcid la =
     if kind == 0 then structures_for p pcid la ++ locals_for p pcid la else
     if kind == 1 then StructuresOf p pcid ∷ LocalsOf p pcid ∷ [] else
-    if kind == 2 then Structures p ∷ Translations p ∷ [] else Structures p ∷ Locals p ∷ []
+    if kind == 2 then NotGlobal p ∷ Globals p ∷ [] else NotGlobal p ∷ []
 
 -- what an event drops, with these control registers of its processor before it
 abbrev pub dropped_keys : Control → Event → List DropKey
@@ -85,4 +84,4 @@ dropped_keys c (Invlpg p la) =
     StructuresOf p c.pcid ∷ (locals_for p c.pcid la ++ globals_for p la)
 dropped_keys c (Invpcid p kind pcid la) = invpcid_keys p kind pcid la
 dropped_keys c (MovCr4Pge p on) =
-    if changes_pge c on then Structures p ∷ Translations p ∷ [] else []
+    if changes_pge c on then NotGlobal p ∷ Globals p ∷ [] else []

@@ -1,6 +1,6 @@
 ghost use Rattle.std.specs.Prelude.{◌≡◌, ◌+◌, ◌≤◌, [], ◌∷◌, ◌++◌, length};
-ghost use Rattle.pg_inval.specs.declared.key.DropKey.TheVariants.{Structures, StructuresOf};
-ghost use Rattle.pg_inval.specs.declared.key.DropKey.TheVariants.{Translations, LocalsOf};
+ghost use Rattle.pg_inval.specs.declared.key.DropKey.TheVariants.{NotGlobal, Globals, StructuresOf};
+ghost use Rattle.pg_inval.specs.declared.key.DropKey.TheVariants.{LocalsOf};
 ghost use Rattle.pg_inval.specs.Keys.{structures_for, locals_for, globals_for, invpcid_keys};
 ghost use Rattle.pg_inval.specs.Keys.{dropped_keys};
 
@@ -54,10 +54,10 @@ fn push_pcid(keys: &mut ArrayVec<DropKey, 9>, p: u16, pcid: u16)
 /// Adds all entries, global ones too.
 fn push_everything(keys: &mut ArrayVec<DropKey, 9>, p: u16)
     requires { length keys.old.items ≤ 7 }
-    ensures { keys.new.items ≡ keys.old.items ++ Structures p ∷ Translations p ∷ [] }
+    ensures { keys.new.items ≡ keys.old.items ++ NotGlobal p ∷ Globals p ∷ [] }
 {
-    keys.push(DropKey::Structures { p });
-    keys.push(DropKey::Translations { p });
+    keys.push(DropKey::NotGlobal { p });
+    keys.push(DropKey::Globals { p });
 }
 
 /// What an INVPCID drops (Intel SDM, vol. 3, 4.10.4.1).
@@ -72,10 +72,7 @@ fn push_invpcid(keys: &mut ArrayVec<DropKey, 9>, p: u16, kind: u8, pcid: u16, la
         }
         1 => push_pcid(keys, p, pcid),
         2 => push_everything(keys, p),
-        _ => {
-            keys.push(DropKey::Structures { p });
-            keys.push(DropKey::Locals { p });
-        }
+        _ => keys.push(DropKey::NotGlobal { p }),
     }
 }
 

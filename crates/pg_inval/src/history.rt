@@ -225,7 +225,7 @@ impl Drops {
         ensures run { let key = translation_key pcid shift global la in
             (head : Head) (events : List Event) → StandsFor self.now head events →
             result ≡ not (survives head events p (λ c e. must_drop_translation c e key) from to) }
-        ensures probes { (probes.old ≤ probes.new) × (probes.new ≤ probes.old + 136) }
+        ensures probes { (probes.old ≤ probes.new) × (probes.new ≤ probes.old + 102) }
     {
         self.first_drop_of_translation(p, pcid, shift, la, global, from, to, probes)
             .is_some()
@@ -254,7 +254,7 @@ impl Drops {
             IsFirstDrop
             (λ a b. not (survives head events p (λ c e. must_drop_translation c e key) a b))
             from to result }
-        ensures probes { (probes.old ≤ probes.new) × (probes.new ≤ probes.old + 136) }
+        ensures probes { (probes.old ≤ probes.new) × (probes.new ≤ probes.old + 102) }
     {
         let keys = translation_keys(p, translation_key(pcid, shift, global, la));
         first_between(&self.by_key, keys.as_slice(), from, to, probes)

@@ -10,11 +10,15 @@ use pg_event::{StructureKey, TranslationKey, level_shift};
 /// event has a few of them, so that neither has to be searched for among all others.
 #[derive(Clone, Copy, PartialEq, Eq, Hash, Debug)]
 pub enum DropKey {
-    /// All paging-structure-cache entries.
-    Structures {
+    /// All entries that are not global: each paging-structure-cache entry is one.
+    NotGlobal {
         p: u16,
     },
-    /// Those of a PCID.
+    /// All translations that are global.
+    Globals {
+        p: u16,
+    },
+    /// The paging-structure-cache entries of a PCID.
     StructuresOf {
         p: u16,
         pcid: u16,
@@ -26,15 +30,7 @@ pub enum DropKey {
         pcid: u16,
         prefix: u64,
     },
-    /// All translations.
-    Translations {
-        p: u16,
-    },
-    /// Those that are not global.
-    Locals {
-        p: u16,
-    },
-    /// Those of a PCID that are not global.
+    /// The translations of a PCID that are not global.
     LocalsOf {
         p: u16,
         pcid: u16,
@@ -57,7 +53,7 @@ pub enum DropKey {
 impl Default for DropKey {
     /// What fills the unused places of an array of keys.
     fn default() -> DropKey {
-        DropKey::Structures { p: 0 }
+        DropKey::NotGlobal { p: 0 }
     }
 }
 
@@ -66,22 +62,22 @@ pub fn structure_keys(p: u16, key: StructureKey) -> [DropKey; 3]
     ensures { result ≡ structure_keys p key }
 {
     [
-        DropKey::Structures { p },
+        DropKey::NotGlobal { p },
         DropKey::StructuresOf { p, pcid: key.pcid },
         structure_at(p, key),
     ]
 }
 
 /// The events that drop a translation of a processor.
-pub fn translation_keys(p: u16, key: TranslationKey) -> ArrayVec<DropKey, 4>
+pub fn translation_keys(p: u16, key: TranslationKey) -> ArrayVec<DropKey, 3>
     ensures { result.items ≡ translation_keys p key }
 {
     let mut keys = ArrayVec::new();
-    keys.push(DropKey::Translations { p });
     if key.global {
+        keys.push(DropKey::Globals { p });
         keys.push(global_at(p, key));
     } else {
-        keys.push(DropKey::Locals { p });
+        keys.push(DropKey::NotGlobal { p });
         keys.push(DropKey::LocalsOf { p, pcid: key.pcid });
         keys.push(local_at(p, key));
     }
