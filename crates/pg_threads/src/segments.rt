@@ -9,7 +9,7 @@ use pg_event::{Event, Header};
 use std::alloc::{AllocError, Global};
 use std::sync::{Mutex, Wait};
 
-/// More than the segments of any record.
+/// No record has more segments.
 const TOO_MANY: u32 = 4_294_967_295;
 
 /// The events of the segments that are sealed and were not given out, one after another; none where
