@@ -1,10 +1,14 @@
 -- The first drop of an entry, and the last write of a word, event by event.
-use Rattle.std.proofs.Common.{◌≡◌, ℕ, zero, suc, ◌+◌, ◌-◌, ◌<◌, ◌≤◌, Bool, true, false, ◌||◌, cond, List, [], ◌∷◌, length, Option, Some, None, refl, sym, ap, subst, ◌∙◌, arith, min, inl, inr}
-use Rattle.std.proofs.lemmas.Bool.{cases_lt}
+use Rattle.std.proofs.Common.{◌≡◌, ℕ, zero, suc, ◌+◌, ◌-◌, ◌<◌, ◌≤◌, Bool, true, false, ◌||◌, cond, not, List, [], ◌∷◌, length, Option, Some, None, refl, sym, ap, subst, ◌∙◌, arith, min, inl, inr}
+use Rattle.std.proofs.lemmas.Bool.{cases_lt, cases_Bool}
 use Rattle.std.specs.Prelude.{slice_get}
 use Rattle.pg_event.specs.declared.event.Event.{Event}
-use Rattle.pg_event.specs.Witness.{any_from}
-use Rattle.pg_explain.specs.Drops.{first_from}
+use Rattle.pg_event.specs.Heads.{Head}
+use Rattle.pg_event.specs.Witness.{any_from, survives}
+use Rattle.pg_inval.specs.Lists.{IsFirstDrop}
+use Rattle.pg_inval.proofs.AnyFrom.{not-not, any_from-at, IsFirstDrop-same}
+use Rattle.pg_explain.specs.declared.dropped.CacheKey.{CacheKey}
+use Rattle.pg_explain.specs.Drops.{first_from, must_drop, is_dropped_at, first_drop}
 use Rattle.pg_explain.specs.Walk.{writes_some, is_written, IsWriter}
 
 one_less : (f to : ℕ) → f < to → to - f ≡ suc (to - (f + 1))
@@ -20,6 +24,47 @@ pub first_from-next : (test : ℕ → Bool) (f to : ℕ) → f < to → test f �
 first_from-next test f to h t =
     ap (first_from test f) (one_less f to h)
     ∙ ap (λ b. cond b (Some f) (first_from test (f + 1) (to - (f + 1)))) t
+
+-- whether a number of a window passes
+abbrev windows : (ℕ → Bool) → ℕ → ℕ → Bool
+windows test a b = any_from test a (b - a)
+
+first_here : (test : ℕ → Bool) (from to : ℕ) → from < to → test from ≡ true → IsFirstDrop (windows test) from to (Some from)
+first_here test from to h t =
+    let none : from - from ≡ 0 = omega arith in
+    (omega arith, h, ap (any_from test from) none, any_from-at test from (from + 1 - from) from (omega arith) (omega arith) t)
+
+-- where its first number does not pass, a window is that of the numbers after it
+window_after : (test : ℕ → Bool) (from to : ℕ) → from < to → test from ≡ false → windows test from to ≡ windows test (from + 1) to
+window_after test from to h t = ap (any_from test from) (one_less from to h) ∙ ap (λ b. b || any_from test (from + 1) (to - (from + 1))) t
+
+first_after : (test : ℕ → Bool) (from to : ℕ) (found : Option ℕ) → from < to → test from ≡ false → IsFirstDrop (windows test) (from + 1) to found → IsFirstDrop (windows test) from to found
+first_after test from to None h t first = window_after test from to h t ∙ first
+first_after test from to (Some m) h t first =
+    let low : from + 1 ≤ m = first.0 in
+    let before : from < m = omega arith in
+    (omega arith, first.1, window_after test from m before t ∙ first.2, first.3)
+
+first_in : (test : ℕ → Bool) (n from to : ℕ) → to - from ≡ n → IsFirstDrop (windows test) from to (first_from test from n)
+first_in test zero from to e = ap (any_from test from) e
+first_in test (suc n) from to e =
+    let h : from < to = omega (arith, e) in
+    let rest : to - (from + 1) ≡ n = omega (arith, e) in
+    let is : Bool → Type 0 = λ b. IsFirstDrop (windows test) from to (cond b (Some from) (first_from test (from + 1) n)) in
+    elim (cases_Bool (test from)) [
+      | inl passes ↦ subst is (sym passes) (first_here test from to h passes)
+      | inr fails ↦ subst is (sym fails) (first_after test from to (first_from test (from + 1) n) h fails (first_in test n (from + 1) to rest))
+    ]
+
+-- the first event that must drop an entry is at the least moment at which it did not survive
+pub first_drop-first : (head : Head) (events : List Event) (p : ℕ) (key : CacheKey) (from to : ℕ) (found : Option ℕ) → found ≡ first_drop head events p key from to →
+    IsFirstDrop (λ a b. not (survives head events p (must_drop key) a b)) from to found
+first_drop-first head events p key from to found e =
+    let test : ℕ → Bool = is_dropped_at head events p key in
+    let gone : ℕ → ℕ → Bool = λ a b. not (survives head events p (must_drop key) a b) in
+    subst (IsFirstDrop gone from to) (sym e)
+    (IsFirstDrop-same (windows test) gone from to (first_drop head events p key from to) (λ a b. sym (not-not (windows test a b)))
+    (first_in test (to - from) from to refl))
 
 -- a window with one number more at its end
 any_from-last : (test : ℕ → Bool) (from n : ℕ) → any_from test from (suc n) ≡ (any_from test from n || test (from + n))

@@ -1,3 +1,4 @@
 pub mod Lines
 pub mod Firsts
+pub mod Writers
 pub mod Reasons

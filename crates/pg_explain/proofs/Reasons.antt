@@ -1,5 +1,6 @@
 -- A finding stands behind the least reason that fails.
 use Rattle.std.proofs.Common.{◌≡◌, ℕ, zero, suc, ◌+◌, ◌-◌, ◌≤◌, ◌%◌, ◌^◌, Bool, true, false, not, ◌&&◌, ◌||◌, ◌==◌, nat_le, cond, List, [], ◌∷◌, length, map, get_or, Option, Some, None, refl, sym, ap, ◌∙◌, arith}
+use Rattle.std.specs.Prelude.{slice_get, option_and_then, option_map}
 use Rattle.std.specs.Option.{option_or, is_some}
 use Rattle.pg_entry.specs.declared.AccessKind.{AccessKind}
 use Rattle.pg_entry.specs.declared.Cause.{Cause}
@@ -16,6 +17,7 @@ use Rattle.pg_event.specs.declared.claim.Claim.{Claim}
 use Rattle.pg_event.specs.declared.claim.Update.{Update}
 use Rattle.pg_event.specs.declared.control.Control.{Control}
 use Rattle.pg_event.specs.declared.event.Event.{Event}
+use Rattle.pg_event.specs.declared.event.Event.TheVariants.{Write, Access, Assist, MovCr3, Invlpg, Invpcid, MovCr4Pge}
 use Rattle.pg_event.specs.declared.event.Outcome.{Outcome}
 use Rattle.pg_event.specs.declared.event.Outcome.TheVariants.{Page, Fault}
 use Rattle.pg_event.specs.declared.event.Reason.{Reason}
@@ -27,7 +29,7 @@ use Rattle.pg_event.specs.Invalidation.{structure_key, translation_key}
 use Rattle.pg_event.specs.Values.{mem_at, control_at}
 use Rattle.pg_event.specs.Walk.{Reading, readings, below, root_of}
 use Rattle.pg_event.specs.Wants.{want_of, is_wanted, is_table, uses_last, may_dirty}
-use Rattle.pg_event.specs.Witness.{any_from, takes_out, survives, is_in_order, leads_to, is_one_context, structures_survive, tables_accessed, last_or, is_done_write, failing_walk, failing_leaf, failing_fault, failing_end, failing_flags, failing_claim, failing_update, is_updated, failing_access, failing_assist}
+use Rattle.pg_event.specs.Witness.{any_from, takes_out, survives, is_in_order, leads_to, is_one_context, structures_survive, tables_accessed, last_or, is_done_write, failing_walk, failing_leaf, failing_fault, failing_end, failing_flags, failing_claim, failing_update, is_updated, failing_access, failing_assist, failing_event, claim_of, update_of}
 use Rattle.pg_event.specs.Witness as witness
 use Rattle.pg_chain.specs.declared.steps.Step.{Step}
 use Rattle.pg_chain.specs.Walked.{entry_read, parent_of, reading_of}
@@ -39,7 +41,8 @@ use Rattle.pg_explain.specs.declared.finding.Misfit.TheVariants as misfits
 use Rattle.pg_explain.specs.declared.finding.Tagged.{Tagged}
 use Rattle.pg_explain.specs.declared.walk_finding.Asked.{Asked}
 use Rattle.pg_explain.specs.Drops.{first_from, must_drop, is_dropped_at, first_drop}
-use Rattle.pg_explain.specs.Findings.{reason_of, order_finding, entry_finding, tagged, context_finding, structure_drop, structure_finding, walk_finding, leaf_finding, fault_finding, translation_drop, end_finding, accessed_finding, flag_finding, misfit_of, update_finding, claim_finding, access_finding, mark_finding, assist_finding, asked_by, asked_of, first_tag, readings_by, last_of}
+use Rattle.pg_explain.specs.Findings.{reason_of, order_finding, entry_finding, tagged, context_finding, structure_drop, structure_finding, walk_finding, leaf_finding, fault_finding, translation_drop, end_finding, accessed_finding, flag_finding, misfit_of, update_finding, claim_finding, access_finding, mark_finding, assist_finding, event_finding, finding, asked_by, asked_of, first_tag, readings_by, last_of}
+use Rattle.pg_explain.specs.Laws.{FindingsStandBehindReasons}
 
 -- the reason that something stands behind, if anything does
 abbrev pub reasons_of : Option Finding → Option Reason
@@ -267,9 +270,9 @@ claim_reasons head events c first w ws r rs =
     ∙ (ap (λ o. option_or (failing_walk head events (witness.asked_by c) first.pcid (w ∷ ws) (r ∷ rs)) (option_or o (reasons_of flags))) (end_reasons head events c first.pcid end kind)
     ∙ ap (λ o. option_or (failing_walk head events (witness.asked_by c) first.pcid (w ∷ ws) (r ∷ rs)) (option_or (failing_end head events c first.pcid end kind) o)) (flag_reasons head.version c r rs))))
 
-pub access_reasons : (head : Head) (events : List Event) (c : Claim) (ws : List ℕ) → 1 ≤ length ws → reasons_of (access_finding head events c ws) ≡ failing_access head events c ws
-access_reasons head events c [] some = absurd (omega arith)
-access_reasons head events c (w ∷ ws) some =
+pub access_reasons : (head : Head) (events : List Event) (c : Claim) (ws : List ℕ) → reasons_of (access_finding head events c ws) ≡ failing_access head events c ws
+access_reasons head events c [] = refl
+access_reasons head events c (w ∷ ws) =
     let start : Control = control_at head events c.p w in
     claim_reasons head events c (tagged head events c.p w) w ws (first_read events c.la start w) (others_read head.cfg.m events c.la start w ws)
 
@@ -292,13 +295,33 @@ mark_reasons head events u first w ws r rs =
     ∙ (ap (option_or (reasons_of walk)) (or_reasons flags last ∙ mark_tests (tables_accessed (r ∷ rs)) (accessed end.value) flags last (accessed_reasons false r rs) (is_updated head.cfg u end) (update_reasons head.cfg u end))
     ∙ ap (λ o. option_or o (cond (not (tables_accessed (r ∷ rs))) (Some reasons.Accessed) (cond (is_updated head.cfg u end) None (Some reasons.Assist)))) (walk_reasons head events (asked_of u) first w ws r rs))
 
-pub assist_reasons : (head : Head) (events : List Event) (u : Update) (ws : List ℕ) → 1 ≤ length ws → reasons_of (assist_finding head events u ws) ≡ failing_assist head events u ws
-assist_reasons head events u [] some = absurd (omega arith)
-assist_reasons head events u (w ∷ ws) some =
+pub assist_reasons : (head : Head) (events : List Event) (u : Update) (ws : List ℕ) → reasons_of (assist_finding head events u ws) ≡ failing_assist head events u ws
+assist_reasons head events u [] = refl
+assist_reasons head events u (w ∷ ws) =
     let start : Control = control_at head events u.p w in
     mark_reasons head events u (tagged head events u.p w) w ws (first_read events u.la start w) (others_read head.cfg.m events u.la start w ws)
 
+event_reasons : (head : Head) (events : List Event) (i : ℕ) (e : Event) → reasons_of (event_finding head events i e) ≡ failing_event head events i e
+event_reasons head events i (Write p addr value) = refl
+event_reasons head events i (Access p flags la outcome moments) = access_reasons head events (claim_of i p flags la outcome) moments
+event_reasons head events i (Assist p flags la word moments) = assist_reasons head events (update_of i p flags la word) moments
+event_reasons head events i (MovCr3 p operand) = refl
+event_reasons head events i (Invlpg p la) = refl
+event_reasons head events i (Invpcid p kind pcid la) = refl
+event_reasons head events i (MovCr4Pge p on) = refl
+
 -- ---- what was found stands behind the reason
+
+pub findings_stand_behind_reasons : FindingsStandBehindReasons
+findings_stand_behind_reasons head events i = mapped (finding head events i) ∙ of_event (slice_get events i)
+  where
+    mapped : (o : Option Finding) → option_map reason_of o ≡ reasons_of o
+    mapped None = refl
+    mapped (Some f) = refl
+
+    of_event : (o : Option Event) → reasons_of (option_and_then (event_finding head events i) o) ≡ option_and_then (failing_event head events i) o
+    of_event None = refl
+    of_event (Some e) = event_reasons head events i e
 
 pub told_none : (o f : Option Finding) (r : Option Reason) → o ≡ f → reasons_of f ≡ r → o ≡ None → r ≡ None
 told_none o f r e h none = sym h ∙ (ap reasons_of (sym e) ∙ ap reasons_of none)
@@ -306,15 +329,17 @@ told_none o f r e h none = sym h ∙ (ap reasons_of (sym e) ∙ ap reasons_of no
 pub told_some : (o f : Option Finding) (r : Option Reason) (x : Finding) → o ≡ f → reasons_of f ≡ r → o ≡ Some x → r ≡ Some (reason_of x)
 told_some o f r x e h some = sym h ∙ (ap reasons_of (sym e) ∙ ap reasons_of some)
 
-pub access_found : (head : Head) (events : List Event) (c : Claim) (ws : List ℕ) (first : Tagged) (rs : List Reading) (o : Option Finding) →
+pub access_found : (head : Head) (events : List Event) (c : Claim) (ws : List ℕ) (first : Tagged) (rs : List Reading) (o : Option Finding) → 1 ≤ length ws →
     first ≡ first_tag head events c.p ws → rs ≡ readings_by head events c.p c.la ws → o ≡ claim_finding head events c first ws rs → o ≡ access_finding head events c ws
-access_found head events c ws first rs o e read h =
-    h ∙ (ap (λ (t : Tagged). claim_finding head events c t ws rs) e ∙ ap (claim_finding head events c (first_tag head events c.p ws) ws) read)
+access_found head events c [] first rs o some e read h = absurd (omega (arith, some))
+access_found head events c (w ∷ ws) first rs o some e read h =
+    h ∙ (ap (λ (t : Tagged). claim_finding head events c t (w ∷ ws) rs) e ∙ ap (claim_finding head events c (tagged head events c.p w) (w ∷ ws)) read)
 
-pub assist_found : (head : Head) (events : List Event) (u : Update) (ws : List ℕ) (first : Tagged) (rs : List Reading) (o : Option Finding) →
+pub assist_found : (head : Head) (events : List Event) (u : Update) (ws : List ℕ) (first : Tagged) (rs : List Reading) (o : Option Finding) → 1 ≤ length ws →
     first ≡ first_tag head events u.p ws → rs ≡ readings_by head events u.p u.la ws → o ≡ mark_finding head events u first ws rs → o ≡ assist_finding head events u ws
-assist_found head events u ws first rs o e read h =
-    h ∙ (ap (λ (t : Tagged). mark_finding head events u t ws rs) e ∙ ap (mark_finding head events u (first_tag head events u.p ws) ws) read)
+assist_found head events u [] first rs o some e read h = absurd (omega (arith, some))
+assist_found head events u (w ∷ ws) first rs o some e read h =
+    h ∙ (ap (λ (t : Tagged). mark_finding head events u t (w ∷ ws) rs) e ∙ ap (mark_finding head events u (tagged head events u.p w) (w ∷ ws)) read)
 
 -- ---- the step that is read last
 

@@ -29,7 +29,7 @@ abbrev pub first_drop : Head → List Event → ℕ → CacheKey → ℕ → ℕ
 first_drop head events p key from to =
     first_from (is_dropped_at head events p key) from (to - from)
 
--- a key of an entry that there may be: a page is of at most 2 ^ 63 bytes
+-- a key that an entry may have: an address has 64 bits, so the shift of a page is below 64
 abbrev pub IsPageKey : CacheKey → Type 0
 IsPageKey (Structure key) = Unit {0}
 IsPageKey (Translation key) = key.shift < 64

@@ -277,10 +277,15 @@ claim_finding head events c first ws rs =
     (end_finding head events c first.pcid end (kind_of head.cfg end.level end.value))
     (flag_finding head.version c rs end))
 
+-- of an event without moments, which no record has: they are not in order, by level 4
+abbrev pub no_moments : ℕ → Finding
+no_moments number = findings.Order Four 0 (limits.Event number)
+
 abbrev pub access_finding : Head → List Event → Claim → List ℕ → Option Finding
-access_finding head events c ws =
-    claim_finding head events c (first_tag head events c.p ws) ws
-    (readings_by head events c.p c.la ws)
+access_finding head events c [] = Some (no_moments c.number)
+access_finding head events c (w ∷ ws) =
+    claim_finding head events c (tagged head events c.p w) (w ∷ ws)
+    (readings_by head events c.p c.la (w ∷ ws))
 
 abbrev pub asked_of : Update → Asked
 asked_of u = record { number = u.number; p = u.p; la = u.la; want = wants.Present }
@@ -292,9 +297,10 @@ mark_finding head events u first ws rs =
     (option_or (accessed_finding false rs) (update_finding head.cfg u (last_of rs)))
 
 abbrev pub assist_finding : Head → List Event → Update → List ℕ → Option Finding
-assist_finding head events u ws =
-    mark_finding head events u (first_tag head events u.p ws) ws
-    (readings_by head events u.p u.la ws)
+assist_finding head events u [] = Some (no_moments u.number)
+assist_finding head events u (w ∷ ws) =
+    mark_finding head events u (tagged head events u.p w) (w ∷ ws)
+    (readings_by head events u.p u.la (w ∷ ws))
 
 -- what stands behind the least reason that fails for an event with this number
 abbrev pub event_finding : Head → List Event → ℕ → Event → Option Finding

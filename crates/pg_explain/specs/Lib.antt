@@ -4,4 +4,5 @@ pub mod Drops
 pub mod Findings
 pub mod Walk
 pub mod Explained
+pub mod Laws
 pub mod Text

@@ -1,7 +1,8 @@
 //! The first event that takes a cached entry out.
 
-ghost use Rattle.std.specs.Prelude.{◌≡◌, ◌<◌, length, Some};
-ghost use Rattle.pg_event.specs.Witness.{takes_out};
+ghost use Rattle.std.specs.Prelude.{◌≡◌, ◌<◌, length, not, Some};
+ghost use Rattle.pg_event.specs.Witness.{takes_out, survives};
+ghost use Rattle.pg_inval.specs.Lists.{IsFirstDrop};
 ghost use Rattle.pg_explain.specs.Drops.{must_drop, is_dropped_at, first_drop, IsPageKey};
 
 use pg_check::History;
@@ -49,10 +50,19 @@ fn is_dropped_at(history: &History, p: u16, key: CacheKey, number: u32) -> bool
 
 /// The first event, from one moment up to, not with, another, by which processor `p` had to drop an
 /// entry. It takes one pass over the events between the two.
-pub fn first_drop(history: &History, p: u16, key: CacheKey, from: u32, to: u32) -> Option<u32>
+pub(crate) fn first_drop(
+    history: &History,
+    p: u16,
+    key: CacheKey,
+    from: u32,
+    to: u32,
+) -> Option<u32>
     requires processor { p < length history.now.head.processors }
     requires key { IsPageKey key }
-    ensures { result ≡ first_drop history.now.head history.now.events p key from to }
+    ensures value { result ≡ first_drop history.now.head history.now.events p key from to }
+    ensures first { IsFirstDrop
+        (λ a b. not (survives history.now.head history.now.events p (must_drop key) a b))
+        from to result }
 {
     for number in from..to {
         if is_dropped_at(history, p, key, number) {

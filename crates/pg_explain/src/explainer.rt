@@ -2,7 +2,8 @@
 
 ghost use Rattle.std.specs.Prelude.{◌≡◌, ◌<◌, ◌≤◌, length, map, IfOk, MatchOption};
 ghost use Rattle.pg_event.specs.Form.{processor_of};
-ghost use Rattle.pg_event.specs.Witness.{failing_access, failing_assist, failing_event, Witnessed};
+ghost use Rattle.pg_event.specs.Witness.{claim_of, update_of, failing_access, failing_assist};
+ghost use Rattle.pg_event.specs.Witness.{failing_event, Witnessed};
 ghost use Rattle.pg_chain.specs.Walked.{reading_of};
 ghost use Rattle.pg_explain.specs.Explained.{IsWalkOf, TellsEvent, IsExplained};
 ghost use Rattle.pg_explain.specs.Findings.{last_of, first_tag, claim_finding, access_finding};
@@ -16,7 +17,7 @@ use crate::flag_finding::{accessed_finding, flag_finding, update_finding};
 use crate::walk_finding::{Asked, tagged, walk_finding};
 use pg_chain::Step;
 use pg_check::History;
-use pg_event::{Claim, Event, Moments, Update, Want, access_kind, says_dirty, want_of};
+use pg_event::{Claim, Event, Moments, Outcome, Update, Want, access_kind, says_dirty, want_of};
 use pg_search::find_moments;
 use std::alloc::{AllocError, Global};
 
@@ -172,6 +173,33 @@ fn tell_assist(
     }
 }
 
+/// What an access claims, as the event with this number.
+fn claim_of(number: u32, p: u16, flags: u8, la: u64, outcome: Outcome) -> Claim
+    ensures { result ≡ claim_of number p flags la outcome }
+{
+    Claim {
+        number,
+        p,
+        kind: access_kind(flags),
+        la,
+        outcome,
+    }
+}
+
+/// What an assist says that it did, as the event with this number.
+fn update_of(number: u32, p: u16, flags: u8, la: u64, word: u64) -> Update
+    ensures { result ≡ update_of number p flags la word }
+{
+    Update {
+        number,
+        p,
+        kind: access_kind(flags),
+        la,
+        word,
+        dirty: says_dirty(flags),
+    }
+}
+
 /// What is told of an event with this number.
 fn tell_event(
     alloc: Global,
@@ -193,13 +221,7 @@ fn tell_event(
             outcome,
             moments,
         } => {
-            let claim = Claim {
-                number,
-                p,
-                kind: access_kind(flags),
-                la,
-                outcome,
-            };
+            let claim = claim_of(number, p, flags, la, outcome);
             tell_access(alloc, history, &claim, moments.as_slice())
         }
         Event::Assist {
@@ -209,14 +231,7 @@ fn tell_event(
             word,
             moments,
         } => {
-            let update = Update {
-                number,
-                p,
-                kind: access_kind(flags),
-                la,
-                word,
-                dirty: says_dirty(flags),
-            };
+            let update = update_of(number, p, flags, la, word);
             tell_assist(alloc, history, &update, moments.as_slice())
         }
         Event::Write { .. }

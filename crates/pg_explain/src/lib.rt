@@ -8,6 +8,7 @@ mod explainer;
 mod finding;
 mod finding_text;
 mod flag_finding;
+mod laws;
 mod line;
 mod names;
 #[cfg(test)]
@@ -19,6 +20,10 @@ mod walk_text;
 pub use entry::WalkEntry;
 pub use explainer::{Explanation, explain};
 pub use finding::{Finding, Limit, Misfit, Tagged, Wish};
-pub use line::{push_event, show_text};
+pub use laws::{
+    findings_stand_behind_reasons, others_leave_the_word, unwritten_words_stay,
+    writers_leave_the_word,
+};
+pub use line::show_text;
 pub use names::{level_number, rights_text};
 pub use text::explanation_text;

@@ -19,8 +19,8 @@ returns-in-None c =
     let rs : List Reading = map reading_of c.deref.result.now in
     let read : rs ≡ readings_by head events x.p x.la ws = ap (λ (ys : List Step). map reading_of ys) c.deref.ensures.value ∙ c.in_ok-steps.ensures.read in
     told_none c.claim_finding.result (access_finding head events x ws) (failing_access head events x ws)
-    (access_found head events x ws c.first_tag-first.result rs c.claim_finding.result c.first_tag-first.ensures read c.claim_finding.ensures)
-    (access_reasons head events x ws c.requires.some) c.in-None.is
+    (access_found head events x ws c.first_tag-first.result rs c.claim_finding.result c.requires.some c.first_tag-first.ensures read c.claim_finding.ensures)
+    (access_reasons head events x ws) c.in-None.is
 
 pub returns : goal.returns
 returns c =
@@ -30,10 +30,10 @@ returns c =
     let x = c.args.claim.now in
     let rs : List Reading = map reading_of c.deref.result.now in
     let read : rs ≡ readings_by head events x.p x.la ws = ap (λ (ys : List Step). map reading_of ys) c.deref.ensures.value ∙ c.in_ok-steps.ensures.read in
-    let found : c.claim_finding.result ≡ access_finding head events x ws = access_found head events x ws c.first_tag-first.result rs c.claim_finding.result c.first_tag-first.ensures read c.claim_finding.ensures in
+    let found : c.claim_finding.result ≡ access_finding head events x ws = access_found head events x ws c.first_tag-first.result rs c.claim_finding.result c.requires.some c.first_tag-first.ensures read c.claim_finding.ensures in
     let walk : map reading_at c.in_ok-walk-in-Some.walk.items ≡ readings_by head events x.p x.la ws =
     c.in_ok-walk-in-Some.ensures.read ∙ (ap (λ (ys : List Step). map reading_of ys) c.deref-in-Some.ensures.value ∙ c.in_ok-steps.ensures.read) in (
-      told_some c.claim_finding.result (access_finding head events x ws) (failing_access head events x ws) c.in-Some.finding found (access_reasons head events x ws c.requires.some) c.in-Some.is,
+      told_some c.claim_finding.result (access_finding head events x ws) (failing_access head events x ws) c.in-Some.finding found (access_reasons head events x ws) c.in-Some.is,
       sym found ∙ c.in-Some.is,
       record { read = walk; told = c.in_ok-walk-in-Some.ensures.told },
     )
