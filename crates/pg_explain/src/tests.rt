@@ -221,6 +221,29 @@ other moments would: 5 5 5 5
     )
 }
 
+/// Event 4 leaves the page's translation, event 5 is the first that drops it, and event 6 comes too
+/// late to drop it.
+#[test]
+fn first_of_two_invlpgs(rt: HostRuntime) -> Result<(), Fail> {
+    let mut history = mapped(rt.alloc(), Version::One, 0)?;
+    add(&mut history, Event::Invlpg { p: 0, la: 0x6000 })?;
+    add(&mut history, Event::Invlpg { p: 0, la: 0x5000 })?;
+    add(&mut history, Event::Invlpg { p: 0, la: 0x5ff8 })?;
+    read(&mut history, four(4, 4, 4, 4)?)?;
+    tells(
+        rt.alloc(),
+        &history,
+        "event: 7 cpu 0 user read 0x5123 -> 0x9123 moments 4 4 4 4
+level 4: moment 4 pcid 0x1 [0x1000] = 0x2007 table, written by event 0
+level 3: moment 4 pcid 0x1 [0x2000] = 0x3007 table, written by event 1
+level 2: moment 4 pcid 0x1 [0x3000] = 0x4007 table, written by event 2
+level 1: moment 4 pcid 0x1 [0x4028] = 0x9007 leaf, written by event 3
+dropped: translation of level 1 by 5 cpu 0 invlpg 0x5000
+other moments would: 7 7 7 7
+",
+    )
+}
+
 /// No moment after the INVLPG reads the old leaf.
 #[test]
 fn stale_leaf_after_invlpg(rt: HostRuntime) -> Result<(), Fail> {
@@ -408,6 +431,37 @@ level 2: moment 4 pcid 0x1 [0x3000] = 0x4027 table, written by event 2
 level 1: moment 4 pcid 0x1 [0x4028] = 0x9027 leaf, written by event 3
 assist: the word read last is [0x4028]
 final: no moments prove this assist
+",
+    )
+}
+
+/// Event 3 wrote the leaf, and the assist, event 4, set A and D in it.
+#[test]
+fn leaf_that_an_assist_wrote(rt: HostRuntime) -> Result<(), Fail> {
+    let mut history = mapped(rt.alloc(), Version::Two, 0x20)?;
+    let moments = four(4, 4, 4, 4)?;
+    add(
+        &mut history,
+        Event::Assist {
+            p: 0,
+            flags: WRITE + 16,
+            la: 0x5123,
+            word: 0x4028,
+            moments,
+        },
+    )?;
+    let moments = four(5, 5, 5, 5)?;
+    access(&mut history, WRITE, 0x5123, Outcome::Page(0x9133), moments)?;
+    tells(
+        rt.alloc(),
+        &history,
+        "event: 5 cpu 0 user write 0x5123 -> 0x9133 moments 5 5 5 5
+level 4: moment 5 pcid 0x1 [0x1000] = 0x2027 table, written by event 0
+level 3: moment 5 pcid 0x1 [0x2000] = 0x3027 table, written by event 1
+level 2: moment 5 pcid 0x1 [0x3000] = 0x4027 table, written by event 2
+level 1: moment 5 pcid 0x1 [0x4028] = 0x9067 leaf, written by event 4
+expected: 0x9123
+final: no moments prove this access
 ",
     )
 }
