@@ -1,7 +1,8 @@
 -- A board is the run of some script, before its first turn and after each call.
-use Rattle.std.proofs.Common.{◌≡◌, ℕ, zero, suc, ◌+◌, ◌<◌, Bool, true, false, cond, List, [], ◌∷◌, length, map, refl, sym, ◌∙◌, ap, subst, arith, Some, Option, is_some, Result, Ok, Err, IfOk, OnErr}
+use Rattle.std.proofs.Common.{◌≡◌, ℕ, zero, suc, ◌+◌, ◌<◌, ◌≤◌, ⊎_elim, Bool, true, false, cond, List, [], ◌∷◌, length, map, refl, sym, ◌∙◌, ap, subst, arith, Some, Option, is_some, Result, Ok, Err, IfOk, OnErr}
 use Rattle.std.specs.Prelude.{slice_get, slice_set}
 use Rattle.std.specs.Option.{option_map}
+use Rattle.std.proofs.Math.Nat.{le-suc_iff}
 use Rattle.std.proofs.lemmas.List.{length-map}
 use Rattle.std.proofs.lemmas.Option.{same_Some, slice_get-map, slice_get_within}
 use Rattle.std.specs.declared.alloc.Global.{Global}
@@ -24,7 +25,7 @@ use Rattle.pg_home.proofs.Runs.{set_here}
 use Rattle.pg_home.proofs.Transcripts.{ended_have_told_all}
 use Rattle.pg_world.specs.Recording.{Recording, with_taken}
 use Rattle.pg_runner.specs.Runs.{AreStarted, RunsTo}
-use Rattle.pg_runner.proofs.Started.{quiet_of, told_of, head_of, open_of, count_of, instructions_are, left_of, one_turn_more}
+use Rattle.pg_runner.proofs.Started.{quiet_of, told_of, head_of, open_of, instructions_are, left_of, one_turn_more}
 use Rattle.pg_runner.proofs.Whole.{none_carried}
 use Rattle.pg_board.specs.Boards.{HasToldAll, IsBoard, IsRunOf, untaken}
 use Rattle.pg_board.proofs.Untaken.{untake, turn_untaken}
@@ -118,6 +119,24 @@ run_of_same t r hs board same own =
       };
       placed = run.placed;
     }
+
+-- the first k of them have their instructions, and so has the next
+pub own_one_more : (t : Scripted) (hs : List Held) (k : ℕ) (x : Held) → ((p : ℕ) (h : Held) → p < k → slice_get hs p ≡ Some h → h.instructions ≡ instructions_of h.number t.tasks)
+    → slice_get hs k ≡ Some x → x.instructions ≡ instructions_of x.number t.tasks
+    → (p : ℕ) (h : Held) → p < k + 1 → slice_get hs p ≡ Some h → h.instructions ≡ instructions_of h.number t.tasks
+own_one_more t hs k x own next is p h below at =
+    ⊎_elim (λ (less : suc p ≤ k). own p h (omega (arith, less)) at) (λ (last : suc p ≡ suc k).
+    let place : k ≡ p = omega (arith, last) in
+    let one : x ≡ h = same_Some x h (sym next ∙ ap (slice_get hs) place ∙ at) in
+    subst (λ (y : Held). y.instructions ≡ instructions_of y.number t.tasks) one is) (le-suc_iff.0 (omega (arith, below)))
+
+pub same_of_run : (t : Scripted) (r : Recording) (hs : List Held) → IsRunOf t r hs → (r.head ≡ t.head) × HaveInstructionsOf t hs
+same_of_run t r hs run = (
+  head_of t (untaken r) (map seen hs) run.runs,
+  λ p h at.
+      let seen_at : slice_get (map seen hs) p ≡ Some (seen h) = slice_get-map seen hs p ∙ ap (option_map seen) at in
+      instructions_are t (untaken r) (map seen hs) run.runs p (seen h) seen_at ∙ ap (λ n. instructions_of n t.tasks) (sym (run.placed p h at).number),
+)
 
 -- ---- what follows
 

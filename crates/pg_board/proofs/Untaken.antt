@@ -16,7 +16,7 @@ use Rattle.pg_world.specs.Walks.{moments_of, found_in}
 use Rattle.pg_home.specs.declared.advance.Advance.{Advance}
 use Rattle.pg_home.specs.declared.advance.Advance.TheVariants as answers
 use Rattle.pg_home.specs.declared.advance.Stop.{Stop}
-use Rattle.pg_home.specs.Turn.{Processor, Turned, from_root, from_table, keeps, after_read, goes_on, begun, turned_by, turned, refused_by, MayStop, stopped, IsTurn}
+use Rattle.pg_home.specs.Turn.{Processor, Turned, from_root, from_table, keeps, after_read, goes_on, begun, turned_by, turned, refused_by, MayStop, IsTurn}
 use Rattle.pg_board.specs.Boards.{untaken}
 
 abbrev pub untake : Turned → Turned

@@ -1,5 +1,5 @@
 ghost use Rattle.std.specs.Prelude.{◌≡◌, ◌<◌, ◌∷◌, [], length, map, None, IfOk, IfSome};
-ghost use Rattle.std.specs.Prelude.{IsTrue, Decides, IsNone, OnErr, ◌↔◌, true, false};
+ghost use Rattle.std.specs.Prelude.{Decides, IsNone, OnErr, ◌↔◌, true, false};
 ghost use Rattle.pg_guest.specs.Held.{seen};
 ghost use Rattle.pg_guest.specs.Runs.{AreNew};
 ghost use Rattle.pg_home.specs.CoreRun.{IsCoreRun, unwritten};
@@ -150,7 +150,7 @@ impl<'a> Board<'a> {
 
     /// Whether its settings and the instructions of its processors are those of a script.
     pub fn is_of(&self, script: &Script) -> bool
-        ensures { IsTrue result → IsRunOf script.now self.now.world self.now.processors }
+        ensures { Decides result (IsRunOf script.now self.now.world self.now.processors) }
     {
         if !self.header().is_same(script.header()) {
             return false;

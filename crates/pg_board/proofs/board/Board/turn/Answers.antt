@@ -1,4 +1,4 @@
-use Rattle.std.proofs.Common.{◌≡◌, ◌∙◌, [], ◌∷◌, List, length, map, ap, sym, subst}
+use Rattle.std.proofs.Common.{◌∙◌, [], ◌∷◌, List, map, ap, sym, subst}
 use Rattle.pg_guest.specs.Held.{Held, seen}
 use Rattle.pg_guest.specs.Runs.{ArePlaced}
 use Rattle.pg_home.specs.CoreRun.{IsCoreRun}
