@@ -1,3 +1,4 @@
 mod AfterTurns
+mod SameEvents
 mod WholeRuns
 mod WholeSegments

@@ -1,6 +1,6 @@
 //! What is judged while processors run.
 
-ghost use Rattle.std.specs.Prelude.{◌≡◌, ◌%◌, ◌++◌, drop, length, IfOk, IfErr, IsTrue};
+ghost use Rattle.std.specs.Prelude.{◌≡◌, ◌%◌, ◌++◌, drop, length, IfOk, IfErr, Decides};
 ghost use Rattle.pg_check.specs.Kept.{AreWellFormed};
 ghost use Rattle.pg_event.specs.Spelling.{IsHead, IsRecord};
 ghost use Rattle.pg_report.specs.Judging.{StopsJudging};
@@ -116,7 +116,7 @@ impl Watched {
 
     /// Whether these events begin a record.
     fn begins(&self, trace: &Record) -> bool
-        ensures { IsTrue result → IsBeginning self.now (record_of trace.now) }
+        ensures { Decides result (IsBeginning self.now (record_of trace.now)) }
     {
         self.judged.header().is_same(&trace.header) && begins_with(&trace.events, &self.events)
     }
