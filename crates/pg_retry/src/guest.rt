@@ -18,7 +18,7 @@ const TURNS: usize = 1000;
 
 /// A run's record, and how many of its events were given out in segments.
 #[derive(Drop)]
-pub struct Ran {
+pub(crate) struct Ran {
     pub trace: Record,
     pub given: u64,
 }
@@ -54,7 +54,7 @@ fn take_all(alloc: Global, world: &mut World, refused: &mut u64) -> Result<u64, 
 }
 
 /// Runs a script whose first processor has all its instructions.
-pub fn run(alloc: Global, script: &Script, refused: &mut u64) -> Result<Ran, AllocError>
+pub(crate) fn run(alloc: Global, script: &Script, refused: &mut u64) -> Result<Ran, AllocError>
     ensures { IfOk result (λ ran. IsRecord (record_of ran.trace)) }
 {
     let mut world = World::new(alloc, script.header().clone()?);

@@ -13,7 +13,7 @@ use std::alloc::{AllocError, Global};
 
 /// What a record comes to.
 #[derive(Drop)]
-pub struct Judged {
+pub(crate) struct Judged {
     pub report: Report,
     /// The steps of its run that a machine took.
     pub steps: u64,
@@ -38,7 +38,7 @@ fn count_steps(alloc: Global, history: &History, refused: &mut u64) -> Result<u6
 }
 
 /// Judges a record, and has a machine take the steps of its run.
-pub fn judge(alloc: Global, trace: &Record, refused: &mut u64) -> Result<Judged, AllocError>
+pub(crate) fn judge(alloc: Global, trace: &Record, refused: &mut u64) -> Result<Judged, AllocError>
     requires { IsRecord (record_of trace.now) }
 {
     let mut history = History::new(alloc, trace.header.clone()?)?;

@@ -78,7 +78,7 @@ fn tell(
 }
 
 /// What both scripts come to.
-pub fn tell_all(alloc: Global, refused: &mut u64) -> Result<String, AllocError> {
+pub(crate) fn tell_all(alloc: Global, refused: &mut u64) -> Result<String, AllocError> {
     let mut text = String::new(alloc);
     tell(alloc, &mut text, OLD, refused)?;
     tell(alloc, &mut text, NEW, refused)?;
