@@ -3,8 +3,6 @@
 
 mod board;
 mod finished;
-#[cfg(test)]
-mod tests;
 
 pub use board::Board;
 pub use finished::Finished;

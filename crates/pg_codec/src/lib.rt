@@ -29,5 +29,3 @@ pub use transfer::put_all;
 pub use watched::Watched;
 pub use writer::{write_end, write_header, write_record, write_segment};
 
-#[cfg(test)]
-mod tests;

@@ -11,8 +11,6 @@ mod flag_finding;
 mod laws;
 mod line;
 mod names;
-#[cfg(test)]
-mod tests;
 mod text;
 mod walk_finding;
 mod walk_text;

@@ -5,8 +5,6 @@
 mod calls;
 mod driver;
 mod processor;
-#[cfg(test)]
-mod tests;
 mod walks;
 
 pub use driver::{drive, processors};

@@ -5,7 +5,5 @@ mod dropped;
 mod history;
 mod key;
 mod lists;
-#[cfg(test)]
-mod tests;
 
 pub use history::Drops;

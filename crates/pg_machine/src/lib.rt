@@ -9,8 +9,6 @@ mod processor;
 mod sought;
 mod step;
 mod stuck;
-#[cfg(test)]
-mod tests;
 
 pub use law::some_record_has_no_run;
 pub use machine::Machine;

@@ -16,8 +16,6 @@ mod round;
 mod rule;
 mod seat;
 mod steps;
-#[cfg(test)]
-mod tests;
 mod thief;
 
 pub use auditor::audit_round;

@@ -7,8 +7,6 @@ mod publisher;
 mod reader;
 mod rule;
 mod seen;
-#[cfg(test)]
-mod tests;
 
 pub use counts::Counts;
 pub use progress::Progress;

@@ -28,6 +28,8 @@ mod new_headers;
 #[cfg(test)]
 mod pieces;
 #[cfg(test)]
+mod plans;
+#[cfg(test)]
 mod refusals;
 #[cfg(test)]
 mod rights;

@@ -7,8 +7,6 @@ mod fill;
 mod law;
 mod placer;
 mod plan;
-#[cfg(test)]
-mod tests;
 mod visit;
 mod walker;
 

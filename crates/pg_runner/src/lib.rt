@@ -13,5 +13,3 @@ pub use result::RunResult;
 pub use single::{run_single, transcripts_of};
 pub use turns::turn;
 
-#[cfg(test)]
-mod tests;

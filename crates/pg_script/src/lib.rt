@@ -20,5 +20,3 @@ pub use refusal::{ScriptError, ScriptRefusal};
 pub use same::same_instructions;
 pub use script::Script;
 
-#[cfg(test)]
-mod tests;

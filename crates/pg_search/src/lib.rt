@@ -10,8 +10,6 @@ mod laws;
 mod now;
 mod sought;
 mod sweeper;
-#[cfg(test)]
-mod tests;
 
 pub use finder::{find_moments, names_moments};
 pub use laws::{

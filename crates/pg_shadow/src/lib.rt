@@ -10,8 +10,6 @@ mod scope;
 mod shadow;
 mod slot;
 mod space;
-#[cfg(test)]
-mod tests;
 
 pub use entries::{Found, KeptLeaf, KeptTable};
 pub use law::entries_may_be_kept;

@@ -8,8 +8,6 @@ mod lookout;
 mod processor;
 mod same;
 mod segments;
-#[cfg(test)]
-mod tests;
 mod watched;
 
 pub use guest::{run_guest, run_guest_watched};

@@ -6,8 +6,6 @@ mod kinds;
 mod law;
 mod memory;
 mod receipt;
-#[cfg(test)]
-mod tests;
 mod walk;
 mod widths;
 mod world;

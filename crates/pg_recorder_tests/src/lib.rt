@@ -1,0 +1,19 @@
+//! TODO
+#![tactic(auto)]
+
+#[cfg(test)]
+mod boards;
+#[cfg(test)]
+mod processors;
+#[cfg(test)]
+mod progress;
+#[cfg(test)]
+mod scripts;
+#[cfg(test)]
+mod shadows;
+#[cfg(test)]
+mod single_runs;
+#[cfg(test)]
+mod threads;
+#[cfg(test)]
+mod worlds;
