@@ -1,4 +1,4 @@
-//! TODO
+//! Tests of the public calls by which a record is read and judged, and of the past that they ask.
 #![tactic(auto)]
 
 #[cfg(test)]
@@ -9,5 +9,7 @@ mod controls;
 mod drops;
 #[cfg(test)]
 mod histories;
+#[cfg(test)]
+mod merging;
 #[cfg(test)]
 mod rounds;

@@ -1,4 +1,4 @@
-//! TODO
+//! Tests of the machine, of the runs that a yes stands for, and of what stands behind a no.
 #![tactic(auto)]
 
 #[cfg(test)]

@@ -1,4 +1,4 @@
-//! TODO
+//! Tests of the recorder: shadows, worlds, scripts, processors, and runs by one thread and many.
 #![tactic(auto)]
 
 #[cfg(test)]
