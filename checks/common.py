@@ -1,0 +1,71 @@
+"""What scripts of checks/, bench/ and build/ share."""
+import ctypes
+import os
+import shutil
+import signal
+import subprocess
+import sys
+
+TOP = os.path.dirname(os.path.dirname(os.path.abspath(__file__)))
+BUILT = os.path.join(TOP, "crates/pcid_audit/out/pcid_audit")
+# (Linux's prctl: which signal a process gets when the one that started it ends)
+PR_SET_PDEATHSIG = 1
+# What a crate's proof takes at most, but for the largest.
+MEMORY_OF_A_PROOF = 3_000_000_000
+
+
+def program():
+    """The path of the program: what the environment variable PCID_AUDIT names, else the one that
+    ./pcid-audit builds, which has it built first where it is missing or older than its sources."""
+    named = os.environ.get("PCID_AUDIT")
+    if named:
+        return os.path.abspath(named)
+    # (help and the version may be told without it)
+    with open(os.path.join(TOP, "samples/fresh_walk.record"), "rb") as record:
+        subprocess.run([os.path.join(TOP, "pcid-audit"), "check"], stdin=record, stdout=subprocess.DEVNULL, check=True)
+    return BUILT
+
+
+def end_with_parent():
+    """In a child, before its program starts: it is to end however the process that started it ends."""
+    try:
+        ctypes.CDLL(None).prctl(PR_SET_PDEATHSIG, signal.SIGTERM)
+    except (OSError, AttributeError):
+        pass
+
+
+def quit_at_signals():
+    """Has a signal end this script as an exit does, so that what it started is ended."""
+    for number in (signal.SIGINT, signal.SIGTERM, signal.SIGHUP):
+        signal.signal(number, lambda it, _: sys.exit(128 + it))
+
+
+def lanes():
+    """How many proofs may run side by side: one a core, as memory allows, and one at least."""
+    with open("/proc/meminfo", encoding="ascii") as file:
+        free = next(1024 * int(line.split()[1]) for line in file if line.startswith("MemAvailable:"))
+    return max(1, min(len(os.sched_getaffinity(0)), free // MEMORY_OF_A_PROOF))
+
+
+def libraries_of(top):
+    """By crate, the repository's crates that its line of crates.txt names, and those lines."""
+    with open(os.path.join(top, "crates.txt"), encoding="utf-8") as file:
+        rows = [line.partition("#")[0].strip() for line in file]
+    lines = {row.split(":")[0].split()[0]: row for row in rows if row}
+    return {name: [it for it in row.partition(":")[2].split() if it in lines] for name, row in lines.items()}, lines
+
+
+def below(libraries, name):
+    """The crates that this one stands on, each behind those that it stands on itself."""
+    found = []
+    for library in libraries[name]:
+        found += [it for it in (*below(libraries, library), library) if it not in found]
+    return found
+
+
+def linked(source, target):
+    """Gives a file a second name, or a copy where it can have none."""
+    try:
+        os.link(source, target)
+    except OSError:
+        shutil.copy2(source, target)
