@@ -1,6 +1,7 @@
 """What scripts of checks/, bench/ and build/ share."""
 import ctypes
 import os
+import re
 import shutil
 import signal
 import subprocess
@@ -40,11 +41,28 @@ def quit_at_signals():
         signal.signal(number, lambda it, _: sys.exit(128 + it))
 
 
+def number_in(file, pattern):
+    """The number that a file of the system tells so, None where it does not."""
+    try:
+        with open(file, encoding="ascii") as text:
+            found = re.search(pattern, text.read())
+    except OSError:
+        return None
+    return int(found[1]) if found else None
+
+
 def lanes():
-    """How many proofs may run side by side: one a core, as memory allows, and one at least."""
-    with open("/proc/meminfo", encoding="ascii") as file:
-        free = next(1024 * int(line.split()[1]) for line in file if line.startswith("MemAvailable:"))
-    return max(1, min(len(os.sched_getaffinity(0)), free // MEMORY_OF_A_PROOF))
+    """How many proofs may run side by side: one a core, as memory allows, and one at least. A
+    container may have less of both than the machine."""
+    cores, free = len(os.sched_getaffinity(0)), 1024 * number_in("/proc/meminfo", r"MemAvailable:\s+(\d+)")
+    group = "/sys/fs/cgroup/"
+    quota, period = number_in(group + "cpu.max", r"^(\d+)"), number_in(group + "cpu.max", r" (\d+)")
+    limit, held = number_in(group + "memory.max", r"^(\d+)"), number_in(group + "memory.stat", r"anon (\d+)")
+    if quota and period:
+        cores = min(cores, quota // period)
+    if limit and held is not None:
+        free = min(free, limit - held)
+    return max(1, min(cores, free // MEMORY_OF_A_PROOF))
 
 
 def libraries_of(top):
