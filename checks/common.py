@@ -87,3 +87,42 @@ def linked(source, target):
         os.link(source, target)
     except OSError:
         shutil.copy2(source, target)
+
+
+class Tally:
+    """How many expectations held."""
+
+    def __init__(self):
+        self.counts = {True: 0, False: 0}
+
+    def expect(self, what, got, wanted):
+        self.counts[got == wanted] += 1
+        if got != wanted:
+            print(f"FAILED {what}\n    got    {got!r:.600}\n    wanted {wanted!r:.600}")
+        return got == wanted
+
+    def end(self):
+        """Tells the counts, and gives the exit status."""
+        print(f"{self.counts[True]} passed, {self.counts[False]} failed")
+        return 1 if self.counts[False] else 0
+
+
+def compiled(target, source, *words):
+    """Compiles a source in C, which stands at this path below the top, and gives the target's path."""
+    subprocess.run(["cc", "-O2", *words, "-o", target, os.path.join(TOP, source), "-ldl"], check=True)
+    return target
+
+
+def preload(folder, source):
+    """Compiles a library that is to be loaded before the program's own."""
+    return compiled(os.path.join(folder, "preload.so"), source, "-shared", "-fPIC")
+
+
+def records(target, *words):
+    """Compiles the writer of long records that several benches read."""
+    return compiled(target, "bench/judging/records.c", *words)
+
+
+def runs_asked(runs):
+    """How many runs the command line asks for, so many where it says nothing."""
+    return int(sys.argv[1]) if len(sys.argv) > 1 else runs
