@@ -1,0 +1,128 @@
+"""What scripts of checks/, bench/ and build/ share."""
+import ctypes
+import os
+import re
+import shutil
+import signal
+import subprocess
+import sys
+
+TOP = os.path.dirname(os.path.dirname(os.path.abspath(__file__)))
+BUILT = os.path.join(TOP, "crates/pcid_audit/out/pcid_audit")
+# (Linux's prctl: which signal a process gets when the one that started it ends)
+PR_SET_PDEATHSIG = 1
+# What a crate's proof takes at most, but for the largest.
+MEMORY_OF_A_PROOF = 3_000_000_000
+
+
+def program():
+    """The path of the program: what the environment variable PCID_AUDIT names, else the one that
+    ./pcid-audit builds, which has it built first where it is missing or older than its sources."""
+    named = os.environ.get("PCID_AUDIT")
+    if named:
+        return os.path.abspath(named)
+    # (help and the version may be told without it)
+    with open(os.path.join(TOP, "samples/fresh_walk.record"), "rb") as record:
+        subprocess.run([os.path.join(TOP, "pcid-audit"), "check"], stdin=record, stdout=subprocess.DEVNULL, check=True)
+    return BUILT
+
+
+def end_with_parent():
+    """In a child, before its program starts: it is to end however the process that started it ends."""
+    try:
+        ctypes.CDLL(None).prctl(PR_SET_PDEATHSIG, signal.SIGTERM)
+    except (OSError, AttributeError):
+        pass
+
+
+def quit_at_signals():
+    """Has a signal end this script as an exit does, so that what it started is ended."""
+    for number in (signal.SIGINT, signal.SIGTERM, signal.SIGHUP):
+        signal.signal(number, lambda it, _: sys.exit(128 + it))
+
+
+def number_in(file, pattern):
+    """The number that a file of the system tells so, None where it does not."""
+    try:
+        with open(file, encoding="ascii") as text:
+            found = re.search(pattern, text.read())
+    except OSError:
+        return None
+    return int(found[1]) if found else None
+
+
+def lanes():
+    """How many proofs may run side by side: one a core, as memory allows, and one at least. A
+    container may have less of both than the machine."""
+    cores, free = len(os.sched_getaffinity(0)), 1024 * number_in("/proc/meminfo", r"MemAvailable:\s+(\d+)")
+    group = "/sys/fs/cgroup/"
+    quota, period = number_in(group + "cpu.max", r"^(\d+)"), number_in(group + "cpu.max", r" (\d+)")
+    limit, held = number_in(group + "memory.max", r"^(\d+)"), number_in(group + "memory.stat", r"anon (\d+)")
+    if quota and period:
+        cores = min(cores, quota // period)
+    if limit and held is not None:
+        free = min(free, limit - held)
+    return max(1, min(cores, free // MEMORY_OF_A_PROOF))
+
+
+def libraries_of(top):
+    """By crate, the repository's crates that its line of crates.txt names, and those lines."""
+    with open(os.path.join(top, "crates.txt"), encoding="utf-8") as file:
+        rows = [line.partition("#")[0].strip() for line in file]
+    lines = {row.split(":")[0].split()[0]: row for row in rows if row}
+    return {name: [it for it in row.partition(":")[2].split() if it in lines] for name, row in lines.items()}, lines
+
+
+def below(libraries, name):
+    """The crates that this one stands on, each behind those that it stands on itself."""
+    found = []
+    for library in libraries[name]:
+        found += [it for it in (*below(libraries, library), library) if it not in found]
+    return found
+
+
+def linked(source, target):
+    """Gives a file a second name, or a copy where it can have none."""
+    try:
+        os.link(source, target)
+    except OSError:
+        shutil.copy2(source, target)
+
+
+class Tally:
+    """How many expectations held."""
+
+    def __init__(self):
+        self.counts = {True: 0, False: 0}
+
+    def expect(self, what, got, wanted):
+        self.counts[got == wanted] += 1
+        if got != wanted:
+            print(f"FAILED {what}\n    got    {got!r:.600}\n    wanted {wanted!r:.600}")
+        return got == wanted
+
+    def end(self):
+        """Tells the counts, and gives the exit status."""
+        print(f"{self.counts[True]} passed, {self.counts[False]} failed")
+        return 1 if self.counts[False] else 0
+
+
+def compiled(target, source, *words):
+    """Compiles a source in C, which stands at this path below the top, and gives the target's path."""
+    subprocess.run(["cc", "-O2", *words, "-o", target, os.path.join(TOP, source), "-ldl"], check=True)
+    return target
+
+
+def preload(folder, source):
+    """Compiles a library that is to be loaded before the program's own."""
+    return compiled(os.path.join(folder, "preload.so"), source, "-shared", "-fPIC")
+
+
+def records(target, *words):
+    """Compiles the writer of long records that several benches read."""
+    return compiled(target, "bench/judging/records.c", *words)
+
+
+def runs_asked(runs):
+    """How many runs the command line asks for, so many where it says nothing."""
+    return int(sys.argv[1]) if len(sys.argv) > 1 else runs
