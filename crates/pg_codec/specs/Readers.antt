@@ -40,19 +40,24 @@ behind_chunk p (Some events) = Segments (record {
 
 abbrev pub stage_after_chunk : Stage → Result (Option (List Event)) ReadError → Stage
 stage_after_chunk (Segments p) (Ok chunk) = behind_chunk p chunk
-stage_after_chunk _ _ = Refused
+stage_after_chunk (Segments p) (Err e) = Refused
+stage_after_chunk Start result = Refused
+stage_after_chunk Ended result = Refused
+stage_after_chunk Refused result = Refused
 
 -- the header is read first and once; a reader that refused may be asked again
 abbrev pub MayReadHeader : Stage → Type 0
 MayReadHeader Start = Unit {0}
 MayReadHeader Refused = Unit {0}
-MayReadHeader _ = ⊥
+MayReadHeader (Segments p) = ⊥
+MayReadHeader Ended = ⊥
 
 -- a segment is read behind the header and before the end; a reader that refused may be asked again
 abbrev pub MayReadSegment : Stage → Type 0
 MayReadSegment (Segments p) = Unit {0}
 MayReadSegment Refused = Unit {0}
-MayReadSegment _ = ⊥
+MayReadSegment Start = ⊥
+MayReadSegment Ended = ⊥
 
 -- the segment that comes next, after its tag
 abbrev pub next_segment_at : Progress → List ℕ → Part (List Event)
@@ -70,19 +75,25 @@ next_closed_chunk_at p = closed_chunk_at p.header p.number p.before p.full
 abbrev pub PullsHeader : {R : Type 0} → Ghosts R → Stage → List ℕ × R → List ℕ × R →
     Result Head ReadError → Type 0
 PullsHeader g Start old new result = Pulls g header_at old new result
-PullsHeader g _ old new result = Unit {0}
+PullsHeader g (Segments p) old new result = Unit {0}
+PullsHeader g Ended old new result = Unit {0}
+PullsHeader g Refused old new result = Unit {0}
 
 -- where a reader stands at the start, the call pulls the header of a version 1 record
 abbrev pub PullsOldHeader : {R : Type 0} → Ghosts R → Stage → List ℕ × R → List ℕ × R →
     Result Head ReadError → Type 0
 PullsOldHeader g Start old new result = Pulls g old_header_at old new result
-PullsOldHeader g _ old new result = Unit {0}
+PullsOldHeader g (Segments p) old new result = Unit {0}
+PullsOldHeader g Ended old new result = Unit {0}
+PullsOldHeader g Refused old new result = Unit {0}
 
 -- where a reader stands before a segment, the call pulls it, or the end
 abbrev pub PullsSegment : {R : Type 0} → Ghosts R → Stage → List ℕ × R → List ℕ × R →
     Result (Option (List Event)) ReadError → Type 0
 PullsSegment g (Segments p) old new result = Pulls g (next_closed_chunk_at p) old new result
-PullsSegment g _ old new result = Unit {0}
+PullsSegment g Start old new result = Unit {0}
+PullsSegment g Ended old new result = Unit {0}
+PullsSegment g Refused old new result = Unit {0}
 
 -- a segment that may come next: some well-formed events, and not too many
 pub record IsSegment (p : Progress) (events : List Event) : Type 0 where
@@ -97,9 +108,14 @@ MayCome p events = (p.full ≡ true) × IsSegment p events
 -- a segment that may come where a reader stands
 abbrev pub IsNext : Stage → Option (List Event) → Type 0
 IsNext (Segments p) (Some events) = MayCome p events
-IsNext _ _ = Unit {0}
+IsNext (Segments p) None = Unit {0}
+IsNext Start chunk = Unit {0}
+IsNext Ended chunk = Unit {0}
+IsNext Refused chunk = Unit {0}
 
 -- what a reader keeps of where it stands
 abbrev pub IsSound : Stage → Type 0
 IsSound (Segments p) = (p.header.cfg.m ≤ 52) × (p.number ≤ p.before)
-IsSound _ = Unit {0}
+IsSound Start = Unit {0}
+IsSound Ended = Unit {0}
+IsSound Refused = Unit {0}

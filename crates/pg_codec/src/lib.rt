@@ -28,4 +28,3 @@ pub use stream::{Failed, Sink, Source};
 pub use transfer::put_all;
 pub use watched::Watched;
 pub use writer::{write_end, write_header, write_record, write_segment};
-

@@ -98,7 +98,7 @@ impl RecordReader {
     {
         match mem::replace(&mut self.stage, Stage::Refused) {
             Stage::Start => {}
-            _ => return Err(ReadError::Failed),
+            Stage::Segments(_) | Stage::Ended | Stage::Refused => return Err(ReadError::Failed),
         }
         let header = next_header(alloc, &mut self.buffer, source)?;
         self.stage = behind_header(&header)?;
@@ -122,7 +122,7 @@ impl RecordReader {
     {
         match mem::replace(&mut self.stage, Stage::Refused) {
             Stage::Start => {}
-            _ => return Err(ReadError::Failed),
+            Stage::Segments(_) | Stage::Ended | Stage::Refused => return Err(ReadError::Failed),
         }
         let header = next_old_header(alloc, &mut self.buffer, source)?;
         self.stage = behind_header(&header)?;
@@ -169,7 +169,7 @@ impl RecordReader {
     {
         let progress = match mem::replace(&mut self.stage, Stage::Refused) {
             Stage::Segments(progress) => progress,
-            _ => return Err(ReadError::Failed),
+            Stage::Start | Stage::Ended | Stage::Refused => return Err(ReadError::Failed),
         };
         let chunk = next_closed_chunk(room, &mut self.buffer, source, &progress)?;
         self.stage = behind_chunk(progress, &chunk);

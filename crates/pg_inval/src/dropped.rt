@@ -78,7 +78,7 @@ fn push_invpcid(keys: &mut ArrayVec<DropKey, 9>, p: u16, kind: u8, pcid: u16, la
 
 /// What an event drops on its processor, whose control registers before it are `before` (Intel
 /// SDM, vol. 3, 4.10.4.1).
-pub fn dropped_keys(before: Control, event: &Event) -> ArrayVec<DropKey, 9>
+pub(crate) fn dropped_keys(before: Control, event: &Event) -> ArrayVec<DropKey, 9>
     ensures { result.items ≡ dropped_keys before event.now }
 {
     let mut keys = ArrayVec::new();

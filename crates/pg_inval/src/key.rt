@@ -9,7 +9,7 @@ use pg_event::{StructureKey, TranslationKey, level_shift};
 /// would be used for an address. An entry is dropped by the events of a few of these keys, and an
 /// event has a few of them, so that neither has to be searched for among all others.
 #[derive(Clone, Copy, PartialEq, Eq, Hash, Debug)]
-pub enum DropKey {
+pub(crate) enum DropKey {
     /// All entries that are not global: each paging-structure-cache entry is one.
     NotGlobal {
         p: u16,
@@ -58,7 +58,7 @@ impl Default for DropKey {
 }
 
 /// The events that drop a paging-structure-cache entry of a processor.
-pub fn structure_keys(p: u16, key: StructureKey) -> [DropKey; 3]
+pub(crate) fn structure_keys(p: u16, key: StructureKey) -> [DropKey; 3]
     ensures { result ≡ structure_keys p key }
 {
     [
@@ -69,7 +69,7 @@ pub fn structure_keys(p: u16, key: StructureKey) -> [DropKey; 3]
 }
 
 /// The events that drop a translation of a processor.
-pub fn translation_keys(p: u16, key: TranslationKey) -> ArrayVec<DropKey, 3>
+pub(crate) fn translation_keys(p: u16, key: TranslationKey) -> ArrayVec<DropKey, 3>
     ensures { result.items ≡ translation_keys p key }
 {
     let mut keys = ArrayVec::new();
@@ -85,7 +85,7 @@ pub fn translation_keys(p: u16, key: TranslationKey) -> ArrayVec<DropKey, 3>
 }
 
 /// The key of one paging-structure-cache entry.
-pub fn structure_at(p: u16, key: StructureKey) -> DropKey
+pub(crate) fn structure_at(p: u16, key: StructureKey) -> DropKey
     ensures { result ≡ structure_at p key }
 {
     DropKey::Structure {
@@ -97,7 +97,7 @@ pub fn structure_at(p: u16, key: StructureKey) -> DropKey
 }
 
 /// The key of one translation that is not global.
-pub fn local_at(p: u16, key: TranslationKey) -> DropKey
+pub(crate) fn local_at(p: u16, key: TranslationKey) -> DropKey
     ensures { result ≡ local_at p key }
 {
     DropKey::Local {
@@ -109,7 +109,7 @@ pub fn local_at(p: u16, key: TranslationKey) -> DropKey
 }
 
 /// The key of one global translation.
-pub fn global_at(p: u16, key: TranslationKey) -> DropKey
+pub(crate) fn global_at(p: u16, key: TranslationKey) -> DropKey
     ensures { result ≡ global_at p key }
 {
     DropKey::Global {

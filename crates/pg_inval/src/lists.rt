@@ -38,7 +38,7 @@ fn push_at(
 }
 
 /// Forgets the moments of every key from one on. A key may be left with none.
-pub fn cut_all(by_key: &mut HashMap<DropKey, Timeline<()>>, moment: u32)
+pub(crate) fn cut_all(by_key: &mut HashMap<DropKey, Timeline<()>>, moment: u32)
     ensures { AreCut is_same_key by_key.old.entries by_key.new.entries moment }
 {
     by_key.retain(|_, timeline| {
@@ -49,7 +49,7 @@ pub fn cut_all(by_key: &mut HashMap<DropKey, Timeline<()>>, moment: u32)
 
 /// Adds a moment, which is above all others, at the end of the list of each key. Fails where memory
 /// is refused, and then nothing is added.
-pub fn push_moments(
+pub(crate) fn push_moments(
     by_key: &mut HashMap<DropKey, Timeline<()>>,
     alloc: Global,
     keys: &[DropKey],
@@ -127,7 +127,7 @@ fn below(found: Option<u32>, to: u32) -> Option<u32>
 
 /// The least moment of some keys from one up to, not with, another. Where no moment lies between,
 /// as between levels that were read at once, no list is searched.
-pub fn first_between(
+pub(crate) fn first_between(
     by_key: &HashMap<DropKey, Timeline<()>>,
     keys: &[DropKey],
     from: u32,

@@ -5,7 +5,7 @@ use std::marker::Model;
 
 /// An entry of a paging-structure cache: its table is at a physical address.
 #[derive(Debug, Drop)]
-pub struct CachedStructure(Structure);
+pub(crate) struct CachedStructure(Structure);
 
 impl Model for CachedStructure {
     ghost use Rattle.std.specs.Prelude.{◌<◌, ◌^◌};
@@ -19,14 +19,14 @@ impl Model for CachedStructure {
 }
 
 impl CachedStructure {
-    pub fn new(structure: Structure) -> CachedStructure
+    pub(crate) fn new(structure: Structure) -> CachedStructure
         requires { structure.table < 2 ^ 52 }
         ensures { result ≡ structure }
     {
         CachedStructure(structure)
     }
 
-    pub fn get(&self) -> Structure
+    pub(crate) fn get(&self) -> Structure
         ensures value { result ≡ self.now }
         ensures within { result.table < 2 ^ 52 }
     {
@@ -36,7 +36,7 @@ impl CachedStructure {
 
 /// An entry of the TLB: its page is at a physical address, and of at most 1 GByte.
 #[derive(Debug, Drop)]
-pub struct CachedTranslation(Translation);
+pub(crate) struct CachedTranslation(Translation);
 
 impl Model for CachedTranslation {
     ghost use Rattle.std.specs.Prelude.{◌<◌, ◌≤◌, ◌^◌};
@@ -50,7 +50,7 @@ impl Model for CachedTranslation {
 }
 
 impl CachedTranslation {
-    pub fn new(translation: Translation) -> CachedTranslation
+    pub(crate) fn new(translation: Translation) -> CachedTranslation
         requires size { translation.key.shift ≤ 30 }
         requires within { translation.frame < 2 ^ 52 }
         ensures { result ≡ translation }
@@ -58,7 +58,7 @@ impl CachedTranslation {
         CachedTranslation(translation)
     }
 
-    pub fn get(&self) -> Translation
+    pub(crate) fn get(&self) -> Translation
         ensures value { result ≡ self.now }
         ensures size { result.key.shift ≤ 30 }
         ensures within { result.frame < 2 ^ 52 }

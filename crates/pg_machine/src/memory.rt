@@ -7,7 +7,7 @@ use std::marker::Model;
 
 /// The words that a run has written, oldest first. All others are 0.
 #[derive(Debug, Drop)]
-pub struct Memory {
+pub(crate) struct Memory {
     writes: Vec<(u64, u64)>,
 }
 
@@ -20,7 +20,7 @@ impl Model for Memory {
 }
 
 impl Memory {
-    pub fn new(alloc: Global) -> Memory
+    pub(crate) fn new(alloc: Global) -> Memory
         ensures { result ≡ [] }
     {
         Memory {
@@ -28,7 +28,7 @@ impl Memory {
         }
     }
 
-    pub fn read(&self, address: u64) -> u64
+    pub(crate) fn read(&self, address: u64) -> u64
         ensures { result ≡ value_at self.now address }
     {
         self.writes.iter().fold(
@@ -38,13 +38,13 @@ impl Memory {
     }
 
     /// The paging entry at an address.
-    pub fn entry(&self, address: u64) -> Entry
+    pub(crate) fn entry(&self, address: u64) -> Entry
         ensures { result.0 ≡ value_at self.now address }
     {
         Entry(self.read(address))
     }
 
-    pub fn write(&mut self, address: u64, value: u64) -> Result<(), AllocError>
+    pub(crate) fn write(&mut self, address: u64, value: u64) -> Result<(), AllocError>
         ensures ok { OnOk result (self.new ≡ self.old ++ (address, value) ∷ []) }
         ensures err { OnErr result (self.new ≡ self.old) }
     {

@@ -22,7 +22,7 @@ use std::marker::Model;
 
 /// A logical processor: its control registers and its caches, newest entry first.
 #[derive(Debug, Drop)]
-pub struct Processor {
+pub(crate) struct Processor {
     control: Control,
     structures: Vec<CachedStructure>,
     translations: Vec<CachedTranslation>,
@@ -45,7 +45,7 @@ impl Model for Processor {
 
 impl Processor {
     /// The processor at the start of a run, by its CR3 and whether global pages are on.
-    pub fn started(alloc: Global, m: u8, start: (u64, bool)) -> Processor
+    pub(crate) fn started(alloc: Global, m: u8, start: (u64, bool)) -> Processor
         requires width { (36 ≤ m) × (m ≤ 52) }
         ensures { result ≡ started_processor m start }
     {
@@ -56,7 +56,7 @@ impl Processor {
         }
     }
 
-    pub fn control(&self) -> Control
+    pub(crate) fn control(&self) -> Control
         ensures value { result ≡ self.now.control }
         ensures within { result.root < 2 ^ 52 }
     {
@@ -86,7 +86,7 @@ impl Processor {
     /// Whether a walk for a linear address may read this table at this level: at level 4 the root,
     /// below it the table of a paging-structure-cache entry of the current PCID (Intel SDM, vol. 3,
     /// 4.10.3.2).
-    pub fn may_read(&self, la: u64, level: Level, from: Parent) -> bool
+    pub(crate) fn may_read(&self, la: u64, level: Level, from: Parent) -> bool
         ensures value { result ≡ may_read self.now la level from }
         ensures within { IsTrue result → from.table < 2 ^ 52 }
     {
@@ -122,7 +122,7 @@ impl Processor {
         }
     }
 
-    pub fn add_structure(&mut self, structure: Structure) -> Result<(), AllocError>
+    pub(crate) fn add_structure(&mut self, structure: Structure) -> Result<(), AllocError>
         requires { structure.table < 2 ^ 52 }
         ensures ok { OnOk result
             (self.new ≡ record self.old { structures = structure ∷ self.old.structures }) }
@@ -132,7 +132,7 @@ impl Processor {
         Ok(())
     }
 
-    pub fn add_translation(&mut self, translation: Translation) -> Result<(), AllocError>
+    pub(crate) fn add_translation(&mut self, translation: Translation) -> Result<(), AllocError>
         requires size { translation.key.shift ≤ 30 }
         requires within { translation.frame < 2 ^ 52 }
         ensures ok { OnOk result
@@ -144,7 +144,7 @@ impl Processor {
         Ok(())
     }
 
-    pub fn has_member(&self, member: &Member) -> bool
+    pub(crate) fn has_member(&self, member: &Member) -> bool
         ensures { result ≡ has_member self.now member.now }
     {
         match member {
@@ -153,7 +153,7 @@ impl Processor {
         }
     }
 
-    pub fn drop_member(&mut self, member: &Member)
+    pub(crate) fn drop_member(&mut self, member: &Member)
         ensures { self.new ≡ without_member self.old member.now }
     {
         match *member {
@@ -170,7 +170,7 @@ impl Processor {
 
     /// Whether an access of this processor may come to this now. A translation that may be used
     /// gives an answer or a fault by rights, an entry that the walk may read the other faults.
-    pub fn has_outcome(
+    pub(crate) fn has_outcome(
         &self,
         header: &Header,
         memory: &Memory,
@@ -210,7 +210,7 @@ impl Processor {
 
     /// Whether some entry that a walk of this processor for a linear address may read now is what
     /// is sought.
-    pub fn finds(&self, cfg: Cfg, memory: &Memory, la: u64, sought: Sought) -> bool
+    pub(crate) fn finds(&self, cfg: Cfg, memory: &Memory, la: u64, sought: Sought) -> bool
         requires width { (36 ≤ cfg.m) × (cfg.m ≤ 52) }
         ensures { result ≡ finds cfg memory.now self.now la sought }
     {
@@ -229,7 +229,7 @@ impl Processor {
     }
 
     /// The processor after an event of its own.
-    pub fn take(&mut self, m: u8, event: &Event)
+    pub(crate) fn take(&mut self, m: u8, event: &Event)
         requires width { (12 ≤ m) × (m ≤ 52) }
         ensures { self.new ≡ processor_after m event.now self.old }
     {

@@ -8,7 +8,7 @@ use pg_event::{Parent, Want, below, entry_address, is_wanted, may_dirty, structu
 
 /// What an event needs of an entry that a walk may read now.
 #[derive(Clone, Copy, Drop)]
-pub enum Sought {
+pub(crate) enum Sought {
     /// It is what a fault wants: absent, or with a reserved bit set.
     Entry(Want),
     /// It is the one that an assist names for an access: present with no reserved bit and, where
@@ -21,7 +21,7 @@ pub enum Sought {
 }
 
 /// Whether an entry that a structure leads a walk of this PCID to is what is sought.
-pub fn leads_to_sought(
+pub(crate) fn leads_to_sought(
     cfg: Cfg,
     memory: &Memory,
     la: u64,
@@ -54,7 +54,7 @@ fn is_leading(level: Level) -> bool
 }
 
 /// Whether the entry that a level has for a linear address in a table is what is sought.
-pub fn is_sought(
+pub(crate) fn is_sought(
     cfg: Cfg,
     memory: &Memory,
     la: u64,

@@ -16,7 +16,7 @@ use Rattle.pg_plan.specs.declared.request.Command.TheVariants.{Check, Run, RunOf
 use Rattle.pg_plan.specs.declared.request.Command.TheVariants.{Upgrade}
 use Rattle.pg_plan.specs.declared.request.Plan.{Plan}
 use Rattle.pg_plan.specs.declared.request.Usage.{Usage}
-use Rattle.pg_plan.specs.declared.request.Usage.TheVariants.{Help, Version, Fault}
+use Rattle.pg_plan.specs.declared.request.Usage.TheVariants.{Help, Version, Fault, Memory}
 pub use Rattle.clap.specs.Walk.{texts}
 
 abbrev pub command_word : Command → List ℕ
@@ -154,12 +154,18 @@ NamesVersion words = IsAmong DisplayVersion (faults words)
 
 abbrev pub IsHelp : Usage → Type 0
 IsHelp (Help text) = Unit {0}
-IsHelp _ = ⊥
+IsHelp (Version text) = ⊥
+IsHelp (Fault text) = ⊥
+IsHelp Memory = ⊥
 
 abbrev pub IsVersion : Usage → Type 0
 IsVersion (Version text) = Unit {0}
-IsVersion _ = ⊥
+IsVersion (Help text) = ⊥
+IsVersion (Fault text) = ⊥
+IsVersion Memory = ⊥
 
 abbrev pub IsFault : Usage → Type 0
 IsFault (Fault text) = Unit {0}
-IsFault _ = ⊥
+IsFault (Help text) = ⊥
+IsFault (Version text) = ⊥
+IsFault Memory = ⊥

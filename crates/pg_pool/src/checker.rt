@@ -12,14 +12,14 @@ use std::alloc::Global;
 /// What a checker gives back: its seat, the verdicts of the segments that it took, and whether it
 /// was refused memory for a further one.
 #[derive(Drop)]
-pub struct Done {
+pub(crate) struct Done {
     pub seat: Seat,
     pub verdicts: Vec<SegmentVerdict>,
     pub refused: bool,
 }
 
 impl Done {
-    pub fn into_seat(self) -> Seat
+    pub(crate) fn into_seat(self) -> Seat
         ensures { result ≡ self.seat }
     {
         let Done {
@@ -33,7 +33,7 @@ impl Done {
 
 /// Takes segments and judges them, until none is found or memory is refused. Room for a verdict
 /// comes before its segment is taken.
-pub fn work<J: Judge, G: Gate>(alloc: Global, judge: &J, gate: &G, mut seat: Seat) -> Done
+pub(crate) fn work<J: Judge, G: Gate>(alloc: Global, judge: &J, gate: &G, mut seat: Seat) -> Done
     requires fresh { IsFresh seat }
     requires round { seat.round ≡ J.round judge.now }
     ensures { IsDone (J.finds judge.now) seat.round result }

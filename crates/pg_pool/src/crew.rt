@@ -15,7 +15,7 @@ use std::thread;
 use std::thread::{Promise, Threads};
 
 /// What a checker's thread promises of what it gives back.
-pub struct Promised<'a, J> {
+pub(crate) struct Promised<'a, J> {
     pub judge: &'a J,
     pub round: Round,
 }
@@ -62,7 +62,7 @@ fn settled(done: Vec<Done>, asked: usize) -> Result<Vec<Done>, PoolError>
 
 /// Lets each seat's checker work in a thread of its own. All that were started are joined before
 /// it answers, also where a thread was refused.
-pub fn run_checkers<R: Threads + Wait + Sync, J: Judge, G: Gate>(
+pub(crate) fn run_checkers<R: Threads + Wait + Sync, J: Judge, G: Gate>(
     rt: &R,
     alloc: Global,
     judge: &J,

@@ -7,7 +7,7 @@ use crate::round::Round;
 use pg_check::{Memo, SegmentVerdict};
 
 /// What judges segments by their numbers, for many threads at once.
-pub trait Judge: Sync {
+pub(crate) trait Judge: Sync {
     ghost use Rattle.pg_chain.specs.declared.history.Past.{Past};
     ghost use Rattle.pg_pool.specs.declared.round.Round.{Round};
 

@@ -59,7 +59,7 @@ fn gather<J: Judge, G: Gate>(
 
 /// The verdicts of a round's segments, in order, by so many checkers. The calling thread judges
 /// what they left, as the worker after the last of them.
-pub fn judge_round<R: Threads + Wait + Sync, J: Judge, G: Gate>(
+pub(crate) fn judge_round<R: Threads + Wait + Sync, J: Judge, G: Gate>(
     rt: &R,
     alloc: Global,
     judge: &J,

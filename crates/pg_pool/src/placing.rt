@@ -20,7 +20,7 @@ fn place_all(verdicts: &mut [SegmentVerdict], first: u32, more: &[SegmentVerdict
 }
 
 /// Puts the verdicts of all checkers to the places of their numbers.
-pub fn place_done(verdicts: &mut [SegmentVerdict], first: u32, done: &[Done])
+pub(crate) fn place_done(verdicts: &mut [SegmentVerdict], first: u32, done: &[Done])
     requires { All (λ d. All (λ v. IsIn (round first (first + length verdicts.old)) v.number)
         d.verdicts.items) done.now }
     ensures { verdicts.new ≡ placed first verdicts.old (all_verdicts done.now) }
@@ -31,7 +31,7 @@ pub fn place_done(verdicts: &mut [SegmentVerdict], first: u32, done: &[Done])
 }
 
 /// Judges the segments that were left, and puts their verdicts to their places.
-pub fn judge_left<J: Judge, G: Gate>(
+pub(crate) fn judge_left<J: Judge, G: Gate>(
     judge: &J,
     gate: &G,
     worker: u32,

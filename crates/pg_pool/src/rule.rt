@@ -5,7 +5,7 @@ use crossbeam_deque::{Pass, Stealer, Worker};
 use std::alloc::Global;
 
 /// What is left together with what all seats took is what was pushed.
-pub struct Kept;
+pub(crate) struct Kept;
 
 impl Protocol<u32, Hand> for Kept {
     ghost use Rattle.std.specs.Prelude.{true, false, []};
@@ -19,7 +19,7 @@ impl Protocol<u32, Hand> for Kept {
 }
 
 /// The numbers join those that were pushed.
-pub struct Push;
+pub(crate) struct Push;
 
 impl Outcome<u32, Hand> for Push {
     ghost use Rattle.pg_pool.specs.Shares.{Pushed};
@@ -28,7 +28,7 @@ impl Outcome<u32, Hand> for Push {
 }
 
 /// The numbers join those that the seat took.
-pub struct Take;
+pub(crate) struct Take;
 
 impl Outcome<u32, Hand> for Take {
     ghost use Rattle.pg_pool.specs.Shares.{Took};
@@ -37,7 +37,7 @@ impl Outcome<u32, Hand> for Take {
 }
 
 /// Another seat comes to the deque, which has taken nothing.
-pub struct Cut;
+pub(crate) struct Cut;
 
 impl Split<Hand> for Cut {
     ghost use Rattle.std.specs.Prelude.{false, []};

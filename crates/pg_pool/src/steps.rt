@@ -12,7 +12,7 @@ use std::alloc::{AllocError, Global};
 const TRIES: u32 = 64;
 
 /// An empty deque, whose owner takes at the front as the others do.
-pub fn new_deque(alloc: Global, capacity: usize) -> Result<Deque, AllocError>
+pub(crate) fn new_deque(alloc: Global, capacity: usize) -> Result<Deque, AllocError>
     ensures fifo { IfOk result (λ deque. worker_flavor deque ≡ 0) }
     ensures empty { IfOk result (λ deque. worker_view deque ≡ hand true [] []) }
 {
@@ -20,7 +20,7 @@ pub fn new_deque(alloc: Global, capacity: usize) -> Result<Deque, AllocError>
 }
 
 /// The owner pushes a number, while no other seat reaches its deque.
-pub fn push(deque: &mut Deque, number: u32) -> Result<(), AllocError>
+pub(crate) fn push(deque: &mut Deque, number: u32) -> Result<(), AllocError>
     requires { (worker_view deque.old).alone ≡ true }
     ensures fifo { worker_flavor deque.new ≡ worker_flavor deque.old }
     ensures pushed { OnOk result
@@ -33,7 +33,7 @@ pub fn push(deque: &mut Deque, number: u32) -> Result<(), AllocError>
 }
 
 /// The owner takes the number at the front.
-pub fn pop(deque: &mut Deque) -> Option<u32>
+pub(crate) fn pop(deque: &mut Deque) -> Option<u32>
     requires { worker_flavor deque.old ≡ 0 }
     ensures same { (worker_flavor deque.new ≡ worker_flavor deque.old)
         × (worker_deque deque.new ≡ worker_deque deque.old) }
@@ -44,7 +44,7 @@ pub fn pop(deque: &mut Deque) -> Option<u32>
 }
 
 /// A token for another seat at this deque.
-pub fn cut(deque: &mut Deque) -> Token
+pub(crate) fn cut(deque: &mut Deque) -> Token
     ensures same { (worker_flavor deque.new ≡ worker_flavor deque.old)
         × (worker_deque deque.new ≡ worker_deque deque.old) }
     ensures owner { let old = worker_view deque.old in
@@ -56,7 +56,7 @@ pub fn cut(deque: &mut Deque) -> Token
 }
 
 /// Takes the number at the front of another seat's deque, in so many tries.
-pub fn steal(reach: &Reach, token: &mut Token) -> Option<u32>
+pub(crate) fn steal(reach: &Reach, token: &mut Token) -> Option<u32>
     requires { IsPassOf (stealer_deque reach.now) token.old }
     ensures same { IsPassOf (stealer_deque reach.now) token.new }
     ensures took { MatchOption result (view token.new ≡ view token.old)

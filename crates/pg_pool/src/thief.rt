@@ -8,7 +8,7 @@ use crate::steps::steal;
 
 /// A deque of another checker, with this seat's token there.
 #[derive(Drop)]
-pub struct Thief {
+pub(crate) struct Thief {
     pub reach: Reach,
     pub token: Token,
     ghost fits: { IsPassOf (stealer_deque reach) token },
@@ -16,7 +16,7 @@ pub struct Thief {
 
 impl Thief {
     /// Takes the number at the front, if the tries that it has are enough.
-    pub fn steal(&mut self) -> Option<u32>
+    pub(crate) fn steal(&mut self) -> Option<u32>
         ensures same { stealer_deque self.new.reach ≡ stealer_deque self.old.reach }
         ensures took { MatchOption result (view self.new.token ≡ view self.old.token)
             (λ n. Took (view self.old.token) (n ∷ []) (view self.new.token)) }

@@ -7,7 +7,7 @@ use pg_machine::Step;
 /// A fill of a cache by a walk, and the moment that it is taken at: just before the event of that
 /// number.
 #[derive(Clone, Copy, PartialEq, Eq, Debug)]
-pub struct Fill {
+pub(crate) struct Fill {
     /// The number of the event that it comes just before.
     pub moment: u32,
     /// Where the walk stands: it fills what it reads next.
@@ -17,7 +17,7 @@ pub struct Fill {
 }
 
 /// The step of a fill.
-pub fn step_of(fill: &Fill) -> Step
+pub(crate) fn step_of(fill: &Fill) -> Step
     ensures { result ≡ step_of fill.now }
 {
     if fill.is_leaf {

@@ -11,7 +11,7 @@ use pg_machine::Step;
 use std::alloc::{AllocError, Global};
 
 /// Puts fills in the order of their moments; those of one moment keep their order.
-pub fn sort_fills(fills: &mut Vec<Fill>) -> Result<(), AllocError>
+pub(crate) fn sort_fills(fills: &mut Vec<Fill>) -> Result<(), AllocError>
     ensures order { OnOk result (IsNonDecreasingBy (λ (f : Fill). f.moment) fills.new.items) }
     ensures same { (w : ℕ) → fills_at w fills.new.items ≡ fills_at w fills.old.items }
 {
@@ -43,7 +43,11 @@ fn push_moment(
 }
 
 /// Events in their order, and just before each the fills of its moment.
-pub fn place(alloc: Global, fills: &[Fill], events: &[Event]) -> Result<Vec<Step>, AllocError>
+pub(crate) fn place(
+    alloc: Global,
+    fills: &[Fill],
+    events: &[Event],
+) -> Result<Vec<Step>, AllocError>
     requires order { IsNonDecreasingBy (λ (f : Fill). f.moment) fills.now }
     requires count { length events.now < 2 ^ 32 }
     ensures { IfOk result (λ steps. steps.items ≡ steps_from fills.now 0 events.now) }

@@ -14,7 +14,7 @@ use std::alloc::{AllocError, Global};
 /// entry alone.
 ///
 /// It fails only where memory is refused.
-pub fn plan_run(alloc: Global, history: &History) -> Result<Vec<Step>, AllocError>
+pub(crate) fn plan_run(alloc: Global, history: &History) -> Result<Vec<Step>, AllocError>
     requires { Accepted history.now.head history.now.events }
     ensures { IfOk result (λ steps. BuildsRun history.now.head history.now.events steps.items) }
 {

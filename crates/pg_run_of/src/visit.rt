@@ -11,7 +11,7 @@ use pg_machine::Step;
 /// A walk of processor `p` for a linear address, as far as it has come: the level that it reads
 /// next, and the table that it reads it in.
 #[derive(Clone, Copy, PartialEq, Eq, Debug)]
-pub struct Visit {
+pub(crate) struct Visit {
     pub p: u16,
     pub la: u64,
     pub level: Level,
@@ -19,7 +19,7 @@ pub struct Visit {
 }
 
 /// The physical address of the entry that a walk reads next.
-pub fn next_address(visit: Visit) -> u64
+pub(crate) fn next_address(visit: Visit) -> u64
     requires { visit.from.table < 2 ^ 52 }
     ensures { result ≡ entry_address visit.from.table visit.level visit.la }
 {
@@ -27,7 +27,7 @@ pub fn next_address(visit: Visit) -> u64
 }
 
 /// The step that fills the table of a level.
-pub fn table_fill(visit: Visit) -> Step
+pub(crate) fn table_fill(visit: Visit) -> Step
     ensures { result ≡ table_fill visit.p visit.la visit.level visit.from }
 {
     let Visit { p, la, level, from } = visit;
@@ -40,7 +40,7 @@ pub fn table_fill(visit: Visit) -> Step
 }
 
 /// The walk one level below, by the value that it has read.
-pub fn descend(m: u8, visit: Visit, value: u64) -> Visit
+pub(crate) fn descend(m: u8, visit: Visit, value: u64) -> Visit
     requires width { (12 ≤ m) × (m ≤ 52) }
     ensures address { (result.p ≡ visit.p) × (result.la ≡ visit.la) }
     ensures level { result.level ≡ below visit.level }

@@ -116,7 +116,7 @@ fn push_fills(fills: &mut Vec<Fill>, history: &History, event: &Event) -> Result
 }
 
 /// The fills of all events, in the order of the events.
-pub fn fills_of(alloc: Global, history: &History) -> Result<Vec<Fill>, AllocError>
+pub(crate) fn fills_of(alloc: Global, history: &History) -> Result<Vec<Fill>, AllocError>
     ensures fills { IfOk result
         (λ fills. fills.items ≡ fills_of history.now.head history.now.events) }
     ensures few { IfOk result (λ fills. length fills.items ≤ 4 * length history.now.events) }

@@ -70,7 +70,7 @@ fn bare_places(places: &mut [Place], from: usize, to: usize)
 
 impl Page {
     /// A page with nothing in it.
-    pub fn new(alloc: Global, level: Level, prefix: u64) -> Result<Page, AllocError>
+    pub(crate) fn new(alloc: Global, level: Level, prefix: u64) -> Result<Page, AllocError>
         requires { prefix < 2 ^ 40 }
         ensures { IfOk result (λ page. page ≡ empty_page level prefix) }
     {
@@ -86,7 +86,7 @@ impl Page {
     }
 
     /// What stands at an index.
-    pub fn read(&self, index: usize, probes: &mut Probes) -> Place
+    pub(crate) fn read(&self, index: usize, probes: &mut Probes) -> Place
         requires { index < 512 }
         ensures value { result ≡ slice_index_or self.now.places index no_place }
         ensures probes { (probes.old ≤ probes.new) × (probes.new ≤ probes.old + 1) }
@@ -96,7 +96,7 @@ impl Page {
     }
 
     /// Keeps an entry at an index.
-    pub fn keep(&mut self, index: usize, kept: &Kept)
+    pub(crate) fn keep(&mut self, index: usize, kept: &Kept)
         requires { index < 512 }
         ensures full { length self.old.places ≡ 512 }
         ensures kept { let place = slice_index_or self.old.places index no_place in
@@ -114,7 +114,7 @@ impl Page {
     }
 
     /// Lets a page be reached through an index.
-    pub fn link(&mut self, index: usize, below: usize)
+    pub(crate) fn link(&mut self, index: usize, below: usize)
         requires { index < 512 }
         ensures full { length self.old.places ≡ 512 }
         ensures linked { let place = slice_index_or self.old.places index no_place in
@@ -128,7 +128,7 @@ impl Page {
     }
 
     /// Gives up all tables.
-    pub fn bare(&mut self)
+    pub(crate) fn bare(&mut self)
         ensures { IsBarePage self.old self.new }
     {
         bare_places(&mut self.places, self.first, self.end);

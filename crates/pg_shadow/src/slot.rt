@@ -45,7 +45,7 @@ impl Slot {
     };
 
     /// Keeps an entry, in place of what there was of its sort; or empties the slot.
-    pub fn keep(&mut self, kept: &Kept)
+    pub(crate) fn keep(&mut self, kept: &Kept)
         ensures { self.new ≡ with_kept kept.now self.old }
     {
         match *kept {
@@ -56,7 +56,7 @@ impl Slot {
     }
 
     /// Gives up the table.
-    pub fn bare(&mut self)
+    pub(crate) fn bare(&mut self)
         ensures { self.new ≡ bare self.old }
     {
         self.structure = None;

@@ -56,7 +56,7 @@ fn index_of(number: u64) -> usize
 
 impl Space {
     /// Nothing.
-    pub fn new(alloc: Global) -> Space
+    pub(crate) fn new(alloc: Global) -> Space
         ensures { result ≡ nothing }
     {
         Space {
@@ -80,7 +80,7 @@ impl Space {
     }
 
     /// The slots that a walk for a linear address meets.
-    pub fn path(&self, la: u64, probes: &mut Probes) -> Path
+    pub(crate) fn path(&self, la: u64, probes: &mut Probes) -> Path
         ensures value { result ≡ path_in self.now la }
         ensures probes { (probes.old ≤ probes.new) × (probes.new ≤ probes.old + 4) }
     {
@@ -208,7 +208,7 @@ impl Space {
 
     /// Keeps an entry in a slot. Fails where memory is refused, and then nothing is kept; none is
     /// taken where the slot has an entry.
-    pub fn keep(&mut self, level: Level, number: u64, kept: &Kept) -> Result<(), AllocError>
+    pub(crate) fn keep(&mut self, level: Level, number: u64, kept: &Kept) -> Result<(), AllocError>
         requires { number < 2 ^ (48 - level_shift level) }
         ensures ok { OnOk result (Keeps self.old self.new level number kept.now) }
         ensures refused { OnErr result (slot_in self.old level number ≡ no_slot) }
@@ -237,7 +237,7 @@ impl Space {
     }
 
     /// Gives up what stands on the path of a linear address.
-    pub fn forget(&mut self, la: u64)
+    pub(crate) fn forget(&mut self, la: u64)
         ensures { IsForgotten la self.old self.new }
     {
         self.empty(Level::Four, bits_from(39, la));
@@ -247,14 +247,14 @@ impl Space {
     }
 
     /// Gives up all tables.
-    pub fn bare(&mut self)
+    pub(crate) fn bare(&mut self)
         ensures { IsBared self.old self.new }
     {
         bare_pages(&mut self.pages);
     }
 
     /// Gives up everything, and its memory.
-    pub fn clear(&mut self)
+    pub(crate) fn clear(&mut self)
         ensures { self.new ≡ nothing }
     {
         self.pages = Vec::new(self.alloc);

@@ -62,7 +62,7 @@ fn unchanged(
     ensures { IfOk result
         (λ by_processor. by_processor.items ≡ replicate (length processors.now) []) }
 {
-    let mut by_processor = Vec::new(alloc);
+    let mut by_processor = Vec::with_capacity(alloc, processors.len())?;
     for _ in processors {
         by_processor.push(Timeline::new(alloc))?;
     }

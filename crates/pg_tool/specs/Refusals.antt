@@ -3,7 +3,7 @@ use Rattle.std.specs.Prelude.{◌≡◌, ◌⊎◌, ℕ, List, [], ◌++◌, Res
 use Rattle.pg_event.specs.declared.refusal.Refusal.{Refusal}
 use Rattle.pg_event.specs.declared.refusal.Refusal.TheVariants as refusals
 use Rattle.pg_report.specs.declared.error.AuditError.{AuditError}
-use Rattle.pg_report.specs.declared.error.AuditError.TheVariants.{Refused, Device, Memory}
+use Rattle.pg_report.specs.declared.error.AuditError.TheVariants.{Refused, Device, Memory, Thread, Checkers}
 use Rattle.pg_report.specs.Changes.{Change, Fails, Works, Adds, AddsSome, AddsNothing}
 use Rattle.pg_report.specs.Numbers.{rule_number, error_number, error_name}
 
@@ -16,7 +16,19 @@ refusal_text number name =
 abbrev pub place_text : AuditError → List ℕ
 place_text (Refused (refusals.Malformed event rule)) =
     (codes " event " ++ decimal event) ++ (codes " rule " ++ decimal (rule_number rule))
-place_text _ = []
+place_text (Refused refusals.Magic) = []
+place_text (Refused refusals.Version) = []
+place_text (Refused refusals.HeaderField) = []
+place_text (Refused refusals.SegmentNumber) = []
+place_text (Refused refusals.SegmentCount) = []
+place_text (Refused refusals.Tag) = []
+place_text (Refused refusals.Truncated) = []
+place_text (Refused refusals.Total) = []
+place_text (Refused refusals.Trailing) = []
+place_text Device = []
+place_text Memory = []
+place_text Thread = []
+place_text Checkers = []
 
 -- the line of an audit that came to no verdict
 abbrev pub refusal_line : AuditError → List ℕ

@@ -36,7 +36,21 @@ fn put_place<W: Sink>(errors: &mut W, error: AuditError) -> Result<(), Failed>
             put_number(errors, b" event ", event)?;
             put_number(errors, b" rule ", rule_number(rule) as u64)
         }
-        _ => Ok(()),
+        AuditError::Refused(
+            Refusal::Magic
+            | Refusal::Version
+            | Refusal::HeaderField
+            | Refusal::SegmentNumber
+            | Refusal::SegmentCount
+            | Refusal::Tag
+            | Refusal::Truncated
+            | Refusal::Total
+            | Refusal::Trailing,
+        )
+        | AuditError::Device
+        | AuditError::Memory
+        | AuditError::Thread
+        | AuditError::Checkers => Ok(()),
     }
 }
 
