@@ -1,5 +1,5 @@
 //! The events of a record, read from its bytes.
-use crate::past::{Control, Processor, Record};
+use crate::past::{Control, Past, Processor};
 use std::io::{ErrorKind, Read};
 
 /// Bytes of the input that are held at a time.
@@ -88,25 +88,53 @@ impl Flags {
     pub fn says_dirty(self) -> bool {
         self.0 & 16 != 0
     }
+    /// A number below 16 for what is done and by whom.
+    pub fn kind_of_access(self) -> u8 {
+        self.0 & 15
+    }
+
+    fn may_be_of(self, kind: Kind) -> bool {
+        let may_say_dirty = kind == Kind::Assist && self.is_write();
+        self.0 & 3 != 3 && self.0 >> 5 == 0 && (may_say_dirty || !self.says_dirty())
+    }
 }
 
-/// An answer, an error code, or for an assist the address of the entry that it changes.
-#[derive(Clone, Copy)]
-pub enum Outcome {
-    Page(u64),
-    Fault(u16),
-    Assist(u64),
+#[derive(Clone, Copy, PartialEq, Eq)]
+pub enum Kind {
+    Answer,
+    Fault,
+    Assist,
 }
 
 /// What has to be proved: an access or an assist.
 pub struct Claim {
     pub number: u32,
+    /// The place of the processor's control registers at the claim.
+    pub control: u32,
+    pub linear: u64,
+    /// The answer, the error code, or for an assist the address of the entry that it changes.
+    pub value: u64,
+    /// Of the levels that were read; behind them 0.
+    pub moments: [u32; 4],
     pub processor: u16,
     pub flags: Flags,
+    pub kind: Kind,
+    /// How many levels were read.
     pub count: u8,
-    pub linear: u64,
-    pub outcome: Outcome,
-    pub moments: [u32; 4],
+}
+
+impl Claim {
+    #[inline]
+    pub fn last_moment(&self) -> u32 {
+        self.moments[usize::from(self.count - 1)]
+    }
+
+    /// Whether the moments do not decrease, nor pass the claim itself.
+    #[inline]
+    pub fn is_in_order(&self) -> bool {
+        let moments = &self.moments[..usize::from(self.count)];
+        moments.is_sorted() && self.last_moment() <= self.number
+    }
 }
 
 pub enum Event {
@@ -177,21 +205,22 @@ fn take_header(left: &mut &[u8]) -> Taken<Header> {
 }
 
 /// The control registers of a processor at the start.
-fn take_start(left: &mut &[u8], header: &Header) -> Taken<Control> {
+fn take_start(left: &mut &[u8], header: &Header, processor: u16) -> Taken<Control> {
     let cr3 = take_u64(left)?;
     check(cr3 >> header.address_bits == 0, HEADER_FIELD)?;
-    Ok(Control::loaded(header, cr3, take_bit(left, HEADER_FIELD)?))
+    let global = take_bit(left, HEADER_FIELD)?;
+    Ok(Control::loaded(header, processor, cr3, global))
 }
 
 #[inline]
 fn take_claim(left: &mut &[u8], is_assist: bool, number: u32, processor: u16) -> Taken<Claim> {
     let (flags, linear) = (Flags(take_u8(left)?), take_u64(left)?);
-    let outcome = if is_assist {
-        Outcome::Assist(take_u64(left)?)
+    let (kind, value) = if is_assist {
+        (Kind::Assist, take_u64(left)?)
     } else if take_bit(left, TAG)? {
-        Outcome::Fault(take_u16(left)?)
+        (Kind::Fault, u64::from(take_u16(left)?))
     } else {
-        Outcome::Page(take_u64(left)?)
+        (Kind::Answer, take_u64(left)?)
     };
     let count = take_u8(left)?;
     check((1..=4).contains(&count), TAG)?;
@@ -201,12 +230,14 @@ fn take_claim(left: &mut &[u8], is_assist: bool, number: u32, processor: u16) ->
     }
     Ok(Claim {
         number,
+        control: 0,
+        linear,
+        value,
+        moments,
         processor,
         flags,
+        kind,
         count,
-        linear,
-        outcome,
-        moments,
     })
 }
 
@@ -256,44 +287,45 @@ fn take_event(left: &mut &[u8], header: &Header, number: u32) -> Taken<(u16, Eve
 #[inline]
 fn broken_rule(header: &Header, event: &Event) -> u8 {
     let is_word = |address: u64| address % 8 == 0 && address >> header.address_bits == 0;
-    let is_canonical = |linear: u64| linear >> 47 == 0 || linear >> 47 == 0x1_ffff;
     match *event {
         Event::Write { address, .. } if !is_word(address) => 2,
-        Event::Claim(Claim {
-            outcome: Outcome::Assist(entry),
-            ..
-        }) if !is_word(entry) => 2,
+        Event::Claim(ref claim) if claim.kind == Kind::Assist && !is_word(claim.value) => 2,
         Event::Claim(Claim { linear, .. }) | Event::Invlpg { linear } if !is_canonical(linear) => 3,
-        Event::Invpcid {
-            kind: 0, linear, ..
-        } if !is_canonical(linear) => 3,
+        Event::Invpcid { kind: 0, linear, .. } if !is_canonical(linear) => 3,
         Event::MovCr3 { operand } if bits(operand, header.address_bits, 63) != 0 => 4,
         Event::Invpcid { kind, pcid, .. } if kind > 3 || pcid > 4095 => 5,
         Event::Invpcid { kind, pcid, .. } if kind > 1 && pcid != 0 => 5,
         Event::Invpcid { kind, linear, .. } if kind > 0 && linear != 0 => 5,
-        Event::Claim(Claim { flags, .. }) if flags.0 & 3 == 3 || flags.0 >> 5 != 0 => 6,
-        Event::Claim(Claim { flags, .. }) if flags.says_dirty() && !flags.is_write() => 6,
-        Event::Claim(Claim {
-            outcome: Outcome::Assist(_),
-            ..
-        }) => 0,
-        Event::Claim(Claim { flags, .. }) if flags.says_dirty() => 6,
+        Event::Claim(Claim { flags, kind, .. }) if !flags.may_be_of(kind) => 6,
         _ => 0,
     }
 }
 
+fn is_canonical(linear: u64) -> bool {
+    linear >> 47 == 0 || linear >> 47 == 0x1_ffff
+}
+
 /// Hands out the parts of a record from blocks of its bytes.
 struct Source<Input> {
-    pub input: Input,
-    pub block: Vec<u8>,
-    pub start: usize,
-    pub end: usize,
+    input: Input,
+    block: Vec<u8>,
+    start: usize,
+    end: usize,
     /// What is refused where the bytes end, once they have.
-    pub ended: Option<Refusal>,
+    ended: Option<Refusal>,
 }
 
 impl<Input: Read> Source<Input> {
-    #[cold]
+    fn new(input: Input) -> Self {
+        Source {
+            input,
+            block: vec![0; BLOCK],
+            start: 0,
+            end: 0,
+            ended: None,
+        }
+    }
+
     fn fill(&mut self) {
         self.block.copy_within(self.start..self.end, 0);
         self.end -= self.start;
@@ -310,10 +342,21 @@ impl<Input: Read> Source<Input> {
 
     /// What the function takes from the front of the bytes, at most `LONGEST` of them.
     #[inline]
-    pub fn next<Part>(&mut self, take: impl FnOnce(&mut &[u8]) -> Taken<Part>) -> Taken<Part> {
-        if self.end - self.start < LONGEST && self.ended.is_none() {
-            self.fill();
-        }
+    fn next<Part>(&mut self, take: impl Fn(&mut &[u8]) -> Taken<Part>) -> Taken<Part> {
+        let bytes = &self.block[self.start..self.end];
+        let Some(front) = bytes.first_chunk::<LONGEST>() else {
+            return self.next_of_few(take);
+        };
+        // Of a front whose length the compiler knows, no part has to be looked for.
+        let mut left = front.as_slice();
+        let taken = take(&mut left);
+        self.start += LONGEST - left.len();
+        taken
+    }
+
+    #[cold]
+    fn next_of_few<Part>(&mut self, take: impl Fn(&mut &[u8]) -> Taken<Part>) -> Taken<Part> {
+        self.fill();
         let mut left = &self.block[self.start..self.end];
         let taken = take(&mut left);
         self.start = self.end - left.len();
@@ -322,25 +365,23 @@ impl<Input: Read> Source<Input> {
     }
 }
 
+/// What a record says: what changed or was dropped, and what has to be proved.
+pub struct Record {
+    pub past: Past,
+    pub events: u32,
+    pub claims: Vec<Claim>,
+}
+
 pub fn read_record(input: impl Read) -> Taken<Record> {
-    let block = vec![0; BLOCK];
-    let mut source = Source {
-        input,
-        block,
-        start: 0,
-        end: 0,
-        ended: None,
-    };
+    let mut source = Source::new(input);
     let mut record = Record {
-        header: source.next(take_header)?,
-        ..Record::default()
+        past: Past::new(source.next(take_header)?),
+        events: 0,
+        claims: Vec::new(),
     };
-    for _ in 0..record.header.processors {
-        let start = source.next(|left| take_start(left, &record.header))?;
-        record.processors.push(Processor {
-            controls: vec![(0, start)],
-            ..Processor::default()
-        });
+    for number in 0..record.past.header.processors {
+        let start = source.next(|left| take_start(left, &record.past.header, number))?;
+        record.past.processors.push(Processor::new(start));
     }
     let (mut segments, mut is_full) = (0, true);
     loop {
@@ -354,7 +395,10 @@ pub fn read_record(input: impl Read) -> Taken<Record> {
     }
     check(source.next(take_u32)? == record.events, TOTAL)?;
     match source.next(take_u8) {
-        Err(TRUNCATED) => Ok(record),
+        Err(TRUNCATED) => {
+            record.past.pack();
+            Ok(record)
+        }
         other => Err(other.err().unwrap_or(TRAILING)),
     }
 }
@@ -362,12 +406,15 @@ pub fn read_record(input: impl Read) -> Taken<Record> {
 /// Reads a segment after its tag, and says whether it is full.
 fn read_segment(source: &mut Source<impl Read>, record: &mut Record, number: u32) -> Taken<bool> {
     check(source.next(take_u32)? == number, SEGMENT_NUMBER)?;
-    let (count, size) = (source.next(take_u32)?, record.header.segment_size);
+    let (count, size) = (source.next(take_u32)?, record.past.header.segment_size);
     check((1..=size).contains(&count), SEGMENT_COUNT)?;
     let end = record.events.checked_add(count).ok_or(SEGMENT_COUNT)?;
     for number in record.events..end {
-        let (processor, event) = source.next(|left| take_event(left, &record.header, number))?;
-        record.add(number, processor, event);
+        let (processor, event) = source.next(|left| take_event(left, &record.past.header, number))?;
+        let control = record.past.note(number, processor, &event);
+        if let Event::Claim(claim) = event {
+            record.claims.push(Claim { control, ..claim });
+        }
     }
     record.events = end;
     Ok(count == size)
