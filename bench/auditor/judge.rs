@@ -1,6 +1,6 @@
 //! Whether moments prove an access or an assist.
 use crate::record::{
-    bits, check, has_bit, shift_of, Claim, Flags, Header, Kind, Record, EXECUTE_DISABLE,
+    bits, check, has_bit, Claim, Flags, Header, Kind, Record, EXECUTE_DISABLE,
     FETCH_PREVENTION,
 };
 use crate::walk::{Shape, Walk, Walker};
@@ -90,19 +90,17 @@ impl Judge<'_> {
         }
         let is_answer = claim.kind == Kind::Answer;
         if is_answer {
-            let shift = shift_of(5 - claim.count);
-            let frame = bits(walk.word, shift, header.address_bits);
-            check(claim.value == frame | bits(claim.linear, 0, shift), Reason::Answer)?;
+            check(claim.value == walk.page | bits(claim.linear, 0, 12), Reason::Answer)?;
         } else {
             check(claim.value == fault_code(header, claim.flags, walk.shape), Reason::Code)?;
         }
         if header.version == 1 {
             return Ok(());
         }
-        let is_accessed = walk.shape != Shape::Leaf || has_bit(walk.word, 5);
+        let is_accessed = walk.shape != Shape::Leaf || walk.is_accessed;
         check(walk.are_tables_accessed && is_accessed, Reason::Accessed)?;
         let wants_dirty = is_answer && claim.flags.is_write();
-        check(!wants_dirty || has_bit(walk.word, 6), Reason::Dirty)
+        check(!wants_dirty || walk.is_dirty, Reason::Dirty)
     }
 }
 

@@ -1,4 +1,6 @@
 //! Lists under keys: noted item by item, then packed side by side.
+use std::collections::HashMap;
+use std::hash::{BuildHasherDefault, Hasher};
 
 /// The first event of a sorted list from a moment on, or `NEVER`.
 pub fn next_in(events: &[u32], from: u32) -> u32 {
@@ -11,33 +13,43 @@ pub fn next_in(events: &[u32], from: u32) -> u32 {
 /// No event has this number.
 pub const NEVER: u32 = u32::MAX;
 
-/// Spreads the bits of a number by a wide multiplication, whose halves are folded together.
+/// Hashes one number by a wide multiplication, whose halves are folded together.
+#[derive(Default)]
+pub struct NumberHasher(u64);
+
+impl Hasher for NumberHasher {
+    fn finish(&self) -> u64 {
+        self.0
+    }
+    fn write(&mut self, _bytes: &[u8]) {
+        unreachable!("keys are numbers")
+    }
+
+    fn write_u64(&mut self, number: u64) {
+        self.0 = spread(number);
+    }
+}
+
+/// Spreads the bits of a number over the whole of another.
+#[inline]
 pub fn spread(number: u64) -> u64 {
     let product = u128::from(number) * 0x9e37_79b9_7f4a_7c15;
     (product >> 64) as u64 ^ product as u64
 }
 
-#[derive(Clone, Copy)]
-struct Slot {
-    key: u64,
-    /// The number of the key's list; once the lists are packed, where it begins. Or `EMPTY`.
-    place: u32,
-    /// Once the lists are packed.
+/// Where a list lies.
+#[derive(Clone, Copy, Default)]
+struct Place {
+    /// Before the lists are packed, the list's number.
+    start: u32,
     length: u32,
 }
 
-const EMPTY: Slot = Slot {
-    key: 0,
-    place: u32::MAX,
-    length: 0,
-};
-
-/// A hash table of open addressing, at most half full, beside all items in one vector. The items of
-/// a list keep the order in which they were noted.
+/// The items of a list keep the order in which they were noted.
+#[derive(Default)]
 pub struct Lists<Item> {
-    slots: Vec<Slot>,
-    /// How many keys there are; they are numbered as they come.
-    keys: u32,
+    /// Keys are numbered as they come.
+    places: HashMap<u64, Place, BuildHasherDefault<NumberHasher>>,
     /// Before packing: each item with the number of its list.
     noted: Vec<(u32, Item)>,
     /// After packing.
@@ -45,54 +57,11 @@ pub struct Lists<Item> {
 }
 
 impl<Item: Copy + Default> Lists<Item> {
-    pub fn new() -> Self {
-        Lists {
-            slots: vec![EMPTY; 64],
-            keys: 0,
-            noted: Vec::new(),
-            items: Vec::new(),
-        }
-    }
-
-    /// The place of the key's slot, or of the empty one that it would have.
-    #[inline]
-    fn find(&self, key: u64) -> usize {
-        let mask = self.slots.len() - 1;
-        let mut at = spread(key) as usize & mask;
-        while self.slots[at].key != key && self.slots[at].place != EMPTY.place {
-            at = (at + 1) & mask;
-        }
-        at
-    }
-
     /// The number of the key's list, which is made where there is none.
     #[inline]
     pub fn number(&mut self, key: u64) -> u32 {
-        let at = self.find(key);
-        if self.slots[at].place != EMPTY.place {
-            return self.slots[at].place;
-        }
-        self.slots[at] = Slot {
-            key,
-            place: self.keys,
-            length: 0,
-        };
-        self.keys += 1;
-        if self.keys as usize > self.slots.len() / 2 {
-            self.grow();
-        }
-        self.keys - 1
-    }
-
-    #[cold]
-    fn grow(&mut self) {
-        let wider = vec![EMPTY; 2 * self.slots.len()];
-        for slot in std::mem::replace(&mut self.slots, wider) {
-            if slot.place != EMPTY.place {
-                let at = self.find(slot.key);
-                self.slots[at] = slot;
-            }
-        }
+        let start = self.places.len() as u32;
+        self.places.entry(key).or_insert(Place { start, length: 0 }).start
     }
 
     #[inline]
@@ -109,35 +78,34 @@ impl<Item: Copy + Default> Lists<Item> {
     /// Puts each list in one piece. After this nothing is noted.
     pub fn pack(&mut self) {
         assert!(u32::try_from(self.noted.len()).is_ok(), "too many items");
-        let mut lengths = vec![0; self.keys as usize];
+        let mut lengths = vec![0; self.places.len()];
         for &(number, _) in &self.noted {
             lengths[number as usize] += 1;
         }
-        let mut begin = 0;
-        let mut places: Vec<u32> = Vec::with_capacity(lengths.len());
+        let mut end = 0;
+        let mut starts: Vec<u32> = Vec::with_capacity(lengths.len());
         for length in &lengths {
-            places.push(begin);
-            begin += length;
+            starts.push(end);
+            end += length;
         }
-        for slot in self.slots.iter_mut().filter(|slot| slot.place != EMPTY.place) {
-            slot.length = lengths[slot.place as usize];
-            slot.place = places[slot.place as usize];
+        for place in self.places.values_mut() {
+            let number = place.start as usize;
+            *place = Place { start: starts[number], length: lengths[number] };
         }
         self.items = vec![Item::default(); self.noted.len()];
         for (number, item) in std::mem::take(&mut self.noted) {
-            let place = &mut places[number as usize];
-            self.items[*place as usize] = item;
-            *place += 1;
+            let next = &mut starts[number as usize];
+            self.items[*next as usize] = item;
+            *next += 1;
         }
     }
 
     /// The key's list, once the lists are packed.
     #[inline]
     pub fn list(&self, key: u64) -> &[Item] {
-        let Slot { place, length, .. } = self.slots[self.find(key)];
-        if length == 0 {
-            return &[];
+        match self.places.get(&key) {
+            Some(place) => &self.items[place.start as usize..][..place.length as usize],
+            None => &[],
         }
-        &self.items[place as usize..][..length as usize]
     }
 }

@@ -1,6 +1,6 @@
 //! What held, and what was dropped, at each moment.
 use crate::lists::{next_in, Lists, NEVER};
-use crate::record::{bits, has_bit, shift_of, Event, Header, Kind};
+use crate::record::{bits, has_bit, shift_of, Change, Claim, Header, Kind};
 
 /// What an entry of a cache is kept under: its processor, and its PCID unless it is global.
 #[derive(Clone, Copy, PartialEq, Eq)]
@@ -112,29 +112,24 @@ impl Past {
         Past {
             header,
             processors: Vec::new(),
-            words: Lists::new(),
+            words: Lists::default(),
             latest: Vec::new(),
-            flushes: Lists::new(),
-            structure_flushes: Lists::new(),
-            drops: Lists::new(),
+            flushes: Lists::default(),
+            structure_flushes: Lists::default(),
+            drops: Lists::default(),
         }
     }
 
-    /// Enters an event of a processor, and gives the place of the processor's registers at it.
-    /// Events come in order, so that each list grows sorted.
+    /// Enters a claim, and gives the place of its processor's registers at it. Events come in order,
+    /// so that each list grows sorted.
     #[inline]
-    pub fn note(&mut self, number: u32, index: u16, event: &Event) -> u32 {
-        let place = self.processors[usize::from(index)].last();
-        match event {
-            Event::Write { address, value } => self.write(number, *address, *value),
-            Event::Claim(claim) => match claim.kind {
-                Kind::Answer => {}
-                Kind::Fault => self.drop_current(number, index, claim.linear),
-                Kind::Assist => self.mark(number, claim.value, claim.flags.says_dirty()),
-            },
-            event => self.note_instruction(number, index, event),
+    pub fn note_claim(&mut self, claim: &Claim) -> u32 {
+        match claim.kind {
+            Kind::Answer => {}
+            Kind::Fault => self.drop_current(claim.number, claim.processor, claim.linear),
+            Kind::Assist => self.mark(claim.number, claim.value, claim.flags.says_dirty()),
         }
-        place as u32
+        self.processors[usize::from(claim.processor)].last() as u32
     }
 
     fn write(&mut self, number: u32, address: u64, value: u64) {
@@ -154,28 +149,29 @@ impl Past {
         self.write(number, address, latest | if is_dirty { 0x60 } else { 0x20 });
     }
 
-    fn note_instruction(&mut self, number: u32, index: u16, event: &Event) {
+    pub fn note_change(&mut self, number: u32, index: u16, change: &Change) {
         let processor = &mut self.processors[usize::from(index)];
         let control = processor.controls[processor.last()];
-        match *event {
-            Event::MovCr3 { operand } => {
+        match *change {
+            Change::Write { address, value } => self.write(number, address, value),
+            Change::MovCr3 { operand } => {
                 let loaded = Control::loaded(&self.header, index, operand, control.global);
                 processor.load(number + 1, loaded);
                 if !has_bit(operand, 63) {
                     self.flush(number, loaded.context);
                 }
             }
-            Event::Invlpg { linear } => {
+            Change::Invlpg { linear } => {
                 self.drop_current(number, index, linear);
                 self.structure_flushes.note(control.context.key(), number);
             }
-            Event::Invpcid { kind: 0, pcid, linear } => {
+            Change::Invpcid { kind: 0, pcid, linear } => {
                 self.drop(number, Context::of(index, pcid), linear);
             }
-            Event::Invpcid { kind: 1, pcid, .. } => self.flush(number, Context::of(index, pcid)),
-            Event::Invpcid { kind: 2, .. } => self.flush_all(number, index),
-            Event::Invpcid { .. } => processor.flushes.push(number),
-            Event::MovCr4 { global } if global != control.global => {
+            Change::Invpcid { kind: 1, pcid, .. } => self.flush(number, Context::of(index, pcid)),
+            Change::Invpcid { kind: 2, .. } => self.flush_all(number, index),
+            Change::Invpcid { .. } => processor.flushes.push(number),
+            Change::MovCr4 { global } if global != control.global => {
                 processor.load(number + 1, Control { global, ..control });
                 self.flush_all(number, index);
             }

@@ -116,18 +116,17 @@ impl Key {
     /// Of the tables above it.
     #[inline]
     fn of_tables(claim: &Claim) -> Self {
-        let mut moments = claim.moments;
-        moments[usize::from(claim.count - 1)] = 0;
+        let lowest = usize::from(claim.count - 2);
         Key {
             path: path(claim, claim.count - 1, shift_of(6 - claim.count)),
-            moments,
+            moments: [0, 1, 2, 3].map(|level: usize| claim.moments[level.min(lowest)]),
         }
     }
 
     /// Its place among so many slots, a power of two.
     #[inline]
-    fn slot(&self, last: u32, slots: usize) -> usize {
-        spread(self.path ^ u64::from(last) << 20) as usize & (slots - 1)
+    fn slot(&self, slots: usize) -> usize {
+        spread(self.path ^ u64::from(self.moments[3]) << 20) as usize & (slots - 1)
     }
 }
 
@@ -156,8 +155,10 @@ struct Tables {
 #[repr(align(64))]
 pub struct Walk {
     key: Key,
+    /// Where the entry lies.
     pub address: u64,
-    pub word: u64,
+    /// Of a leaf: the answer, but for its 12 lowest bits, which are those of the linear address.
+    pub page: u64,
     /// Of a leaf: the first event that drops the translation, or `NEVER`.
     pub end: u32,
     pub context: Context,
@@ -165,6 +166,8 @@ pub struct Walk {
     allowed: u16,
     pub shape: Shape,
     pub is_global: bool,
+    pub is_accessed: bool,
+    pub is_dirty: bool,
     /// Whether the tables above have their accessed flags.
     pub are_tables_accessed: bool,
     /// The least reason why the walk proves nothing, whatever it is for.
@@ -205,12 +208,14 @@ impl<'past> Walker<'past> {
         let no_walk = Walk {
             key: Key::NONE,
             address: 0,
-            word: 0,
+            page: 0,
             end: 0,
             context,
             allowed: 0,
             shape: Shape::Absent,
             is_global: false,
+            is_accessed: false,
+            is_dirty: false,
             are_tables_accessed: true,
             failing: None,
         };
@@ -226,7 +231,7 @@ impl<'past> Walker<'past> {
     #[inline]
     pub fn walk(&mut self, claim: &Claim) -> &Walk {
         let key = Key::of_last(claim);
-        let slot = key.slot(claim.last_moment(), self.walks.len());
+        let slot = key.slot(self.walks.len());
         if self.walks[slot].key != key {
             self.walks[slot] = self.walk_anew(key, claim);
         }
@@ -240,9 +245,11 @@ impl<'past> Walker<'past> {
         let control = processor.controls[place];
         let above = self.tables_above(claim, place);
         let level = 5 - claim.count;
-        let address = above.table + 8 * (claim.linear >> shift_of(level) & 511);
+        let shift = shift_of(level);
+        let address = above.table + 8 * (claim.linear >> shift & 511);
         let word = self.past.value_at(address, moment);
         let shape = self.rules.shape_of(level, word);
+        let frame = bits(word, shift, self.rules.address_bits);
         let is_global = shape == Shape::Leaf && has_bit(word, 8) && control.global;
         let failing = self.failing(claim, &above, control.context);
         let mut end = 0;
@@ -258,12 +265,14 @@ impl<'past> Walker<'past> {
         Walk {
             key,
             address,
-            word,
+            page: frame | bits(claim.linear, 12, shift),
             end,
             context: above.context,
             allowed: self.rules.allowed[usize::from(above.rights.joined(word).0)],
             shape,
             is_global,
+            is_accessed: has_bit(word, 5),
+            is_dirty: has_bit(word, 6),
             are_tables_accessed: above.are_accessed,
             failing,
         }
@@ -293,12 +302,12 @@ impl<'past> Walker<'past> {
     /// a place.
     #[inline]
     fn tables_above(&mut self, claim: &Claim, place: usize) -> Tables {
-        let Some(last) = usize::from(claim.count).checked_sub(2) else {
+        if claim.count == 1 {
             let control = self.past.processors[usize::from(claim.processor)].controls[place];
             return Tables::root(Key::NONE, control.root, control.context);
-        };
+        }
         let key = Key::of_tables(claim);
-        let slot = key.slot(claim.moments[last], self.tables.len());
+        let slot = key.slot(self.tables.len());
         if self.tables[slot].key != key {
             self.tables[slot] = self.read_tables(key, claim, place);
         }
