@@ -37,75 +37,75 @@ pub fn spread(number: u64) -> u64 {
     (product >> 64) as u64 ^ product as u64
 }
 
-/// Where a list lies.
-#[derive(Clone, Copy, Default)]
-struct Place {
-    /// Before the lists are packed, the list's number.
-    start: u32,
-    length: u32,
-}
+pub type NumberMap<Value> = HashMap<u64, Value, BuildHasherDefault<NumberHasher>>;
 
-/// The items of a list keep the order in which they were noted.
+/// Lists by number. The items of each keep the order in which they were noted.
 #[derive(Default)]
-pub struct Lists<Item> {
-    /// Keys are numbered as they come.
-    places: HashMap<u64, Place, BuildHasherDefault<NumberHasher>>,
+pub struct Packed<Item> {
     /// Before packing: each item with the number of its list.
     noted: Vec<(u32, Item)>,
-    /// After packing.
+    /// After packing: the items, list by list, and where each list begins.
     items: Vec<Item>,
+    starts: Vec<u32>,
 }
 
-impl<Item: Copy + Default> Lists<Item> {
-    /// The number of the key's list, which is made where there is none.
+impl<Item: Copy + Default> Packed<Item> {
     #[inline]
-    pub fn number(&mut self, key: u64) -> u32 {
-        let start = self.places.len() as u32;
-        self.places.entry(key).or_insert(Place { start, length: 0 }).start
-    }
-
-    #[inline]
-    pub fn push(&mut self, number: u32, item: Item) {
+    pub fn note(&mut self, number: u32, item: Item) {
         self.noted.push((number, item));
     }
 
-    #[inline]
-    pub fn note(&mut self, key: u64, item: Item) {
-        let number = self.number(key);
-        self.push(number, item);
-    }
-
-    /// Puts each list in one piece. After this nothing is noted.
-    pub fn pack(&mut self) {
+    /// Puts each of so many lists in one piece. After this nothing is noted.
+    pub fn pack(&mut self, lists: usize) {
         assert!(u32::try_from(self.noted.len()).is_ok(), "too many items");
-        let mut lengths = vec![0; self.places.len()];
+        // The place behind each list, and then, as it is filled from its end, where it begins.
+        let mut starts = vec![0; lists + 1];
         for &(number, _) in &self.noted {
-            lengths[number as usize] += 1;
+            starts[number as usize] += 1;
         }
         let mut end = 0;
-        let mut starts: Vec<u32> = Vec::with_capacity(lengths.len());
-        for length in &lengths {
-            starts.push(end);
-            end += length;
-        }
-        for place in self.places.values_mut() {
-            let number = place.start as usize;
-            *place = Place { start: starts[number], length: lengths[number] };
+        for start in &mut starts {
+            end += *start;
+            *start = end;
         }
         self.items = vec![Item::default(); self.noted.len()];
-        for (number, item) in std::mem::take(&mut self.noted) {
-            let next = &mut starts[number as usize];
-            self.items[*next as usize] = item;
-            *next += 1;
+        for (number, item) in std::mem::take(&mut self.noted).into_iter().rev() {
+            let start = &mut starts[number as usize];
+            *start -= 1;
+            self.items[*start as usize] = item;
         }
+        self.starts = starts;
+    }
+
+    /// A list, once they are packed.
+    #[inline]
+    pub fn list(&self, number: u32) -> &[Item] {
+        let number = number as usize;
+        &self.items[self.starts[number] as usize..self.starts[number + 1] as usize]
+    }
+}
+
+/// Lists of events by key. Keys are numbered as they come.
+#[derive(Default)]
+pub struct Lists {
+    numbers: NumberMap<u32>,
+    packed: Packed<u32>,
+}
+
+impl Lists {
+    #[inline]
+    pub fn note(&mut self, key: u64, event: u32) {
+        let next = self.numbers.len() as u32;
+        self.packed.note(*self.numbers.entry(key).or_insert(next), event);
+    }
+
+    pub fn pack(&mut self) {
+        self.packed.pack(self.numbers.len());
     }
 
     /// The key's list, once the lists are packed.
     #[inline]
-    pub fn list(&self, key: u64) -> &[Item] {
-        match self.places.get(&key) {
-            Some(place) => &self.items[place.start as usize..][..place.length as usize],
-            None => &[],
-        }
+    pub fn list(&self, key: u64) -> &[u32] {
+        self.numbers.get(&key).map_or(&[], |&number| self.packed.list(number))
     }
 }

@@ -3,6 +3,7 @@
 //! the moments that it names prove its accesses and assists.
 mod judge;
 mod lists;
+mod memory;
 mod past;
 mod record;
 mod walk;

@@ -1,5 +1,6 @@
 //! What held, and what was dropped, at each moment.
 use crate::lists::{next_in, Lists, NEVER};
+use crate::memory::Memory;
 use crate::record::{bits, has_bit, shift_of, Change, Claim, Header, Kind};
 
 /// What an entry of a cache is kept under: its processor, and its PCID unless it is global.
@@ -19,9 +20,12 @@ impl Context {
         u64::from(self.0)
     }
 
-    /// The key of what the context keeps for an address at a level. A translation and a structure
-    /// entry share it, for of what concerns one address INVLPG alone treats them differently, and
-    /// it drops all structure entries of its PCID anyway.
+    /// That of the processor's global translations.
+    fn globally(self) -> Self {
+        Context(self.0 >> 13 << 13 | 1 << 12)
+    }
+
+    /// The key of what the context keeps for an address at a level.
     fn key_at(self, level: u8, linear: u64) -> u64 {
         let prefix = bits(linear, 0, 48) >> shift_of(level);
         self.key() << 38 | u64::from(level - 1) << 36 | prefix
@@ -66,6 +70,10 @@ impl Processor {
         self.controls.len() - 1
     }
 
+    fn now(&self) -> Control {
+        self.controls[self.last()]
+    }
+
     fn load(&mut self, from: u32, control: Control) {
         self.from.push(from);
         self.controls.push(control);
@@ -85,26 +93,38 @@ impl Processor {
     }
 }
 
-/// A value of a word of memory, in halves that need no room between them, and the event that gave
-/// it.
-#[derive(Clone, Copy, Default)]
-struct Version {
+/// Who drops what is kept for an address.
+#[derive(Clone, Copy, PartialEq, Eq)]
+enum Dropper {
+    /// Global translations too.
+    Fault,
+    /// Global translations too; all structure entries of its PCID go in any case.
+    Invlpg,
+    Invpcid,
+}
+
+/// An event that drops what a context keeps for an address.
+struct Drop {
     event: u32,
-    halves: [u32; 2],
+    context: Context,
+    linear: u64,
+    dropper: Dropper,
 }
 
 pub struct Past {
     pub header: Header,
     pub processors: Vec<Processor>,
-    /// The values of each word, and the last of them by the word's number.
-    words: Lists<Version>,
-    latest: Vec<u64>,
+    pub memory: Memory,
     /// By context: the events that drop all its translations (and all its structure entries).
-    flushes: Lists<u32>,
+    flushes: Lists,
     /// By context: the events that drop all its structure entries.
-    structure_flushes: Lists<u32>,
-    /// The events that drop what a context keeps for an address at a level.
-    drops: Lists<u32>,
+    structure_flushes: Lists,
+    /// What drops for an address, until the lists are packed.
+    noted: Vec<Drop>,
+    /// The events that drop a translation by its level less 1, and its key.
+    translation_drops: [Lists; 3],
+    /// The events that drop a structure entry for an address, by its key.
+    structure_drops: Lists,
 }
 
 impl Past {
@@ -112,11 +132,12 @@ impl Past {
         Past {
             header,
             processors: Vec::new(),
-            words: Lists::default(),
-            latest: Vec::new(),
+            memory: Memory::default(),
             flushes: Lists::default(),
             structure_flushes: Lists::default(),
-            drops: Lists::default(),
+            noted: Vec::new(),
+            translation_drops: Default::default(),
+            structure_drops: Lists::default(),
         }
     }
 
@@ -126,34 +147,20 @@ impl Past {
     pub fn note_claim(&mut self, claim: &Claim) -> u32 {
         match claim.kind {
             Kind::Answer => {}
-            Kind::Fault => self.drop_current(claim.number, claim.processor, claim.linear),
-            Kind::Assist => self.mark(claim.number, claim.value, claim.flags.says_dirty()),
+            Kind::Fault => {
+                let context = self.processors[usize::from(claim.processor)].now().context;
+                self.drop(claim.number, context, claim.linear, Dropper::Fault);
+            }
+            Kind::Assist => self.memory.mark(claim.number, claim.value, claim.flags.says_dirty()),
         }
         self.processors[usize::from(claim.processor)].last() as u32
     }
 
-    fn write(&mut self, number: u32, address: u64, value: u64) {
-        let word = self.words.number(address);
-        match self.latest.get_mut(word as usize) {
-            Some(latest) => *latest = value,
-            None => self.latest.push(value),
-        }
-        let halves = [value as u32, (value >> 32) as u32];
-        self.words.push(word, Version { event: number, halves });
-    }
-
-    /// Sets the accessed flag, and perhaps the dirty flag, in what stands at an address.
-    fn mark(&mut self, number: u32, address: u64, is_dirty: bool) {
-        let word = self.words.number(address) as usize;
-        let latest = self.latest.get(word).copied().unwrap_or(0);
-        self.write(number, address, latest | if is_dirty { 0x60 } else { 0x20 });
-    }
-
     pub fn note_change(&mut self, number: u32, index: u16, change: &Change) {
         let processor = &mut self.processors[usize::from(index)];
-        let control = processor.controls[processor.last()];
+        let control = processor.now();
         match *change {
-            Change::Write { address, value } => self.write(number, address, value),
+            Change::Write { address, value } => self.memory.write(number, address, value),
             Change::MovCr3 { operand } => {
                 let loaded = Control::loaded(&self.header, index, operand, control.global);
                 processor.load(number + 1, loaded);
@@ -162,11 +169,11 @@ impl Past {
                 }
             }
             Change::Invlpg { linear } => {
-                self.drop_current(number, index, linear);
+                self.drop(number, control.context, linear, Dropper::Invlpg);
                 self.structure_flushes.note(control.context.key(), number);
             }
             Change::Invpcid { kind: 0, pcid, linear } => {
-                self.drop(number, Context::of(index, pcid), linear);
+                self.drop(number, Context::of(index, pcid), linear, Dropper::Invpcid);
             }
             Change::Invpcid { kind: 1, pcid, .. } => self.flush(number, Context::of(index, pcid)),
             Change::Invpcid { kind: 2, .. } => self.flush_all(number, index),
@@ -190,40 +197,33 @@ impl Past {
         self.flushes.note(Context::global(index).key(), number);
     }
 
-    /// Drops what a context keeps for an address.
-    fn drop(&mut self, number: u32, context: Context, linear: u64) {
-        for level in 1..=4 {
-            self.drops.note(context.key_at(level, linear), number);
-        }
+    fn drop(&mut self, event: u32, context: Context, linear: u64, dropper: Dropper) {
+        self.noted.push(Drop { event, context, linear, dropper });
     }
 
-    /// Drops what the current PCID keeps for an address, and its global translations.
-    fn drop_current(&mut self, number: u32, index: u16, linear: u64) {
-        let processor = &self.processors[usize::from(index)];
-        self.drop(number, processor.controls[processor.last()].context, linear);
-        for level in 1..=3 {
-            self.drops.note(Context::global(index).key_at(level, linear), number);
+    /// Makes what was noted ready to be looked up, for claims that end at these levels.
+    pub fn pack(&mut self, levels: &[u8]) {
+        let has_global = self.memory.has_global;
+        for drop in std::mem::take(&mut self.noted) {
+            for &level in levels.iter().filter(|&&level| level < 4) {
+                let lists = &mut self.translation_drops[usize::from(level - 1)];
+                lists.note(drop.context.key_at(level, drop.linear), drop.event);
+                if has_global && drop.dropper != Dropper::Invpcid {
+                    lists.note(drop.context.globally().key_at(level, drop.linear), drop.event);
+                }
+            }
+            if drop.dropper != Dropper::Invlpg {
+                for level in 2..=4 {
+                    let key = drop.context.key_at(level, drop.linear);
+                    self.structure_drops.note(key, drop.event);
+                }
+            }
         }
-    }
-
-    /// Makes what was noted ready to be looked up.
-    pub fn pack(&mut self) {
-        self.latest = Vec::new();
-        self.words.pack();
+        self.memory.pack();
         self.flushes.pack();
         self.structure_flushes.pack();
-        self.drops.pack();
-    }
-
-    #[inline]
-    pub fn value_at(&self, address: u64, moment: u32) -> u64 {
-        let versions = self.words.list(address);
-        let count = versions.partition_point(|version| version.event < moment);
-        let Some(before) = count.checked_sub(1) else {
-            return 0;
-        };
-        let [low, high] = versions[before].halves;
-        u64::from(high) << 32 | u64::from(low)
+        self.structure_drops.pack();
+        self.translation_drops.iter_mut().for_each(Lists::pack);
     }
 
     /// Whether a structure entry is dropped between two moments.
@@ -237,7 +237,7 @@ impl Past {
         from < to
             && (next_in(&self.processors[usize::from(processor)].flushes, from) < to
                 || next_in(self.structure_flushes.list(context.key()), from) < to
-                || next_in(self.drops.list(context.key_at(level, linear)), from) < to)
+                || next_in(self.structure_drops.list(context.key_at(level, linear)), from) < to)
     }
 
     /// The first event from a moment on that drops a translation, or `NEVER`.
@@ -253,8 +253,9 @@ impl Past {
         } else {
             next_in(&self.processors[usize::from(processor)].flushes, from)
         };
+        let at_address = self.translation_drops[usize::from(level - 1)].list(context.key_at(level, linear));
         by_all
             .min(next_in(self.flushes.list(context.key()), from))
-            .min(next_in(self.drops.list(context.key_at(level, linear)), from))
+            .min(next_in(at_address, from))
     }
 }

@@ -419,9 +419,17 @@ pub struct Record {
     pub past: Past,
     pub events: u32,
     pub claims: Vec<Claim>,
+    /// Whether claims read one, two, three or four levels.
+    levels_read: [bool; 4],
 }
 
 impl Record {
+    /// The levels that claims end at.
+    fn levels(&self) -> Vec<u8> {
+        let ends_at = |&level: &u8| self.levels_read[usize::from(4 - level)];
+        (1..=4).filter(ends_at).collect()
+    }
+
     /// Takes an event of a record of this version, and enters it.
     #[inline(always)]
     fn take_event<const VERSION: u16>(&mut self, fields: &mut Fields, number: u32) -> Taken<()> {
@@ -436,6 +444,7 @@ impl Record {
             let rule = rule_of_claim(header, &claim);
             check(rule == 0, malformed(rule))?;
             claim.control = self.past.note_claim(&claim);
+            self.levels_read[usize::from(claim.count - 1)] = true;
             self.claims.push(claim);
         } else {
             let change = take_change(fields, tag)?;
@@ -489,6 +498,7 @@ pub fn read_record(input: impl Read) -> Taken<Record> {
         past: Past::new(source.next(take_header)?),
         events: 0,
         claims: Vec::new(),
+        levels_read: [false; 4],
     };
     for number in 0..record.past.header.processors {
         let start = source.next(|fields| take_start(fields, &record.past.header, number))?;
@@ -499,6 +509,7 @@ pub fn read_record(input: impl Read) -> Taken<Record> {
     } else {
         record.read_segments::<2>(&mut source)?;
     }
-    record.past.pack();
+    let levels = record.levels();
+    record.past.pack(&levels);
     Ok(record)
 }

@@ -190,13 +190,13 @@ pub struct Walker<'past> {
 }
 
 impl<'past> Walker<'past> {
-    const WALKS: usize = 1 << 14;
+    const WALKS: usize = 1 << 16;
     const TABLES: usize = 1 << 12;
 
     /// A walker for about so many claims.
     pub fn new(past: &'past Past, claims: usize) -> Self {
         let context = Context::global(0);
-        let slots = claims.next_power_of_two();
+        let slots = (claims / 8).next_power_of_two();
         let no_tables = Tables {
             key: Key::NONE,
             table: 0,
@@ -247,7 +247,7 @@ impl<'past> Walker<'past> {
         let level = 5 - claim.count;
         let shift = shift_of(level);
         let address = above.table + 8 * (claim.linear >> shift & 511);
-        let word = self.past.value_at(address, moment);
+        let word = self.past.memory.value_at(address, moment);
         let shape = self.rules.shape_of(level, word);
         let frame = bits(word, shift, self.rules.address_bits);
         let is_global = shape == Shape::Leaf && has_bit(word, 8) && control.global;
@@ -323,7 +323,7 @@ impl<'past> Walker<'past> {
         let mut tables = Tables::root(key, start.root, start.context);
         for (level, &moment) in [4, 3, 2].into_iter().zip(moments) {
             let address = tables.table + 8 * (claim.linear >> shift_of(level) & 511);
-            let word = self.past.value_at(address, moment);
+            let word = self.past.memory.value_at(address, moment);
             if self.rules.shape_of(level, word) != Shape::Table {
                 tables.failing = Some(Reason::Entry);
                 return tables;
