@@ -234,10 +234,9 @@ impl Past {
         (level, linear): (u8, u64),
         (from, to): (u32, u32),
     ) -> bool {
-        from < to
-            && (next_in(&self.processors[usize::from(processor)].flushes, from) < to
-                || next_in(self.structure_flushes.list(context.key()), from) < to
-                || next_in(self.structure_drops.list(context.key_at(level, linear)), from) < to)
+        next_in(&self.processors[usize::from(processor)].flushes, from) < to
+            || next_in(self.structure_flushes.list(context.key()), from) < to
+            || next_in(self.structure_drops.list(context.key_at(level, linear)), from) < to
     }
 
     /// The first event from a moment on that drops a translation, or `NEVER`.

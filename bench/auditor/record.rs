@@ -138,6 +138,12 @@ impl Claim {
         self.moments[3]
     }
 
+    /// That of the level above the last, or where there is none the last.
+    #[inline]
+    pub fn moment_of_tables(&self) -> u32 {
+        self.moments[usize::from(self.count.max(2) - 2)]
+    }
+
     /// Whether the moments do not decrease, nor pass the claim itself.
     #[inline]
     pub fn is_in_order(&self) -> bool {

@@ -190,13 +190,16 @@ pub struct Walker<'past> {
 }
 
 impl<'past> Walker<'past> {
-    const WALKS: usize = 1 << 16;
+    /// For each processor, and at most in all.
+    const WALKS: usize = 1 << 12;
+    const MOST_WALKS: usize = 1 << 16;
     const TABLES: usize = 1 << 12;
 
     /// A walker for about so many claims.
     pub fn new(past: &'past Past, claims: usize) -> Self {
         let context = Context::global(0);
         let slots = (claims / 8).next_power_of_two();
+        let walks = (Self::WALKS * past.processors.len()).next_power_of_two();
         let no_tables = Tables {
             key: Key::NONE,
             table: 0,
@@ -222,7 +225,7 @@ impl<'past> Walker<'past> {
         Walker {
             past,
             rules: Rules::of(&past.header),
-            walks: vec![no_walk; slots.min(Self::WALKS)],
+            walks: vec![no_walk; slots.min(walks).min(Self::MOST_WALKS)],
             tables: vec![no_tables; slots.min(Self::TABLES)],
         }
     }
@@ -284,18 +287,14 @@ impl<'past> Walker<'past> {
         if !is_early && context != above.context {
             return Some(Reason::Context);
         }
-        let Some(last) = usize::from(claim.count).checked_sub(2) else {
+        let (from, to) = (claim.moment_of_tables(), claim.last_moment());
+        if above.failing.is_some() || from == to {
             return above.failing;
-        };
-        let (owner, span) = (
-            (claim.processor, above.context),
-            (claim.moments[last], claim.moments[last + 1]),
-        );
-        let entry = (6 - claim.count, claim.linear);
-        if above.failing.is_none() && self.past.is_structure_dropped(owner, entry, span) {
-            return Some(Reason::StructureDropped);
         }
-        above.failing
+        let (owner, entry) = ((claim.processor, above.context), (6 - claim.count, claim.linear));
+        self.past
+            .is_structure_dropped(owner, entry, (from, to))
+            .then_some(Reason::StructureDropped)
     }
 
     /// The tables above the last entry of a claim, where the registers at its last moment stand at
@@ -338,7 +337,7 @@ impl<'past> Walker<'past> {
         let owner = (claim.processor, start.context);
         let is_dropped = |(pair, level): (&[u32], u8)| {
             let entry = (level, claim.linear);
-            self.past.is_structure_dropped(owner, entry, (pair[0], pair[1]))
+            pair[0] < pair[1] && self.past.is_structure_dropped(owner, entry, (pair[0], pair[1]))
         };
         if first != place && moments[1..].iter().any(is_foreign) {
             tables.failing = Some(Reason::Context);
