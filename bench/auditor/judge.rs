@@ -1,7 +1,6 @@
 //! Whether moments prove an access or an assist.
 use crate::record::{
-    bits, check, has_bit, Claim, Flags, Header, Kind, Record, EXECUTE_DISABLE,
-    FETCH_PREVENTION,
+    bits, check, has_bit, Claim, Flags, Header, Kind, Record, EXECUTE_DISABLE, FETCH_PREVENTION,
 };
 use crate::walk::{Shape, Walk, Walker};
 use std::sync::atomic::{AtomicUsize, Ordering};
@@ -90,9 +89,15 @@ impl Judge<'_> {
         }
         let is_answer = claim.kind == Kind::Answer;
         if is_answer {
-            check(claim.value == walk.page | bits(claim.linear, 0, 12), Reason::Answer)?;
+            check(
+                claim.value == walk.page | bits(claim.linear, 0, 12),
+                Reason::Answer,
+            )?;
         } else {
-            check(claim.value == fault_code(header, claim.flags, walk.shape), Reason::Code)?;
+            check(
+                claim.value == fault_code(header, claim.flags, walk.shape),
+                Reason::Code,
+            )?;
         }
         if header.version == 1 {
             return Ok(());
@@ -132,7 +137,10 @@ impl Record {
         let next = AtomicUsize::new(0);
         let judge = || {
             let walker = Walker::new(&self.past, self.claims.len());
-            let mut judge = Judge { record: self, walker };
+            let mut judge = Judge {
+                record: self,
+                walker,
+            };
             loop {
                 let part = next.fetch_add(1, Ordering::Relaxed);
                 let claims = self.claims.chunks(PART).nth(part)?;
@@ -149,7 +157,9 @@ impl Record {
         }
         std::thread::scope(|scope| {
             let judges: Vec<_> = (0..threads).map(|_| scope.spawn(judge)).collect();
-            let found = judges.into_iter().map(|judge| judge.join().expect("a judge panicked"));
+            let found = judges
+                .into_iter()
+                .map(|judge| judge.join().expect("a judge panicked"));
             found.flatten().min()
         })
     }

@@ -96,7 +96,8 @@ impl Lists {
     #[inline]
     pub fn note(&mut self, key: u64, event: u32) {
         let next = self.numbers.len() as u32;
-        self.packed.note(*self.numbers.entry(key).or_insert(next), event);
+        self.packed
+            .note(*self.numbers.entry(key).or_insert(next), event);
     }
 
     pub fn pack(&mut self) {
@@ -106,6 +107,8 @@ impl Lists {
     /// The key's list, once the lists are packed.
     #[inline]
     pub fn list(&self, key: u64) -> &[u32] {
-        self.numbers.get(&key).map_or(&[], |&number| self.packed.list(number))
+        self.numbers
+            .get(&key)
+            .map_or(&[], |&number| self.packed.list(number))
     }
 }

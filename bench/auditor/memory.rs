@@ -27,10 +27,10 @@ impl Memory {
     /// The number of a word, which it is given where it has none.
     #[inline]
     fn number(&mut self, address: u64) -> u32 {
-        let next = self.latest.len();
-        let first = *self.blocks.entry(address / 8 / BLOCK).or_insert(next as u32);
-        if first as usize == next {
-            self.latest.resize(next + BLOCK as usize, 0);
+        let next = u32::try_from(self.latest.len()).expect("too many words");
+        let first = *self.blocks.entry(address / 8 / BLOCK).or_insert(next);
+        if first == next {
+            self.latest.resize(self.latest.len() + BLOCK as usize, 0);
         }
         first + (address / 8 % BLOCK) as u32
     }

@@ -89,26 +89,27 @@ impl Processor {
             low = low.saturating_sub(step);
             step *= 2;
         }
-        low + self.from[low..high].partition_point(|&from| from <= moment).saturating_sub(1)
+        low + self.from[low..high]
+            .partition_point(|&from| from <= moment)
+            .saturating_sub(1)
     }
 }
 
-/// Who drops what is kept for an address.
 #[derive(Clone, Copy, PartialEq, Eq)]
-enum Dropper {
-    /// Global translations too.
+enum Cause {
+    /// Drops global translations too.
     Fault,
-    /// Global translations too; all structure entries of its PCID go in any case.
+    /// Drops global translations too, and all structure entries of its PCID.
     Invlpg,
     Invpcid,
 }
 
 /// An event that drops what a context keeps for an address.
-struct Drop {
+struct Invalidation {
     event: u32,
     context: Context,
     linear: u64,
-    dropper: Dropper,
+    cause: Cause,
 }
 
 pub struct Past {
@@ -119,8 +120,8 @@ pub struct Past {
     flushes: Lists,
     /// By context: the events that drop all its structure entries.
     structure_flushes: Lists,
-    /// What drops for an address, until the lists are packed.
-    noted: Vec<Drop>,
+    /// Until the lists are packed.
+    invalidations: Vec<Invalidation>,
     /// The events that drop a translation by its level less 1, and its key.
     translation_drops: [Lists; 3],
     /// The events that drop a structure entry for an address, by its key.
@@ -135,7 +136,7 @@ impl Past {
             memory: Memory::default(),
             flushes: Lists::default(),
             structure_flushes: Lists::default(),
-            noted: Vec::new(),
+            invalidations: Vec::new(),
             translation_drops: Default::default(),
             structure_drops: Lists::default(),
         }
@@ -149,9 +150,11 @@ impl Past {
             Kind::Answer => {}
             Kind::Fault => {
                 let context = self.processors[usize::from(claim.processor)].now().context;
-                self.drop(claim.number, context, claim.linear, Dropper::Fault);
+                self.invalidate(claim.number, context, claim.linear, Cause::Fault);
             }
-            Kind::Assist => self.memory.mark(claim.number, claim.value, claim.flags.says_dirty()),
+            Kind::Assist => self
+                .memory
+                .mark(claim.number, claim.value, claim.flags.says_dirty()),
         }
         self.processors[usize::from(claim.processor)].last() as u32
     }
@@ -169,11 +172,15 @@ impl Past {
                 }
             }
             Change::Invlpg { linear } => {
-                self.drop(number, control.context, linear, Dropper::Invlpg);
+                self.invalidate(number, control.context, linear, Cause::Invlpg);
                 self.structure_flushes.note(control.context.key(), number);
             }
-            Change::Invpcid { kind: 0, pcid, linear } => {
-                self.drop(number, Context::of(index, pcid), linear, Dropper::Invpcid);
+            Change::Invpcid {
+                kind: 0,
+                pcid,
+                linear,
+            } => {
+                self.invalidate(number, Context::of(index, pcid), linear, Cause::Invpcid);
             }
             Change::Invpcid { kind: 1, pcid, .. } => self.flush(number, Context::of(index, pcid)),
             Change::Invpcid { kind: 2, .. } => self.flush_all(number, index),
@@ -197,25 +204,23 @@ impl Past {
         self.flushes.note(Context::global(index).key(), number);
     }
 
-    fn drop(&mut self, event: u32, context: Context, linear: u64, dropper: Dropper) {
-        self.noted.push(Drop { event, context, linear, dropper });
+    fn invalidate(&mut self, event: u32, context: Context, linear: u64, cause: Cause) {
+        self.invalidations.push(Invalidation {
+            event,
+            context,
+            linear,
+            cause,
+        });
     }
 
     /// Makes what was noted ready to be looked up, for claims that end at these levels.
     pub fn pack(&mut self, levels: &[u8]) {
-        let has_global = self.memory.has_global;
-        for drop in std::mem::take(&mut self.noted) {
-            for &level in levels.iter().filter(|&&level| level < 4) {
-                let lists = &mut self.translation_drops[usize::from(level - 1)];
-                lists.note(drop.context.key_at(level, drop.linear), drop.event);
-                if has_global && drop.dropper != Dropper::Invpcid {
-                    lists.note(drop.context.globally().key_at(level, drop.linear), drop.event);
-                }
-            }
-            if drop.dropper != Dropper::Invlpg {
+        for invalidation in std::mem::take(&mut self.invalidations) {
+            self.enter_translations(&invalidation, levels);
+            if invalidation.cause != Cause::Invlpg {
                 for level in 2..=4 {
-                    let key = drop.context.key_at(level, drop.linear);
-                    self.structure_drops.note(key, drop.event);
+                    let key = invalidation.context.key_at(level, invalidation.linear);
+                    self.structure_drops.note(key, invalidation.event);
                 }
             }
         }
@@ -226,6 +231,24 @@ impl Past {
         self.translation_drops.iter_mut().for_each(Lists::pack);
     }
 
+    /// Enters which translations are dropped. Of levels that no claim ends at there are none, and
+    /// where no entry says so none is global.
+    fn enter_translations(&mut self, invalidation: &Invalidation, levels: &[u8]) {
+        let &Invalidation {
+            event,
+            context,
+            linear,
+            cause,
+        } = invalidation;
+        for &level in levels.iter().filter(|&&level| level < 4) {
+            let drops = &mut self.translation_drops[usize::from(level - 1)];
+            drops.note(context.key_at(level, linear), event);
+            if self.memory.has_global && cause != Cause::Invpcid {
+                drops.note(context.globally().key_at(level, linear), event);
+            }
+        }
+    }
+
     /// Whether a structure entry is dropped between two moments.
     #[inline]
     pub fn is_structure_dropped(
@@ -234,9 +257,10 @@ impl Past {
         (level, linear): (u8, u64),
         (from, to): (u32, u32),
     ) -> bool {
-        next_in(&self.processors[usize::from(processor)].flushes, from) < to
-            || next_in(self.structure_flushes.list(context.key()), from) < to
-            || next_in(self.structure_drops.list(context.key_at(level, linear)), from) < to
+        let is_in = |events: &[u32]| next_in(events, from) < to;
+        is_in(&self.processors[usize::from(processor)].flushes)
+            || is_in(self.structure_flushes.list(context.key()))
+            || is_in(self.structure_drops.list(context.key_at(level, linear)))
     }
 
     /// The first event from a moment on that drops a translation, or `NEVER`.
@@ -252,7 +276,8 @@ impl Past {
         } else {
             next_in(&self.processors[usize::from(processor)].flushes, from)
         };
-        let at_address = self.translation_drops[usize::from(level - 1)].list(context.key_at(level, linear));
+        let drops = &self.translation_drops[usize::from(level - 1)];
+        let at_address = drops.list(context.key_at(level, linear));
         by_all
             .min(next_in(self.flushes.list(context.key()), from))
             .min(next_in(at_address, from))

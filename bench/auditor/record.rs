@@ -219,7 +219,10 @@ impl Fields<'_> {
     #[inline(always)]
     fn moments(&mut self, count: u8) -> [u32; 4] {
         let mut moments = [0; 4];
-        for (moment, bytes) in moments.iter_mut().zip(self.window[self.taken..].chunks_exact(4)) {
+        for (moment, bytes) in moments
+            .iter_mut()
+            .zip(self.window[self.taken..].chunks_exact(4))
+        {
             *moment = u32::from_le_bytes(bytes.try_into().expect("a chunk is of four bytes"));
         }
         let count = usize::from(count);
@@ -342,7 +345,9 @@ fn rule_of_change(header: &Header, processor: u16, change: &Change) -> u8 {
         _ if processor >= header.processors => 1,
         Change::Write { address, .. } if !is_word(header, address) => 2,
         Change::Invlpg { linear } if !is_canonical(linear) => 3,
-        Change::Invpcid { kind: 0, linear, .. } if !is_canonical(linear) => 3,
+        Change::Invpcid {
+            kind: 0, linear, ..
+        } if !is_canonical(linear) => 3,
         Change::MovCr3 { operand } if bits(operand, header.address_bits, 63) != 0 => 4,
         Change::Invpcid { kind, pcid, .. } if kind > 3 || pcid > 4095 => 5,
         Change::Invpcid { kind, pcid, .. } if kind > 1 && pcid != 0 => 5,
@@ -444,7 +449,10 @@ impl Record {
         check((WRITE..=last).contains(&tag), TAG)?;
         let processor = fields.processor(VERSION);
         let header = &self.past.header;
-        let malformed = |rule| Refusal::Malformed { event: number, rule };
+        let malformed = |rule| Refusal::Malformed {
+            event: number,
+            rule,
+        };
         if tag == ACCESS || tag == ASSIST {
             let mut claim = take_claim(fields, tag == ASSIST, number, processor)?;
             let rule = rule_of_claim(header, &claim);

@@ -263,7 +263,9 @@ impl<'past> Walker<'past> {
                 above.context
             };
             let owner = (claim.processor, context);
-            end = self.past.end_of_translation(owner, (level, claim.linear), moment);
+            end = self
+                .past
+                .end_of_translation(owner, (level, claim.linear), moment);
         }
         Walk {
             key,
@@ -283,15 +285,17 @@ impl<'past> Walker<'past> {
 
     /// The least reason that fails for the tables of a claim, and for the step to its last entry.
     fn failing(&self, claim: &Claim, above: &Tables, context: Context) -> Option<Reason> {
-        let is_early = above.failing.is_some_and(|reason| reason < Reason::StructureDropped);
-        if !is_early && context != above.context {
+        if context != above.context && above.failing != Some(Reason::Entry) {
             return Some(Reason::Context);
         }
         let (from, to) = (claim.moment_of_tables(), claim.last_moment());
         if above.failing.is_some() || from == to {
             return above.failing;
         }
-        let (owner, entry) = ((claim.processor, above.context), (6 - claim.count, claim.linear));
+        let (owner, entry) = (
+            (claim.processor, above.context),
+            (6 - claim.count, claim.linear),
+        );
         self.past
             .is_structure_dropped(owner, entry, (from, to))
             .then_some(Reason::StructureDropped)
@@ -337,7 +341,10 @@ impl<'past> Walker<'past> {
         let owner = (claim.processor, start.context);
         let is_dropped = |(pair, level): (&[u32], u8)| {
             let entry = (level, claim.linear);
-            pair[0] < pair[1] && self.past.is_structure_dropped(owner, entry, (pair[0], pair[1]))
+            pair[0] < pair[1]
+                && self
+                    .past
+                    .is_structure_dropped(owner, entry, (pair[0], pair[1]))
         };
         if first != place && moments[1..].iter().any(is_foreign) {
             tables.failing = Some(Reason::Context);
