@@ -1,11 +1,10 @@
 /*
  * walks EVENTS PROCESSORS VERSION: writes an accepted record to standard output, of processors that
- * switch between 16 address spaces, each with a PCID of its own. Four accesses of five are to pages
- * that the processor works on, and most are served by what it caches. There are 4-KB and 2-MB pages,
- * and global 4-KB pages of the kernel, which all spaces share. The other events write entries (5 % of
- * them a page's first), invalidate by each of the instructions, and load CR3; a page that is absent
- * faults, and the next event maps it. Entries are written with their accessed and dirty flags set, so
- * that the record is the same in both versions.
+ * switch between 16 address spaces, each with a PCID of its own. Most accesses are to pages that the
+ * processor works on, and most are served by what it caches. There are 4-KB and 2-MB pages, and global
+ * 4-KB pages of the kernel, which all spaces share. The other events write entries, invalidate by each
+ * of the instructions, and load CR3; a page that is absent faults, and the next event maps it. Entries
+ * are written with their accessed and dirty flags set, so that the events are the same in both versions.
  */
 #include "../../emit/pcid_record.h"
 
