@@ -2,8 +2,11 @@
 //! `auditor [THREADS]` reads a record of version 1 or 2 from standard input, and reports whether
 //! the moments that it names prove its accesses and assists.
 mod judge;
+mod lists;
+mod memory;
 mod past;
 mod record;
+mod walk;
 
 use crate::record::{check, read_record, Refusal, Taken, DEVICE};
 use std::io::Write;
@@ -19,7 +22,7 @@ fn audit(threads: usize) -> Taken<bool> {
     };
     let (events, segments) = (
         record.events,
-        record.events.div_ceil(record.header.segment_size),
+        record.events.div_ceil(record.past.header.segment_size),
     );
     let report = format!("verdict: {verdict}\nevents: {events}\nsegments: {segments}\n");
     check(

@@ -1,242 +1,285 @@
 //! What held, and what was dropped, at each moment.
-use crate::record::{bits, has_bit, shift_of, Claim, Event, Header, Outcome};
-use std::collections::HashMap;
-use std::hash::{BuildHasherDefault, Hasher};
+use crate::lists::{next_in, Lists, NEVER};
+use crate::memory::Memory;
+use crate::record::{bits, has_bit, shift_of, Change, Claim, Header, Kind};
+
+/// What an entry of a cache is kept under: its processor, and its PCID unless it is global.
+#[derive(Clone, Copy, PartialEq, Eq)]
+pub struct Context(u32);
+
+impl Context {
+    fn of(processor: u16, pcid: u16) -> Self {
+        Context(u32::from(processor) << 13 | u32::from(pcid))
+    }
+
+    pub fn global(processor: u16) -> Self {
+        Context(u32::from(processor) << 13 | 1 << 12)
+    }
+
+    fn key(self) -> u64 {
+        u64::from(self.0)
+    }
+
+    /// That of the processor's global translations.
+    fn globally(self) -> Self {
+        Context(self.0 >> 13 << 13 | 1 << 12)
+    }
+
+    /// The key of what the context keeps for an address at a level.
+    fn key_at(self, level: u8, linear: u64) -> u64 {
+        let prefix = bits(linear, 0, 48) >> shift_of(level);
+        self.key() << 38 | u64::from(level - 1) << 36 | prefix
+    }
+}
 
 #[derive(Clone, Copy)]
 pub struct Control {
     pub root: u64,
-    pub pcid: u16,
+    pub context: Context,
     pub global: bool,
 }
 
 impl Control {
-    pub fn loaded(header: &Header, cr3: u64, global: bool) -> Self {
+    pub fn loaded(header: &Header, processor: u16, cr3: u64, global: bool) -> Self {
         Control {
             root: bits(cr3, 12, header.address_bits),
-            pcid: (cr3 & 0xfff) as u16,
+            context: Context::of(processor, (cr3 & 0xfff) as u16),
             global,
         }
     }
 }
 
-#[derive(Default)]
 pub struct Processor {
-    /// The control registers, with the moments from which they hold.
-    pub controls: Vec<(u32, Control)>,
+    /// The moments from which the control registers hold, and the registers.
+    from: Vec<u32>,
+    pub controls: Vec<Control>,
     /// The events that drop everything but global translations.
-    pub flushes: Vec<u32>,
-    /// The events that drop global translations too.
-    pub global_flushes: Vec<u32>,
+    flushes: Vec<u32>,
 }
 
 impl Processor {
-    fn now(&self) -> Control {
-        self.controls[self.controls.len() - 1].1
-    }
-
-    pub fn control_at(&self, moment: u32) -> Control {
-        self.controls[self.controls.partition_point(|control| control.0 <= moment) - 1].1
-    }
-
-    fn flush_all(&mut self, number: u32) {
-        self.flushes.push(number);
-        self.global_flushes.push(number);
-    }
-}
-
-/// Hashes one number by a wide multiplication, whose halves are folded together.
-#[derive(Default)]
-pub struct NumberHasher(pub u64);
-
-impl Hasher for NumberHasher {
-    fn finish(&self) -> u64 {
-        self.0
-    }
-    fn write(&mut self, _bytes: &[u8]) {
-        unreachable!("keys are numbers")
-    }
-
-    fn write_u64(&mut self, number: u64) {
-        let product = u128::from(self.0 ^ number) * 0x9e37_79b9_7f4a_7c15;
-        self.0 = (product >> 64) as u64 ^ product as u64;
-    }
-}
-
-type NumberMap<Value> = HashMap<u64, Value, BuildHasherDefault<NumberHasher>>;
-
-/// What an entry of a cache is kept under: its processor, and its PCID, or none if it is global.
-#[derive(Clone, Copy)]
-pub struct Context {
-    pub processor: u16,
-    pub pcid: Option<u16>,
-}
-
-impl Context {
-    /// The key of the events that drop what is meant: all structure entries, all translations, or
-    /// what is kept for an address at a level. There a translation and a structure entry share a
-    /// key, for of what concerns one address INVLPG alone treats them differently, and it drops all
-    /// structure entries of its PCID anyway.
-    fn key(self, dropped: Dropped) -> u64 {
-        let owner = u64::from(self.processor) << 13 | u64::from(self.pcid.unwrap_or(1 << 12));
-        let (kind, prefix) = match dropped {
-            Dropped::Structures => (0, 0),
-            Dropped::At(level, linear) => (level, bits(linear, 0, 48) >> shift_of(level)),
-            Dropped::Translations => (5, 0),
-        };
-        (owner << 36 | prefix) << 3 | u64::from(kind)
-    }
-}
-
-/// All of a kind, or what is kept at a level for a linear address.
-#[derive(Clone, Copy)]
-pub enum Dropped {
-    Structures,
-    Translations,
-    At(u8, u64),
-}
-
-pub const ALL: [Dropped; 2] = [Dropped::Translations, Dropped::Structures];
-
-fn at_levels(linear: u64) -> [Dropped; 4] {
-    [4, 3, 2, 1].map(|level| Dropped::At(level, linear))
-}
-
-/// Whether one of the sorted events lies in the range of moments.
-fn any_in(events: &[u32], from: u32, to: u32) -> bool {
-    let next = events.partition_point(|&event| event < from);
-    events.get(next).is_some_and(|&event| event < to)
-}
-
-#[derive(Default)]
-pub struct Record {
-    pub header: Header,
-    pub events: u32,
-    pub claims: Vec<Claim>,
-    pub processors: Vec<Processor>,
-    /// The values of each address, with the events that gave them.
-    pub memory: NumberMap<Vec<(u32, u64)>>,
-    /// The events that drop what a context keeps.
-    pub drops: NumberMap<Vec<u32>>,
-}
-
-impl Record {
-    /// Enters an event. They come in order, so that each list grows sorted.
-    #[inline]
-    pub fn add(&mut self, number: u32, processor: u16, event: Event) {
-        match event {
-            Event::Write { address, value } => {
-                self.memory
-                    .entry(address)
-                    .or_default()
-                    .push((number, value));
-            }
-            Event::Claim(claim) => {
-                match claim.outcome {
-                    Outcome::Page(_) => {}
-                    Outcome::Fault(_) => self.drop_current(number, processor, claim.linear),
-                    Outcome::Assist(entry) => self.mark(number, entry, claim.flags.says_dirty()),
-                }
-                self.claims.push(claim);
-            }
-            event => self.add_instruction(number, processor, event),
+    pub fn new(start: Control) -> Self {
+        Processor {
+            from: vec![0],
+            controls: vec![start],
+            flushes: Vec::new(),
         }
     }
 
-    fn add_instruction(&mut self, number: u32, index: u16, event: Event) {
+    fn last(&self) -> usize {
+        self.controls.len() - 1
+    }
+
+    fn now(&self) -> Control {
+        self.controls[self.last()]
+    }
+
+    fn load(&mut self, from: u32, control: Control) {
+        self.from.push(from);
+        self.controls.push(control);
+    }
+
+    /// The place of the registers that hold at a moment, where those at `place` hold no sooner.
+    /// Those shortly before are looked at first.
+    #[inline]
+    pub fn place_at(&self, moment: u32, place: usize) -> usize {
+        let (mut low, mut high, mut step) = (place, place, 1);
+        while self.from[low] > moment {
+            high = low;
+            low = low.saturating_sub(step);
+            step *= 2;
+        }
+        low + self.from[low..high]
+            .partition_point(|&from| from <= moment)
+            .saturating_sub(1)
+    }
+}
+
+#[derive(Clone, Copy, PartialEq, Eq)]
+enum Cause {
+    /// Drops global translations too.
+    Fault,
+    /// Drops global translations too, and all structure entries of its PCID.
+    Invlpg,
+    Invpcid,
+}
+
+/// An event that drops what a context keeps for an address.
+struct Invalidation {
+    event: u32,
+    context: Context,
+    linear: u64,
+    cause: Cause,
+}
+
+pub struct Past {
+    pub header: Header,
+    pub processors: Vec<Processor>,
+    pub memory: Memory,
+    /// By context: the events that drop all its translations (and all its structure entries).
+    flushes: Lists,
+    /// By context: the events that drop all its structure entries.
+    structure_flushes: Lists,
+    /// Until the lists are packed.
+    invalidations: Vec<Invalidation>,
+    /// The events that drop a translation by its level less 1, and its key.
+    translation_drops: [Lists; 3],
+    /// The events that drop a structure entry for an address, by its key.
+    structure_drops: Lists,
+}
+
+impl Past {
+    pub fn new(header: Header) -> Self {
+        Past {
+            header,
+            processors: Vec::new(),
+            memory: Memory::default(),
+            flushes: Lists::default(),
+            structure_flushes: Lists::default(),
+            invalidations: Vec::new(),
+            translation_drops: Default::default(),
+            structure_drops: Lists::default(),
+        }
+    }
+
+    /// Enters a claim, and gives the place of its processor's registers at it. Events come in order,
+    /// so that each list grows sorted.
+    #[inline]
+    pub fn note_claim(&mut self, claim: &Claim) -> u32 {
+        match claim.kind {
+            Kind::Answer => {}
+            Kind::Fault => {
+                let context = self.processors[usize::from(claim.processor)].now().context;
+                self.invalidate(claim.number, context, claim.linear, Cause::Fault);
+            }
+            Kind::Assist => self
+                .memory
+                .mark(claim.number, claim.value, claim.flags.says_dirty()),
+        }
+        self.processors[usize::from(claim.processor)].last() as u32
+    }
+
+    pub fn note_change(&mut self, number: u32, index: u16, change: &Change) {
         let processor = &mut self.processors[usize::from(index)];
         let control = processor.now();
-        let context_of = |pcid| Context {
-            processor: index,
-            pcid: Some(pcid),
-        };
-        match event {
-            Event::MovCr3 { operand } => {
-                let loaded = Control::loaded(&self.header, operand, control.global);
-                processor.controls.push((number + 1, loaded));
+        match *change {
+            Change::Write { address, value } => self.memory.write(number, address, value),
+            Change::MovCr3 { operand } => {
+                let loaded = Control::loaded(&self.header, index, operand, control.global);
+                processor.load(number + 1, loaded);
                 if !has_bit(operand, 63) {
-                    self.drop(number, context_of(loaded.pcid), &ALL);
+                    self.flush(number, loaded.context);
                 }
             }
-            Event::Invlpg { linear } => {
-                self.drop_current(number, index, linear);
-                self.drop(number, context_of(control.pcid), &[Dropped::Structures]);
+            Change::Invlpg { linear } => {
+                self.invalidate(number, control.context, linear, Cause::Invlpg);
+                self.structure_flushes.note(control.context.key(), number);
             }
-            Event::Invpcid {
+            Change::Invpcid {
                 kind: 0,
                 pcid,
                 linear,
             } => {
-                self.drop(number, context_of(pcid), &at_levels(linear));
+                self.invalidate(number, Context::of(index, pcid), linear, Cause::Invpcid);
             }
-            Event::Invpcid { kind: 1, pcid, .. } => self.drop(number, context_of(pcid), &ALL),
-            Event::Invpcid { kind: 2, .. } => processor.flush_all(number),
-            Event::Invpcid { .. } => processor.flushes.push(number),
-            Event::MovCr4 { global } if global != control.global => {
-                processor
-                    .controls
-                    .push((number + 1, Control { global, ..control }));
-                processor.flush_all(number);
+            Change::Invpcid { kind: 1, pcid, .. } => self.flush(number, Context::of(index, pcid)),
+            Change::Invpcid { kind: 2, .. } => self.flush_all(number, index),
+            Change::Invpcid { .. } => processor.flushes.push(number),
+            Change::MovCr4 { global } if global != control.global => {
+                processor.load(number + 1, Control { global, ..control });
+                self.flush_all(number, index);
             }
             _ => {}
         }
     }
 
-    /// Sets the accessed flag, and perhaps the dirty flag, in what stands at an address.
-    fn mark(&mut self, number: u32, address: u64, is_dirty: bool) {
-        let values = self.memory.entry(address).or_default();
-        let value = values.last().map_or(0, |last| last.1);
-        values.push((number, value | if is_dirty { 0x60 } else { 0x20 }));
+    fn flush(&mut self, number: u32, context: Context) {
+        self.flushes.note(context.key(), number);
+        self.structure_flushes.note(context.key(), number);
     }
 
-    fn drop(&mut self, number: u32, context: Context, dropped: &[Dropped]) {
-        for &dropped in dropped {
-            self.drops
-                .entry(context.key(dropped))
-                .or_default()
-                .push(number);
+    /// Drops all that a processor keeps, global translations too.
+    fn flush_all(&mut self, number: u32, index: u16) {
+        self.processors[usize::from(index)].flushes.push(number);
+        self.flushes.note(Context::global(index).key(), number);
+    }
+
+    fn invalidate(&mut self, event: u32, context: Context, linear: u64, cause: Cause) {
+        self.invalidations.push(Invalidation {
+            event,
+            context,
+            linear,
+            cause,
+        });
+    }
+
+    /// Makes what was noted ready to be looked up, for claims that end at these levels.
+    pub fn pack(&mut self, levels: &[u8]) {
+        for invalidation in std::mem::take(&mut self.invalidations) {
+            self.enter_translations(&invalidation, levels);
+            if invalidation.cause != Cause::Invlpg {
+                for level in 2..=4 {
+                    let key = invalidation.context.key_at(level, invalidation.linear);
+                    self.structure_drops.note(key, invalidation.event);
+                }
+            }
+        }
+        self.memory.pack();
+        self.flushes.pack();
+        self.structure_flushes.pack();
+        self.structure_drops.pack();
+        self.translation_drops.iter_mut().for_each(Lists::pack);
+    }
+
+    /// Enters which translations are dropped. Of levels that no claim ends at there are none, and
+    /// where no entry says so none is global.
+    fn enter_translations(&mut self, invalidation: &Invalidation, levels: &[u8]) {
+        let &Invalidation {
+            event,
+            context,
+            linear,
+            cause,
+        } = invalidation;
+        for &level in levels.iter().filter(|&&level| level < 4) {
+            let drops = &mut self.translation_drops[usize::from(level - 1)];
+            drops.note(context.key_at(level, linear), event);
+            if self.memory.has_global && cause != Cause::Invpcid {
+                drops.note(context.globally().key_at(level, linear), event);
+            }
         }
     }
 
-    /// Drops what the current PCID keeps for an address, and its global translations.
-    fn drop_current(&mut self, number: u32, processor: u16, linear: u64) {
-        let pcid = Some(self.processors[usize::from(processor)].now().pcid);
-        self.drop(number, Context { processor, pcid }, &at_levels(linear));
-        self.drop(
-            number,
-            Context {
-                processor,
-                pcid: None,
-            },
-            &at_levels(linear),
-        );
+    /// Whether a structure entry is dropped between two moments.
+    #[inline]
+    pub fn is_structure_dropped(
+        &self,
+        (processor, context): (u16, Context),
+        (level, linear): (u8, u64),
+        (from, to): (u32, u32),
+    ) -> bool {
+        let is_in = |events: &[u32]| next_in(events, from) < to;
+        is_in(&self.processors[usize::from(processor)].flushes)
+            || is_in(self.structure_flushes.list(context.key()))
+            || is_in(self.structure_drops.list(context.key_at(level, linear)))
     }
 
-    pub fn value_at(&self, address: u64, moment: u32) -> u64 {
-        let Some(values) = self.memory.get(&address) else {
-            return 0;
-        };
-        let count = values.partition_point(|value| value.0 < moment);
-        if count == 0 {
-            0
+    /// The first event from a moment on that drops a translation, or `NEVER`.
+    #[inline]
+    pub fn end_of_translation(
+        &self,
+        (processor, context): (u16, Context),
+        (level, linear): (u8, u64),
+        from: u32,
+    ) -> u32 {
+        let by_all = if context == Context::global(processor) {
+            NEVER
         } else {
-            values[count - 1].1
-        }
-    }
-
-    /// Whether what a context keeps for an address, as one of all translations or of all structure
-    /// entries, is dropped between two moments.
-    pub fn is_dropped(&self, context: Context, kept: [Dropped; 2], from: u32, to: u32) -> bool {
-        let processor = &self.processors[usize::from(context.processor)];
-        let is_global = context.pcid.is_none();
-        let flushes = if is_global {
-            &processor.global_flushes
-        } else {
-            &processor.flushes
+            next_in(&self.processors[usize::from(processor)].flushes, from)
         };
-        let mut lists = kept
-            .iter()
-            .filter_map(|&dropped| self.drops.get(&context.key(dropped)));
-        from < to && (any_in(flushes, from, to) || lists.any(|list| any_in(list, from, to)))
+        let drops = &self.translation_drops[usize::from(level - 1)];
+        let at_address = drops.list(context.key_at(level, linear));
+        by_all
+            .min(next_in(self.flushes.list(context.key()), from))
+            .min(next_in(at_address, from))
     }
 }
