@@ -1,6 +1,6 @@
 -- Worked runs of recorded processors.
-use Rattle.std.proofs.Common.{◌≡◌, ℕ, true, List, [], ◌∷◌, ◌++◌, refl, Option, Some, None}
-use Rattle.std.specs.Prelude.{slice_get, slice_set, fold, replicate}
+use Rattle.std.proofs.Common.{◌≡◌, ◌+◌, ℕ, true, false, List, [], ◌∷◌, ◌++◌, refl, Option, Some, None}
+use Rattle.std.specs.Prelude.{slice_get, slice_set, fold, map, replicate}
 use Rattle.pg_event.specs.declared.event.Event.{Event}
 use Rattle.pg_event.specs.declared.event.Event.TheVariants as events
 use Rattle.pg_event.specs.declared.event.Outcome.TheVariants.{Page, Fault}
@@ -10,6 +10,7 @@ use Rattle.pg_event.specs.Heads.{Head}
 use Rattle.pg_event.specs.Witness.{Accepted}
 use Rattle.pg_script.specs.declared.instruction.Instruction.{Instruction}
 use Rattle.pg_script.specs.declared.instruction.Instruction.TheVariants.{Write, Access, MovCr3, Invlpg}
+use Rattle.pg_world.specs.declared.receipt.Receipt.{Receipt}
 use Rattle.pg_world.specs.Recording.{Recording}
 use Rattle.pg_home.specs.Turn.{Processor, turned, fresh}
 use Rattle.pg_home.specs.CoreRun.{unwritten}
@@ -96,3 +97,53 @@ written_page = refl
 -- the auditor accepts what is recorded
 accepted_unmapped : Accepted (one versions.Two) (recorded (one versions.Two) (fresh (one versions.Two) 0 unmapped ∷ []) (replicate 20 0))
 accepted_unmapped = refl
+
+-- ---- what a wrong definition would change
+
+-- a fault that the kept rights give lets the page go: the next access walks anew
+abbrev read_only : List Instruction
+read_only = Write 0x1000 0x2007 ∷ Write 0x2000 0x3007 ∷ Write 0x3000 0x4007 ∷ Write 0x4028 0x9005 ∷ read ∷ Access 5 0x5123 ∷ Write 0x4028 0x9007 ∷ Access 5 0x5123 ∷ []
+
+denied_fault_then_new_walk : recorded (one versions.One) (fresh (one versions.One) 0 read_only ∷ []) (replicate 16 0)
+    ≡ events.Write 0 0x1000 0x2007 ∷ events.Write 0 0x2000 0x3007 ∷ events.Write 0 0x3000 0x4007 ∷ events.Write 0 0x4028 0x9005 ∷ answer (by 4 4 4 4)
+    ∷ events.Access 0 5 0x5123 (Fault 7) (by 4 4 4 4) ∷ events.Write 0 0x4028 0x9007 ∷ events.Access 0 5 0x5123 (Page 0x9123) (by 7 7 7 7) ∷ []
+denied_fault_then_new_walk = refl
+
+-- a leaf with bit 8 is kept for its PCID alone where CR4.PGE is 0
+abbrev without_pge : Head
+without_pge = record (one versions.One) { processors = (0x1001, false) ∷ [] }
+
+abbrev with_global_bit : List Instruction
+with_global_bit = Write 0x1000 0x2007 ∷ Write 0x2000 0x3007 ∷ Write 0x3000 0x4007 ∷ Write 0x4028 0x9107 ∷ read ∷ Write 0x4028 0 ∷ MovCr3 0x8000000000001002 ∷ read ∷ []
+
+global_bit_without_pge : recorded without_pge (fresh without_pge 0 with_global_bit ∷ []) (replicate 16 0)
+    ≡ events.Write 0 0x1000 0x2007 ∷ events.Write 0 0x2000 0x3007 ∷ events.Write 0 0x3000 0x4007 ∷ events.Write 0 0x4028 0x9107 ∷ answer (by 4 4 4 4)
+    ∷ events.Write 0 0x4028 0 ∷ events.MovCr3 0 0x8000000000001002 ∷ events.Access 0 4 0x5123 (Fault 4) (by 7 7 7 7) ∷ []
+global_bit_without_pge = refl
+
+-- each processor begins with registers of its own: the root of the second has no entry
+abbrev two_roots : Head
+two_roots = record (one versions.One) { processors = (0x1001, true) ∷ (0x8001, true) ∷ [] }
+
+own_registers : recorded two_roots (fresh two_roots 0 writes ∷ fresh two_roots 1 (read ∷ []) ∷ []) (0 ∷ 0 ∷ 0 ∷ 0 ∷ 1 ∷ [])
+    ≡ written ++ events.Access 1 4 0x5123 (Fault 4) (4 ∷ []) ∷ []
+own_registers = refl
+
+-- what stands in the transcripts of two processors, and how far they have come
+abbrev come_to : State → List (ℕ × List Receipt)
+come_to s = map (λ x. (x.place, x.transcript)) s.processors
+
+abbrev receipt : ℕ → Event → Receipt
+receipt moment event = record { moment = moment; event = event }
+
+transcripts_of_two : come_to (run two (fresh two 0 (Write 0x1000 0x2007 ∷ []) ∷ fresh two 1 (read ∷ Invlpg 0x5000 ∷ []) ∷ []) (0 ∷ 1 ∷ 1 ∷ 1 ∷ []))
+    ≡ (1, receipt 0 (events.Write 0 0x1000 0x2007) ∷ [])
+    ∷ (2, receipt 1 (events.Access 1 4 0x5123 (Fault 4) (1 ∷ 1 ∷ [])) ∷ receipt 2 (events.Invlpg 1 0x5000) ∷ []) ∷ []
+transcripts_of_two = refl
+
+-- four turns do not carry an access out that walks four levels, and five do
+abbrev places_after : ℕ → List ℕ
+places_after turns = map (λ x. x.place) (run (one versions.One) (fresh (one versions.One) 0 (writes ++ read ∷ []) ∷ []) (replicate (4 + turns) 0)).processors
+
+five_turns : (places_after 4 ≡ 4 ∷ []) × (places_after 5 ≡ 5 ∷ [])
+five_turns = (refl, refl)
