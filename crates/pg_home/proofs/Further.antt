@@ -88,7 +88,7 @@ from_root_not_one head es p la key kept same (w ∷ ws) h = along_not_one head e
 -- level 1 gives no table
 pub not_one : (head : Head) (es : List Event) (p pcid la : ℕ) (level : Level) (kept : KeptTable) → IsSoundTable head es p (structure_key pcid level la) kept → level ≡ One → ⊥
 not_one head es p pcid la level kept sound same =
-    from_root_not_one head es p la (structure_key pcid level la) kept same kept.moments (sound la (eq-eqb _ _ refl))
+    from_root_not_one head es p la (structure_key pcid level la) kept same kept.moments (sound.each la (eq-eqb _ _ refl))
 
 pub deeper : (level : Level) → (level ≡ One → ⊥) → depth level + 1 ≡ depth (below level)
 deeper Four high = refl

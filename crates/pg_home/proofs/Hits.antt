@@ -96,7 +96,7 @@ leaf_witnesses head es p la kind s shift global leaf all kept usable =
     let outcome : Outcome = outcome_of head.cfg kind leaf.rights address in
     let c : Claim = record { number = n; p = p; kind = kind; la = la; outcome = outcome } in
     let judged : Bool = judges_accessed head.version in
-    let given = all.leaves key leaf kept la (eq-eqb number number refl) in
+    let given = (all.leaves key leaf kept).each la (eq-eqb number number refl) in
     let pcid : ℕ = given.0 in
     let now : (control_at head es p n).pcid ≡ cur = ap (λ (d : Control). d.pcid) (sym all.control) in
     access_witnessed head es c pcid leaf.moments

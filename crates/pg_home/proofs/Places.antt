@@ -60,7 +60,7 @@ pub comes_in_table : (head : Head) (es : List Event) (p la pcid : ℕ) (level : 
     Comes head es p la pcid (record { level = below level; table = kept.table; rights = kept.rights }) kept.moments
 comes_in_table head es p la pcid level kept sound a same Ends end =
     let key : StructureKey = structure_key pcid level la in
-    from_root_on head es p a key kept Ends end kept.moments (sound a (eq-eqb _ _ (sym (coarser level a la same))))
+    from_root_on head es p a key kept Ends end kept.moments (sound.each a (eq-eqb _ _ (sym (coarser level a la same))))
 
 word_same : (es : List Event) (a la : ℕ) (at : Place) (w : ℕ) → bits_from (level_shift at.level) a ≡ bits_from (level_shift at.level) la → word_at es a at w ≡ word_at es la at w
 word_same es a la at w h = ap (λ i. mem_at es w (at.table + 8 * i)) (index_same at.level a la h)
@@ -71,50 +71,56 @@ word_same es a la at w h = ap (λ i. mem_at es w (at.table + 8 * i)) (index_same
 pub table_now : (head : Head) (es : List Event) (p la pcid : ℕ) (at : Place) (ws : List ℕ) → (control_at head es p (length es)).pcid ≡ pcid → Comes head es p la pcid at ws →
     may_cache head.version (word_at es la at (length es)) ≡ true → (addr : ℕ) → kind_of head.cfg at.level (word_at es la at (length es)) ≡ kinds.Table addr →
     IsSoundTable head es p (structure_key pcid at.level la) (record { table = addr; rights = joined at.rights (word_at es la at (length es)); moments = ws ++ length es ∷ [] })
-table_now head es p la pcid at ws own comes usable addr kind a matches =
-    let key : StructureKey = structure_key pcid at.level la in
-    let kept : KeptTable = record { table = addr; rights = joined at.rights (word_at es la at (length es)); moments = ws ++ length es ∷ [] } in
-    let same : bits_from (level_shift at.level) a ≡ bits_from (level_shift at.level) la = sym (eqb-true _ _ matches) in
-    let word : word_at es a at (length es) ≡ word_at es la at (length es) = word_same es a la at (length es) same in
-    comes a same (EndsInTable head es p a key kept) (record {
-      link = record {
-        table = ap (λ v. is_table (kind_of head.cfg at.level v)) word ∙ ap is_table kind;
-        usable = ap (may_cache head.version) word ∙ usable;
-        own = own;
-        order = omega arith;
-        stands = survives_now head es p (λ c e. must_drop_structure c e (structure_key pcid at.level a)) (length es);
-      };
-      level_is = refl;
-      place_is = ap (λ (v : ℕ). let to : Place = record { level = below at.level; table = table_of head.cfg.m v; rights = joined at.rights v } in to) word
-          ∙ ap (λ (v : ℕ). let to : Place = record { level = below at.level; table = v; rights = kept.rights } in to) (table_is head.cfg at.level (word_at es la at (length es)) addr kind);
-    })
+table_now head es p la pcid at ws own comes usable addr kind = record {
+  some = (la, eq-eqb _ _ refl);
+  each = λ a matches.
+      let key : StructureKey = structure_key pcid at.level la in
+      let kept : KeptTable = record { table = addr; rights = joined at.rights (word_at es la at (length es)); moments = ws ++ length es ∷ [] } in
+      let same : bits_from (level_shift at.level) a ≡ bits_from (level_shift at.level) la = sym (eqb-true _ _ matches) in
+      let word : word_at es a at (length es) ≡ word_at es la at (length es) = word_same es a la at (length es) same in
+      comes a same (EndsInTable head es p a key kept) (record {
+        link = record {
+          table = ap (λ v. is_table (kind_of head.cfg at.level v)) word ∙ ap is_table kind;
+          usable = ap (may_cache head.version) word ∙ usable;
+          own = own;
+          order = omega arith;
+          stands = survives_now head es p (λ c e. must_drop_structure c e (structure_key pcid at.level a)) (length es);
+        };
+        level_is = refl;
+        place_is = ap (λ (v : ℕ). let to : Place = record { level = below at.level; table = table_of head.cfg.m v; rights = joined at.rights v } in to) word
+            ∙ ap (λ (v : ℕ). let to : Place = record { level = below at.level; table = v; rights = kept.rights } in to) (table_is head.cfg at.level (word_at es la at (length es)) addr kind);
+      });
+}
 
 -- so is a page
 pub leaf_now : (head : Head) (es : List Event) (p la : ℕ) (c : Control) (at : Place) (ws : List ℕ) → c ≡ control_at head es p (length es) → Comes head es p la c.pcid at ws →
     may_cache head.version (word_at es la at (length es)) ≡ true → (frame shift : ℕ) (g : Bool) → kind_of head.cfg at.level (word_at es la at (length es)) ≡ kinds.Leaf frame shift g →
     let value = word_at es la at (length es) in
     IsSoundLeaf head es p (translation_key c.pcid shift (g && c.pge) la) (record { frame = frame; rights = joined at.rights value; dirty = dirty value; moments = ws ++ length es ∷ [] })
-leaf_now head es p la c at ws now comes usable frame shift g kind a matches =
-    let n : ℕ = length es in
-    let value : ℕ = word_at es la at n in
-    let key : TranslationKey = translation_key c.pcid shift (g && c.pge) la in
-    let kept : KeptLeaf = record { frame = frame; rights = joined at.rights value; dirty = dirty value; moments = ws ++ n ∷ [] } in
-    let size : level_shift at.level ≡ shift = shift_is head.cfg at.level value frame shift g kind in
-    let same : bits_from (level_shift at.level) a ≡ bits_from (level_shift at.level) la = subst (λ s. bits_from s a ≡ bits_from s la) (sym size) (sym (eqb-true _ _ matches)) in
-    let word : word_at es a at n ≡ value = word_same es a la at n same in (
-      c.pcid,
-      comes a same (EndsInLeaf head es p a c.pcid key kept) (record {
-        global_bit = g;
-        leaf = ap (kind_of head.cfg at.level) word ∙ kind;
-        usable = ap (may_cache head.version) word ∙ usable;
-        dirty_is = ap dirty word;
-        rights_are = ap (joined at.rights) word;
-        own = ap (λ (d : Control). d.pcid) (sym now);
-        space_is = ap (λ (d : Control). same_space key (translation_key c.pcid shift (g && d.pge) a)) (sym now) ∙ space_self c.pcid (g && c.pge);
-        order = omega arith;
-        stands = survives_now head es p (λ d e. must_drop_translation d e key) n;
-      }),
-    )
+leaf_now head es p la c at ws now comes usable frame shift g kind = record {
+  some = (la, eq-eqb _ _ refl);
+  each = λ a matches.
+      let n : ℕ = length es in
+      let value : ℕ = word_at es la at n in
+      let key : TranslationKey = translation_key c.pcid shift (g && c.pge) la in
+      let kept : KeptLeaf = record { frame = frame; rights = joined at.rights value; dirty = dirty value; moments = ws ++ n ∷ [] } in
+      let size : level_shift at.level ≡ shift = shift_is head.cfg at.level value frame shift g kind in
+      let same : bits_from (level_shift at.level) a ≡ bits_from (level_shift at.level) la = subst (λ s. bits_from s a ≡ bits_from s la) (sym size) (sym (eqb-true _ _ matches)) in
+      let word : word_at es a at n ≡ value = word_same es a la at n same in (
+        c.pcid,
+        comes a same (EndsInLeaf head es p a c.pcid key kept) (record {
+          global_bit = g;
+          leaf = ap (kind_of head.cfg at.level) word ∙ kind;
+          usable = ap (may_cache head.version) word ∙ usable;
+          dirty_is = ap dirty word;
+          rights_are = ap (joined at.rights) word;
+          own = ap (λ (d : Control). d.pcid) (sym now);
+          space_is = ap (λ (d : Control). same_space key (translation_key c.pcid shift (g && d.pge) a)) (sym now) ∙ space_self c.pcid (g && c.pge);
+          order = omega arith;
+          stands = survives_now head es p (λ d e. must_drop_translation d e key) n;
+        }),
+      );
+}
 
 -- ---- what is recorded
 

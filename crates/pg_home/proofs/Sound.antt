@@ -33,23 +33,26 @@ from_root_map head es p la pcid Ends Ends2 f (w ∷ ws) h = along_map head es p 
 
 alike_by_parts : (head : Head) (es : List Event) (p a b shift number : ℕ) (g h : Bool) (kept : KeptLeaf) → same_space (key_of a shift number g) (key_of b shift number h) ≡ true →
     IsSoundLeaf head es p (key_of a shift number g) kept → IsSoundLeaf head es p (key_of b shift number h) kept
-alike_by_parts head es p a b shift number g h kept same sound la matches =
-    let given = sound la matches in (
-      given.0,
-      from_root_map head es p la given.0 (EndsInLeaf head es p la given.0 (key_of a shift number g) kept) (EndsInLeaf head es p la given.0 (key_of b shift number h) kept)
-          (λ at w ends. record {
-            global_bit = ends.global_bit;
-            leaf = ends.leaf;
-            usable = ends.usable;
-            dirty_is = ends.dirty_is;
-            rights_are = ends.rights_are;
-            own = ends.own;
-            space_is = space_joins a b given.0 shift number g h (ends.global_bit && (control_at head es p w).pge) same ends.space_is;
-            order = ends.order;
-            stands = sym (survives_alike head es p w (length es) a b shift number g h same) ∙ ends.stands;
-          })
-          kept.moments given.1,
-    )
+alike_by_parts head es p a b shift number g h kept same sound = record {
+  some = sound.some;
+  each = λ la matches.
+      let given = sound.each la matches in (
+        given.0,
+        from_root_map head es p la given.0 (EndsInLeaf head es p la given.0 (key_of a shift number g) kept) (EndsInLeaf head es p la given.0 (key_of b shift number h) kept)
+            (λ at w ends. record {
+              global_bit = ends.global_bit;
+              leaf = ends.leaf;
+              usable = ends.usable;
+              dirty_is = ends.dirty_is;
+              rights_are = ends.rights_are;
+              own = ends.own;
+              space_is = space_joins a b given.0 shift number g h (ends.global_bit && (control_at head es p w).pge) same ends.space_is;
+              order = ends.order;
+              stands = sym (survives_alike head es p w (length es) a b shift number g h same) ∙ ends.stands;
+            })
+            kept.moments given.1,
+      );
+}
 
 -- a sound translation is sound by each key that names it
 sound_alike : (head : Head) (es : List Event) (p : ℕ) (a b : TranslationKey) (kept : KeptLeaf) → IsSamePage a b → IsSoundLeaf head es p a kept → IsSoundLeaf head es p b kept

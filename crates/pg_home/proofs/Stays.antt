@@ -86,50 +86,56 @@ key_is key level la same matches =
 
 pub table_stays : (head : Head) (es : List Event) (e : Event) (p : ℕ) (key : StructureKey) (kept : KeptTable) → IsSoundTable head es p key kept →
     (processor_of e == p && must_drop_structure (control_at head es p (length es)) e key) ≡ false → IsSoundTable head (es ++ e ∷ []) p key kept
-table_stays head es e p key kept sound spared la matches =
-    from_root_longer head es (e ∷ []) p la key.pcid (EndsInTable head es p la key kept) (EndsInTable head (es ++ e ∷ []) p la key kept)
-    (λ at w h. h.link.order)
-    (λ at w h.
-    let early : w ≤ length es = h.link.order in
-    let more : length (es ++ e ∷ []) ≡ length es + 1 = length_push es e in
-    let word : word_at (es ++ e ∷ []) la at w ≡ word_at es la at w = word_longer es (e ∷ []) la at w early in
-    let spared2 : (processor_of e == p && takes_structure key.pcid la at.level (control_at head es p (length es)) e) ≡ false =
-    ap (λ k. processor_of e == p && must_drop_structure (control_at head es p (length es)) e k) (key_is key at.level la h.level_is matches) ∙ spared in
-    record {
-      link = record {
-        table = ap (λ v. is_table (kind_of head.cfg at.level v)) word ∙ h.link.table;
-        usable = ap (may_cache head.version) word ∙ h.link.usable;
-        own = ap (λ (c : Control). c.pcid) (control_longer head es (e ∷ []) p w early) ∙ h.link.own;
-        order = omega arith;
-        stands = survives_event head es e p (takes_structure key.pcid la at.level) w h.link.stands spared2;
-      };
-      level_is = h.level_is;
-      place_is = place_longer head.cfg.m es (e ∷ []) la at w early ∙ h.place_is;
-    })
-    kept.moments (sound la matches)
+table_stays head es e p key kept sound spared = record {
+  some = sound.some;
+  each = λ la matches.
+      from_root_longer head es (e ∷ []) p la key.pcid (EndsInTable head es p la key kept) (EndsInTable head (es ++ e ∷ []) p la key kept)
+      (λ at w h. h.link.order)
+      (λ at w h.
+      let early : w ≤ length es = h.link.order in
+      let more : length (es ++ e ∷ []) ≡ length es + 1 = length_push es e in
+      let word : word_at (es ++ e ∷ []) la at w ≡ word_at es la at w = word_longer es (e ∷ []) la at w early in
+      let spared2 : (processor_of e == p && takes_structure key.pcid la at.level (control_at head es p (length es)) e) ≡ false =
+      ap (λ k. processor_of e == p && must_drop_structure (control_at head es p (length es)) e k) (key_is key at.level la h.level_is matches) ∙ spared in
+      record {
+        link = record {
+          table = ap (λ v. is_table (kind_of head.cfg at.level v)) word ∙ h.link.table;
+          usable = ap (may_cache head.version) word ∙ h.link.usable;
+          own = ap (λ (c : Control). c.pcid) (control_longer head es (e ∷ []) p w early) ∙ h.link.own;
+          order = omega arith;
+          stands = survives_event head es e p (takes_structure key.pcid la at.level) w h.link.stands spared2;
+        };
+        level_is = h.level_is;
+        place_is = place_longer head.cfg.m es (e ∷ []) la at w early ∙ h.place_is;
+      })
+      kept.moments (sound.each la matches);
+}
 
 pub leaf_stays : (head : Head) (es : List Event) (e : Event) (p : ℕ) (key : TranslationKey) (kept : KeptLeaf) → IsSoundLeaf head es p key kept →
     (processor_of e == p && must_drop_translation (control_at head es p (length es)) e key) ≡ false → IsSoundLeaf head (es ++ e ∷ []) p key kept
-leaf_stays head es e p key kept sound spared la matches =
-    let given = sound la matches in (
-      given.0,
-      from_root_longer head es (e ∷ []) p la given.0 (EndsInLeaf head es p la given.0 key kept) (EndsInLeaf head (es ++ e ∷ []) p la given.0 key kept)
-          (λ at w h. h.order)
-          (λ at w h.
-          let early : w ≤ length es = h.order in
-          let more : length (es ++ e ∷ []) ≡ length es + 1 = length_push es e in
-          let word : word_at (es ++ e ∷ []) la at w ≡ word_at es la at w = word_longer es (e ∷ []) la at w early in
-          let then : control_at head (es ++ e ∷ []) p w ≡ control_at head es p w = control_longer head es (e ∷ []) p w early in
-          record {
-            global_bit = h.global_bit;
-            leaf = ap (kind_of head.cfg at.level) word ∙ h.leaf;
-            usable = ap (may_cache head.version) word ∙ h.usable;
-            dirty_is = ap dirty word ∙ h.dirty_is;
-            rights_are = ap (joined at.rights) word ∙ h.rights_are;
-            own = ap (λ (c : Control). c.pcid) then ∙ h.own;
-            space_is = ap (λ (c : Control). same_space key (translation_key given.0 key.shift (h.global_bit && c.pge) la)) then ∙ h.space_is;
-            order = omega arith;
-            stands = survives_event head es e p (takes_translation key) w h.stands spared;
-          })
-          kept.moments given.1,
-    )
+leaf_stays head es e p key kept sound spared = record {
+  some = sound.some;
+  each = λ la matches.
+      let given = sound.each la matches in (
+        given.0,
+        from_root_longer head es (e ∷ []) p la given.0 (EndsInLeaf head es p la given.0 key kept) (EndsInLeaf head (es ++ e ∷ []) p la given.0 key kept)
+            (λ at w h. h.order)
+            (λ at w h.
+            let early : w ≤ length es = h.order in
+            let more : length (es ++ e ∷ []) ≡ length es + 1 = length_push es e in
+            let word : word_at (es ++ e ∷ []) la at w ≡ word_at es la at w = word_longer es (e ∷ []) la at w early in
+            let then : control_at head (es ++ e ∷ []) p w ≡ control_at head es p w = control_longer head es (e ∷ []) p w early in
+            record {
+              global_bit = h.global_bit;
+              leaf = ap (kind_of head.cfg at.level) word ∙ h.leaf;
+              usable = ap (may_cache head.version) word ∙ h.usable;
+              dirty_is = ap dirty word ∙ h.dirty_is;
+              rights_are = ap (joined at.rights) word ∙ h.rights_are;
+              own = ap (λ (c : Control). c.pcid) then ∙ h.own;
+              space_is = ap (λ (c : Control). same_space key (translation_key given.0 key.shift (h.global_bit && c.pge) la)) then ∙ h.space_is;
+              order = omega arith;
+              stands = survives_event head es e p (takes_translation key) w h.stands spared;
+            })
+            kept.moments given.1,
+      );
+}

@@ -113,18 +113,20 @@ pub record EndsInLeaf (head : Head) (events : List Event) (p la pcid : ℕ) (key
   pub stands : survives head events p
       (λ c e. must_drop_translation c e key) w (length events) ≡ true
 
--- a table is sound: it is what a walk by its moments read, for each address of its key
-abbrev pub IsSoundTable : Head → List Event → ℕ → StructureKey → KeptTable → Type 0
-IsSoundTable head events p key kept =
-    (la : ℕ) → structure_matches key la ≡ true →
-    FromRoot head events p la key.pcid (EndsInTable head events p la key kept) kept.moments
+-- a table is sound: some address has its key, and for each that has it the table is what a walk by
+-- its moments read
+pub record IsSoundTable (head : Head) (events : List Event) (p : ℕ) (key : StructureKey)
+    (kept : KeptTable) : Type 0 where
+  pub some : (la : ℕ) × (structure_matches key la ≡ true)
+  pub each : (la : ℕ) → structure_matches key la ≡ true →
+      FromRoot head events p la key.pcid (EndsInTable head events p la key kept) kept.moments
 
 -- so is a page. The PCID of a global one's walk may be any
-abbrev pub IsSoundLeaf : Head → List Event → ℕ → TranslationKey → KeptLeaf → Type 0
-IsSoundLeaf head events p key kept =
-    (la : ℕ) → translation_matches key la ≡ true →
-    (pcid : ℕ)
-    × FromRoot head events p la pcid (EndsInLeaf head events p la pcid key kept) kept.moments
+pub record IsSoundLeaf (head : Head) (events : List Event) (p : ℕ) (key : TranslationKey)
+    (kept : KeptLeaf) : Type 0 where
+  pub some : (la : ℕ) × (translation_matches key la ≡ true)
+  pub each : (la : ℕ) → translation_matches key la ≡ true → (pcid : ℕ)
+      × FromRoot head events p la pcid (EndsInLeaf head events p la pcid key kept) kept.moments
 
 -- ---- at home
 
