@@ -10,7 +10,8 @@ ghost use Rattle.pg_event.specs.Values.{mem_at, control_at};
 ghost use Rattle.pg_event.specs.Invalidation.{structure_key, translation_key};
 ghost use Rattle.pg_event.specs.Invalidation.{must_drop_structure, must_drop_translation};
 ghost use Rattle.pg_event.specs.Witness.{survives};
-ghost use Rattle.pg_inval.specs.Drops.{may_drop, IsTableLevel, IsPageShift};
+ghost use Rattle.pg_entry.specs.Kinds.{IsPageShift};
+ghost use Rattle.pg_inval.specs.Drops.{may_drop, IsTableLevel};
 ghost use Rattle.pg_inval.specs.Lists.{IsFirstDrop};
 ghost use Rattle.pg_chain.specs.Standing.{IsPast, IsNext, processor_count, changes_nothing};
 

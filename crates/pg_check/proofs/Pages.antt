@@ -23,7 +23,7 @@ use Rattle.pg_event.specs.Values.{mem_at, control_at}
 use Rattle.pg_event.specs.Invalidation.{bits_from, structure_key, must_drop_structure}
 use Rattle.pg_event.specs.Walk.{Reading, readings, below, entry_address, root_of}
 use Rattle.pg_event.specs.Witness.{leads_to, last_or, survives, structures_survive, is_one_context, tables_accessed, walked}
-use Rattle.pg_inval.specs.Drops.{IsPageShift}
+use Rattle.pg_entry.specs.Kinds.{IsPageShift}
 use Rattle.pg_chain.specs.Walked.{chain_of, chain_through, ended}
 use Rattle.pg_check.specs.declared.lasting.Lasting.{Lasting}
 use Rattle.pg_check.specs.Lasting.{IsDroppedAt, LastsTo, IsWalk}

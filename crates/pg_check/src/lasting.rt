@@ -1,16 +1,14 @@
 //! Walks by moments, and how long the translations last that they give.
 
 ghost use Rattle.std.specs.Prelude.{◌≡◌, ◌&&◌, ◌<◌, ◌≤◌, ◌^◌, List, IfOk};
-ghost use Rattle.pg_entry.specs.Kinds.{kind_of};
 ghost use Rattle.pg_event.specs.declared.event.Event.{Event};
 ghost use Rattle.pg_event.specs.Heads.{Head};
 ghost use Rattle.pg_event.specs.Values.{control_at};
 ghost use Rattle.pg_chain.specs.Standing.{IsPast, processor_count};
-ghost use Rattle.pg_check.specs.Ends.{IsSmallLeaf};
 ghost use Rattle.pg_check.specs.Lasting.{IsLasting, IsAsked, IsWalk};
 
-use pg_chain::{Chain, Past, Step, chain};
-use pg_entry::{Cfg, Entry, Kind, classify};
+use pg_chain::{Chain, Past, chain, kind_at};
+use pg_entry::Kind;
 use pg_event::{Moments, Reason, Want};
 
 /// A walk by moments, and what becomes of the translation that it gives.
@@ -24,15 +22,6 @@ pub struct Lasting {
     pub asked: bool,
     /// The first event from the last reading on at which it had to go, if that was looked up.
     pub dropped: Option<u32>,
-}
-
-/// What the entry of a step is, with a leaf's page within the physical addresses.
-pub fn kind_at(cfg: Cfg, step: Step) -> Kind
-    requires { (36 ≤ cfg.m) × (cfg.m ≤ 52) }
-    ensures kind { result ≡ kind_of cfg step.level step.value }
-    ensures small { IsSmallLeaf result }
-{
-    classify(cfg, step.level, Entry(step.value))
 }
 
 /// Whether a translation that a leaf gives is global: the leaf's bit 8 is set, and CR4.PGE was when

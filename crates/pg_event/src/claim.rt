@@ -1,4 +1,9 @@
+ghost use Rattle.std.specs.Prelude.{◌≡◌};
+ghost use Rattle.pg_event.specs.Witness.{claim_of, update_of};
+
 use crate::event::Outcome;
+use crate::header::says_dirty;
+use crate::walk::access_kind;
 use pg_entry::AccessKind;
 
 /// What the event of an access claims, but for its moments.
@@ -27,4 +32,31 @@ pub struct Update {
     pub word: u64,
     /// Whether it sets D beside A.
     pub dirty: bool,
+}
+
+/// What an access claims, as the event with this number.
+pub fn claim_of(number: u32, p: u16, flags: u8, la: u64, outcome: Outcome) -> Claim
+    ensures { result ≡ claim_of number p flags la outcome }
+{
+    Claim {
+        number,
+        p,
+        kind: access_kind(flags),
+        la,
+        outcome,
+    }
+}
+
+/// What an assist says that it did, as the event with this number.
+pub fn update_of(number: u32, p: u16, flags: u8, la: u64, word: u64) -> Update
+    ensures { result ≡ update_of number p flags la word }
+{
+    Update {
+        number,
+        p,
+        kind: access_kind(flags),
+        la,
+        word,
+        dirty: says_dirty(flags),
+    }
 }

@@ -2,47 +2,19 @@
 
 ghost use Rattle.std.specs.Prelude.{◌≡◌, ◌<◌, ◌≤◌, ◌%◌, ◌^◌, ◌&&◌, length};
 ghost use Rattle.pg_entry.specs.declared.Kind.TheVariants as kinds;
-ghost use Rattle.pg_entry.specs.Kinds.{kind_of};
+ghost use Rattle.pg_entry.specs.Kinds.{kind_of, IsPageShift};
 ghost use Rattle.pg_event.specs.Values.{mem_at, control_at};
-ghost use Rattle.pg_inval.specs.Drops.{IsPageShift};
 ghost use Rattle.pg_chain.specs.Walked.{reading_of};
-ghost use Rattle.pg_check.specs.Ends.{IsSmallLeaf};
 ghost use Rattle.pg_explain.specs.Findings.{leaf_finding, held_finding, fault_finding};
 ghost use Rattle.pg_explain.specs.Findings.{translation_drop, foreign_finding, end_finding};
 
 use crate::dropped::{CacheKey, first_drop};
 use crate::finding::{Finding, Tagged, Wish};
 use crate::walk_finding::tagged;
-use pg_chain::Step;
+use pg_chain::{Step, kind_at};
 use pg_check::History;
-use pg_entry::{Cause, Cfg, Entry, Kind, Rights, allowed, classify, error_code};
+use pg_entry::{Cause, Cfg, Entry, Kind, Rights, allowed, classify, error_code, page_offset};
 use pg_event::{Claim, Outcome, Want, translation_key, want_of};
-
-/// What the entry of a step is, with a leaf's page within the physical addresses.
-fn kind_at(cfg: Cfg, step: Step) -> Kind
-    requires { (36 ≤ cfg.m) × (cfg.m ≤ 52) }
-    ensures kind { result ≡ kind_of cfg step.level step.value }
-    ensures small { IsSmallLeaf result }
-{
-    classify(cfg, step.level, Entry(step.value))
-}
-
-/// The bytes of a page.
-fn page_size(shift: u8) -> u64
-    requires { shift ≤ 30 }
-    ensures { result ≡ 2 ^ shift }
-{
-    1 << shift
-}
-
-/// The offset of a linear address in its page of 2 to the power of `shift` bytes.
-fn offset(la: u64, shift: u8) -> u64
-    requires { shift ≤ 30 }
-    ensures offset { result ≡ la % 2 ^ shift }
-    ensures within { result < 2 ^ 30 }
-{
-    la % page_size(shift)
-}
 
 /// What stands behind the reasons by the rights, the answer and the code, where a leaf gives an
 /// address.
@@ -190,7 +162,7 @@ fn page_finding(
     if let Some(found) = foreign_finding(read, tagged(history, p, number), global) {
         return Some(found);
     }
-    let address = frame + offset(la, shift);
+    let address = frame + page_offset(la, shift);
     leaf_finding(history.header().cfg, claim, step.rights, address)
 }
 

@@ -8,9 +8,9 @@ ghost use Rattle.pg_chain.specs.Walked.{reading_of, entry_read, parent_of};
 ghost use Rattle.pg_explain.specs.Findings.{readings_by};
 ghost use Rattle.pg_explain.specs.Walk.{writes, IsWriter, IsTold, reading_at};
 
-use pg_chain::Step;
+use pg_chain::{Step, kind_at};
 use pg_check::History;
-use pg_entry::{Cfg, Entry, Kind, Level, classify, combine, table_of};
+use pg_entry::{Entry, Kind, Level, combine, table_of};
 use pg_event::{Event, Parent, below, entry_address, root_of};
 use std::alloc::{AllocError, Global};
 
@@ -108,13 +108,6 @@ fn writer(events: &[Event], address: u64, moment: u32) -> Option<u32>
         }
     }
     last
-}
-
-fn kind_at(cfg: Cfg, step: Step) -> Kind
-    requires { (36 ≤ cfg.m) × (cfg.m ≤ 52) }
-    ensures { result ≡ kind_of cfg step.level step.value }
-{
-    classify(cfg, step.level, Entry(step.value))
 }
 
 /// What is told of an entry that processor `p` reads.

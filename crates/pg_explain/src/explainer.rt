@@ -2,7 +2,7 @@
 
 ghost use Rattle.std.specs.Prelude.{◌≡◌, ◌<◌, ◌≤◌, length, map, IfOk, MatchOption};
 ghost use Rattle.pg_event.specs.Form.{processor_of};
-ghost use Rattle.pg_event.specs.Witness.{claim_of, update_of, failing_access, failing_assist};
+ghost use Rattle.pg_event.specs.Witness.{failing_access, failing_assist};
 ghost use Rattle.pg_event.specs.Witness.{failing_event, Witnessed};
 ghost use Rattle.pg_chain.specs.Walked.{reading_of};
 ghost use Rattle.pg_explain.specs.Explained.{IsWalkOf, TellsEvent, IsExplained};
@@ -17,7 +17,7 @@ use crate::flag_finding::{accessed_finding, flag_finding, update_finding};
 use crate::walk_finding::{Asked, tagged, walk_finding};
 use pg_chain::Step;
 use pg_check::History;
-use pg_event::{Claim, Event, Moments, Outcome, Update, Want, access_kind, says_dirty, want_of};
+use pg_event::{Claim, Event, Moments, Update, Want, claim_of, update_of, want_of};
 use pg_search::find_moments;
 use std::alloc::{AllocError, Global};
 
@@ -170,33 +170,6 @@ fn tell_assist(
             let walk = tell(alloc, history, p, &steps)?;
             Ok(Some(Told { walk, finding }))
         }
-    }
-}
-
-/// What an access claims, as the event with this number.
-fn claim_of(number: u32, p: u16, flags: u8, la: u64, outcome: Outcome) -> Claim
-    ensures { result ≡ claim_of number p flags la outcome }
-{
-    Claim {
-        number,
-        p,
-        kind: access_kind(flags),
-        la,
-        outcome,
-    }
-}
-
-/// What an assist says that it did, as the event with this number.
-fn update_of(number: u32, p: u16, flags: u8, la: u64, word: u64) -> Update
-    ensures { result ≡ update_of number p flags la word }
-{
-    Update {
-        number,
-        p,
-        kind: access_kind(flags),
-        la,
-        word,
-        dirty: says_dirty(flags),
     }
 }
 

@@ -3,7 +3,7 @@
 ghost use Rattle.std.specs.Prelude.{◌≡◌, ◌≤◌, ◌<◌, ◌%◌, ◌^◌, ◌+◌};
 ghost use Rattle.pg_home.specs.Turn.{from_root, from_table, outcome_of};
 
-use pg_entry::{AccessKind, Cause, Cfg, Level, Rights, allowed, error_code};
+use pg_entry::{AccessKind, Cause, Cfg, Level, Rights, allowed, error_code, page_size};
 use pg_event::{Control, Moments, Outcome, below, root_of};
 use pg_world::Walk;
 
@@ -41,14 +41,6 @@ pub(crate) fn from_table(
         rights,
         moments: Some(moments),
     }
-}
-
-/// The bytes of a page.
-fn page_size(shift: u8) -> u64
-    requires { shift ≤ 30 }
-    ensures { result ≡ 2 ^ shift }
-{
-    1 << shift
 }
 
 /// The physical address of a linear address in a page of 2 to the power of `shift` bytes.

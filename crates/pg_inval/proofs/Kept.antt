@@ -18,7 +18,8 @@ use Rattle.pg_timeline.specs.Keyed.{Keyed, AreCut}
 use Rattle.pg_inval.specs.declared.key.DropKey.{DropKey}
 use Rattle.pg_inval.specs.Keys.{is_same_key, has_key, dropped_keys}
 use Rattle.pg_inval.specs.Lists.{has_among, ArePushed, AreSame}
-use Rattle.pg_inval.specs.Drops.{may_drop, CacheEntry, Structure, Translation, must_drop, drops_between, keys_of, is_dropped, next_moment, MayBeCached, IsPageShift, IsNoted, IsSame, IsCutAt, StandsFor}
+use Rattle.pg_entry.specs.Kinds.{IsPageShift}
+use Rattle.pg_inval.specs.Drops.{may_drop, CacheEntry, Structure, Translation, must_drop, drops_between, keys_of, is_dropped, next_moment, MayBeCached, IsNoted, IsSame, IsCutAt, StandsFor}
 use Rattle.pg_inval.proofs.AnyFrom.{any_from-same, any_from-none, any_from-more, any_from-below, within}
 use Rattle.pg_inval.proofs.Pushes.{has_among-pushed, has_among-cut, has_among-same, has_among-none}
 use Rattle.pg_inval.proofs.Table.{is_hit, entry_table}

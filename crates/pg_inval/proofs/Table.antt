@@ -16,7 +16,8 @@ use Rattle.pg_event.specs.Invalidation.{level_shift, bits_from, changes_pge, str
 use Rattle.pg_inval.specs.declared.key.DropKey.{DropKey}
 use Rattle.pg_inval.specs.declared.key.DropKey.TheVariants as keys
 use Rattle.pg_inval.specs.Keys.{has_key, structure_keys, translation_keys, structures_for, locals_for, globals_for, invpcid_keys, dropped_keys}
-use Rattle.pg_inval.specs.Drops.{CacheEntry, Structure, Translation, MayBeCached, IsPageShift, must_drop, keys_of}
+use Rattle.pg_entry.specs.Kinds.{IsPageShift}
+use Rattle.pg_inval.specs.Drops.{CacheEntry, Structure, Translation, MayBeCached, must_drop, keys_of}
 
 abbrev pub is_hit : List DropKey → List DropKey → Bool
 is_hit own ks = list_any (has_key own) ks

@@ -1,8 +1,9 @@
 -- The events of a run that may drop cached entries, and which entries they drop.
-use Rattle.std.specs.Prelude.{◌≡◌, ◌⊎◌, ℕ, ◌+◌, ◌≤◌, Bool, true, false, not, ◌&&◌, ◌||◌}
+use Rattle.std.specs.Prelude.{◌≡◌, ℕ, ◌+◌, ◌≤◌, Bool, true, false, not, ◌&&◌, ◌||◌}
 use Rattle.std.specs.Prelude.{◌==◌, nat_lt, nat_le, min, if◌then◌else◌, List, length}
 use Rattle.pg_entry.specs.declared.Level.{Level}
 use Rattle.pg_entry.specs.declared.Level.TheVariants.{Four, Three, Two, One}
+use Rattle.pg_entry.specs.Kinds.{IsPageShift}
 use Rattle.pg_event.specs.declared.event.Event.{Event}
 use Rattle.pg_event.specs.declared.event.Event.TheVariants.{Write, Access, Assist, MovCr3, Invlpg}
 use Rattle.pg_event.specs.declared.event.Event.TheVariants.{Invpcid, MovCr4Pge}
@@ -42,10 +43,6 @@ IsTableLevel Four = Unit {0}
 IsTableLevel Three = Unit {0}
 IsTableLevel Two = Unit {0}
 IsTableLevel One = ⊥
-
--- the binary logarithm of the size of a page: 4 KB, 2 MB or 1 GB
-abbrev pub IsPageShift : ℕ → Type 0
-IsPageShift shift = (shift ≡ 12) ⊎ ((shift ≡ 21) ⊎ (shift ≡ 30))
 
 -- entries that a processor may have
 abbrev pub MayBeCached : CacheEntry → Type 0

@@ -6,7 +6,7 @@ ghost use Rattle.pg_entry.specs.Permission.{joined};
 ghost use Rattle.pg_event.specs.Form.{processor_of};
 ghost use Rattle.pg_event.specs.Wants.{is_table, is_leaf};
 ghost use Rattle.pg_machine.specs.Listed.{state_of, processor_at};
-ghost use Rattle.pg_machine.specs.Machine.{start, MayTake, after, may_cache, translation_at};
+ghost use Rattle.pg_machine.specs.Machine.{start, MayTake, after, translation_at};
 ghost use Rattle.pg_machine.specs.Refused.{Lacks, adds, adds_event};
 ghost use Rattle.pg_machine.specs.Stepping.{started_processor, root_at, entry_of, filled, unusable};
 ghost use Rattle.pg_machine.specs.Stepping.{stuck_table, stuck_leaf, stuck_drop, stuck_access};
@@ -22,12 +22,11 @@ use crate::sought::Sought;
 use crate::step::{Member, Step, Structure, Translation};
 use crate::stuck::Stuck;
 use pg_entry::{
-    AccessKind, Cfg, Entry, Kind, Level, Rights, accessed, classify, combine, dirty, marked,
-    table_of,
+    AccessKind, Cfg, Entry, Kind, Level, Rights, classify, combine, dirty, marked, table_of,
 };
 use pg_event::{
-    Control, Event, Header, Outcome, Parent, Version, Want, access_kind, entry_address,
-    is_canonical, processor_of, root_of, says_dirty, structure_key, translation_key, want_of,
+    Control, Event, Header, Outcome, Parent, Want, access_kind, entry_address, is_canonical,
+    may_cache, processor_of, root_of, says_dirty, structure_key, translation_key, want_of,
     well_formed,
 };
 use std::alloc::{AllocError, Global};
@@ -358,17 +357,6 @@ fn lacking(want: Want) -> Stuck
     match want {
         Want::Leaf => Stuck::Translation,
         Want::Absent | Want::Reserved | Want::Present => Stuck::Entry,
-    }
-}
-
-/// Whether an entry may be cached: where accessed flags are judged, it has A (Intel SDM, vol. 3,
-/// 4.8).
-fn may_cache(version: Version, entry: Entry) -> bool
-    ensures { result ≡ may_cache version entry.0 }
-{
-    match version {
-        Version::One => true,
-        Version::Two => accessed(entry),
     }
 }
 

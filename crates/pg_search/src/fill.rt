@@ -2,22 +2,20 @@ ghost use Rattle.std.specs.Prelude.{◌≡◌, ◌<◌, ◌≤◌, ◌+◌, ◌^
 ghost use Rattle.std.specs.Prelude.{Some, None, option_map, OnOk, IfSome};
 ghost use Rattle.pg_entry.specs.Kinds.{kind_of};
 ghost use Rattle.pg_event.specs.Walk.{below};
-ghost use Rattle.pg_machine.specs.Machine.{may_cache};
 ghost use Rattle.std.specs.List.{list_any};
 ghost use Rattle.pg_search.specs.Sweep.{same_place, same_made, moments_to, moments_of, covers};
 ghost use Rattle.pg_search.specs.Sweep.{with_new, with_each, entry_at};
 ghost use Rattle.pg_search.specs.Found.{next_useful};
 ghost use Rattle.pg_search.specs.Sweep.{table_by, next_table, next_leaf, next_place, next_made};
 ghost use Rattle.pg_search.specs.Held.{trail_of, place_of, made_from, IsNow, AreCurrent, AreReady};
-ghost use Rattle.pg_check.specs.Ends.{IsSmallLeaf};
 
 use crate::fresh::are_as_fresh;
 use crate::held::{Found, HeldFound, HeldSpot, Spot};
 use crate::now::Now;
 use crate::sought::{Sought, is_useful};
 use pg_check::History;
-use pg_entry::{Cfg, Entry, Kind, Level, accessed, classify, combine, dirty, table_of};
-use pg_event::{Header, Moments, Parent, Version, below, entry_address, translation_key};
+use pg_entry::{Entry, Kind, Level, classify, combine, dirty, table_of};
+use pg_event::{Header, Moments, Parent, below, entry_address, may_cache, translation_key};
 use pg_machine::Translation;
 use std::alloc::AllocError;
 
@@ -32,17 +30,6 @@ pub(crate) fn next_moments(trail: Option<Moments>, moment: u32) -> Moments
             Some(next) => next,
             None => unreachable!(),
         },
-    }
-}
-
-/// Whether an entry may be cached: where accessed flags are judged, it has A (Intel SDM, vol. 3,
-/// 4.8).
-fn may_cache(version: Version, entry: Entry) -> bool
-    ensures { result ≡ may_cache version entry.0 }
-{
-    match version {
-        Version::One => true,
-        Version::Two => accessed(entry),
     }
 }
 
@@ -227,15 +214,6 @@ pub(crate) fn add_spots(
     Ok(())
 }
 
-/// What an entry is, with a leaf's page within the physical addresses.
-fn kind_at(cfg: Cfg, level: Level, entry: Entry) -> Kind
-    requires { (36 ≤ cfg.m) × (cfg.m ≤ 52) }
-    ensures kind { result ≡ kind_of cfg level entry.0 }
-    ensures small { IsSmallLeaf result }
-{
-    classify(cfg, level, entry)
-}
-
 /// The translation that the entry of a spot gives, if the spot is of the current PCID.
 fn next_leaf(header: &Header, now: Now, level: Level, spot: Spot) -> Option<Translation>
     requires width { (36 ≤ header.now.cfg.m) × (header.now.cfg.m ≤ 52) }
@@ -248,7 +226,7 @@ fn next_leaf(header: &Header, now: Now, level: Level, spot: Spot) -> Option<Tran
     if now.control.pcid != spot.pcid || !may_cache(header.version, entry) {
         return None;
     }
-    match kind_at(header.cfg, level, entry) {
+    match classify(header.cfg, level, entry) {
         Kind::Leaf {
             frame,
             shift,

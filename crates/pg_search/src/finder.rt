@@ -2,7 +2,6 @@ ghost use Rattle.std.specs.Prelude.{◌≡◌, ◌<◌, ◌^◌, true, map, filt
 ghost use Rattle.std.specs.Prelude.{IfOk, IfSome, IfNone};
 ghost use Rattle.pg_entry.specs.declared.Level.TheVariants.{Four, Three, Two, One};
 ghost use Rattle.pg_event.specs.Form.{processor_of};
-ghost use Rattle.pg_event.specs.Witness.{claim_of, update_of};
 ghost use Rattle.pg_search.specs.Sweep.{entry_at, moments_of, read_at, standing};
 ghost use Rattle.pg_search.specs.Found.{is_useful, gives, finds, found_in, found_access};
 ghost use Rattle.pg_search.specs.Found.{found_assist, found, IsPick};
@@ -19,7 +18,7 @@ use crate::sought::{Sought, gives, is_sought};
 use crate::sweeper::{Sweep, sweep_to};
 use pg_check::History;
 use pg_entry::Level;
-use pg_event::{Claim, Event, Header, Moments, Outcome, Update, access_kind, says_dirty};
+use pg_event::{Claim, Event, Header, Moments, Update, claim_of, update_of};
 use std::alloc::{AllocError, Global};
 
 /// Whether an event names moments: accesses and assists do.
@@ -131,33 +130,6 @@ fn find_assist(
     let sought = Sought::Word(update);
     let (sweep, now) = sweep_to(alloc, history, update.p, update.la, update.number, &sought)?;
     Ok(best_in(history, now, &sought, &sweep))
-}
-
-/// What an access claims.
-fn claim_of(number: u32, p: u16, flags: u8, la: u64, outcome: Outcome) -> Claim
-    ensures { result ≡ claim_of number p flags la outcome }
-{
-    Claim {
-        number,
-        p,
-        kind: access_kind(flags),
-        la,
-        outcome,
-    }
-}
-
-/// What an assist names.
-fn update_of(number: u32, p: u16, flags: u8, la: u64, word: u64) -> Update
-    ensures { result ≡ update_of number p flags la word }
-{
-    Update {
-        number,
-        p,
-        kind: access_kind(flags),
-        la,
-        word,
-        dirty: says_dirty(flags),
-    }
 }
 
 /// Moments for an event of this number, whatever moments it names itself.

@@ -12,6 +12,7 @@ ghost use Rattle.pg_search.specs.Held.{made_from};
 use crate::held::{Found, HeldFound, Spot};
 use pg_entry::{
     AccessKind, Cause, Cfg, Entry, Kind, Level, Rights, allowed, classify, combine, error_code,
+    page_offset,
 };
 use pg_event::{
     Claim, Header, Outcome, Update, Version, Want, entry_address, is_done_write, is_wanted,
@@ -27,23 +28,6 @@ pub(crate) enum Sought {
     /// It is the one that an assist names: present with no reserved bit and, where the assist is
     /// dirty, a page whose rights allow the access (Intel SDM, vol. 3, 4.8).
     Word(Update),
-}
-
-/// The offset of a linear address in its page of 2 to the power of `shift` bytes.
-fn offset(la: u64, shift: u8) -> u64
-    requires { shift ≤ 30 }
-    ensures offset { result ≡ la % 2 ^ shift }
-    ensures within { result < 2 ^ 30 }
-{
-    la % page_size(shift)
-}
-
-/// The bytes of a page.
-fn page_size(shift: u8) -> u64
-    requires { shift ≤ 30 }
-    ensures { result ≡ 2 ^ shift }
-{
-    1 << shift
 }
 
 /// Whether a leaf with these rights, which gives an address, has the outcome.
@@ -63,7 +47,7 @@ fn is_answered(cfg: Cfg, claim: &Claim, t: &Translation) -> bool
     requires within { t.now.frame < 2 ^ 52 }
     ensures { result ≡ is_answered cfg claim.now t.now }
 {
-    let address = t.frame + offset(claim.la, t.key.shift);
+    let address = t.frame + page_offset(claim.la, t.key.shift);
     is_outcome(cfg, claim.kind, t.rights, address, claim.outcome)
 }
 

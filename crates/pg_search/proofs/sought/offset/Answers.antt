@@ -1,5 +1,0 @@
-use Rattle.pg_check.proofs.Leaves.{offset-lt}
-use Rattle.pg_search.proofs.sought.offset.Goals as goal
-
-pub returns-clause-within : goal.returns-clause-within
-returns-clause-within c = rw c.page_size.ensures (offset-lt c.args.la c.args.shift c.requires)
