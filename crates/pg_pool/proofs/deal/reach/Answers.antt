@@ -28,3 +28,17 @@ loop-owner-preserved c =
           ∙ ap (λ (l : List Part). reached c.args.thieves.now.items ++ l)
           (sym (ap (λ (n : ℕ). map (way_to old) (range_with_len c.args.from n)) e ∙ map-range_with_len_more (way_to old) c.args.from (owner - c.args.from) owner (omega arith))),
     )
+
+pub returns-in_err-thief-clause-same : goal.returns-in_err-thief-clause-same
+returns-in_err-thief-clause-same c = set-same c.loop-owner.seats.items c.loop-owner.owner c.index_mut-seat.result.now c.lend.new.self c.index_mut-seat.ensures.value c.lend.ensures.same ∙ c.loop-owner.invariant.0
+
+pub returns-in_err-push-clause-same : goal.returns-in_err-push-clause-same
+returns-in_err-push-clause-same c = set-same c.loop-owner.seats.items c.loop-owner.owner c.index_mut-seat.result.now c.lend.new.self c.index_mut-seat.ensures.value c.lend.ensures.same ∙ c.loop-owner.invariant.0
+
+pub returns-clause-same : goal.returns-clause-same
+returns-clause-same c = c.loop-owner.invariant.0
+
+pub returns-clause-ways : goal.returns-clause-ways
+returns-clause-ways c =
+    let last : c.loop-owner.owner ≡ c.args.to = omega (arith, c.loop-owner-test.false, c.loop-owner.auto.owner-end, c.requires.0) in
+    rw last at c.loop-owner.invariant.1

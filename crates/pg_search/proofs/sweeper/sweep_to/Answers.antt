@@ -1,10 +1,20 @@
-use Rattle.std.proofs.Common.{◌≡◌, ℕ, ◌∙◌, ap, subst, arith, length}
-use Rattle.std.proofs.lemmas.List.{length-take}
+use Rattle.std.proofs.Common.{◌≡◌, ℕ, ◌+◌, ◌<◌, List, Some, get_or, take, refl, ◌∙◌, ap, subst, arith, length}
+use Rattle.std.specs.Prelude.{slice_get}
+use Rattle.std.proofs.lemmas.List.{length-take, get_or-take}
+use Rattle.std.proofs.lemmas.Option.{slice_get_read}
+use Rattle.pg_event.specs.declared.event.Event.{Event}
 use Rattle.pg_search.specs.Found.{is_useful}
 use Rattle.pg_search.specs.Sweep.{standing}
 use Rattle.pg_search.specs.Swept.{IsSweep}
 use Rattle.pg_search.proofs.Filling.{starts}
 use Rattle.pg_search.proofs.sweeper.sweep_to.Goals as goal
+
+-- an event that is passed stands at its number
+item_at : (xs ys : List Event) (m i : ℕ) (x : Event) → xs ≡ ys → i < length (take m xs) → x ≡ get_or (take m xs) i x → slice_get ys i ≡ Some x
+item_at xs ys m i x e lt h =
+    let within : i < m = omega (arith, length-take m xs) in
+    let inside : i < length xs = omega (arith, length-take m xs) in
+    rw (← e) (slice_get_read xs (length xs) i x refl inside (h ∙ get_or-take m xs i x within))
 
 pub loop-event-init : goal.loop-event-init
 loop-event-init c = record {
@@ -25,3 +35,50 @@ returns-clause-sweep c =
     subst (λ (w : ℕ). IsSweep (is_useful c.args.history.now.head c.args.sought.now) c.fill-2.new.sweep (standing c.args.history.now.head c.args.history.now.events c.args.p c.args.la w)) last
     (subst (λ (a : ℕ). IsSweep (is_useful c.args.history.now.head c.args.sought.now) c.fill-2.new.sweep (standing c.args.history.now.head c.args.history.now.events c.args.p a c.loop-event.now.moment)) i.la
     (subst (λ (q : ℕ). IsSweep (is_useful c.args.history.now.head c.args.sought.now) c.fill-2.new.sweep (standing c.args.history.now.head c.args.history.now.events q c.loop-event.now.la c.loop-event.now.moment)) i.p c.in_ok-fill-2.ensures))
+
+pub returns-clause-now : goal.returns-clause-now
+returns-clause-now c = c.loop-event.invariant.now
+
+pub returns-clause-asked : goal.returns-clause-asked
+returns-clause-asked c =
+    let i = c.loop-event.invariant in
+    let all : length c.events.result.now ≡ length c.args.history.now.events = ap length c.events.ensures.events in
+    let end : c.loop-event.event-index ≡ c.args.moment = omega (arith, length-take c.args.moment c.events.result.now, all) in
+    (i.p, i.la, i.moment ∙ end)
+
+pub fill-requires : goal.fill-requires
+fill-requires c = let i = c.loop-event.invariant in record { now = i.now; before = rw (i.p, i.la, i.moment) i.sweep }
+
+pub fill-requires-2 : goal.fill-requires-2
+fill-requires-2 c = let i = c.loop-event.invariant in record { now = i.now; before = rw (i.p, i.la, i.moment) i.sweep }
+
+pub leave-requires : goal.leave-requires
+leave-requires c =
+    let i = c.loop-event.invariant in
+    record {
+      now = i.now;
+      event = rw i.moment (item_at c.events.result.now c.args.history.now.events c.args.moment c.loop-event.event-index c.event-item.result c.events.ensures.events c.loop-event-test.true c.event-item.is);
+      before = c.in_ok-fill.ensures;
+    }
+
+pub after-now-requires-clause-now : goal.after-now-requires-clause-now
+after-now-requires-clause-now c = c.loop-event.invariant.now
+
+pub after-now-requires-clause-event : goal.after-now-requires-clause-event
+after-now-requires-clause-event c =
+    rw c.loop-event.invariant.moment (item_at c.events.result.now c.args.history.now.events c.args.moment c.loop-event.event-index c.event-item.result c.events.ensures.events c.loop-event-test.true c.event-item.is)
+
+pub after-now-requires-clause-room : goal.after-now-requires-clause-room
+after-now-requires-clause-room c =
+    omega (arith, c.loop-event.invariant.moment, c.loop-event-test.true, length-take c.args.moment c.events.result.now, c.requires.within, c.events.ensures.count)
+
+pub loop-event-preserved : goal.loop-event-preserved
+loop-event-preserved c =
+    let i = c.loop-event.invariant in
+    record {
+      sweep = rw (i.p, i.la, i.moment) at c.leave.ensures;
+      now = c.after-now.ensures.now;
+      p = c.after-now.ensures.asked.0 ∙ i.p;
+      la = c.after-now.ensures.asked.1 ∙ i.la;
+      moment = c.after-now.ensures.moment ∙ ap (λ (n : ℕ). n + 1) i.moment;
+    }
