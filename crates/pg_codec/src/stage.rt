@@ -1,7 +1,7 @@
 use pg_event::Header;
 
 /// What a reader of segments knows.
-#[derive(Debug, Drop)]
+#[derive(Drop)]
 pub(crate) struct Progress {
     pub(crate) header: Header,
     /// The number of the next segment.
@@ -13,7 +13,7 @@ pub(crate) struct Progress {
 }
 
 /// Where a reader stands.
-#[derive(Debug, Drop)]
+#[derive(Drop)]
 pub(crate) enum Stage {
     /// Before the header.
     Start,

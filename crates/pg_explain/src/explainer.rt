@@ -22,7 +22,7 @@ use pg_search::find_moments;
 use std::alloc::{AllocError, Global};
 
 /// What stands behind a "no".
-#[derive(Debug, Drop)]
+#[derive(Drop)]
 pub struct Explanation {
     /// The number of the event.
     pub number: u32,
@@ -37,7 +37,7 @@ pub struct Explanation {
 }
 
 /// The walk of an event that is not witnessed, and what stands behind the reason.
-#[derive(Debug, Drop)]
+#[derive(Drop)]
 pub struct Told {
     pub walk: Vec<WalkEntry>,
     pub finding: Finding,

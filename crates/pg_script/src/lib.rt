@@ -19,4 +19,3 @@ pub use laws::{each_carries_out, instructions_add_up, reading_of_text};
 pub use refusal::{ScriptError, ScriptRefusal};
 pub use same::same_instructions;
 pub use script::Script;
-

@@ -9,7 +9,7 @@ use pg_machine::Translation;
 use std::marker::Model;
 
 /// A table that a walk under a PCID may go on in, and the moments that lead to it.
-#[derive(Clone, Copy, PartialEq, Eq, Debug)]
+#[derive(Clone, Copy, PartialEq, Eq)]
 pub(crate) struct Spot {
     pub from: Parent,
     pub pcid: u16,
@@ -20,7 +20,7 @@ pub(crate) struct Spot {
 }
 
 /// A translation, and the moments that made it.
-#[derive(Clone, Copy, PartialEq, Eq, Debug)]
+#[derive(Clone, Copy, PartialEq, Eq)]
 pub(crate) struct Found {
     pub translation: Translation,
     pub moments: Moments,
@@ -52,7 +52,7 @@ pub(crate) fn written(address: u64, value: u64, event: &Event) -> u64
 }
 
 /// A spot whose table is at a physical address.
-#[derive(Debug, Drop)]
+#[derive(Drop)]
 pub(crate) struct HeldSpot(Spot);
 
 impl Model for HeldSpot {
@@ -94,7 +94,7 @@ impl HeldSpot {
 }
 
 /// A translation whose page is at a physical address, and of at most 1 GByte.
-#[derive(Debug, Drop)]
+#[derive(Drop)]
 pub(crate) struct HeldFound(Found);
 
 impl Model for HeldFound {

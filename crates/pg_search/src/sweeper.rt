@@ -25,7 +25,7 @@ use std::alloc::{AllocError, Global};
 
 /// What may stand at a moment, for one processor and address: tables to read in at each level below
 /// the root's, and translations.
-#[derive(Debug, Drop)]
+#[derive(Drop)]
 pub(crate) struct Sweep {
     pub threes: Vec<HeldSpot>,
     pub twos: Vec<HeldSpot>,
