@@ -1,4 +1,4 @@
-use Rattle.std.proofs.Common.{◌≡◌, ◌+◌, ◌∷◌, ◌++◌, [], List, None, true, sym, ◌∙◌, ap, ap₂, subst}
+use Rattle.std.proofs.Common.{◌≡◌, ◌+◌, List, None, true, sym, ◌∙◌, ap, ap₂, subst}
 use Rattle.pg_entry.specs.declared.Cfg.{Cfg}
 use Rattle.pg_entry.specs.Kinds.{kind_of}
 use Rattle.pg_event.specs.declared.event.Want.TheVariants.{Present}
@@ -10,7 +10,7 @@ use Rattle.pg_world.specs.declared.walk.LevelRead.{LevelRead}
 use Rattle.pg_world.specs.Recording.{with_event}
 use Rattle.pg_world.specs.Walks.{found_in, after_found}
 use Rattle.pg_shadow.specs.declared.entries.Found.TheVariants.{Miss}
-use Rattle.pg_shadow.specs.Caches.{Caches, after}
+use Rattle.pg_shadow.specs.Caches.{Caches}
 use Rattle.pg_home.specs.declared.advance.Advance.TheVariants as answers
 use Rattle.pg_home.specs.Turn.{Processor, Turned, done, assisted, refused_by}
 use Rattle.pg_home.proofs.Further.{entries_are_present}
