@@ -1,5 +1,5 @@
 -- What was read, by what the calls on the way gave.
-use Rattle.std.proofs.Common.{◌≡◌, ℕ, ◌<◌, Bool, false, List, [], ◌∷◌, ◌++◌, length, refl, sym, ◌∙◌, ap, subst, inl}
+use Rattle.std.proofs.Common.{◌≡◌, ℕ, ◌<◌, Bool, false, List, [], ◌∷◌, ◌++◌, length, None, refl, sym, ◌∙◌, ap, subst, inl, inr}
 use Rattle.pg_entry.specs.declared.Cfg.{Cfg}
 use Rattle.pg_entry.specs.declared.Kind.{Kind}
 use Rattle.pg_entry.specs.declared.Kind.TheVariants.{Absent, Reserved, Table, Leaf}
@@ -16,7 +16,7 @@ use Rattle.pg_world.specs.Walks.{moments_of, found_in, after_found}
 use Rattle.pg_home.specs.declared.advance.Advance.{Advance}
 use Rattle.pg_home.specs.declared.advance.Advance.TheVariants as answers
 use Rattle.pg_home.specs.declared.advance.Stop.{Stop}
-use Rattle.pg_home.specs.Turn.{Processor, Turned, ComesTo, MayStop, has_page, keeps, after_read, reads}
+use Rattle.pg_home.specs.Turn.{Processor, Turned, ComesTo, MayStop, refused_by, has_page, keeps, after_read, reads}
 use Rattle.pg_guest.specs.Steps.{answer_of}
 
 pub leaf_so : (r : Recording) (x : Processor) (walk : Walk) (t : Turned) (value frame shift : ℕ) (global_bit is_dirty : Bool) (rights : Rights) (moments all : List ℕ) (kind : Kind) →
@@ -41,6 +41,15 @@ entry_so n p r end x z y way walk a value moment cfg numbers same settings found
     let ended = subst (λ (w : Recording). ComesTo r x (reads n r x way walk) (t w)) (sym end_is) read in
     let own = subst (λ m. ComesTo r x (reads m r x way walk) (t end)) numbers ended in
     subst (λ (q : Processor). ComesTo r q (reads p r q way walk) (t end)) same own
+
+-- a turn that came to what was read is the read, which was not refused
+pub read_so : (n p : ℕ) (r : Recording) (x z : Processor) (way : Found) (walk : Walk) (f : LevelRead) (t : Turned) → n ≡ p → x ≡ z → found_in r n walk ≡ f → refused_by r (after_read r x way walk f).answer ≡ None → t ≡ after_read r x way walk f →
+    ComesTo r z (reads p r z way walk) t
+read_so n p r x z way walk f t numbers same found granted is =
+    let here : ComesTo r x (after_read r x way walk f) t = inr (record { granted = granted; is = is }) in
+    let read = subst (λ (f : LevelRead). ComesTo r x (after_read r x way walk f) t) (sym found) here in
+    let own = subst (λ m. ComesTo r x (reads m r x way walk) t) numbers read in
+    subst (λ (q : Processor). ComesTo r q (reads p r q way walk) t) same own
 
 -- what a turn answers whose read came to this
 keeps_answers : (r : Recording) (x : Processor) (walk : Walk) (value : ℕ) (moments : List ℕ) (kind : Kind) → (keeps r x walk value moments kind).answer ≡ answers.Read walk.level

@@ -3,6 +3,7 @@
 ghost use Rattle.std.specs.Prelude.{◌≡◌, ◌<◌, length, IfOk};
 ghost use Rattle.pg_event.specs.Spelling.{IsRecord};
 ghost use Rattle.pg_guest.specs.Runs.{ArePlaced};
+ghost use Rattle.pg_home.specs.CoreRun.{unwritten};
 ghost use Rattle.pg_runner.specs.Runs.{record_of};
 
 use crate::again::{take_sealed, turn};
@@ -53,16 +54,28 @@ fn take_all(alloc: Global, world: &mut World, refused: &mut u64) -> Result<u64, 
     Ok(given)
 }
 
+/// Turns of the first processor of a script, which has all its instructions.
+fn carry_out(
+    alloc: Global,
+    script: &Script,
+    world: &mut World,
+    refused: &mut u64,
+) -> Result<(), AllocError>
+    requires { world.old ≡ unwritten script.now.head }
+{
+    let mut guests = processors(alloc, script)?;
+    if guests.is_empty() {
+        return Err(AllocError);
+    }
+    turn_to_end(world, &mut guests, refused)
+}
+
 /// Runs a script whose first processor has all its instructions.
 pub(crate) fn run(alloc: Global, script: &Script, refused: &mut u64) -> Result<Ran, AllocError>
     ensures { IfOk result (λ ran. IsRecord (record_of ran.trace)) }
 {
     let mut world = World::new(alloc, script.header().clone()?);
-    let mut guests = processors(alloc, script)?;
-    if guests.is_empty() {
-        return Err(AllocError);
-    }
-    turn_to_end(&mut world, &mut guests, refused)?;
+    carry_out(alloc, script, &mut world, refused)?;
     world.finish();
     let given = take_all(alloc, &mut world, refused)?;
     Ok(Ran {

@@ -4,10 +4,11 @@ ghost use Rattle.std.specs.Prelude.{◌<◌, ◌-◌, ◌^◌, length};
 ghost use Rattle.pg_event.specs.Spelling.{IsRecord};
 ghost use Rattle.pg_runner.specs.Runs.{record_of};
 
-use crate::guest::run;
+use crate::guest::{Ran, run};
 use crate::judge::judge;
 use pg_codec::{Watched, write_record};
 use pg_event::Record;
+use pg_report::Report;
 use pg_script::Script;
 use std::alloc::{AllocError, Global};
 
@@ -55,6 +56,40 @@ fn hex_of(alloc: Global, trace: &Record) -> Result<String, AllocError>
     hex::encode(alloc, sink.inner)
 }
 
+/// Adds a record's bytes and its report.
+fn push_report(
+    alloc: Global,
+    text: &mut String,
+    trace: &Record,
+    report: &Report,
+) -> Result<(), AllocError>
+    requires { IsRecord (record_of trace.now) }
+{
+    text.push_str(hex_of(alloc, trace)?.as_str())?;
+    text.push('\n')?;
+    text.push_str(report.text(alloc)?.as_str())
+}
+
+/// Adds how many events were given out, and how many steps a run has.
+fn push_counts(alloc: Global, text: &mut String, given: u64, steps: u64) -> Result<(), AllocError> {
+    let counts = format!(in alloc; "given out: {given}\nsteps: {steps}\n")?;
+    text.push_str(counts.as_str())
+}
+
+/// Adds what a run comes to.
+fn tell_run(
+    alloc: Global,
+    text: &mut String,
+    ran: &Ran,
+    refused: &mut u64,
+) -> Result<(), AllocError>
+    requires { IsRecord (record_of ran.now.trace) }
+{
+    let judged = judge(alloc, &ran.trace, refused)?;
+    push_report(alloc, text, &ran.trace, &judged.report)?;
+    push_counts(alloc, text, ran.given, judged.steps)
+}
+
 /// Adds what a script comes to.
 fn tell(
     alloc: Global,
@@ -68,13 +103,7 @@ fn tell(
         return Err(AllocError);
     };
     let ran = run(alloc, &script, refused)?;
-    let judged = judge(alloc, &ran.trace, refused)?;
-    text.push_str(hex_of(alloc, &ran.trace)?.as_str())?;
-    text.push('\n')?;
-    text.push_str(judged.report.text(alloc)?.as_str())?;
-    let (given, steps) = (ran.given, judged.steps);
-    let counts = format!(in alloc; "given out: {given}\nsteps: {steps}\n")?;
-    text.push_str(counts.as_str())
+    tell_run(alloc, text, &ran, refused)
 }
 
 /// What both scripts come to.

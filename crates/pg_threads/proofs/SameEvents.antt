@@ -1,8 +1,8 @@
 -- The derived `==` on events decides whether they are the same.
-use Rattle.std.proofs.Common.{◌≡◌, ℕ, ◌&&◌, Bool, Decides, List, length, take, refl, sym, ap, ◌∙◌}
+use Rattle.std.proofs.Common.{◌≡◌, ℕ, ◌&&◌, Bool, true, false, Decides, List, length, take, refl, sym, ap, ◌∙◌}
 use Rattle.std.specs.Cmp.{unsigned_Decides, booleans_Decides}
 use Rattle.std.proofs.Math.Seq.{take-append_seam}
-use Rattle.std.proofs.lemmas.Bool.{and_parts, and_from}
+use Rattle.std.proofs.lemmas.Bool.{and_parts, and_from, false≢true}
 use Rattle.std.proofs.lemmas.Slice.Eq.{slice_eq-Decides}
 use Rattle.pg_event.specs.declared.event.Event.{Event}
 use Rattle.pg_event.specs.declared.event.Event.TheVariants.{Write, Access, Assist, MovCr3, Invlpg, Invpcid, MovCr4Pge}
@@ -37,6 +37,38 @@ same_moments a b =
       λ e. fields.1 (ap length e, ap (λ (l : List ℕ). (padded l).at) e),
     )
 
+-- two events of which a test tells one alone
+apart : (test : Event → Bool) (a b : Event) → test a ≡ true → test b ≡ false → Decides false (a ≡ b)
+apart test a b one other = (λ is. absurd (false≢true is), λ e. absurd (false≢true (sym other ∙ ap test (sym e) ∙ one)))
+
+abbrev is_write : Event → Bool
+is_write (Write _ _ _) = true
+is_write _ = false
+
+abbrev is_access : Event → Bool
+is_access (Access _ _ _ _ _) = true
+is_access _ = false
+
+abbrev is_assist : Event → Bool
+is_assist (Assist _ _ _ _ _) = true
+is_assist _ = false
+
+abbrev is_mov_cr3 : Event → Bool
+is_mov_cr3 (MovCr3 _ _) = true
+is_mov_cr3 _ = false
+
+abbrev is_invlpg : Event → Bool
+is_invlpg (Invlpg _ _) = true
+is_invlpg _ = false
+
+abbrev is_invpcid : Event → Bool
+is_invpcid (Invpcid _ _ _ _) = true
+is_invpcid _ = false
+
+abbrev is_mov_cr4 : Event → Bool
+is_mov_cr4 (MovCr4Pge _ _) = true
+is_mov_cr4 _ = false
+
 pub same_event : (a b : Event) → Decides (events.eq-value.it a b) (a ≡ b)
 same_event (Write p addr value) (Write p2 addr2 value2) =
     let all = both (unsigned_Decides p p2) (both (unsigned_Decides addr addr2) (unsigned_Decides value value2)) in (
@@ -49,13 +81,13 @@ same_event (Write p addr value) (Write p2 addr2 value2) =
           let value_is : value ≡ value2 = cc in
           all.1 (p_is, (addr_is, value_is)),
     )
-same_event (Write p addr value) (Access p2 flags2 la2 outcome2 moments2) = (λ is. absurd (cc), λ e. absurd (cc))
-same_event (Write p addr value) (Assist p2 flags2 la2 word2 moments2) = (λ is. absurd (cc), λ e. absurd (cc))
-same_event (Write p addr value) (MovCr3 p2 operand2) = (λ is. absurd (cc), λ e. absurd (cc))
-same_event (Write p addr value) (Invlpg p2 la2) = (λ is. absurd (cc), λ e. absurd (cc))
-same_event (Write p addr value) (Invpcid p2 kind2 pcid2 la2) = (λ is. absurd (cc), λ e. absurd (cc))
-same_event (Write p addr value) (MovCr4Pge p2 on2) = (λ is. absurd (cc), λ e. absurd (cc))
-same_event (Access p flags la outcome moments) (Write p2 addr2 value2) = (λ is. absurd (cc), λ e. absurd (cc))
+same_event (Write p addr value) (Access p2 flags2 la2 outcome2 moments2) = apart is_write _ _ refl refl
+same_event (Write p addr value) (Assist p2 flags2 la2 word2 moments2) = apart is_write _ _ refl refl
+same_event (Write p addr value) (MovCr3 p2 operand2) = apart is_write _ _ refl refl
+same_event (Write p addr value) (Invlpg p2 la2) = apart is_write _ _ refl refl
+same_event (Write p addr value) (Invpcid p2 kind2 pcid2 la2) = apart is_write _ _ refl refl
+same_event (Write p addr value) (MovCr4Pge p2 on2) = apart is_write _ _ refl refl
+same_event (Access p flags la outcome moments) (Write p2 addr2 value2) = apart is_access _ _ refl refl
 same_event (Access p flags la outcome moments) (Access p2 flags2 la2 outcome2 moments2) =
     let all = both (unsigned_Decides p p2) (both (unsigned_Decides flags flags2) (both (unsigned_Decides la la2) (both (same_outcome outcome outcome2) (same_moments moments moments2)))) in (
       λ is.
@@ -69,13 +101,13 @@ same_event (Access p flags la outcome moments) (Access p2 flags2 la2 outcome2 mo
           let moments_is : moments ≡ moments2 = cc in
           all.1 (p_is, (flags_is, (la_is, (outcome_is, moments_is)))),
     )
-same_event (Access p flags la outcome moments) (Assist p2 flags2 la2 word2 moments2) = (λ is. absurd (cc), λ e. absurd (cc))
-same_event (Access p flags la outcome moments) (MovCr3 p2 operand2) = (λ is. absurd (cc), λ e. absurd (cc))
-same_event (Access p flags la outcome moments) (Invlpg p2 la2) = (λ is. absurd (cc), λ e. absurd (cc))
-same_event (Access p flags la outcome moments) (Invpcid p2 kind2 pcid2 la2) = (λ is. absurd (cc), λ e. absurd (cc))
-same_event (Access p flags la outcome moments) (MovCr4Pge p2 on2) = (λ is. absurd (cc), λ e. absurd (cc))
-same_event (Assist p flags la word moments) (Write p2 addr2 value2) = (λ is. absurd (cc), λ e. absurd (cc))
-same_event (Assist p flags la word moments) (Access p2 flags2 la2 outcome2 moments2) = (λ is. absurd (cc), λ e. absurd (cc))
+same_event (Access p flags la outcome moments) (Assist p2 flags2 la2 word2 moments2) = apart is_access _ _ refl refl
+same_event (Access p flags la outcome moments) (MovCr3 p2 operand2) = apart is_access _ _ refl refl
+same_event (Access p flags la outcome moments) (Invlpg p2 la2) = apart is_access _ _ refl refl
+same_event (Access p flags la outcome moments) (Invpcid p2 kind2 pcid2 la2) = apart is_access _ _ refl refl
+same_event (Access p flags la outcome moments) (MovCr4Pge p2 on2) = apart is_access _ _ refl refl
+same_event (Assist p flags la word moments) (Write p2 addr2 value2) = apart is_assist _ _ refl refl
+same_event (Assist p flags la word moments) (Access p2 flags2 la2 outcome2 moments2) = apart is_assist _ _ refl refl
 same_event (Assist p flags la word moments) (Assist p2 flags2 la2 word2 moments2) =
     let all = both (unsigned_Decides p p2) (both (unsigned_Decides flags flags2) (both (unsigned_Decides la la2) (both (unsigned_Decides word word2) (same_moments moments moments2)))) in (
       λ is.
@@ -89,13 +121,13 @@ same_event (Assist p flags la word moments) (Assist p2 flags2 la2 word2 moments2
           let moments_is : moments ≡ moments2 = cc in
           all.1 (p_is, (flags_is, (la_is, (word_is, moments_is)))),
     )
-same_event (Assist p flags la word moments) (MovCr3 p2 operand2) = (λ is. absurd (cc), λ e. absurd (cc))
-same_event (Assist p flags la word moments) (Invlpg p2 la2) = (λ is. absurd (cc), λ e. absurd (cc))
-same_event (Assist p flags la word moments) (Invpcid p2 kind2 pcid2 la2) = (λ is. absurd (cc), λ e. absurd (cc))
-same_event (Assist p flags la word moments) (MovCr4Pge p2 on2) = (λ is. absurd (cc), λ e. absurd (cc))
-same_event (MovCr3 p operand) (Write p2 addr2 value2) = (λ is. absurd (cc), λ e. absurd (cc))
-same_event (MovCr3 p operand) (Access p2 flags2 la2 outcome2 moments2) = (λ is. absurd (cc), λ e. absurd (cc))
-same_event (MovCr3 p operand) (Assist p2 flags2 la2 word2 moments2) = (λ is. absurd (cc), λ e. absurd (cc))
+same_event (Assist p flags la word moments) (MovCr3 p2 operand2) = apart is_assist _ _ refl refl
+same_event (Assist p flags la word moments) (Invlpg p2 la2) = apart is_assist _ _ refl refl
+same_event (Assist p flags la word moments) (Invpcid p2 kind2 pcid2 la2) = apart is_assist _ _ refl refl
+same_event (Assist p flags la word moments) (MovCr4Pge p2 on2) = apart is_assist _ _ refl refl
+same_event (MovCr3 p operand) (Write p2 addr2 value2) = apart is_mov_cr3 _ _ refl refl
+same_event (MovCr3 p operand) (Access p2 flags2 la2 outcome2 moments2) = apart is_mov_cr3 _ _ refl refl
+same_event (MovCr3 p operand) (Assist p2 flags2 la2 word2 moments2) = apart is_mov_cr3 _ _ refl refl
 same_event (MovCr3 p operand) (MovCr3 p2 operand2) =
     let all = both (unsigned_Decides p p2) (unsigned_Decides operand operand2) in (
       λ is.
@@ -106,13 +138,13 @@ same_event (MovCr3 p operand) (MovCr3 p2 operand2) =
           let operand_is : operand ≡ operand2 = cc in
           all.1 (p_is, operand_is),
     )
-same_event (MovCr3 p operand) (Invlpg p2 la2) = (λ is. absurd (cc), λ e. absurd (cc))
-same_event (MovCr3 p operand) (Invpcid p2 kind2 pcid2 la2) = (λ is. absurd (cc), λ e. absurd (cc))
-same_event (MovCr3 p operand) (MovCr4Pge p2 on2) = (λ is. absurd (cc), λ e. absurd (cc))
-same_event (Invlpg p la) (Write p2 addr2 value2) = (λ is. absurd (cc), λ e. absurd (cc))
-same_event (Invlpg p la) (Access p2 flags2 la2 outcome2 moments2) = (λ is. absurd (cc), λ e. absurd (cc))
-same_event (Invlpg p la) (Assist p2 flags2 la2 word2 moments2) = (λ is. absurd (cc), λ e. absurd (cc))
-same_event (Invlpg p la) (MovCr3 p2 operand2) = (λ is. absurd (cc), λ e. absurd (cc))
+same_event (MovCr3 p operand) (Invlpg p2 la2) = apart is_mov_cr3 _ _ refl refl
+same_event (MovCr3 p operand) (Invpcid p2 kind2 pcid2 la2) = apart is_mov_cr3 _ _ refl refl
+same_event (MovCr3 p operand) (MovCr4Pge p2 on2) = apart is_mov_cr3 _ _ refl refl
+same_event (Invlpg p la) (Write p2 addr2 value2) = apart is_invlpg _ _ refl refl
+same_event (Invlpg p la) (Access p2 flags2 la2 outcome2 moments2) = apart is_invlpg _ _ refl refl
+same_event (Invlpg p la) (Assist p2 flags2 la2 word2 moments2) = apart is_invlpg _ _ refl refl
+same_event (Invlpg p la) (MovCr3 p2 operand2) = apart is_invlpg _ _ refl refl
 same_event (Invlpg p la) (Invlpg p2 la2) =
     let all = both (unsigned_Decides p p2) (unsigned_Decides la la2) in (
       λ is.
@@ -123,13 +155,13 @@ same_event (Invlpg p la) (Invlpg p2 la2) =
           let la_is : la ≡ la2 = cc in
           all.1 (p_is, la_is),
     )
-same_event (Invlpg p la) (Invpcid p2 kind2 pcid2 la2) = (λ is. absurd (cc), λ e. absurd (cc))
-same_event (Invlpg p la) (MovCr4Pge p2 on2) = (λ is. absurd (cc), λ e. absurd (cc))
-same_event (Invpcid p kind pcid la) (Write p2 addr2 value2) = (λ is. absurd (cc), λ e. absurd (cc))
-same_event (Invpcid p kind pcid la) (Access p2 flags2 la2 outcome2 moments2) = (λ is. absurd (cc), λ e. absurd (cc))
-same_event (Invpcid p kind pcid la) (Assist p2 flags2 la2 word2 moments2) = (λ is. absurd (cc), λ e. absurd (cc))
-same_event (Invpcid p kind pcid la) (MovCr3 p2 operand2) = (λ is. absurd (cc), λ e. absurd (cc))
-same_event (Invpcid p kind pcid la) (Invlpg p2 la2) = (λ is. absurd (cc), λ e. absurd (cc))
+same_event (Invlpg p la) (Invpcid p2 kind2 pcid2 la2) = apart is_invlpg _ _ refl refl
+same_event (Invlpg p la) (MovCr4Pge p2 on2) = apart is_invlpg _ _ refl refl
+same_event (Invpcid p kind pcid la) (Write p2 addr2 value2) = apart is_invpcid _ _ refl refl
+same_event (Invpcid p kind pcid la) (Access p2 flags2 la2 outcome2 moments2) = apart is_invpcid _ _ refl refl
+same_event (Invpcid p kind pcid la) (Assist p2 flags2 la2 word2 moments2) = apart is_invpcid _ _ refl refl
+same_event (Invpcid p kind pcid la) (MovCr3 p2 operand2) = apart is_invpcid _ _ refl refl
+same_event (Invpcid p kind pcid la) (Invlpg p2 la2) = apart is_invpcid _ _ refl refl
 same_event (Invpcid p kind pcid la) (Invpcid p2 kind2 pcid2 la2) =
     let all = both (unsigned_Decides p p2) (both (unsigned_Decides kind kind2) (both (unsigned_Decides pcid pcid2) (unsigned_Decides la la2))) in (
       λ is.
@@ -142,13 +174,13 @@ same_event (Invpcid p kind pcid la) (Invpcid p2 kind2 pcid2 la2) =
           let la_is : la ≡ la2 = cc in
           all.1 (p_is, (kind_is, (pcid_is, la_is))),
     )
-same_event (Invpcid p kind pcid la) (MovCr4Pge p2 on2) = (λ is. absurd (cc), λ e. absurd (cc))
-same_event (MovCr4Pge p on) (Write p2 addr2 value2) = (λ is. absurd (cc), λ e. absurd (cc))
-same_event (MovCr4Pge p on) (Access p2 flags2 la2 outcome2 moments2) = (λ is. absurd (cc), λ e. absurd (cc))
-same_event (MovCr4Pge p on) (Assist p2 flags2 la2 word2 moments2) = (λ is. absurd (cc), λ e. absurd (cc))
-same_event (MovCr4Pge p on) (MovCr3 p2 operand2) = (λ is. absurd (cc), λ e. absurd (cc))
-same_event (MovCr4Pge p on) (Invlpg p2 la2) = (λ is. absurd (cc), λ e. absurd (cc))
-same_event (MovCr4Pge p on) (Invpcid p2 kind2 pcid2 la2) = (λ is. absurd (cc), λ e. absurd (cc))
+same_event (Invpcid p kind pcid la) (MovCr4Pge p2 on2) = apart is_invpcid _ _ refl refl
+same_event (MovCr4Pge p on) (Write p2 addr2 value2) = apart is_mov_cr4 _ _ refl refl
+same_event (MovCr4Pge p on) (Access p2 flags2 la2 outcome2 moments2) = apart is_mov_cr4 _ _ refl refl
+same_event (MovCr4Pge p on) (Assist p2 flags2 la2 word2 moments2) = apart is_mov_cr4 _ _ refl refl
+same_event (MovCr4Pge p on) (MovCr3 p2 operand2) = apart is_mov_cr4 _ _ refl refl
+same_event (MovCr4Pge p on) (Invlpg p2 la2) = apart is_mov_cr4 _ _ refl refl
+same_event (MovCr4Pge p on) (Invpcid p2 kind2 pcid2 la2) = apart is_mov_cr4 _ _ refl refl
 same_event (MovCr4Pge p on) (MovCr4Pge p2 on2) =
     let all = both (unsigned_Decides p p2) (booleans_Decides on on2) in (
       λ is.

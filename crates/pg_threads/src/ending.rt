@@ -111,6 +111,20 @@ fn result_of<R: Threads + Wait + Sync, H: Gate>(
     })
 }
 
+/// Has each processor of a board tell all its instructions, where the board is one of the script.
+fn told_all(board: &mut Board<'_>, script: &Script) -> Result<bool, RunError>
+    ensures script { IfOk result (λ told. IsTrue told →
+        IsRunOf script.now board.new.world board.new.processors) }
+    ensures told { IfOk result (λ told. IsTrue told →
+        HaveToldAll (map seen board.new.processors)) }
+    ensures err { IfErr result (StopsGuest script.now) }
+{
+    if !board.is_of(script) {
+        return Ok(false);
+    }
+    end_all(board, script)
+}
+
 /// Ends the run of a script on the calling thread, and judges what was not judged before. Where the
 /// board is another script's, or does not come to its end, which no threads bring about, the script
 /// is run anew.
@@ -124,10 +138,7 @@ pub(crate) fn ended<R: Threads + Wait + Sync, H: Gate>(
     ensures formed { IfOk result (λ run. IsRecord (record_of run.trace)) }
     ensures err { IfErr result (StopsGuest script.now) }
 {
-    if !board.is_of(script) {
-        return anew(crew.alloc, script);
-    }
-    match end_all(&mut board, script) {
+    match told_all(&mut board, script) {
         Ok(true) => result_of(crew, script, board, watched),
         Ok(false) => anew(crew.alloc, script),
         Err(e) => Err(e),

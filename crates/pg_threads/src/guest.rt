@@ -12,13 +12,41 @@ use crate::lookout::Lookout;
 use crate::watched::Watched;
 use pg_board::Board;
 use pg_pool::{Gate, OpenGate};
-use pg_progress::Progress;
+use pg_progress::{Progress, Publisher};
 use pg_report::Crew;
 use pg_runner::{RunError, RunResult};
 use pg_script::Script;
-use std::alloc::Global;
+use std::alloc::{AllocError, Global};
 use std::sync::{Mutex, Wait};
 use std::thread::Threads;
+
+/// What is judged before anything is recorded.
+fn nothing_watched(alloc: Global, script: &Script) -> Result<Watched, AllocError> {
+    Watched::new(alloc, script.header().clone()?)
+}
+
+/// A run whose progress was opened.
+fn run_seen<'a, R: Threads + Wait + Sync, G: Gate, H: Gate>(
+    crew: &Crew<'_, R, H>,
+    script: &Script,
+    gate: &G,
+    progress: &'a Progress,
+    publisher: Publisher,
+    lookout: &mut Lookout<'a>,
+    watched: Watched,
+) -> Result<RunResult, RunError>
+    requires { publisher.word ≡ progress.now }
+    ensures ok { IfOk result (λ run. IsGuestRun script.now run) }
+    ensures formed { IfOk result (λ run. IsRecord (record_of run.trace)) }
+    ensures err { IfErr result (StopsGuest script.now) }
+{
+    let board = Board::new(crew.alloc, script, publisher, progress)?;
+    let shared = Mutex::new(board);
+    match run_processors(crew, &shared, script, gate, lookout, watched) {
+        Ok(watched) => ended(crew, script, shared.into_inner(), watched),
+        Err(e) => Err(e),
+    }
+}
 
 /// The run with these checkers.
 fn run_by<R: Threads + Wait + Sync, G: Gate, H: Gate>(
@@ -30,19 +58,21 @@ fn run_by<R: Threads + Wait + Sync, G: Gate, H: Gate>(
     ensures formed { IfOk result (λ run. IsRecord (record_of run.trace)) }
     ensures err { IfErr result (StopsGuest script.now) }
 {
-    let alloc = crew.alloc;
-    let watched = Watched::new(alloc, script.header().clone()?)?;
-    let (progress, publisher, mut seats) = Progress::open(alloc, 1)?;
+    let watched = nothing_watched(crew.alloc, script)?;
+    let (progress, publisher, mut seats) = Progress::open(crew.alloc, 1)?;
     let Some(seat) = seats.pop() else {
         unreachable!()
     };
     let mut lookout = Lookout::new(&progress, seat);
-    let board = Board::new(alloc, script, publisher, &progress)?;
-    let shared = Mutex::new(board);
-    match run_processors(crew, &shared, script, gate, &mut lookout, watched) {
-        Ok(watched) => ended(crew, script, shared.into_inner(), watched),
-        Err(e) => Err(e),
-    }
+    run_seen(
+        crew,
+        script,
+        gate,
+        &progress,
+        publisher,
+        &mut lookout,
+        watched,
+    )
 }
 
 /// Runs a script, each processor in a thread of its own, and has its segments judged by checkers

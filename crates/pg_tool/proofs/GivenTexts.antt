@@ -1,5 +1,6 @@
 -- What is written for a record of which a text is asked, and what an error leaves.
-use Rattle.std.proofs.Common.{ℕ, List, Option, Some, None, Ok, Err, IfSome, inl, inr}
+use Rattle.std.proofs.Common.{◌≡◌, ℕ, List, Option, Some, None, Ok, Err, IfOk, IfSome, inl, inr, sym, subst}
+use Rattle.std.specs.Prelude.{Result}
 use Rattle.pg_event.specs.declared.version.Version.TheVariants.{Two}
 use Rattle.pg_event.specs.Spelling.{Recorded}
 use Rattle.pg_report.specs.declared.error.AuditError.{AuditError}
@@ -9,6 +10,14 @@ use Rattle.pg_report.specs.Intake.{ReadsRecord, TellsDevice}
 use Rattle.pg_report.specs.Audits.{WritesText, TellsFailures}
 use Rattle.pg_report.proofs.Verdicts.{one, none}
 use Rattle.pg_tool.specs.Texts.{GivesText, HasWrittenText, IsTextGiven}
+
+-- an error leaves the same, whatever else there would be to answer
+pub of_error : (A B : Type 0) (output : Change) (text : List ℕ) (e : AuditError) → WritesText output text {A = A} (Err e) → WritesText output text {A = B} (Err e)
+of_error A B output text (errors.Refused d) wrote = wrote
+of_error A B output text errors.Device wrote = wrote
+of_error A B output text errors.Memory wrote = wrote
+of_error A B output text errors.Thread wrote = wrote
+of_error A B output text errors.Checkers wrote = wrote
 
 module _ {A : Type 0} (T : Recorded → A → List ℕ → Type 0) (input output : Change) where
   -- ---- an error of reading, with the writer left alone
@@ -48,14 +57,14 @@ module _ {A : Type 0} (T : Recorded → A → List ℕ → Type 0) (input output
       gives (Some bytes) = kept
 
   module _ (r : Recorded) (reads : IfSome input.old.bytes (λ bytes. ReadsRecord Two bytes (Ok r))) (read : TellsDevice {A = Recorded} input (Ok r)) (x : A) (text : List ℕ) (is : T r x text) where
-    pub text_written : WritesText output text {A = Unit {0}} (Ok tt) → Works output → IsTextGiven T input output (Ok x)
+    text_written : WritesText output text {A = Unit {0}} (Ok tt) → Works output → IsTextGiven T input output (Ok x)
     text_written wrote worked = record { gives = gives input.old.bytes reads; written = (r, text, is, wrote); failures = (read, worked) }
       where
         gives : (left : Option (List ℕ)) → IfSome left (λ bytes. ReadsRecord Two bytes (Ok r)) → IfSome left (λ bytes. GivesText T bytes input output (Ok x))
         gives None reads = tt
         gives (Some bytes) reads = (r, one bytes r reads.0, text, is, wrote)
 
-    pub text_fails : (e : AuditError) → WritesText output text {A = Unit {0}} (Err e) → TellsDevice {A = Unit {0}} output (Err e) → IsTextGiven T input output (Err e)
+    text_fails : (e : AuditError) → WritesText output text {A = Unit {0}} (Err e) → TellsDevice {A = Unit {0}} output (Err e) → IsTextGiven T input output (Err e)
     text_fails e wrote written = record { gives = gives input.old.bytes e reads wrote written; written = some e wrote written; failures = tells e wrote written }
       where
         gives : (left : Option (List ℕ)) (e : AuditError) → IfSome left (λ bytes. ReadsRecord Two bytes (Ok r)) → WritesText output text {A = Unit {0}} (Err e) → TellsDevice {A = Unit {0}} output (Err e)
@@ -80,3 +89,7 @@ module _ {A : Type 0} (T : Recorded → A → List ℕ → Type 0) (input output
         tells errors.Memory wrote written = (read, written)
         tells errors.Thread wrote written = absurd wrote
         tells errors.Checkers wrote written = absurd wrote
+
+    pub text_told : (told : Result A AuditError) → WritesText output text told → TellsDevice output told → IfOk told (λ v. v ≡ x) → IsTextGiven T input output told
+    text_told (Ok v) wrote worked same = subst (λ v. IsTextGiven T input output (Ok v)) (sym same) (text_written wrote worked)
+    text_told (Err e) wrote failed same = text_fails e (of_error A Unit output text e wrote) failed

@@ -1,5 +1,5 @@
 -- The same events in a record of version 2, and what is written for them.
-use Rattle.std.proofs.Common.{◌≡◌, ℕ, Bool, true, false, cond, ltb, List, [], ◌∷◌, ◌++◌, length, Option, Some, None, Ok, Err, IfSome, refl, sym, ap, subst, ◌∙◌, append_assoc, arith, inr}
+use Rattle.std.proofs.Common.{◌≡◌, ℕ, Bool, true, false, cond, ltb, List, [], ◌∷◌, ◌++◌, length, Option, Some, None, Ok, Err, IfOk, IfSome, refl, sym, ap, subst, ◌∙◌, append_assoc, arith, inr}
 use Rattle.std.specs.Prelude.{Result, IsErrAnd}
 use Rattle.std.specs.Result.{IsErr}
 use Rattle.std.specs.List.{AllByRecursion}
@@ -30,6 +30,7 @@ use Rattle.pg_report.specs.Intake.{ReadsRecord, TellsDevice}
 use Rattle.pg_report.specs.Text.{report_of}
 use Rattle.pg_report.specs.Audits.{WritesText, SpellsOne, TellsFailures}
 use Rattle.pg_report.proofs.Verdicts.{one, none_bad}
+use Rattle.pg_tool.proofs.GivenTexts.{of_error}
 use Rattle.pg_tool.specs.declared.shown.ReportText.{ReportText}
 use Rattle.pg_tool.specs.Upgrades.{upgraded, GivesUpgrade, HasWrittenUpgrade, IsUpgrade, report_in}
 
@@ -132,20 +133,8 @@ made_whole r new events h none is =
 -- ---- what is written for them
 
 module _ (input output : Change) (r : Recorded) (reads : IfSome input.old.bytes (λ bytes. ReadsRecord versions.One bytes (Ok r))) (read : TellsDevice {A = Recorded} input (Ok r)) where
-  no_memory : AddsNothing output → Works output → IsUpgrade input output (Err errors.Memory)
-  no_memory kept worked = record { gives = gives input.old.bytes; written = kept; failures = (read, worked) }
-    where
-      gives : (left : Option (List ℕ)) → IfSome left (λ bytes. GivesUpgrade bytes input output (Err errors.Memory))
-      gives None = tt
-      gives (Some bytes) = kept
-
-  -- the same where `?` gives the error
-  pub told_no_memory : (told : Result ReportText AuditError) → IsErr told → IsErrAnd told (λ e. e ≡ errors.Memory) → AddsNothing output → Works output → IsUpgrade input output (report_in told)
-  told_no_memory (Ok x) failed memory kept worked = absurd cc
-  told_no_memory (Err e) failed memory kept worked = subst (λ (x : AuditError). IsUpgrade input output (Err x)) (sym memory) (no_memory kept worked)
-
   module _ (new : Recorded) (is : new ≡ upgraded r) where
-    pub upgrade_written : (report : Report) → report ≡ report_of new → WritesText output (record_bytes new) {A = Unit {0}} (Ok tt) → Works output → IsUpgrade input output (Ok report)
+    upgrade_written : (report : Report) → report ≡ report_of new → WritesText output (record_bytes new) {A = Unit {0}} (Ok tt) → Works output → IsUpgrade input output (Ok report)
     upgrade_written report told wrote worked = record {
       gives = gives input.old.bytes reads;
       written = (r, told ∙ ap report_of is, subst (λ (x : Recorded). WritesText output (record_bytes x) {A = Unit {0}} (Ok tt)) is wrote);
@@ -170,7 +159,7 @@ module _ (input output : Change) (r : Recorded) (reads : IfSome input.old.bytes 
               ),
             )
 
-    pub upgrade_fails : (e : AuditError) → WritesText output (record_bytes new) {A = Unit {0}} (Err e) → TellsDevice {A = Unit {0}} output (Err e) → IsUpgrade input output (Err e)
+    upgrade_fails : (e : AuditError) → WritesText output (record_bytes new) {A = Unit {0}} (Err e) → TellsDevice {A = Unit {0}} output (Err e) → IsUpgrade input output (Err e)
     upgrade_fails e wrote written = record { gives = gives input.old.bytes e reads (subst W is wrote) written; written = some e (subst W is wrote) written; failures = tells e wrote written }
       where
         W : Recorded → Type 0
@@ -199,3 +188,7 @@ module _ (input output : Change) (r : Recorded) (reads : IfSome input.old.bytes 
         tells errors.Memory wrote written = (read, written)
         tells errors.Thread wrote written = absurd wrote
         tells errors.Checkers wrote written = absurd wrote
+
+  pub upgrade_told : (told : Result ReportText AuditError) → WritesText output (record_bytes (upgraded r)) told → TellsDevice output told → IfOk told (λ t. t.report ≡ report_of (upgraded r)) → IsUpgrade input output (report_in told)
+  upgrade_told (Ok t) wrote worked is = upgrade_written (upgraded r) refl t.report is wrote worked
+  upgrade_told (Err e) wrote failed is = upgrade_fails (upgraded r) refl e (of_error ReportText Unit output (record_bytes (upgraded r)) e wrote) failed

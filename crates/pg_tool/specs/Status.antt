@@ -97,6 +97,26 @@ HasWrittenRun input output (Err Device) =
     (ReaderFails input output × AddsNothing output)
     ⊎ (WriterFails input output × HasSomeText (AddsSome output))
 
+-- the steps of the record's planned run, whose text this holds of
+abbrev pub HasStepsText : Recorded → (List ℕ → Type 0) → Type 0
+HasStepsText r P = (steps : List Step) × BuildsRun r.head r.events steps × P (run_text steps)
+
+-- the record is not accepted, and this holds of its report's text
+abbrev pub HasNoText : Recorded → (List ℕ → Type 0) → Type 0
+HasNoText r P = (first_bad r.head r.events ≡ None → ⊥) × P (report_text (report_of r))
+
+-- what was written of a record: the text of its planned run, or of its report where it is not
+-- accepted; a beginning of that text where the writer failed, and nothing where memory was refused
+abbrev pub WritesRun : Recorded → Change → Result Shown AuditError → Type 0
+WritesRun r output (Ok shown.Run) = HasStepsText r (Adds output)
+WritesRun r output (Ok shown.Report) = HasNoText r (Adds output)
+WritesRun r output (Err (Refused e)) = ⊥
+WritesRun r output (Err Memory) = AddsNothing output
+WritesRun r output (Err Thread) = ⊥
+WritesRun r output (Err Checkers) = ⊥
+WritesRun r output (Err Device) =
+    HasStepsText r (AddsSome output) ⊎ HasNoText r (AddsSome output)
+
 -- all that `run-of` promises of its answer and its streams
 pub record IsRunOf (input output : Change) (result : Result Shown AuditError) : Type 0 where
   pub gives : IfSome input.old.bytes (λ bytes. GivesRun bytes input output result)

@@ -12,11 +12,11 @@ ghost use Rattle.pg_tool.specs.Texts.{IsTextGiven};
 
 use crate::program::status_of;
 use crate::refusals::tell_error;
-use crate::shown::ToldText;
+use crate::shown::{ToldText, give};
 use pg_check::History;
 use pg_codec::{Sink, Source};
 use pg_explain::explanation_text;
-use pg_report::{AuditError, Verdict, read_record, report_of, write_text};
+use pg_report::{AuditError, Verdict, read_record, report_of};
 use std::alloc::{AllocError, Global};
 
 /// Appends what stands behind the reason of an event that is not witnessed.
@@ -76,10 +76,7 @@ pub(crate) fn write_explanation<R: Source, O: Sink>(
         Err(error) => return Err(error),
     };
     let told = explained(alloc, &history)?;
-    match write_text(output, told.text.as_str()) {
-        Ok(()) => Ok(told.verdict),
-        Err(error) => Err(error),
-    }
+    give(output, told)
 }
 
 /// Writes the report of the record on `input` and, where it is no, what stands behind it: the first

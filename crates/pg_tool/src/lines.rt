@@ -8,12 +8,12 @@ ghost use Rattle.pg_tool.specs.Texts.{IsTextGiven};
 
 use crate::program::status_of;
 use crate::refusals::tell_error;
-use crate::shown::ToldText;
+use crate::shown::{ToldText, give};
 use pg_check::History;
 use pg_codec::{Sink, Source};
 use pg_event::Event;
 use pg_explain::show_text;
-use pg_report::{AuditError, Verdict, read_record, report_of, write_text};
+use pg_report::{AuditError, Verdict, read_record, report_of};
 use std::alloc::{AllocError, Global};
 
 /// The events with the numbers from one up to, and with, another.
@@ -54,10 +54,7 @@ pub(crate) fn write_lines<R: Source, O: Sink>(
         Err(error) => return Err(error),
     };
     let told = shown(alloc, &history, from, to)?;
-    match write_text(output, told.text.as_str()) {
-        Ok(()) => Ok(told.verdict),
-        Err(error) => Err(error),
-    }
+    give(output, told)
 }
 
 /// Writes the events of the record on `input`, a line each: those with the numbers from one up to,

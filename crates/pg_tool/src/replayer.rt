@@ -9,10 +9,11 @@ ghost use Rattle.pg_report.specs.Audits.{WritesText};
 ghost use Rattle.pg_report.specs.Intake.{TellsDevice};
 ghost use Rattle.pg_tool.specs.Replay.{end_of_run};
 ghost use Rattle.pg_tool.specs.Runs.{run_text};
-ghost use Rattle.pg_tool.specs.Status.{IsRunOf};
+ghost use Rattle.pg_tool.specs.Status.{IsRunOf, WritesRun};
 
 use crate::runs::run_text;
 use crate::shown::Shown;
+use pg_check::History;
 use pg_codec::{Sink, Source};
 use pg_event::Header;
 use pg_machine::{Machine, Step, Stuck};
@@ -48,7 +49,47 @@ fn write_steps<O: Sink>(alloc: Global, output: &mut O, steps: &[Step]) -> Result
     write_text(output, text.as_str())
 }
 
+/// Has a machine take the steps of a run, and writes the run's text, as `write_steps`.
+fn write_replayed<O: Sink>(
+    alloc: Global,
+    header: &Header,
+    output: &mut O,
+    steps: &[Step],
+) -> Result<(), AuditError>
+    requires head { IsHead header.now }
+    requires run { IsRun header.now steps.now }
+    ensures text { WritesText (filled O.Sink output.old output.new) (run_text steps.now) result }
+    ensures device { TellsDevice (filled O.Sink output.old output.new) result }
+{
+    let _machine = replay(alloc, header, steps)?;
+    write_steps(alloc, output, steps)
+}
+
 /// Writes the run of an accepted record, or the report of one that is not.
+fn write_run_of<O: Sink>(
+    alloc: Global,
+    history: &History,
+    output: &mut O,
+) -> Result<Shown, AuditError>
+    ensures text { WritesRun history.now (filled O.Sink output.old output.new) result }
+    ensures device { TellsDevice (filled O.Sink output.old output.new) result }
+{
+    match pg_run_of::run_of(alloc, history) {
+        Ok(steps) => match write_replayed(alloc, history.header(), output, &steps) {
+            Ok(()) => Ok(Shown::Run),
+            Err(error) => Err(error),
+        },
+        Err(BuildError::NotAccepted { .. }) => {
+            match write_report(alloc, output, report_of(history)) {
+                Ok(()) => Ok(Shown::Report),
+                Err(error) => Err(error),
+            }
+        }
+        Err(BuildError::Memory) => Err(AuditError::Memory),
+    }
+}
+
+/// Reads a record, and writes its run if it is accepted, and else its report.
 pub(crate) fn write_run<R: Source, O: Sink>(
     alloc: Global,
     input: &mut R,
@@ -57,24 +98,8 @@ pub(crate) fn write_run<R: Source, O: Sink>(
     ensures { IsRunOf
         (drawn R.Source input.old input.new) (filled O.Sink output.old output.new) result }
 {
-    let history = match read_record(alloc, input) {
-        Ok(history) => history,
-        Err(error) => return Err(error),
-    };
-    match pg_run_of::run_of(alloc, &history) {
-        Ok(steps) => {
-            let _machine = replay(alloc, history.header(), &steps)?;
-            match write_steps(alloc, output, &steps) {
-                Ok(()) => Ok(Shown::Run),
-                Err(error) => Err(error),
-            }
-        }
-        Err(BuildError::NotAccepted { .. }) => {
-            match write_report(alloc, output, report_of(&history)) {
-                Ok(()) => Ok(Shown::Report),
-                Err(error) => Err(error),
-            }
-        }
-        Err(BuildError::Memory) => Err(AuditError::Memory),
+    match read_record(alloc, input) {
+        Ok(history) => write_run_of(alloc, &history, output),
+        Err(error) => Err(error),
     }
 }

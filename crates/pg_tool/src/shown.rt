@@ -1,4 +1,10 @@
-use pg_report::{Report, Verdict};
+ghost use Rattle.std.specs.Prelude.{◌≡◌, IfOk, string_bytes};
+ghost use Rattle.pg_report.specs.Changes.{filled};
+ghost use Rattle.pg_report.specs.Audits.{WritesText};
+ghost use Rattle.pg_report.specs.Intake.{TellsDevice};
+
+use pg_codec::Sink;
+use pg_report::{AuditError, Report, Verdict, write_text};
 
 /// What `run-of` wrote.
 #[derive(Clone, Copy, Debug, PartialEq, Eq)]
@@ -21,4 +27,17 @@ pub struct ReportText {
 pub struct ToldText {
     pub verdict: Verdict,
     pub text: String,
+}
+
+/// Writes what is told of a record, and gives its verdict.
+pub(crate) fn give<O: Sink>(output: &mut O, told: ToldText) -> Result<Verdict, AuditError>
+    ensures text { WritesText (filled O.Sink output.old output.new)
+        (string_bytes told.text) result }
+    ensures device { TellsDevice (filled O.Sink output.old output.new) result }
+    ensures verdict { IfOk result (λ verdict. verdict ≡ told.verdict) }
+{
+    match write_text(output, told.text.as_str()) {
+        Ok(()) => Ok(told.verdict),
+        Err(error) => Err(error),
+    }
 }

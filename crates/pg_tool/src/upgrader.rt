@@ -55,6 +55,42 @@ fn report_text_of(alloc: Global, history: &History) -> Result<ReportText, AllocE
     Ok(ReportText { report, text })
 }
 
+/// Writes a whole record, and gives its report, which is ready before anything is written.
+fn write_told<O: Sink>(
+    alloc: Global,
+    history: &History,
+    output: &mut O,
+) -> Result<ReportText, AuditError>
+    ensures written { WritesText (filled O.Sink output.old output.new)
+        (record_bytes history.now) result }
+    ensures device { TellsDevice (filled O.Sink output.old output.new) result }
+    ensures report { IfOk result (λ told. told.report ≡ report_of history.now) }
+    ensures text { IfOk result IsReportText }
+{
+    let told = report_text_of(alloc, history)?;
+    match write_history(output, history) {
+        Ok(()) => Ok(told),
+        Err(error) => Err(error),
+    }
+}
+
+/// Writes the version 2 record of a history's events, and gives its report, which is ready before
+/// anything is written.
+fn write_upgraded<O: Sink>(
+    alloc: Global,
+    history: &History,
+    output: &mut O,
+) -> Result<ReportText, AuditError>
+    ensures written { WritesText (filled O.Sink output.old output.new)
+        (record_bytes (upgraded history.now)) result }
+    ensures device { TellsDevice (filled O.Sink output.old output.new) result }
+    ensures report { IfOk result (λ told. told.report ≡ report_of (upgraded history.now)) }
+    ensures text { IfOk result IsReportText }
+{
+    let new = upgraded(alloc, history)?;
+    write_told(alloc, &new, output)
+}
+
 /// Reads the version 1 record that `input` has left, and writes the version 2 record of the same
 /// events. The report of that record is ready before anything is written.
 pub(crate) fn write_upgrade<R: Source, O: Sink>(
@@ -66,14 +102,8 @@ pub(crate) fn write_upgrade<R: Source, O: Sink>(
         (filled O.Sink output.old output.new) (report_in result) }
     ensures text { IfOk result IsReportText }
 {
-    let history = match read_old_record(alloc, input) {
-        Ok(history) => history,
-        Err(error) => return Err(error),
-    };
-    let new = upgraded(alloc, &history)?;
-    let told = report_text_of(alloc, &new)?;
-    match write_history(output, &new) {
-        Ok(()) => Ok(told),
+    match read_old_record(alloc, input) {
+        Ok(history) => write_upgraded(alloc, &history, output),
         Err(error) => Err(error),
     }
 }

@@ -1,25 +1,14 @@
-use Rattle.std.proofs.Common.{refl, subst, sym}
+use Rattle.std.proofs.Common.{refl, string_bytes}
 use Rattle.std.proofs.KnownBytes.{Keeps-refl}
-use Rattle.pg_event.specs.Spelling.{Recorded}
 use Rattle.pg_tool.specs.Explanations.{IsExplanationOf}
-use Rattle.pg_tool.proofs.GivenTexts.{reading_fails, text_written, text_fails}
+use Rattle.pg_tool.proofs.GivenTexts.{reading_fails, text_told}
 use Rattle.pg_tool.proofs.explanations.write_explanation.Goals as goal
 
 pub returns-in-Err : goal.returns-in-Err
 returns-in-Err g c = reading_fails IsExplanationOf _ _ c.in-Err.error c.in-Err.ensures.reads c.in-Err.ensures.device (Keeps-refl _) refl
 
-pub returns-in-Ok-write_text : goal.returns-in-Ok-write_text
-returns-in-Ok-write_text g c =
-    let r : Recorded = c.in-Ok.history in
-    let verdict = c.in_ok-told.told.verdict in
-    let wrote = c.in-Ok-write_text.ensures in
-    let is : IsExplanationOf r verdict c.as_str.result.now = subst (IsExplanationOf r verdict) (sym c.as_str.ensures.value) c.in_ok-told.ensures in
-    text_written IsExplanationOf _ _ r c.in-Ok.ensures.reads c.in-Ok.ensures.device verdict c.as_str.result.now is wrote.text wrote.device
-
 pub returns : goal.returns
 returns g c =
-    let r : Recorded = c.in-Ok.history in
-    let verdict = c.in_ok-told.told.verdict in
-    let error = c.in-Err-write_text in
-    let is : IsExplanationOf r verdict c.as_str.result.now = subst (IsExplanationOf r verdict) (sym c.as_str.ensures.value) c.in_ok-told.ensures in
-    text_fails IsExplanationOf _ _ r c.in-Ok.ensures.reads c.in-Ok.ensures.device verdict c.as_str.result.now is error.error error.ensures.text error.ensures.device
+    let told = c.in_ok-told.told in
+    let gave = c.give.ensures in
+    text_told IsExplanationOf _ _ c.in-Ok.history c.in-Ok.ensures.reads c.in-Ok.ensures.device told.verdict (string_bytes told.text) c.in_ok-told.ensures c.give.result gave.text gave.device gave.verdict
