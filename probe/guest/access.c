@@ -142,16 +142,17 @@ int access_page(const struct access *access)
                      FLAGS_AT_REST | (access->ac ? FLAGS_AC : 0), (uint64_t)access->is_user,
                      access->operation == LOAD_LIMIT);
     const int is_fault = processor->vector == PAGE_FAULT;
+    uint64_t answer;
 
     if (!is_fault && processor->vector != INVALID_OPCODE) {
         say("an access of linear address", linear);
         say("RIP", processor->rip);
         stop("stopped: it gave vector", processor->vector);
     }
+    answer = is_fault ? 0 : answer_of(access, processor, value); /* puts back what was written */
     record_changes(flags, linear);
     if (!is_fault) {
-        taken(pcid_record_answer_unnamed(&record, acting, flags, linear,
-                                         answer_of(access, processor, value)));
+        taken(pcid_record_answer_unnamed(&record, acting, flags, linear, answer));
         return 1;
     }
     record_fault(processor, flags, linear);

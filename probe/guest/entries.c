@@ -4,7 +4,7 @@
 
 /* The indices of tested addresses at levels 1 to 4. */
 const uint16_t indices[5][6] = {
-    {0}, {0, 1, 7, 100, 258, 511}, {16, 21, 302, 511}, {0, 1, 511}, {0, 255, 300, 511}};
+    {0}, {0, 1, 7, 100, 258, 511}, {16, 21, 30, 63}, {0, 1, 511}, {0, 255, 300, 511}};
 const uint8_t count_of_indices[5] = {0, 6, 4, 3, 4};
 /* The pool's frames by the level that they mostly serve. */
 const uint8_t first_of_level[5] = {0, 10, 6, 3, 0};

@@ -16,6 +16,16 @@ enum {
 #define LOG_ADDRESS 0x800000u
 #define LOG_SIZE 0x800000u
 
+/* The serial line at 115,200 baud, 8 bits, no parity. */
+void begin_output(void)
+{
+    out_byte(SERIAL_PORT + 1, 0);
+    out_byte(SERIAL_PORT + 3, 0x80);
+    out_byte(SERIAL_PORT, 1);
+    out_byte(SERIAL_PORT + 1, 0);
+    out_byte(SERIAL_PORT + 3, 3);
+}
+
 static void send_serial(const uint8_t *bytes, size_t count)
 {
     for (; count > 0; count--) {

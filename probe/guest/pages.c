@@ -20,7 +20,7 @@ static uint64_t home_pd[3][512] __attribute__((aligned(4096)));
 static uint64_t ring_3_tables[3][512] __attribute__((aligned(4096)));
 static uint8_t ring_3_page[4096] __attribute__((aligned(4096)));
 
-enum { MEMORY_GIGABYTES = 2, DEVICES_GIGABYTE = 3 };
+enum { MEMORY_GIGABYTES = 2, DEVICES_GIGABYTE = 3, LOW_MEMORY = 128 << 20 };
 
 /* The tables of the guest's own slots: memory by 2-MB pages, and the APIC. */
 void lay_out_home(void)
@@ -141,10 +141,13 @@ int find_written(uint64_t value, uint64_t offset, uint64_t *physical)
             count++;
         }
     }
-    for (frame = 0; count == 0 && frame < (uint64_t)MEMORY_GIGABYTES << 30; frame += 4096)
+    for (frame = 0; count == 0 && frame < (1u << 30) + LOW_MEMORY; frame += 4096) {
+        if (frame == LOW_MEMORY) /* the next that is surely memory */
+            frame = 1u << 30;
         if (*word_at(frame + offset) == value) {
             *physical = frame + offset;
             count++;
         }
+    }
     return count;
 }

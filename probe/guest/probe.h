@@ -1,7 +1,7 @@
 /*
  * The guest: it carries out paging operations by a seed, and writes the record of what it saw.
  *
- * Physical memory, below 2 GB:
+ * Physical memory, of which the first 128 MB of the first two GBs are used:
  *     0x2000     the boot tables           0x8000      the start of other processors
  *     0x10000    the guest                 0x400000    the pool of table frames
  *     0x800000   the log
@@ -96,6 +96,7 @@ void carry_out(struct processor *processor, uint64_t code, uint64_t linear, uint
                uint64_t flags, uint64_t is_user);
 
 /* output.c */
+void begin_output(void);
 int put(void *context, const uint8_t *bytes, size_t count);
 void hand_over(void); /* the log, where it is kept in memory */
 void say(const char *text, uint64_t number);

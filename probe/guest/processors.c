@@ -13,7 +13,7 @@ enum {
     LOADER_TURN_PORT = 0xED,
     LOADER_BACK_PORT = 0xEE,
     DELAY_PORT = 0x80,
-    MOST_ROUNDS = 400000000 /* of waiting for another processor */
+    MOST_ROUNDS = 100000000 /* of waiting for another processor */
 };
 #define APIC 0xFEE00000u
 
@@ -275,6 +275,8 @@ void first_starts(void)
     lay_out_gates();
     write_cr3(physical_of(home_root));
     load_descriptors(&processors[0].processor);
+    if (!(settings.ways & DOORBELL))
+        begin_output();
     look_at_machine();
     if (settings.processors < 1 || settings.processors > MOST_PROCESSORS)
         stop("stopped: processors", settings.processors);

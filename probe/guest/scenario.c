@@ -45,7 +45,7 @@ static void choose_rules(uint64_t seed)
     rules.smap = (seed >> 3 & 1) != 0 && machine.smap;
     rules.pcide = machine.pcid && allows(PCIDS);
     rules.invpcid = rules.pcide && machine.invpcid;
-    is_self_mapped = allows(SELF_MAPS) && percent(33);
+    is_self_mapped = allows(SELF_MAPS) && allows(RESERVED_BITS) && percent(33);
 }
 
 static void begin_header(void)
