@@ -67,6 +67,28 @@ def bochs(settings, limit):
                    read(os.path.join(folder, "system")) + read(os.path.join(folder, "log")), hung)
 
 
+def build_loader():
+    """The loader's program, linked so that it needs nothing."""
+    made, source = os.path.join(image.OUT, "loader"), os.path.join(image.HERE, "loader.c")
+    if not image.is_newer(made, [source]):
+        image.need("gcc")
+        os.makedirs(image.OUT, exist_ok=True)
+        image.command("gcc", "-std=c99", "-Wall", "-Wextra", "-Wpedantic", "-Werror", "-O1",
+                      "-static", "-pthread", "-o", made, source)
+    return made
+
+
+def kvm(settings, limit):
+    if not os.access("/dev/kvm", os.R_OK | os.W_OK):
+        raise image.Stop("/dev/kvm can't be opened: probe/nested has a KVM in an emulator")
+    words = [build_loader(), image.build(), str(limit), ":".join(map(str, settings))]
+    with tempfile.TemporaryDirectory() as folder:
+        with open(os.path.join(folder, "output"), "wb") as output:
+            late = finish(words, limit + 10, folder, stdout=output)
+        said = read(os.path.join(folder, "system"))
+        return Run(read(os.path.join(folder, "output")), said, said, late or b" hung," in said)
+
+
 # Few instructions a second, as the BIOS waits for seconds of the machine's time.
 BOCHSRC = """\
 config_interface: textconfig
@@ -88,4 +110,4 @@ info: action=report
 debug: action=ignore
 plugin_ctrl: speaker=0
 """
-SYSTEMS = {"qemu": qemu, "bochs": bochs}
+SYSTEMS = {"bochs": bochs, "kvm": kvm, "qemu": qemu}

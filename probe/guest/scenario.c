@@ -1,7 +1,7 @@
 /* Random runs. Few pages, used again and again, so that what was cached before matters. */
 #include "probe.h"
 
-enum { PAGES = 26, RECENT = 4, ANSWERED = 6, SEGMENT = 16 };
+enum { PAGES = 26, RECENT = 4, ANSWERED = 6, SEGMENT = 1 /* each event is put at once: a crash loses none */ };
 
 static uint8_t buffer[PCID_RECORD_BYTES(2, SEGMENT)];
 static uint64_t pages[PAGES];    /* tested addresses */
