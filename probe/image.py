@@ -23,10 +23,11 @@ LINK = ["ld", "-z", "noexecstack", "-nostdlib", "-static", "--no-warn-rwx-segmen
 
 # Debian's packages by what is needed of them.
 PACKAGES = {"gcc": "gcc", "cc": "gcc", "ld": "binutils", "objcopy": "binutils", "nasm": "nasm",
-            "qemu-system-x86_64": "qemu-system-x86", "bochs": "bochs", "cpio": "cpio",
+            "qemu-system-x86_64": "qemu-system-x86", "bochs": "bochs",
             "/usr/share/bochs/BIOS-bochs-latest": "bochsbios",
             "/usr/share/vgabios/vgabios.bin": "vgabios",
-            "/usr/share/seabios/bios-256k.bin": "seabios"}
+            "/usr/share/seabios/bios-256k.bin": "seabios", "grub-mkrescue": "grub-common",
+            "xorriso": "xorriso", "mformat": "mtools", "/usr/lib/grub/i386-pc": "grub-pc-bin"}
 
 # Kinds of entries, events and accesses that can be left out: the bits of guest/probe.h.
 KINDS = ["reserved", "large", "global", "user", "writes", "fetches", "implicit", "implicit-ac",

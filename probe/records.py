@@ -100,19 +100,20 @@ def close(data):
 
 
 def split(output):
-    """The records of an output, each as bytes, and what was said of one that was cut."""
-    records, at, said = [], output.find(MAGIC), None
+    """The records of an output, each as bytes, and what was said of those that were cut."""
+    found, at, said = [], output.find(MAGIC), []
     while at >= 0:
+        after = output.find(MAGIC, at + len(MAGIC))
+        piece = output[at:after] if after > 0 else output[at:]
         try:
-            _, end = read_record(output, at)
-            records.append(output[at:end])
-            at = output.find(MAGIC, end)
+            found.append(piece[:read_record(piece)[1]])
         except Cut:
-            closed, said = close(output[at:])
+            closed, words = close(piece)
+            said.append(words)
             if closed:
-                records.append(closed)
-            break
-    return records, said
+                found.append(closed)
+        at = after
+    return found, "; ".join(said)
 
 
 def certify(program, data, words=()):

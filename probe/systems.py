@@ -50,16 +50,21 @@ def qemu(settings, limit):
                    read(os.path.join(folder, "system")), hung)
 
 
+def write_bochsrc(folder, **values):
+    with open(os.path.join(folder, "bochsrc"), "w") as file:
+        file.write(BOCHSRC.format(bios=BOCHS_BIOS, vga_bios=BOCHS_VGA_BIOS, **values))
+    with open(os.path.join(folder, "commands"), "w") as file:
+        file.write("c\n")  # Debian's is built with its debugger, which waits for this
+
+
 def bochs(settings, limit):
     image.need("bochs", BOCHS_BIOS, BOCHS_VGA_BIOS)
     with tempfile.TemporaryDirectory() as folder:
         image.disk(os.path.join(folder, "disk"), settings)
-        with open(os.path.join(folder, "bochsrc"), "w") as file:
-            file.write(BOCHSRC.format(processors=settings[3], memory=MEMORY, bios=BOCHS_BIOS,
-                                      vga_bios=BOCHS_VGA_BIOS, cylinders=image.CYLINDERS,
-                                      heads=image.HEADS, sectors=image.SECTORS))
-        with open(os.path.join(folder, "commands"), "w") as file:
-            file.write("c\n")  # Debian's is built with its debugger, which waits for this
+        # Few instructions a second, as the BIOS waits for seconds of the machine's time.
+        write_bochsrc(folder, processors=settings[3], memory=MEMORY, ips=1000000, boot="disk",
+                      drive=f"type=disk, path=disk, mode=flat, cylinders={image.CYLINDERS}, "
+                            f"heads={image.HEADS}, spt={image.SECTORS}")
         with open(os.path.join(folder, "output"), "wb") as output:
             hung = finish(["bochs", "-q", "-f", "bochsrc", "-rc", "commands"], limit, folder,
                           stdout=output)
@@ -89,17 +94,16 @@ def kvm(settings, limit):
         return Run(read(os.path.join(folder, "output")), said, said, late or b" hung," in said)
 
 
-# Few instructions a second, as the BIOS waits for seconds of the machine's time.
 BOCHSRC = """\
 config_interface: textconfig
 display_library: rfb, options="timeout=0"
-cpu: model=broadwell_ult, count={processors}, ips=1000000, reset_on_triple_fault=0
+cpu: model=broadwell_ult, count={processors}, ips={ips}, reset_on_triple_fault=0
 memory: guest={memory}, host={memory}
 romimage: file={bios}
 vgaromimage: file={vga_bios}
-boot: disk
+boot: {boot}
 ata0: enabled=1, ioaddr1=0x1f0, ioaddr2=0x3f0, irq=14
-ata0-master: type=disk, path=disk, mode=flat, cylinders={cylinders}, heads={heads}, spt={sectors}
+ata0-master: {drive}
 port_e9_hack: enabled=1
 com1: enabled=1, mode=file, dev=said
 clock: sync=none
