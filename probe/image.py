@@ -112,5 +112,5 @@ def stop_on_failure(main):
     try:
         sys.exit(main())
     except Stop as why:
-        print(f"{os.path.basename(sys.argv[0])}: {why}", file=sys.stderr)
+        print(f"probe/{os.path.basename(sys.argv[0])}: {why}", file=sys.stderr)
         sys.exit(70)

@@ -1,5 +1,6 @@
 """Runs the guest on a system: what it wrote, what it said, and how the run ended."""
 import os
+import signal
 import subprocess
 import tempfile
 
@@ -26,14 +27,16 @@ def finish(words, limit, folder, **more):
     """Whether the system was still running at the end of the limit; its own words."""
     with open(os.path.join(folder, "system"), "wb") as said:
         process = subprocess.Popen(words, stdin=subprocess.DEVNULL, cwd=folder, stderr=said,
-                                   **{"stdout": said, **more})
+                                   start_new_session=True, **{"stdout": said, **more})
         try:
             process.wait(limit)
             return False
         except subprocess.TimeoutExpired:
-            process.kill()
-            process.wait()
             return True
+        finally:
+            if process.poll() is None:
+                os.killpg(process.pid, signal.SIGKILL)  # a system may be a script that starts it
+                process.wait()
 
 
 def qemu(settings, limit):
