@@ -92,6 +92,27 @@ def settings_of(seed=1, seeds=1, events=2000, processors=1, version=1, without=(
     return seed, seeds, events, processors, version, left_out, ways, script
 
 
+def add_run_options(words, events=2000):
+    """What each program says of a run."""
+    words.add_argument("--seed", type=int, default=1, metavar="N")
+    words.add_argument("--events", type=int, default=events, metavar="N")
+    words.add_argument("--processors", type=int, default=1, choices=range(1, 9), metavar="N")
+    words.add_argument("--version", type=int, default=1, choices=(1, 2))
+    words.add_argument("--script", type=int, default=0, choices=range(5), metavar="N",
+                       help="a short sequence, 1 to 4, in place of a random run")
+    words.add_argument("--without", default="", metavar="KINDS",
+                       help="leave these out, by commas: " + " ".join(KINDS))
+
+
+def kinds_of(chosen):
+    """The kinds that are left out: in version 2 also faults whose walk meets A=0."""
+    kinds = [kind for kind in chosen.without.split(",") if kind]
+    for kind in kinds:
+        if kind not in KINDS:
+            raise Stop(f"no such kind: {kind}; there are {' '.join(KINDS)}")
+    return kinds + (["clear-flag-faults"] if chosen.version == 2 else [])
+
+
 def disk(path, settings):
     """Writes a disk that boots the guest with these settings."""
     build()
