@@ -94,7 +94,10 @@ static void write_record(const uint8_t *bytes, size_t count)
     ssize_t written;
 
     if (is_first_process) {
-        __asm__ volatile("rep outsb" : "+S"(bytes), "+c"(count) : "d"((uint16_t)RECORD_PORT) : "memory");
+        __asm__ volatile("rep outsb"
+                         : "+S"(bytes), "+c"(count)
+                         : "d"((uint16_t)RECORD_PORT)
+                         : "memory");
         return;
     }
     for (; count > 0; count -= (size_t)written, bytes += written)

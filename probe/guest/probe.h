@@ -104,9 +104,13 @@ void stop(const char *why, uint64_t number); /* ends the record, says why, and s
 void shut_down(void);
 void stray(uint64_t vector, uint64_t error, uint64_t rip, uint64_t address);
 
-/* processors.c */
-void start_processors(void);
+/* main.c */
 void first_starts(void);
+
+/* processors.c */
+void lay_out_gates(void);
+void load_descriptors(struct processor *processor);
+void start_processors(void);
 void other_starts(uint64_t number);
 struct processor *carry_out_by(uint32_t number, enum work work, uint64_t a, uint64_t b, uint64_t c,
                                uint64_t d, uint64_t e, uint64_t f);

@@ -1,7 +1,8 @@
-/* Random runs. Few pages, used again and again, so that what was cached before matters. */
+/* Random runs. Few pages, used again and again, so that what was cached before matters. Each event
+ * is a segment, and so put at once: a crash loses none. */
 #include "probe.h"
 
-enum { PAGES = 26, RECENT = 4, ANSWERED = 6, SEGMENT = 1 /* each event is put at once: a crash loses none */ };
+enum { PAGES = 26, RECENT = 4, ANSWERED = 6, SEGMENT = 1 };
 
 static uint8_t buffer[PCID_RECORD_BYTES(2, SEGMENT)];
 static uint64_t pages[PAGES];    /* tested addresses */
@@ -225,7 +226,8 @@ static void access_at_random(void)
 void run_random(uint64_t seed)
 {
     static const uint8_t pages_share[] = {10, 6, 3}, cr3_share[] = {8, 5, 2};
-    const uint64_t pages_to = 24 + pages_share[seed % 3], pcids_to = pages_to + pages_share[seed % 3];
+    const uint64_t pages_to = 24 + pages_share[seed % 3];
+    const uint64_t pcids_to = pages_to + pages_share[seed % 3];
     const uint64_t cr3_to = pcids_to + cr3_share[seed % 3], pge_to = cr3_to + 2;
     uint64_t chance;
 
