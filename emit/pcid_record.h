@@ -14,6 +14,9 @@
  *     pcid_record_answer(&record, 0, PCID_RECORD_USER, 0x5123, 0x9123, moments, 4);
  *     pcid_record_end(&record);
  *
+ * Who keeps no moments calls pcid_record_answer_unnamed and its two like, which take none: such a
+ * record is for `pcid-audit certify`, which looks for moments itself.
+ *
  * Each call answers an enum pcid_record_status: PCID_RECORD_TAKEN (0) or why it was not taken. A
  * call that answers one of the codes 1 to 9 has changed nothing: the record goes on with the next
  * event. Events are numbered from 0, in the order of the calls that were taken.
@@ -387,6 +390,35 @@ pcid_record_fault(struct pcid_record *record, uint32_t processor, uint32_t flags
 }
 
 /*
+ * pcid_record_answer without moments: one moment, 0, stands in their place.
+ *
+ * PCID_RECORD_CLOSED, PCID_RECORD_FULL, rules 1, 3 and 6, PCID_RECORD_PUT_FAILED.
+ */
+static inline enum pcid_record_status
+pcid_record_answer_unnamed(struct pcid_record *record, uint32_t processor, uint32_t flags,
+                           uint64_t linear, uint64_t physical)
+{
+    const uint32_t placeholder = 0;
+
+    return pcid_record_answer(record, processor, flags, linear, physical, &placeholder, 1);
+}
+
+/*
+ * pcid_record_fault without moments.
+ *
+ * PCID_RECORD_CLOSED, PCID_RECORD_FULL, PCID_RECORD_FIELD (code above 0xFFFF), rules 1, 3 and 6,
+ * PCID_RECORD_PUT_FAILED.
+ */
+static inline enum pcid_record_status
+pcid_record_fault_unnamed(struct pcid_record *record, uint32_t processor, uint32_t flags,
+                          uint64_t linear, uint32_t code)
+{
+    const uint32_t placeholder = 0;
+
+    return pcid_record_fault(record, processor, flags, linear, code, &placeholder, 1);
+}
+
+/*
  * `processor` carried out a MOV to CR3. `operand` is as the instruction had it, with bit 63.
  *
  * PCID_RECORD_CLOSED, PCID_RECORD_FULL, rules 1 and 4, PCID_RECORD_PUT_FAILED.
@@ -518,6 +550,21 @@ pcid_record_assist(struct pcid_record *record, uint32_t processor, uint32_t flag
     at = pcid_record_number_(at, entry, 8);
     at = pcid_record_moments_(at, moments, count);
     return pcid_record_close_(record, at);
+}
+
+/*
+ * pcid_record_assist without moments.
+ *
+ * PCID_RECORD_CLOSED, PCID_RECORD_FULL, PCID_RECORD_NO_ASSIST, rules 1, 2, 3 and 6,
+ * PCID_RECORD_PUT_FAILED.
+ */
+static inline enum pcid_record_status
+pcid_record_assist_unnamed(struct pcid_record *record, uint32_t processor, uint32_t flags,
+                           uint64_t linear, uint64_t entry)
+{
+    const uint32_t placeholder = 0;
+
+    return pcid_record_assist(record, processor, flags, linear, entry, &placeholder, 1);
 }
 
 /*

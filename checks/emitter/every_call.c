@@ -20,5 +20,8 @@ void every_call(struct pcid_record *record, const struct pcid_record_header *hea
     pcid_record_invpcid(record, 0, 2, 0, 0);
     pcid_record_mov_cr4(record, 0, 1);
     pcid_record_assist(record, 0, PCID_RECORD_WRITE | PCID_RECORD_DIRTY, 0, 0x1000, moments, 1);
+    pcid_record_answer_unnamed(record, 0, PCID_RECORD_READ, 0, 0);
+    pcid_record_fault_unnamed(record, 0, PCID_RECORD_FETCH, 0, 4);
+    pcid_record_assist_unnamed(record, 0, PCID_RECORD_READ, 0, 0x1000);
     pcid_record_end(record);
 }

@@ -1,0 +1,162 @@
+/* Accesses: what is carried out, what answered, and which flags of entries were set meanwhile. */
+#include "machine.h"
+#include "probe.h"
+
+enum { INVALID_OPCODE = 6, PAGE_FAULT = 14, ZERO_FLAG = 1 << 6, FLAGS_AT_REST = 2 };
+enum { ACCESSED = 1 << 5, DIRTY = 1 << 6, MOST_CHANGES = 16 };
+
+uint32_t flags_of(const struct access *access)
+{
+    static const uint32_t operations[] = {PCID_RECORD_READ, PCID_RECORD_WRITE, PCID_RECORD_FETCH,
+                                          PCID_RECORD_READ};
+
+    if (access->operation == LOAD_LIMIT) /* implicit: a supervisor access with ac 0 */
+        return PCID_RECORD_READ;
+    return operations[access->operation] | (access->is_user ? PCID_RECORD_USER : 0) |
+           (access->ac ? PCID_RECORD_AC : 0);
+}
+
+static uint64_t linear_of(const struct access *access)
+{
+    static const uint64_t offsets[] = {0, 24, 8, 16};
+
+    return access->page + slot_offset() + offsets[access->operation];
+}
+
+static uint64_t code_of(const struct access *access)
+{
+    static const uint8_t *const stubs[] = {stub_read, stub_write, NULL, stub_implicit};
+    const uint8_t *const stub = stubs[access->operation];
+
+    if (access->operation == FETCH)
+        return linear_of(access);
+    return access->is_user ? RING_3 + (uint64_t)(stub - stubs_begin) : (uint64_t)stub;
+}
+
+/* The value that a write writes: no other word has it. The stub of implicit accesses takes the
+ * selector of the local table's first descriptor. */
+static uint64_t value_of(const struct access *access)
+{
+    static uint64_t writes;
+
+    if (access->operation == WRITE)
+        return 0x5EED000000000001u | ++writes << 8;
+    return 7;
+}
+
+static uint64_t written_at(uint64_t value, uint64_t linear)
+{
+    uint64_t physical = 0;
+    const int count = find_written(value, linear & 4095, &physical);
+
+    if (count != 1)
+        stop("stopped: frames that a write reached", (uint64_t)count);
+    return physical;
+}
+
+static uint64_t answer_of(const struct access *access, const struct processor *processor,
+                          uint64_t value)
+{
+    const uint64_t linear = linear_of(access);
+
+    switch (access->operation) {
+    case WRITE:
+        return written_at(value, linear);
+    case FETCH:
+        return (uint32_t)processor->rax;
+    case LOAD_LIMIT:
+        if ((processor->flags & ZERO_FLAG) == 0)
+            stop("stopped: no descriptor where an implicit access read, linear", linear);
+        return processor->rax << 12 | (linear & 4095);
+    default:
+        return processor->rax;
+    }
+}
+
+/* The level at which the walk that is done now reads the word, or else that of its frame. */
+static unsigned level_of_word(uint64_t linear, uint32_t frame, uint64_t index)
+{
+    const uint64_t cr3 = processors[acting].processor.cr3;
+    uint32_t read_frame;
+    uint64_t read_index;
+    unsigned level;
+
+    for (level = 4; level > 0; level--)
+        if (find_word(cr3, linear, level, &read_frame, &read_index) == level &&
+            read_frame == frame && read_index == index)
+            return level;
+    return level_of_frame(frame);
+}
+
+static void record_change(uint32_t frame, uint64_t index, uint32_t flags, uint64_t linear)
+{
+    const uint64_t before = held[frame][index], address = POOL_FRAME(frame) + 8 * index;
+    const uint64_t now = *word_at(address), set = now & ~before;
+
+    if ((now ^ before) != set || (set & ~(uint64_t)(ACCESSED | DIRTY)) != 0)
+        stop("stopped: a table word was changed, at", address);
+    held[frame][index] = now;
+    if (settings.version == 2)
+        taken(pcid_record_assist_unnamed(&record, acting,
+                                         flags | (set & DIRTY ? PCID_RECORD_DIRTY : 0), linear,
+                                         address));
+}
+
+/* Flags that were set meanwhile: an assist for each, the upper levels first. */
+static void record_changes(uint32_t flags, uint64_t linear)
+{
+    struct {
+        uint32_t frame;
+        uint64_t index;
+        unsigned level;
+    } change[MOST_CHANGES];
+    uint32_t count = 0, at, k;
+    unsigned level;
+
+    for (at = 0; count < MOST_CHANGES && next_changed(&at, &change[count].frame,
+                                                      &change[count].index); at++) {
+        change[count].level = level_of_word(linear, change[count].frame, change[count].index);
+        count++;
+    }
+    for (level = 4; level > 0; level--)
+        for (k = 0; k < count; k++)
+            if (change[k].level == level)
+                record_change(change[k].frame, change[k].index, flags, linear);
+}
+
+static void record_fault(const struct processor *processor, uint32_t flags, uint64_t linear)
+{
+    if (processor->fault_address != linear) {
+        say("an access of linear address", linear);
+        stop("stopped: it left in CR2", processor->fault_address);
+    }
+    taken(pcid_record_fault_unnamed(&record, acting, flags, linear, (uint32_t)processor->error));
+}
+
+int access_page(const struct access *access)
+{
+    const uint64_t linear = linear_of(access), value = value_of(access);
+    const uint32_t flags = flags_of(access);
+    const struct processor *const processor =
+        carry_out_by(acting, ACCESS, code_of(access), linear, value,
+                     FLAGS_AT_REST | (access->ac ? FLAGS_AC : 0), (uint64_t)access->is_user,
+                     access->operation == LOAD_LIMIT);
+    const int is_fault = processor->vector == PAGE_FAULT;
+    uint64_t answer;
+
+    if (!is_fault && processor->vector != INVALID_OPCODE) {
+        say("an access of linear address", linear);
+        say("RIP", processor->rip);
+        stop("stopped: it gave vector", processor->vector);
+    }
+    answer = is_fault ? 0 : answer_of(access, processor, value); /* puts back what was written */
+    record_changes(flags, linear);
+    if (!is_fault) {
+        taken(pcid_record_answer_unnamed(&record, acting, flags, linear, answer));
+        return 1;
+    }
+    record_fault(processor, flags, linear);
+    if (!allows(BARE_FAULTS))
+        invalidate_page(linear);
+    return 0;
+}

@@ -1,0 +1,14 @@
+ENTRY(_start)
+PHDRS { guest PT_LOAD FLAGS(7); }
+SECTIONS
+{
+  . = 0xFFFF800000010000;
+  .guest : AT(0x10000) { *(.start) *(.text*) *(.rodata*) *(.data*) *(.got*) } :guest
+  . = ALIGN(16384);
+  .areas (NOLOAD) : { *(.areas) } :guest
+  .bss : { bss_begin = .; *(.bss*) *(COMMON) bss_end = .; } :guest
+  guest_end = .;
+  /DISCARD/ : { *(.comment) *(.eh_frame*) *(.note*) }
+}
+/* 0x64000 is a frame that is read and written (pages.c). */
+ASSERT(guest_end <= 0xFFFF800000064000, "the guest is too large")

@@ -1,0 +1,120 @@
+/*
+ * Where the record goes: to port 0xE9, or to the first serial line, or to memory, from where a
+ * loader takes it at the doorbell. Lines for a person go to the serial line, where no record does.
+ */
+#include "machine.h"
+#include "probe.h"
+
+enum {
+    RECORD_PORT = 0xE9,
+    DOORBELL_PORT = 0xEA,
+    EXIT_PORT = 0xF4,
+    BOCHS_EXIT_PORT = 0x8900,
+    SERIAL_PORT = 0x3F8,
+    SERIAL_STATUS = SERIAL_PORT + 5
+};
+#define LOG_ADDRESS 0x800000u
+#define LOG_SIZE 0x800000u
+
+/* The serial line at 115,200 baud, 8 bits, no parity. */
+void begin_output(void)
+{
+    out_byte(SERIAL_PORT + 1, 0);
+    out_byte(SERIAL_PORT + 3, 0x80);
+    out_byte(SERIAL_PORT, 1);
+    out_byte(SERIAL_PORT + 1, 0);
+    out_byte(SERIAL_PORT + 3, 3);
+}
+
+static void send_serial(const uint8_t *bytes, size_t count)
+{
+    for (; count > 0; count--) {
+        while (!(settings.ways & DOORBELL) && (in_byte(SERIAL_STATUS) & 0x20) == 0)
+            pause();
+        out_byte(SERIAL_PORT, *bytes++);
+    }
+}
+
+void hand_over(void)
+{
+    if (settings.ways & DOORBELL) {
+        out_byte(DOORBELL_PORT, 0);
+        settings.log_length = 0;
+    }
+}
+
+/* For pcid_record_begin. */
+int put(void *context, const uint8_t *bytes, size_t count)
+{
+    volatile uint8_t *const log = (volatile uint8_t *)word_at(LOG_ADDRESS);
+    size_t k;
+
+    (void)context;
+    if (settings.ways & SERIAL) {
+        send_serial(bytes, count);
+    } else if (settings.ways & DOORBELL) {
+        settings.log_address = LOG_ADDRESS;
+        if (settings.log_length + count > LOG_SIZE)
+            hand_over();
+        for (k = 0; k < count; k++)
+            log[settings.log_length + k] = bytes[k];
+        settings.log_length += count;
+    } else {
+        out_bytes(RECORD_PORT, bytes, count);
+    }
+    return 0;
+}
+
+void say(const char *text, uint64_t number)
+{
+    static const char digits[] = "0123456789abcdef";
+    uint8_t line[200];
+    size_t used = 0;
+    int shift = 60;
+
+    if (settings.ways & SERIAL)
+        return;
+    while (*text != 0 && used < 160)
+        line[used++] = (uint8_t)*text++;
+    line[used++] = ' ';
+    line[used++] = '0';
+    line[used++] = 'x';
+    while (shift > 0 && number >> shift == 0)
+        shift -= 4;
+    for (; shift >= 0; shift -= 4)
+        line[used++] = (uint8_t)digits[number >> shift & 15];
+    line[used++] = '\n';
+    send_serial(line, used);
+}
+
+void shut_down(void)
+{
+    const char *word = "Shutdown";
+
+    hand_over();
+    while ((settings.ways & SERIAL) && (in_byte(SERIAL_STATUS) & 0x40) == 0)
+        pause();
+    out_byte(EXIT_PORT, 0);
+    while (*word != 0)
+        out_byte(BOCHS_EXIT_PORT, (uint8_t)*word++);
+    for (;;)
+        __asm__ volatile("cli; hlt");
+}
+
+void stop(const char *why, uint64_t number)
+{
+    pcid_record_end(&record);
+    hand_over();
+    say(why, number);
+    shut_down();
+}
+
+/* An exception that no access gave: a slip of the guest, or of the machine. */
+void stray(uint64_t vector, uint64_t error, uint64_t rip, uint64_t address)
+{
+    say("stopped: stray exception, vector", vector);
+    say("  error code", error);
+    say("  RIP", rip);
+    say("  CR2", address);
+    stop("  at event", pcid_record_moment(&record));
+}

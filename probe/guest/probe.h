@@ -1,0 +1,195 @@
+/*
+ * The guest: it carries out paging operations by a seed, and writes the record of what it saw.
+ *
+ * Physical memory, of which the first 128 MB of the first two GBs are used:
+ *     0x2000     the boot tables           0x8000      the start of other processors
+ *     0x10000    the guest                 0x400000    the pool of table frames
+ *     0x800000   the log
+ * and the frames of pages.c, which tested addresses lead to.
+ *
+ * Linear memory: slot 256 of each root maps physical memory for ring 0, slot 257 the stubs of
+ * ring 3. No tested address lies in these.
+ */
+#ifndef PROBE_H
+#define PROBE_H
+
+#include <stddef.h>
+#include <stdint.h>
+
+#include "../../emit/pcid_record.h"
+
+#pragma GCC visibility push(hidden) /* one image: no table of addresses */
+
+#define MEMORY 0xFFFF800000000000u
+#define RING_3 0xFFFF808000000000u
+enum { MEMORY_SLOT = 256, RING_3_SLOT = 257 };
+
+/* Filled in by who loads the guest, at a fixed place (entry.asm). docs/PROBE.md lists the bits. */
+struct settings {
+    uint64_t magic, seed, seeds, events, processors, version, left_out, ways, script;
+    volatile uint64_t log_address, log_length;
+};
+extern struct settings settings;
+
+/* Kinds that settings.left_out may leave out. */
+enum {
+    RESERVED_BITS = 1 << 0,   /* entries with reserved bits */
+    LARGE_PAGES = 1 << 1,
+    GLOBAL_PAGES = 1 << 2,
+    USER = 1 << 3,            /* accesses by ring 3 */
+    WRITES = 1 << 4,          /* accesses that write */
+    FETCHES = 1 << 5,
+    IMPLICIT = 1 << 6,        /* implicit accesses */
+    IMPLICIT_AC = 1 << 7,     /* those with EFLAGS.AC=1 */
+    SELF_MAPS = 1 << 8,       /* a frame as table of several levels and as data */
+    PCIDS = 1 << 9,           /* CR4.PCIDE=0 */
+    BARE_FAULTS = 1 << 10,    /* faults with no INVLPG behind them */
+    CLEAR_FLAG_FAULTS = 1 << 11 /* faults whose walk meets A=0 */
+};
+
+/* Ways: of the log, of the start of other processors, of turns. */
+enum { DOORBELL = 1 << 0, SERIAL = 1 << 1, LOADER_STARTS = 1 << 2, LOADER_TURNS = 1 << 3 };
+
+/* What the machine offers. */
+struct machine {
+    uint32_t m; /* MAXPHYADDR */
+    int pcid, invpcid, smep, smap, no_execute, gigabyte_pages;
+};
+extern struct machine machine;
+
+/* The settings of the record at hand. */
+struct rules {
+    int wp, nxe, smep, smap, pcide, invpcid;
+};
+extern struct rules rules;
+
+enum { MOST_PROCESSORS = 8, AREA = 16384, RING_3_STACK = 8192 };
+
+enum work { REST, BEGIN, ACCESS, MOV_CR3, INVLPG, INVPCID, SET_PGE, STORE };
+struct order {
+    enum work work;
+    uint64_t operand[6];
+};
+
+/* A processor: entry.asm knows the first seven fields. Its area holds its stacks too. */
+struct processor {
+    uint64_t saved_stack, vector, error, fault_address, rax, rip, flags;
+    volatile uint64_t waits; /* for the order to be carried out */
+    struct order order;
+    uint64_t cr3, pge;       /* as the record has them; cr3 without bit 63 */
+    uint64_t descriptors[12];
+    uint32_t task[26];
+};
+struct area {
+    struct processor processor;
+    uint8_t stacks[AREA - sizeof(struct processor)];
+};
+extern struct area processors[MOST_PROCESSORS];
+extern uint32_t count_of_processors;
+
+/* entry.asm */
+extern const uint64_t handlers[32];
+extern uint8_t stubs_begin[], stub_read[], stub_write[], stub_implicit[], stubs_end[];
+extern uint8_t start_begin[], start_end[];
+extern volatile uint64_t arrivals;
+void carry_out(struct processor *processor, uint64_t code, uint64_t linear, uint64_t value,
+               uint64_t flags, uint64_t is_user);
+
+/* output.c */
+void begin_output(void);
+int put(void *context, const uint8_t *bytes, size_t count);
+void hand_over(void); /* the log, where it is kept in memory */
+void say(const char *text, uint64_t number);
+void stop(const char *why, uint64_t number); /* ends the record, says why, and shuts down */
+void shut_down(void);
+void stray(uint64_t vector, uint64_t error, uint64_t rip, uint64_t address);
+
+/* main.c */
+void first_starts(void);
+
+/* processors.c */
+void lay_out_gates(void);
+void load_descriptors(struct processor *processor);
+void start_processors(void);
+void other_starts(uint64_t number);
+struct processor *carry_out_by(uint32_t number, enum work work, uint64_t a, uint64_t b, uint64_t c,
+                               uint64_t d, uint64_t e, uint64_t f);
+
+/* random.c */
+void seed_random(uint64_t seed);
+uint64_t random_bits(void);
+uint64_t below(uint64_t count);
+int percent(uint64_t chance);
+
+/* pages.c */
+enum { ROOTS = 3, POOL = 16, MOST_FRAMES = 96, SLOT = 32 };
+#define POOL_ADDRESS 0x400000u
+#define POOL_FRAME(number) (POOL_ADDRESS + 4096 * (uint64_t)(number))
+struct data_frames {
+    uint64_t address[MOST_FRAMES];
+    uint32_t count, wanted; /* the first `wanted` are mapped on purpose */
+};
+extern struct data_frames frames;
+extern uint64_t held[POOL][512]; /* the pool's words as the record has them */
+extern uint64_t home_root[512];
+static inline volatile uint64_t *word_at(uint64_t physical)
+{
+    return (volatile uint64_t *)(MEMORY + physical);
+}
+static inline uint64_t physical_of(const void *place)
+{
+    return (uint64_t)(uintptr_t)place - MEMORY;
+}
+void lay_out_home(void);
+void lay_out_frames(void);
+void begin_frames(void);
+uint64_t slot_offset(void);
+uint64_t slot_word(uint64_t slot, unsigned number);
+int find_written(uint64_t value, uint64_t offset, uint64_t *physical);
+
+/* entries.c */
+extern const uint16_t indices[5][6];
+extern const uint8_t count_of_indices[5], first_of_level[5], count_of_level[5];
+enum entry_kind { ABSENT, RESERVED, TABLE, LEAF };
+enum entry_kind kind_of(unsigned level, uint64_t entry);
+uint64_t canonical(uint64_t address);
+uint64_t index_of(uint64_t linear, unsigned level);
+unsigned level_of_frame(uint32_t frame);
+uint64_t random_entry(unsigned level, int is_sound);
+unsigned find_word(uint64_t cr3, uint64_t linear, unsigned level, uint32_t *frame,
+                   uint64_t *index);
+int faults_at_clear_flag(uint64_t cr3, uint64_t linear, uint32_t flags);
+
+/* events.c */
+extern struct pcid_record record;
+extern uint32_t acting; /* the processor of the next event */
+extern int is_self_mapped;
+int allows(uint64_t kind);
+void begin_words(void);
+int next_changed(uint32_t *at, uint32_t *frame, uint64_t *index);
+void taken(enum pcid_record_status status);
+void write_word(uint32_t frame, uint64_t index, uint64_t value);
+void load_cr3(uint64_t operand);
+void invalidate_page(uint64_t linear);
+void invalidate_pcid(uint64_t type, uint64_t pcid, uint64_t linear);
+void set_pge(uint64_t pge);
+
+/* access.c */
+enum operation { READ, WRITE, FETCH, LOAD_LIMIT };
+struct access {
+    enum operation operation;
+    int is_user, ac;
+    uint64_t page;
+};
+/* Carries it out and records it. Answers whether it was answered. */
+int access_page(const struct access *access);
+uint32_t flags_of(const struct access *access);
+
+/* scenario.c and directed.c */
+void begin_record(uint64_t seed);
+void run_random(uint64_t seed);
+void run_script(uint64_t number);
+
+#pragma GCC visibility pop
+
+#endif

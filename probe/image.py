@@ -1,0 +1,137 @@
+"""Builds the guest, and makes images of it with their settings filled in."""
+import glob
+import os
+import shutil
+import struct
+import subprocess
+import sys
+
+HERE = os.path.dirname(os.path.abspath(__file__))
+TOP = os.path.dirname(HERE)
+OUT = os.path.join(HERE, "out")
+ELF = os.path.join(OUT, "guest.elf")
+SECTOR = 512
+PART = 32  # sectors that the boot sector loads at once
+CYLINDERS, HEADS, SECTORS = 2, 16, 63  # of the disk
+SETTINGS = 16  # where they stand in the guest
+MAGIC = 0x5350494350424F52
+COMPILE = ["gcc", "-std=c99", "-Wall", "-Wextra", "-Wpedantic", "-Werror", "-O1", "-ffreestanding",
+           "-fno-stack-protector", "-fpie", "-mno-red-zone", "-mgeneral-regs-only",
+           "-fno-jump-tables", "-fno-tree-loop-distribute-patterns",
+           "-fno-asynchronous-unwind-tables", "-fcf-protection=none", "-c"]
+LINK = ["ld", "-z", "noexecstack", "-nostdlib", "-static", "--no-warn-rwx-segments"]
+
+# Debian's packages by what is needed of them.
+PACKAGES = {"gcc": "gcc", "cc": "gcc", "ld": "binutils", "objcopy": "binutils", "nasm": "nasm",
+            "qemu-system-x86_64": "qemu-system-x86", "bochs": "bochs",
+            "/usr/share/bochs/BIOS-bochs-latest": "bochsbios",
+            "/usr/share/vgabios/vgabios.bin": "vgabios",
+            "/usr/share/seabios/bios-256k.bin": "seabios", "grub-mkrescue": "grub-common",
+            "xorriso": "xorriso", "mformat": "mtools", "/usr/lib/grub/i386-pc": "grub-pc-bin"}
+
+# Kinds of entries, events and accesses that can be left out: the bits of guest/probe.h.
+KINDS = ["reserved", "large", "global", "user", "writes", "fetches", "implicit", "implicit-ac",
+         "self-maps", "pcids", "bare-faults", "clear-flag-faults"]
+DOORBELL, SERIAL, LOADER_STARTS, LOADER_TURNS = 1, 2, 4, 8
+
+
+class Stop(Exception):
+    """Nothing can be run: status 70."""
+
+
+def need(*tools):
+    for tool in tools:
+        if not (os.path.exists(tool) if tool.startswith("/") else shutil.which(tool)):
+            raise Stop(f"{tool} is missing: Debian has it in the package {PACKAGES[tool]}")
+
+
+def command(*words):
+    done = subprocess.run(words, capture_output=True, text=True)
+    if done.returncode != 0:
+        raise Stop(f"{' '.join(words)}\n{done.stdout}{done.stderr}")
+
+
+def is_newer(target, sources):
+    return os.path.exists(target) and all(
+        os.path.getmtime(source) < os.path.getmtime(target) for source in sources)
+
+
+def build():
+    """The guest's ELF file, built where it is missing or older than its sources."""
+    folder = os.path.join(HERE, "guest")
+    sources = sorted(glob.glob(os.path.join(folder, "*")))
+    header = os.path.join(TOP, "emit", "pcid_record.h")
+    if is_newer(ELF, [*sources, header, os.path.abspath(__file__)]):
+        return ELF
+    need("gcc", "ld", "objcopy", "nasm")
+    os.makedirs(OUT, exist_ok=True)
+    objects = []
+    for source in sources:
+        name, kind = os.path.splitext(os.path.basename(source))
+        made = os.path.join(OUT, name + ".o")
+        if kind == ".c":
+            command(*COMPILE, "-o", made, source)
+        elif name == "entry":
+            command("nasm", "-f", "elf64", "-Wall", "-Werror", "-o", made, source)
+        else:
+            continue
+        objects.append(made)
+    command(*LINK, "-T", os.path.join(folder, "link.ld"), "-o", ELF, *objects)
+    flat = os.path.join(OUT, "guest.bin")
+    command("objcopy", "-O", "binary", "-j", ".guest", ELF, flat)
+    parts = -(-os.path.getsize(flat) // (SECTOR * PART))
+    command("nasm", "-f", "bin", f"-DSECTORS={parts * PART}", "-o", os.path.join(OUT, "boot.bin"),
+            os.path.join(folder, "boot.asm"))
+    return ELF
+
+
+def settings_of(seed=1, seeds=1, events=2000, processors=1, version=1, without=(), ways=0,
+                script=0):
+    """The words of struct settings behind its magic."""
+    left_out = sum(1 << KINDS.index(kind) for kind in set(without))
+    return seed, seeds, events, processors, version, left_out, ways, script
+
+
+def add_run_options(words, events=2000):
+    """What each program says of a run."""
+    words.add_argument("--seed", type=int, default=1, metavar="N")
+    words.add_argument("--events", type=int, default=events, metavar="N")
+    words.add_argument("--processors", type=int, default=1, choices=range(1, 9), metavar="N")
+    words.add_argument("--version", type=int, default=1, choices=(1, 2))
+    words.add_argument("--script", type=int, default=0, choices=range(5), metavar="N",
+                       help="a short sequence, 1 to 4, in place of a random run")
+    words.add_argument("--without", default="", metavar="KINDS",
+                       help="leave these out, by commas: " + " ".join(KINDS))
+
+
+def kinds_of(chosen):
+    """The kinds that are left out: in version 2 also faults whose walk meets A=0."""
+    kinds = [kind for kind in chosen.without.split(",") if kind]
+    for kind in kinds:
+        if kind not in KINDS:
+            raise Stop(f"no such kind: {kind}; there are {' '.join(KINDS)}")
+    return kinds + (["clear-flag-faults"] if chosen.version == 2 else [])
+
+
+def disk(path, settings):
+    """Writes a disk that boots the guest with these settings."""
+    build()
+    with open(os.path.join(OUT, "guest.bin"), "rb") as file:
+        guest = bytearray(file.read())
+    if struct.unpack_from("<Q", guest, SETTINGS)[0] != MAGIC:
+        raise Stop("the guest has no settings at their place")
+    struct.pack_into("<8Q", guest, SETTINGS + 8, *settings)
+    with open(os.path.join(OUT, "boot.bin"), "rb") as file:
+        sector = file.read()
+    size = CYLINDERS * HEADS * SECTORS * SECTOR
+    with open(path, "wb") as file:
+        file.write((sector + guest).ljust(size, b"\0"))
+
+
+def stop_on_failure(main):
+    """Runs a program's main, whose result is the exit status."""
+    try:
+        sys.exit(main())
+    except Stop as why:
+        print(f"probe/{os.path.basename(sys.argv[0])}: {why}", file=sys.stderr)
+        sys.exit(70)

@@ -1,0 +1,129 @@
+"""Records as bytes: found in an output, cut into events, and put together again."""
+import os
+import struct
+import subprocess
+import tempfile
+
+from image import OUT, TOP, command, need
+
+MAGIC = b"PGRECORD"
+SIZES = {0x10: 16, 0x12: 8, 0x13: 8, 0x14: 11, 0x15: 1}
+WRITE, ACCESS, ASSIST = 0x10, 0x11, 0x16
+
+
+class Cut(Exception):
+    """The bytes end before the record does, or go on as no record."""
+
+
+class Bytes:
+    def __init__(self, data, at):
+        self.data, self.at = data, at
+
+    def take(self, count):
+        if self.at + count > len(self.data):
+            raise Cut
+        self.at += count
+        return self.data[self.at - count:self.at]
+
+    def number(self, count):
+        return int.from_bytes(self.take(count), "little")
+
+
+class Record:
+    """A header, with segment size, and events, each as its bytes."""
+
+    def __init__(self, head, version, processors, events):
+        self.head, self.version, self.processors = head, version, processors
+        self.events = events
+
+    def bytes(self, events=None, segment=1024):
+        """The record of these events, in segments of this size."""
+        events = self.events if events is None else events
+        place = 12 + self.version
+        parts = [self.head[:place], struct.pack("<I", segment), self.head[place + 4:]]
+        for number, first in enumerate(range(0, len(events), segment)):
+            some = events[first:first + segment]
+            parts += [struct.pack("<BII", 1, number, len(some)), *some]
+        return b"".join([*parts, struct.pack("<BI", 2, len(events))])
+
+
+def read_event(source, version):
+    start = source.at
+    tag = source.number(1)
+    source.take(version)
+    if tag == ACCESS:
+        source.take(9)
+        source.take(2 if source.number(1) else 8)
+    elif tag == ASSIST and version == 2:
+        source.take(17)
+    elif tag in SIZES:
+        source.take(SIZES[tag])
+        return source.data[start:source.at]
+    else:
+        raise Cut
+    source.take(4 * source.number(1))
+    return source.data[start:source.at]
+
+
+def read_record(data, at=0):
+    """The record that begins there, and where it ends. Cut where it is not whole."""
+    source = Bytes(data, at)
+    source.take(8)
+    version = source.number(2)
+    source.take(2)
+    if version not in (1, 2):
+        raise Cut
+    processors = source.number(version)
+    source.take(4 + 9 * processors)
+    head = data[at:source.at]
+    events = []
+    while True:
+        tag = source.number(1)
+        if tag == 2:
+            source.take(4)
+            return Record(head, version, processors, events), source.at
+        if tag != 1:
+            raise Cut
+        source.take(4)
+        for _ in range(source.number(4)):
+            events.append(read_event(source, version))
+
+
+def close(data):
+    """What stands whole of a record whose end is cut, by emit/close.c, and what that says."""
+    need("cc")
+    os.makedirs(OUT, exist_ok=True)
+    program = os.path.join(OUT, "close")
+    command("cc", "-std=c99", "-O1", "-o", program, os.path.join(TOP, "emit", "close.c"))
+    done = subprocess.run([program, "events"], input=data, capture_output=True)
+    return done.stdout, done.stderr.decode().strip()
+
+
+def split(output):
+    """The records of an output, each as bytes, and what was said of those that were cut."""
+    found, at, said = [], output.find(MAGIC), []
+    while at >= 0:
+        after = output.find(MAGIC, at + len(MAGIC))
+        piece = output[at:after] if after > 0 else output[at:]
+        try:
+            found.append(piece[:read_record(piece)[1]])
+        except Cut:
+            closed, words = close(piece)
+            said.append(words)
+            if closed:
+                found.append(closed)
+        at = after
+    return found, "; ".join(said)
+
+
+def certify(program, data, words=()):
+    """The status and the report of `certify`."""
+    with tempfile.TemporaryFile() as file:
+        file.write(data)
+        file.seek(0)
+        done = subprocess.run([program, "certify", *words], stdin=file, capture_output=True)
+    return done.returncode, done.stdout, done.stderr
+
+
+def program():
+    return os.path.abspath(os.environ.get("PCID_AUDIT") or os.path.join(TOP, "pcid-audit"))

@@ -1,0 +1,120 @@
+"""Runs the guest on a system: what it wrote, what it said, and how the run ended."""
+import os
+import signal
+import subprocess
+import tempfile
+
+import image
+
+MEMORY = 1152  # MB: the first 128 MB of two GBs
+BOCHS_BIOS = "/usr/share/bochs/BIOS-bochs-latest"
+BOCHS_VGA_BIOS = "/usr/share/vgabios/vgabios.bin"
+
+
+class Run:
+    def __init__(self, output, said, system_said, hung):
+        self.output, self.said, self.system_said, self.hung = output, said, system_said, hung
+
+
+def read(path):
+    if not os.path.exists(path):
+        return b""
+    with open(path, "rb") as file:
+        return file.read()
+
+
+def finish(words, limit, folder, **more):
+    """Whether the system was still running at the end of the limit; its own words."""
+    with open(os.path.join(folder, "system"), "wb") as said:
+        process = subprocess.Popen(words, stdin=subprocess.DEVNULL, cwd=folder, stderr=said,
+                                   start_new_session=True, **{"stdout": said, **more})
+        try:
+            process.wait(limit)
+            return False
+        except subprocess.TimeoutExpired:
+            return True
+        finally:
+            if process.poll() is None:
+                os.killpg(process.pid, signal.SIGKILL)  # a system may be a script that starts it
+                process.wait()
+
+
+def qemu(settings, limit):
+    image.need("qemu-system-x86_64", "/usr/share/seabios/bios-256k.bin")
+    with tempfile.TemporaryDirectory() as folder:
+        image.disk(os.path.join(folder, "disk"), settings)
+        # One thread: processors that wait for their turn give it up.
+        hung = finish(["qemu-system-x86_64", "-accel", "tcg,thread=single", "-cpu", "max",
+                       "-smp", str(settings[3]), "-m", str(MEMORY), "-display", "none",
+                       "-nodefaults", "-no-reboot", "-drive", "format=raw,file=disk",
+                       "-debugcon", "file:output", "-serial", "file:said",
+                       "-device", "isa-debug-exit,iobase=0xf4"], limit, folder)
+        return Run(read(os.path.join(folder, "output")), read(os.path.join(folder, "said")),
+                   read(os.path.join(folder, "system")), hung)
+
+
+def write_bochsrc(folder, **values):
+    with open(os.path.join(folder, "bochsrc"), "w") as file:
+        file.write(BOCHSRC.format(bios=BOCHS_BIOS, vga_bios=BOCHS_VGA_BIOS, **values))
+    with open(os.path.join(folder, "commands"), "w") as file:
+        file.write("c\n")  # Debian's is built with its debugger, which waits for this
+
+
+def bochs(settings, limit):
+    image.need("bochs", BOCHS_BIOS, BOCHS_VGA_BIOS)
+    with tempfile.TemporaryDirectory() as folder:
+        image.disk(os.path.join(folder, "disk"), settings)
+        # Few instructions a second, as the BIOS waits for seconds of the machine's time.
+        write_bochsrc(folder, processors=settings[3], memory=MEMORY, ips=1000000, boot="disk",
+                      drive=f"type=disk, path=disk, mode=flat, cylinders={image.CYLINDERS}, "
+                            f"heads={image.HEADS}, spt={image.SECTORS}")
+        with open(os.path.join(folder, "output"), "wb") as output:
+            hung = finish(["bochs", "-q", "-f", "bochsrc", "-rc", "commands"], limit, folder,
+                          stdout=output)
+        return Run(read(os.path.join(folder, "output")), read(os.path.join(folder, "said")),
+                   read(os.path.join(folder, "system")) + read(os.path.join(folder, "log")), hung)
+
+
+def build_loader():
+    """The loader's program, linked so that it needs nothing."""
+    made, source = os.path.join(image.OUT, "loader"), os.path.join(image.HERE, "loader.c")
+    if not image.is_newer(made, [source]):
+        image.need("gcc")
+        os.makedirs(image.OUT, exist_ok=True)
+        image.command("gcc", "-std=c99", "-Wall", "-Wextra", "-Wpedantic", "-Werror", "-O1",
+                      "-static", "-pthread", "-o", made, source)
+    return made
+
+
+def kvm(settings, limit):
+    if not os.access("/dev/kvm", os.R_OK | os.W_OK):
+        raise image.Stop("/dev/kvm can't be opened: probe/nested has a KVM in an emulator")
+    words = [build_loader(), image.build(), str(limit), ":".join(map(str, settings))]
+    with tempfile.TemporaryDirectory() as folder:
+        with open(os.path.join(folder, "output"), "wb") as output:
+            late = finish(words, limit + 10, folder, stdout=output)
+        said = read(os.path.join(folder, "system"))
+        return Run(read(os.path.join(folder, "output")), said, said, late or b" hung," in said)
+
+
+BOCHSRC = """\
+config_interface: textconfig
+display_library: rfb, options="timeout=0"
+cpu: model=broadwell_ult, count={processors}, ips={ips}, reset_on_triple_fault=0
+memory: guest={memory}, host={memory}
+romimage: file={bios}
+vgaromimage: file={vga_bios}
+boot: {boot}
+ata0: enabled=1, ioaddr1=0x1f0, ioaddr2=0x3f0, irq=14
+ata0-master: {drive}
+port_e9_hack: enabled=1
+com1: enabled=1, mode=file, dev=said
+clock: sync=none
+log: log
+panic: action=fatal
+error: action=report
+info: action=report
+debug: action=ignore
+plugin_ctrl: speaker=0
+"""
+SYSTEMS = {"bochs": bochs, "kvm": kvm, "qemu": qemu}
