@@ -1,4 +1,5 @@
-ghost use Rattle.std.specs.Prelude.{◌≡◌, ◌+◌, ◌*◌, ◌<◌, ◌≤◌, ◌^◌, ℕ, IfOk, length, slice_set};
+ghost use Rattle.std.specs.Prelude.{◌≡◌, ◌+◌, ◌-◌, ◌*◌, ◌<◌, ◌≤◌, ◌^◌, ℕ, min, IfOk, length};
+ghost use Rattle.std.specs.Prelude.{slice_set};
 ghost use Rattle.std.specs.Prelude.{slice_index_or};
 ghost use Rattle.pg_shadow.specs.Slots.{with_kept};
 ghost use Rattle.pg_shadow.specs.Pages.{no_place, bare_place, empty_page, IsBarePage};
@@ -89,7 +90,8 @@ impl Page {
     pub(crate) fn read(&self, index: usize, probes: &mut Probes) -> Place
         requires { index < 512 }
         ensures value { result ≡ slice_index_or self.now.places index no_place }
-        ensures probes { (probes.old ≤ probes.new) × (probes.new ≤ probes.old + 1) }
+        ensures probes { probes.new ≡ min (probes.old + 1) (2 ^ 64 - 1) }
+        ensures more { probes.old ≤ probes.new }
     {
         probes.tick();
         self.places[index]
