@@ -1,9 +1,9 @@
 ghost use Rattle.std.specs.Prelude.{◌≡◌, ◌∷◌, [], true, IfOk};
 ghost use Rattle.pg_event.specs.Spelling.{IsHead};
 
-use pg_state::Controls;
 use pg_entry::{Cfg, CfgFlags};
 use pg_event::{Event, Header, Version};
+use pg_state::Controls;
 use std::alloc::{AllocError, Global};
 use std::test::Fail;
 

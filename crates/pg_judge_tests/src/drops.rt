@@ -1,6 +1,6 @@
-use pg_inval::Drops;
 use pg_entry::Level;
 use pg_event::{Control, Event, Moments, Outcome};
+use pg_inval::Drops;
 use std::alloc::{AllocError, Global};
 use std::test::Fail;
 

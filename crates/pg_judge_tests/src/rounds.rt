@@ -1,10 +1,10 @@
 ghost use Rattle.std.specs.Prelude.{◌≡◌, ◌≤◌, IfOk};
 ghost use Rattle.pg_event.specs.Spelling.{IsHead};
 
-use pg_pool::{Gate, OpenGate, PoolError, Round, Seat, audit_round, close_round, open_round};
 use pg_check::{History, SegmentVerdict};
 use pg_entry::{Cfg, CfgFlags};
 use pg_event::{Event, Header, Moments, Outcome, Reason, Version, well_formed};
+use pg_pool::{Gate, OpenGate, PoolError, Round, Seat, audit_round, close_round, open_round};
 use std::alloc::{AllocError, Global};
 use std::sync::atomic::{AtomicU64, Ordering};
 use std::test::Fail;

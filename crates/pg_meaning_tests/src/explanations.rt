@@ -1,10 +1,10 @@
 ghost use Rattle.std.specs.Prelude.{◌≡◌, IfOk};
 ghost use Rattle.pg_event.specs.Spelling.{IsHead};
 
-use pg_explain::{Explanation, explain, explanation_text, show_text};
 use pg_check::History;
 use pg_entry::{Cfg, CfgFlags};
 use pg_event::{Event, Header, Moments, Outcome, Version, well_formed};
+use pg_explain::{Explanation, explain, explanation_text, show_text};
 use std::alloc::{AllocError, Global};
 use std::test::Fail;
 

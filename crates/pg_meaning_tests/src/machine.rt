@@ -1,6 +1,6 @@
-use pg_machine::{Machine, Member, Step, Structure, Stuck};
 use pg_entry::{Cfg, CfgFlags, Level, Rights};
 use pg_event::{Event, Header, Malformed, Moments, Outcome, Parent, Version, structure_key};
+use pg_machine::{Machine, Member, Step, Structure, Stuck};
 use std::alloc::{AllocError, Global};
 use std::process::Abort;
 use std::test::Fail;

@@ -4,10 +4,10 @@ ghost use Rattle.pg_event.specs.declared.event.Event.TheVariants.{Write, Access}
 ghost use Rattle.pg_event.specs.declared.event.Outcome.TheVariants.{Page};
 ghost use Rattle.pg_check.specs.Kept.{AreWellFormed};
 
-use pg_run_of::{BuildError, build_run};
 use pg_entry::{Cfg, CfgFlags, Level, Rights};
 use pg_event::{Event, Header, Moments, Outcome, Parent, Reason, Record, Version};
 use pg_machine::Step;
+use pg_run_of::{BuildError, build_run};
 use std::alloc::{AllocError, Global};
 use std::test::Fail;
 

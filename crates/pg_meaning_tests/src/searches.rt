@@ -1,10 +1,10 @@
 ghost use Rattle.std.specs.Prelude.{◌≡◌, ◌<◌, IfOk, true, length, slice_get, IfSome};
 ghost use Rattle.pg_event.specs.Spelling.{IsHead};
 
-use pg_search::{find_moments, names_moments};
 use pg_check::History;
 use pg_entry::{Cfg, CfgFlags};
 use pg_event::{Event, Header, Moments, Outcome, Version, well_formed};
+use pg_search::{find_moments, names_moments};
 use std::alloc::{AllocError, Global};
 use std::test::Fail;
 

@@ -2,8 +2,8 @@ ghost use Rattle.std.specs.Prelude.{◌≡◌, ◌<◌, ◌-◌, ◌^◌, length
 ghost use Rattle.std.specs.List.{AllByRecursion};
 ghost use Rattle.pg_guest.specs.Runs.{ArePlaced};
 
-use pg_guest::{Advance, Processor, Stop, drive, processors};
 use pg_event::{Event, Moments, Outcome};
+use pg_guest::{Advance, Processor, Stop, drive, processors};
 use pg_script::Script;
 use pg_world::{Receipt, World};
 use std::alloc::{AllocError, Global};

@@ -1,6 +1,6 @@
-use pg_script::*;
 use pg_entry::{Cfg, CfgFlags};
 use pg_event::Version;
+use pg_script::*;
 use std::alloc::{AllocError, Global};
 use std::process::Abort;
 use std::test::Fail;

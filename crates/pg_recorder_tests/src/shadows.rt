@@ -1,9 +1,9 @@
 ghost use Rattle.std.specs.Prelude.{◌≡◌, ◌∷◌, [], true, IfOk, length};
 ghost use Rattle.pg_event.specs.Spelling.{IsHead};
 
-use pg_shadow::{Found, KeptLeaf, KeptTable, Shadow};
 use pg_entry::{AccessKind, Cfg, CfgFlags, Level, Op, Rights};
 use pg_event::{Event, Header, Moments, Version};
+use pg_shadow::{Found, KeptLeaf, KeptTable, Shadow};
 use pg_timeline::Probes;
 use std::alloc::{AllocError, Global};
 use std::test::Fail;

@@ -1,5 +1,5 @@
-use pg_runner::{RunError, run_single};
 use pg_report::Verdict;
+use pg_runner::{RunError, run_single};
 use pg_script::Script;
 use std::test::Fail;
 

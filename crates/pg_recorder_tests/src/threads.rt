@@ -1,10 +1,10 @@
-use pg_threads::{run_guest, run_guest_watched};
 use pg_codec::{Watched, write_record};
 use pg_event::{Event, Moments, Outcome};
 use pg_pool::{Gate, OpenGate};
 use pg_report::Verdict;
 use pg_runner::RunError;
 use pg_script::Script;
+use pg_threads::{run_guest, run_guest_watched};
 use std::sync::atomic::{AtomicU64, Ordering};
 use std::test::Fail;
 use std::thread;

@@ -1,9 +1,9 @@
 ghost use Rattle.std.specs.Prelude.{◌≤◌, IfOk};
 ghost use Rattle.pg_event.specs.Spelling.{IsHead};
 
-use pg_world::{LevelRead, Receipt, Walk, World, WorldError};
 use pg_entry::{AccessKind, Cfg, CfgFlags, Level, Op, Rights};
 use pg_event::{Event, Header, Moments, Outcome, Version};
+use pg_world::{LevelRead, Receipt, Walk, World, WorldError};
 use std::alloc::{AllocError, Global};
 use std::test::Fail;
 

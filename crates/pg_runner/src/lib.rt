@@ -12,4 +12,3 @@ pub use judging::report_from_bytes;
 pub use result::RunResult;
 pub use single::{run_single, transcripts_of};
 pub use turns::turn;
-
