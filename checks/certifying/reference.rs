@@ -9,30 +9,15 @@ use std::io::Read;
 use std::process::ExitCode;
 
 type Moments = Vec<usize>;
-
 // ---- Records
 
 #[derive(Clone, Copy, PartialEq)]
-enum Operation {
-    Read,
-    Write,
-    Fetch,
-}
-
+enum Operation { Read, Write, Fetch }
 /// How a processor accesses an address (4.6).
 #[derive(Clone, Copy)]
-struct Access {
-    operation: Operation,
-    user: bool,
-    alignment_check: bool,
-}
-
+struct Access { operation: Operation, user: bool, alignment_check: bool }
 #[derive(Clone, Copy, PartialEq)]
-enum Outcome {
-    Page(u64),
-    Fault(u64),
-}
-
+enum Outcome { Page(u64), Fault(u64) }
 #[derive(Clone, Copy)]
 enum Deed {
     Write { address: u64, value: u64 },
@@ -45,11 +30,7 @@ enum Deed {
 }
 
 #[derive(Clone, Copy)]
-struct Event {
-    processor: usize,
-    deed: Deed,
-}
-
+struct Event { processor: usize, deed: Deed }
 struct Settings {
     version: u64,
     address_bits: u32,
@@ -61,19 +42,9 @@ struct Settings {
 
 /// The control registers of a processor that paging looks at (4.5, 4.10.1).
 #[derive(Clone, Copy)]
-struct Control {
-    root: u64,
-    pcid: u64,
-    global_pages: bool,
-}
-
+struct Control { root: u64, pcid: u64, global_pages: bool }
 /// A value, from this moment on, and the event that wrote it.
-struct Version<T> {
-    from: usize,
-    value: T,
-    writer: Option<usize>,
-}
-
+struct Version<T> { from: usize, value: T, writer: Option<usize> }
 struct Record {
     settings: Settings,
     events: Vec<Event>,
@@ -82,15 +53,9 @@ struct Record {
     controls: Vec<Vec<Version<Control>>>,
 }
 
-fn has_bit(word: u64, bit: u32) -> bool {
-    word >> bit & 1 == 1
-}
-
+fn has_bit(word: u64, bit: u32) -> bool { word >> bit & 1 == 1 }
 /// Bits from `low` up to, not with, `high`, in their place.
-fn field(word: u64, low: u32, high: u32) -> u64 {
-    word & ((1 << high) - 1) & !((1 << low) - 1)
-}
-
+fn field(word: u64, low: u32, high: u32) -> u64 { word & ((1 << high) - 1) & !((1 << low) - 1) }
 /// The latest value at a moment.
 fn at_moment<T>(versions: &[Version<T>], moment: usize) -> Option<&Version<T>> {
     versions[..versions.partition_point(|version| version.from <= moment)].last()
@@ -146,12 +111,7 @@ impl Record {
 // ---- Reading (docs/FORMAT.md)
 
 type Refusal = String;
-
-struct Source<'a> {
-    bytes: &'a [u8],
-    at: usize,
-}
-
+struct Source<'a> { bytes: &'a [u8], at: usize }
 fn demand(holds: bool, refusal: &str) -> Result<(), Refusal> {
     if holds { Ok(()) } else { Err(refusal.to_string()) }
 }
@@ -262,9 +222,7 @@ impl Source<'_> {
 
     /// Moments are read, as they may be cut short, and left out of the event.
     fn moments(&mut self) -> Result<(), Refusal> {
-        for _ in 0..self.bounded(1, 1, 4, "6 tag")? {
-            self.number(4)?;
-        }
+        for _ in 0..self.bounded(1, 1, 4, "6 tag")? { self.number(4)?; }
         Ok(())
     }
 }
@@ -279,10 +237,7 @@ fn access_of(flags: u64) -> Access {
 }
 
 /// Whether bits 63:47 are alike (4.5).
-fn is_canonical(linear: u64) -> bool {
-    linear >> 47 == 0 || linear >> 47 == (1 << 17) - 1
-}
-
+fn is_canonical(linear: u64) -> bool { linear >> 47 == 0 || linear >> 47 == (1 << 17) - 1 }
 /// The least rule that an event breaks, 0 for none.
 fn broken_rule(record: &Record, event: &Event, flags: u64) -> u8 {
     let bits = record.settings.address_bits;
@@ -299,9 +254,7 @@ fn broken_rule(record: &Record, event: &Event, flags: u64) -> u8 {
             kind > 3 || pcid > 4095 || kind > 1 && pcid != 0 || kind > 0 && linear != 0
         }
         (6, Deed::Access { .. }) => flags & 3 == 3 || flags >> 4 != 0,
-        (6, Deed::Assist { dirty, .. }) => {
-            flags & 3 == 3 || flags >> 5 != 0 || dirty && flags & 3 != 1
-        }
+        (6, Deed::Assist { dirty, .. }) => flags & 3 == 3 || flags >> 5 != 0 || dirty && flags & 3 != 1,
         _ => false,
     };
     (1..=6).find(|rule| is_broken(*rule)).unwrap_or(0)
@@ -310,22 +263,10 @@ fn broken_rule(record: &Record, event: &Event, flags: u64) -> u8 {
 // ---- Paging (4.5 to 4.7)
 
 #[derive(Clone, Copy, PartialEq)]
-enum Kind {
-    Absent,
-    Reserved,
-    Table { address: u64 },
-    Leaf { frame: u64, shift: u32 },
-}
-
+enum Kind { Absent, Reserved, Table { address: u64 }, Leaf { frame: u64, shift: u32 } }
 /// The lowest bit of a linear address that picks an entry at a level (4.5).
-fn level_shift(level: usize) -> u32 {
-    3 + 9 * level as u32
-}
-
-fn entry_address(table: u64, level: usize, linear: u64) -> u64 {
-    table + 8 * (linear >> level_shift(level) & 511)
-}
-
+fn level_shift(level: usize) -> u32 { 3 + 9 * level as u32 }
+fn entry_address(table: u64, level: usize, linear: u64) -> u64 { table + 8 * (linear >> level_shift(level) & 511) }
 /// Reserved bits of a present entry (4.5.4).
 fn is_reserved(settings: &Settings, level: usize, entry: u64) -> bool {
     let large = has_bit(entry, 7);
@@ -337,25 +278,16 @@ fn is_reserved(settings: &Settings, level: usize, entry: u64) -> bool {
 
 /// What an entry is; of one with P=0 no other bit counts (4.5.4).
 fn kind_of(settings: &Settings, level: usize, entry: u64) -> Kind {
-    if !has_bit(entry, 0) {
-        Kind::Absent
-    } else if is_reserved(settings, level, entry) {
+    if !has_bit(entry, 0) { Kind::Absent } else if is_reserved(settings, level, entry) {
         Kind::Reserved
     } else if level == 1 || has_bit(entry, 7) {
         let shift = level_shift(level);
         Kind::Leaf { frame: field(entry, shift, settings.address_bits), shift }
-    } else {
-        Kind::Table { address: field(entry, 12, settings.address_bits) }
-    }
+    } else { Kind::Table { address: field(entry, 12, settings.address_bits) } }
 }
 
 #[derive(Clone, Copy, PartialEq)]
-struct Rights {
-    write: bool,
-    user: bool,
-    execute_disable: bool,
-}
-
+struct Rights { write: bool, user: bool, execute_disable: bool }
 impl Rights {
     const ALL: Rights = Rights { write: true, user: true, execute_disable: false };
 
@@ -377,9 +309,7 @@ impl Rights {
             (true, Operation::Fetch) => self.user && !self.execute_disable,
             (false, Operation::Read) => !prevented,
             (false, Operation::Write) => !prevented && (self.write || !settings.write_protect),
-            (false, Operation::Fetch) => {
-                !(self.user && settings.fetch_prevention) && !self.execute_disable
-            }
+            (false, Operation::Fetch) => !(self.user && settings.fetch_prevention) && !self.execute_disable,
         }
     }
 }
@@ -397,14 +327,7 @@ fn fault_code(settings: &Settings, access: Access, cause: u64) -> u64 {
 
 /// A structure entry for the address under judgement, with the rights so far (4.10.3.1).
 #[derive(Clone)]
-struct StructureEntry {
-    level: usize,
-    pcid: u64,
-    table: u64,
-    rights: Rights,
-    moments: Moments,
-}
-
+struct StructureEntry { level: usize, pcid: u64, table: u64, rights: Rights, moments: Moments }
 /// A translation for the address under judgement (4.10.2).
 #[derive(Clone)]
 struct Translation {
@@ -418,15 +341,7 @@ struct Translation {
 }
 
 /// An entry that a walk may read at a moment, and by which moments it comes there.
-struct Reading {
-    level: usize,
-    address: u64,
-    value: u64,
-    kind: Kind,
-    rights: Rights,
-    moments: Moments,
-}
-
+struct Reading { level: usize, address: u64, value: u64, kind: Kind, rights: Rights, moments: Moments }
 /// All that one processor may have cached for one address just before the next event.
 struct Cached<'a> {
     record: &'a Record,
@@ -438,10 +353,7 @@ struct Cached<'a> {
 }
 
 /// Whether two addresses lie in one page of 2^shift bytes (4.10.2.1).
-fn is_same_page(one: u64, other: u64, shift: u32) -> bool {
-    field(one ^ other, shift, 48) == 0
-}
-
+fn is_same_page(one: u64, other: u64, shift: u32) -> bool { field(one ^ other, shift, 48) == 0 }
 impl<'a> Cached<'a> {
     /// Caches are empty at the start (profile).
     fn new(record: &'a Record, processor: usize, linear: u64) -> Self {
@@ -459,9 +371,7 @@ impl<'a> Cached<'a> {
             let moments = [before, &[moment]].concat();
             Reading { level, address, value, kind, rights: rights.joined(value), moments }
         };
-        if level == 4 {
-            return vec![reading(control.root, Rights::ALL, &[])];
-        }
+        if level == 4 { return vec![reading(control.root, Rights::ALL, &[])]; }
         let usable = |entry: &&StructureEntry| entry.level == level + 1 && entry.pcid == control.pcid;
         let entries = self.structures.iter().filter(usable);
         entries.map(|entry| reading(entry.table, entry.rights, &entry.moments)).collect()
@@ -472,9 +382,7 @@ impl<'a> Cached<'a> {
         let control = self.record.control(self.processor, moment);
         for level in (1..=4).rev() {
             for reading in self.readings(level, moment) {
-                if self.record.settings.version == 2 && !has_bit(reading.value, 5) {
-                    continue;
-                }
+                if self.record.settings.version == 2 && !has_bit(reading.value, 5) { continue; }
                 match reading.kind {
                     Kind::Table { address } => self.keep_structure(reading, control.pcid, address),
                     Kind::Leaf { frame, shift } => self.keep_leaf(reading, control, frame, shift),
@@ -487,9 +395,8 @@ impl<'a> Cached<'a> {
     /// Of entries that differ by their moments alone the freshest is kept.
     fn keep_structure(&mut self, reading: Reading, pcid: u64, table: u64) {
         let Reading { level, rights, moments, .. } = reading;
-        self.structures.retain(|entry| {
-            (entry.level, entry.pcid, entry.table, entry.rights) != (level, pcid, table, rights)
-        });
+        self.structures
+            .retain(|entry| (entry.level, entry.pcid, entry.table, entry.rights) != (level, pcid, table, rights));
         self.structures.push(StructureEntry { level, pcid, table, rights, moments });
     }
 
@@ -502,26 +409,21 @@ impl<'a> Cached<'a> {
             (it.pcid, it.frame, it.shift, it.rights) != (pcid, frame, shift, rights)
                 || (it.global, it.dirty) != (global, dirty)
         });
-        self.translations
-            .push(Translation { pcid, frame, shift, rights, global, dirty, moments });
+        self.translations.push(Translation { pcid, frame, shift, rights, global, dirty, moments });
     }
 
     /// Takes out what an event must invalidate on its own processor (4.10.4.1, 4.10.5).
     fn invalidate(&mut self, event: &Event, control: Control) {
         let (linear, current) = (self.linear, control.pcid);
         match event.deed {
-            Deed::LoadRoot { operand } if !has_bit(operand, 63) => {
-                self.drop_pcid(field(operand, 0, 12))
-            }
+            Deed::LoadRoot { operand } if !has_bit(operand, 63) => self.drop_pcid(field(operand, 0, 12)),
             Deed::InvalidatePage { linear: page } => {
                 self.structures.retain(|it| it.pcid != current);
                 self.drop_page(page, current)
             }
             Deed::InvalidatePcid { kind: 0, pcid, linear: page } => {
                 self.drop_structures_for(page, pcid);
-                self.translations.retain(|it| {
-                    it.pcid != pcid || it.global || !is_same_page(page, linear, it.shift)
-                })
+                self.translations.retain(|it| it.pcid != pcid || it.global || !is_same_page(page, linear, it.shift))
             }
             Deed::InvalidatePcid { kind: 1, pcid, .. } => self.drop_pcid(pcid),
             Deed::InvalidatePcid { kind, .. } => {
@@ -547,15 +449,13 @@ impl<'a> Cached<'a> {
 
     fn drop_structures_for(&mut self, page: u64, pcid: u64) {
         let linear = self.linear;
-        self.structures
-            .retain(|it| it.pcid != pcid || !is_same_page(page, linear, level_shift(it.level)));
+        self.structures.retain(|it| it.pcid != pcid || !is_same_page(page, linear, level_shift(it.level)));
     }
 
     /// The translations of a page under a PCID, and its global pages.
     fn drop_page(&mut self, page: u64, pcid: u64) {
         let linear = self.linear;
-        self.translations
-            .retain(|it| !is_same_page(page, linear, it.shift) || it.pcid != pcid && !it.global);
+        self.translations.retain(|it| !is_same_page(page, linear, it.shift) || it.pcid != pcid && !it.global);
     }
 
     /// Goes on to a moment. Between events that matter a fill finds nothing new: it is done just
@@ -570,13 +470,9 @@ impl<'a> Cached<'a> {
                 Deed::Access { outcome: Outcome::Page(_), .. } => false,
                 _ => is_own,
             };
-            if matters || has_changed {
-                self.fill(self.next);
-            }
+            if matters || has_changed { self.fill(self.next); }
             has_changed = matters;
-            if is_own {
-                self.invalidate(&event, self.record.control(self.processor, self.next));
-            }
+            if is_own { self.invalidate(&event, self.record.control(self.processor, self.next)); }
             self.next += 1;
         }
         self.fill(moment);
@@ -605,9 +501,7 @@ impl<'a> Cached<'a> {
                 // (a write is done only by a translation whose leaf had D=1: profile)
                 let is_done = settings.version == 1 || !is_write || it.dirty;
                 is_done && outcome == Outcome::Page(it.frame + field(self.linear, 0, it.shift))
-            } else {
-                outcome == Outcome::Fault(fault_code(settings, access, 1))
-            };
+            } else { outcome == Outcome::Fault(fault_code(settings, access, 1)) };
             gives && (it.pcid == pcid || it.global)
         };
         self.translations.iter().filter(serves).map(|it| it.moments.clone()).collect()
@@ -620,11 +514,8 @@ impl<'a> Cached<'a> {
 
     /// Walks that end now at an absent or a reserved entry, which is never cached (4.7, 4.10.2.3).
     fn failed_walks(&self, access: Access, code: u64) -> Vec<Moments> {
-        let (kind, cause) =
-            if has_bit(code, 0) { (Kind::Reserved, 9) } else { (Kind::Absent, 0) };
-        if code != fault_code(&self.record.settings, access, cause) {
-            return vec![];
-        }
+        let (kind, cause) = if has_bit(code, 0) { (Kind::Reserved, 9) } else { (Kind::Absent, 0) };
+        if code != fault_code(&self.record.settings, access, cause) { return vec![]; }
         self.all_readings().filter(|it| it.kind == kind).map(|it| it.moments).collect()
     }
 
@@ -646,9 +537,7 @@ impl<'a> Cached<'a> {
 /// The processor and the address that moments are asked for, of accesses and assists alone.
 fn asked(event: &Event) -> Option<(usize, u64)> {
     match event.deed {
-        Deed::Access { linear, .. } | Deed::Assist { linear, .. } => {
-            Some((event.processor, linear))
-        }
+        Deed::Access { linear, .. } | Deed::Assist { linear, .. } => Some((event.processor, linear)),
         _ => None,
     }
 }
@@ -658,15 +547,11 @@ fn first_bad(record: &Record) -> Option<usize> {
     let mut pages: HashMap<(usize, u64), Cached> = HashMap::new();
     for (number, event) in record.events.iter().enumerate() {
         let Some((processor, linear)) = asked(event) else { continue };
-        let cached = pages
-            .entry((processor, linear >> 12))
-            .or_insert_with(|| Cached::new(record, processor, linear));
+        let cached = pages.entry((processor, linear >> 12)).or_insert_with(|| Cached::new(record, processor, linear));
         // (addresses of one page differ in their offset alone)
         cached.linear = linear;
         cached.advance(number);
-        if cached.witness(&event.deed).is_none() {
-            return Some(number);
-        }
+        if cached.witness(&event.deed).is_none() { return Some(number); }
     }
     None
 }
@@ -679,9 +564,7 @@ fn last_chance(record: &Record, number: usize) -> Option<(usize, Moments)> {
     let mut last = None;
     for moment in 0..number {
         cached.advance(moment);
-        if let Some(moments) = cached.witness(&event.deed) {
-            last = Some((moment, moments));
-        }
+        if let Some(moments) = cached.witness(&event.deed) { last = Some((moment, moments)); }
     }
     last
 }
@@ -728,9 +611,7 @@ fn event_line(record: &Record, number: usize) -> String {
         }
         Deed::LoadRoot { operand } => format!("cr3 {operand:#x}"),
         Deed::InvalidatePage { linear } => format!("invlpg {linear:#x}"),
-        Deed::InvalidatePcid { kind, pcid, linear } => {
-            format!("invpcid {kind} {pcid:#x} {linear:#x}")
-        }
+        Deed::InvalidatePcid { kind, pcid, linear } => { format!("invpcid {kind} {pcid:#x} {linear:#x}") }
         Deed::SetGlobalPages { on } => format!("pge {}", if on { "on" } else { "off" }),
     };
     format!("{number} cpu {processor} {text}")
@@ -801,9 +682,7 @@ fn main() -> ExitCode {
             return ExitCode::from(64);
         }
     };
-    let record = read
-        .map_err(|_| "11 device".to_string())
-        .and_then(|()| Source { bytes: &bytes, at: 0 }.record());
+    let record = read.map_err(|_| "11 device".to_string()).and_then(|()| Source { bytes: &bytes, at: 0 }.record());
     match record {
         Ok(record) => certify(&record),
         Err(refusal) => {
