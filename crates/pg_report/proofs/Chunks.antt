@@ -5,11 +5,8 @@ use Rattle.pg_event.specs.declared.event.Event.{Event}
 use Rattle.pg_event.specs.declared.refusal.Refusal.{Refusal}
 use Rattle.pg_event.specs.declared.refusal.Refusal.TheVariants as refusals
 use Rattle.pg_event.specs.Heads.{Head}
+use Rattle.pg_report.specs.Going.{with_front, IsRest}
 use Rattle.pg_event.specs.Reading.{◌>>=◌, Part, chunk_at, chunks_at, header_at, record_at, reading}
-
--- the events that were read before, and those that are still read
-abbrev pub with_front : List Event → Part (List Event) → Part (List Event)
-with_front front part = part >>= λ x. Ok (front ++ x.0, x.1)
 
 -- what follows a chunk
 goes_on : ℕ → Head → ℕ → ℕ → Option (List Event) × List ℕ → Part (List Event)
@@ -31,12 +28,6 @@ chunks_at-suc : (bound : ℕ) (head : Head) (number before : ℕ) (full : Bool) 
     → chunks_at (suc bound) head number before full left ≡ (chunk_at head number before full left >>= goes_on bound head number before)
 unfolding chunks_at goes_on
 chunks_at-suc bound head number before full left = by_chunk bound head number before (chunk_at head number before full left)
-
--- what is still to be read of a record, after these events
-pub record IsRest (head : Head) (front : List Event) (number : ℕ) (full : Bool) (left : List ℕ) (total : Part (List Event)) : Type 0 where
-  pub bound : ℕ
-  pub long : length left ≤ bound
-  pub same : with_front front (chunks_at bound head number (length front) full left) ≡ total
 
 unfront : (part : Part (List Event)) → with_front [] part ≡ part
 unfront (Ok x) = refl

@@ -20,8 +20,6 @@ use Rattle.pg_codec.specs.declared.stage.Stage.{Stage}
 use Rattle.pg_codec.specs.declared.stage.Stage.TheVariants.{Segments, Start}
 use Rattle.pg_codec.specs.Readers.{Reader, behind_header, stage_after_chunk, MayReadSegment, PullsSegment, IsSegment, IsNext}
 use Rattle.pg_codec.proofs.Going.{took_then}
-use Rattle.std.specs.List.{AllByRecursion}
-use Rattle.pg_event.specs.Form.{broken_rule}
 use Rattle.pg_event.specs.declared.version.Version.{Version}
 use Rattle.pg_event.specs.declared.version.Version.TheVariants as versions
 use Rattle.pg_event.specs.declared.refusal.Refusal.TheVariants as refusals
@@ -30,13 +28,8 @@ use Rattle.pg_report.specs.declared.error.AuditError.{AuditError}
 use Rattle.pg_report.specs.declared.error.AuditError.TheVariants as errors
 use Rattle.pg_report.specs.Intake.{IsErrorOf, header_up_to, is_too_new, refusal_up_to, ReadsRecord, is_device}
 use Rattle.pg_report.proofs.Chunks.{reading_of_bad_header}
-use Rattle.pg_report.proofs.Whole.{IsReading, reading_at_start, reading_after_segment, reading_ends, reading_fails}
-
--- the header and these events were read from the front of what was left at the start
-abbrev pub Continues : Head → List Event → ℕ → Bool → Option (List ℕ) → Option (List ℕ) → Type 0
-Continues head front number full None left = Unit {0}
-Continues head front number full (Some bytes) None = ⊥
-Continues head front number full (Some bytes) (Some left) = IsReading head front number full bytes left
+use Rattle.pg_report.specs.Going.{IsReading, Continues, IsGoing}
+use Rattle.pg_report.proofs.Whole.{reading_at_start, reading_after_segment, reading_ends, reading_fails}
 
 pub from_fresh : (left : Option (List ℕ)) → left_of [] left ≡ left
 unfolding left_of
@@ -152,26 +145,13 @@ abbrev fresh : Reader
 fresh = record { unread = []; stage = Start }
 
 module _ {R : Type 0} (g : Ghosts R) (newest : Version) (start : Option (List ℕ)) (f : ℕ) where
-  -- a record on the way: where the reader stands, what it has left, and what was read
-  pub record IsGoing (at : List ℕ × R) (stage : Stage) (r : Recorded) (segments : ℕ) : Type 0 where
-    pub number : ℕ
-    pub full : Bool
-    pub stage_is : stage ≡ Segments (record { header = r.head; number = number; before = length r.events; full = full })
-    pub old : IfSome start (λ bytes. is_too_new newest bytes ≡ false)
-    pub continues : Continues r.head r.events number full start (left_in g at)
-    pub took : Took start (left_in g at)
-    pub failed : g.failed at.1 ≡ f
-    pub count : segments ≤ length r.events
-    pub few : length r.events < 2 ^ 32
-    pub whole : full ≡ true → length r.events % r.head.segment ≡ 0
-
   pub going_at_start : (head : Head) (at : List ℕ × R) (stage : Stage) → Reads start (left_in g at) (Ok head) (header_up_to newest) → Took start (left_in g at) → stage ≡ behind_header head → g.failed at.1 ≡ f
-      → IsGoing at stage (record { head = head; events = [] }) 0
+      → IsGoing g newest start f at stage (record { head = head; events = [] }) 0
   going_at_start head at stage h took e same =
       let known = header_not_new newest head start (left_in g at) h in
       record { number = 0; full = true; stage_is = e; old = known.0; continues = continues_at_start head start (left_in g at) known.1 took; took = took; failed = same; count = omega arith; few = omega arith; whole = λ _. zero-mod head.segment }
 
-  pub next_fits : (at : List ℕ × R) (stage : Stage) (r : Recorded) (segments : ℕ) → IsGoing at stage r segments → (items : List Event) → IsNext stage (Some items)
+  pub next_fits : (at : List ℕ × R) (stage : Stage) (r : Recorded) (segments : ℕ) → IsGoing g newest start f at stage r segments → (items : List Event) → IsNext stage (Some items)
       → IsSegment (record { header = r.head; number = 0; before = length r.events; full = true }) items
   next_fits at stage r segments h items n =
       let P : Stage → Type 0 = λ s. IsNext s (Some items) in
@@ -179,18 +159,18 @@ module _ {R : Type 0} (g : Ghosts R) (newest : Version) (start : Option (List �
       record { some = here.some; limit = here.limit; well = here.well }
 
   -- behind the events that were read a segment may begin
-  pub next_begins : (at : List ℕ × R) (stage : Stage) (r : Recorded) (segments : ℕ) → IsGoing at stage r segments → (items : List Event) → IsNext stage (Some items)
+  pub next_begins : (at : List ℕ × R) (stage : Stage) (r : Recorded) (segments : ℕ) → IsGoing g newest start f at stage r segments → (items : List Event) → IsNext stage (Some items)
       → length r.events % r.head.segment ≡ 0
   next_begins at stage r segments h items n =
       let P : Stage → Type 0 = λ s. IsNext s (Some items) in
       h.whole (subst P h.stage_is n).0
 
-  module _ (at after : List ℕ × R) (stage : Stage) (r : Recorded) (segments : ℕ) (h : IsGoing at stage r segments) where
+  module _ (at after : List ℕ × R) (stage : Stage) (r : Recorded) (segments : ℕ) (h : IsGoing g newest start f at stage r segments) where
     pulled : (result : Result (Option (List Event)) ReadError) → PullsSegment g stage at after result → Pulls g (closed_chunk_at r.head h.number (length r.events) h.full) at after result
     pulled result pulls = subst (λ (s : Stage). PullsSegment g s at after result) h.stage_is pulls
 
     pub going_on : (items : List Event) (later : Stage) → PullsSegment g stage at after (Ok (Some items)) → IsNext stage (Some items)
-        → later ≡ stage_after_chunk stage (Ok (Some items)) → IsGoing after later (record { head = r.head; events = r.events ++ items }) (segments + 1)
+        → later ≡ stage_after_chunk stage (Ok (Some items)) → IsGoing g newest start f after later (record { head = r.head; events = r.events ++ items }) (segments + 1)
     going_on items later pulls next e =
         let here = pulled (Ok (Some items)) pulls in
         let fits = next_fits at stage r segments h items next in

@@ -1,5 +1,5 @@
 -- What is known of verdicts once some of them were looked at.
-use Rattle.std.proofs.Common.{All, Contains, ◌≡◌, ◌≢◌, ◌⊎◌, inl, inr, ⊎_elim, ℕ, suc, ◌+◌, ◌-◌, ◌≤◌, ◌<◌, ◌==◌, Bool, true, false, List, [], ◌∷◌, ◌++◌, length, take, set, get_or, slice_index_or, MatchOption, Option, Some, None, Ok, sym, refl, ap, ◌∙◌, subst, arith, count_by}
+use Rattle.std.proofs.Common.{All, ◌≡◌, ◌⊎◌, inl, inr, ⊎_elim, ℕ, ◌+◌, ◌-◌, ◌≤◌, ◌<◌, List, [], ◌∷◌, ◌++◌, length, take, get_or, slice_index_or, MatchOption, Option, Some, None, Ok, sym, ◌∙◌, subst, arith}
 use Rattle.std.proofs.lemmas.List.{take_more}
 use Rattle.std.proofs.lemmas.List.Elements.{All-push, All-weaker, Contains-push, Contains-append_left}
 use Rattle.pg_check.specs.declared.stretch.SegmentVerdict.{SegmentVerdict}
@@ -7,7 +7,7 @@ use Rattle.pg_pool.specs.declared.round.Round.{Round}
 use Rattle.pg_pool.specs.Rounds.{IsIn}
 use Rattle.pg_event.specs.declared.event.Reason.{Reason}
 use Rattle.pg_report.specs.Text.{verdict_of}
-use Rattle.pg_report.specs.Merging.{IsLower, IsStranger, Merges, IsFirstBad, times_judged, IsDouble, IsMissing, IsLeast, NoneIs, AreOneEach, IsLowest, AreCounts}
+use Rattle.pg_report.specs.Merging.{IsLower, IsStranger, Merges, IsFirstBad, IsDouble, IsMissing, IsLeast, NoneIs, AreOneEach, AreCounts}
 
 -- ---- counts
 

@@ -8,14 +8,9 @@ use Rattle.pg_event.specs.declared.refusal.Refusal.TheVariants as refusals
 use Rattle.pg_event.specs.Heads.{Head}
 use Rattle.pg_event.specs.Spelling.{Recorded}
 use Rattle.pg_event.specs.Reading.{◌>>=◌, Part, chunk_at, chunks_at, closed, header_at, reading}
-use Rattle.pg_report.proofs.Chunks.{IsRest, rest_at_start, rest_after_segment, total_at_end, total_at_fault, reading_by_parts}
+use Rattle.pg_report.specs.Going.{IsReading}
+use Rattle.pg_report.proofs.Chunks.{rest_at_start, rest_after_segment, total_at_end, total_at_fault, reading_by_parts}
 use Rattle.pg_report.proofs.Shorter.{chunk_shortens}
-
--- so far the header and these events were read from the front of the bytes, and these are left
-pub record IsReading (head : Head) (front : List Event) (number : ℕ) (full : Bool) (bytes left : List ℕ) : Type 0 where
-  pub after_header : List ℕ
-  pub header : header_at bytes ≡ Ok (head, after_header)
-  pub rest : IsRest head front number full left (chunks_at (length bytes) head 0 0 true after_header)
 
 pub reading_at_start : (head : Head) (bytes left text : List ℕ) → header_at bytes ≡ Ok (head, left) → bytes ≡ text ++ left → IsReading head [] 0 true bytes left
 reading_at_start head bytes left text h e =

@@ -1,5 +1,5 @@
 -- A record on the way that is judged window by window.
-use Rattle.std.proofs.Common.{◌≡◌, cond, Result, inl, inr, ⊎_elim, append-nil, ℕ, ◌+◌, ◌%◌, ◌^◌, ◌<◌, List, [], ◌++◌, length, length-append, Option, Some, None, Ok, Err, refl, sym, ap, subst, ◌∙◌, arith}
+use Rattle.std.proofs.Common.{◌≡◌, cond, inl, inr, ⊎_elim, append-nil, ℕ, ◌+◌, ◌%◌, ◌^◌, ◌<◌, List, [], ◌++◌, length, length-append, Option, Some, Ok, Err, refl, sym, ap, subst, ◌∙◌, arith}
 use Rattle.std.specs.Prelude.{IfSome}
 use Rattle.std.proofs.lemmas.List.{append_assoc}
 use Rattle.pg_event.specs.declared.event.Event.{Event}
@@ -19,7 +19,8 @@ use Rattle.pg_codec.specs.declared.error.ReadError.{ReadError}
 use Rattle.pg_codec.specs.declared.error.ReadError.TheVariants as reads
 use Rattle.pg_report.specs.Intake.{IsErrorOf, ReadsRecord, is_device}
 use Rattle.pg_report.specs.Judging.{BeginsSegment, StopsJudging, JudgesRecord, IsMovedOn}
-use Rattle.pg_report.proofs.Continuing.{IsGoing, next_fits, next_begins, going_on}
+use Rattle.pg_report.specs.Going.{IsGoing, IsJudging}
+use Rattle.pg_report.proofs.Continuing.{next_fits, next_begins, going_on}
 
 -- where judging stops nothing is said of the bytes, and no device failed
 pub stopped_judges : (left : Option (List ℕ)) (e : AuditError) → StopsJudging e → JudgesRecord left (Err e)
@@ -45,15 +46,7 @@ stopped_counts errors.Device old new stops same = absurd stops
 stopped_counts errors.Checkers old new stops same = absurd stops
 
 module _ {R : Type 0} (g : Ghosts R) (start : Option (List ℕ)) (f : ℕ) where
-  -- what was read was judged, but for a window
-  pub record IsJudging (at : List ℕ × R) (stage : Stage) (judged : Findings) (window : List Event) (segments : ℕ) : Type 0 where
-    pub before : List Event
-    pub judges : IsJudged judged judged.head before
-    pub well : AreWellFormed judged.head window
-    pub whole : BeginsSegment judged window
-    pub going : IsGoing g Two start f at stage (record { head = judged.head; events = before ++ window }) segments
-
-  pub judging_at_start : (at : List ℕ × R) (stage : Stage) (judged : Findings) (head : Head) → IsJudged judged head [] → IsGoing g Two start f at stage (record { head = head; events = [] }) 0 → IsJudging at stage judged [] 0
+  pub judging_at_start : (at : List ℕ × R) (stage : Stage) (judged : Findings) (head : Head) → IsJudged judged head [] → IsGoing g Two start f at stage (record { head = head; events = [] }) 0 → IsJudging g start f at stage judged [] 0
   judging_at_start at stage judged head judges going = record {
     before = [];
     judges = subst (λ (h : Head). IsJudged judged h []) (sym judges.settings) judges;
@@ -62,7 +55,7 @@ module _ {R : Type 0} (g : Ghosts R) (start : Option (List ℕ)) (f : ℕ) where
     going = subst (λ (h : Head). IsGoing g Two start f at stage (record { head = h; events = [] }) 0) (sym judges.settings) going;
   }
 
-  module _ (at : List ℕ × R) (stage : Stage) (judged : Findings) (window : List Event) (segments : ℕ) (h : IsJudging at stage judged window segments) where
+  module _ (at : List ℕ × R) (stage : Stage) (judged : Findings) (window : List Event) (segments : ℕ) (h : IsJudging g start f at stage judged window segments) where
     -- the window may be judged
     pub may_follow : MayFollow judged window
     may_follow =
@@ -71,7 +64,7 @@ module _ {R : Type 0} (g : Ghosts R) (start : Option (List ℕ)) (f : ℕ) where
 
     -- a segment that comes next waits in the window
     pub longer : (after : List ℕ × R) (items : List Event) (later : Stage) → PullsSegment g stage at after (Ok (Some items)) → IsNext stage (Some items)
-        → later ≡ stage_after_chunk stage (Ok (Some items)) → IsJudging after later judged (window ++ items) (segments + 1)
+        → later ≡ stage_after_chunk stage (Ok (Some items)) → IsJudging g start f after later judged (window ++ items) (segments + 1)
     longer after items later pulls next e =
         let r : Recorded = record { head = judged.head; events = h.before ++ window } in
         let fits = next_fits g Two start f at stage r segments h.going items next in
@@ -89,7 +82,7 @@ module _ {R : Type 0} (g : Ghosts R) (start : Option (List ℕ)) (f : ℕ) where
         }
 
     -- a window that was judged, or not yet
-    pub moved_on : (judged' : Findings) (window' : List Event) → IsMovedOn judged' judged.head (h.before ++ window) window' → BeginsSegment judged' window' → IsJudging at stage judged' window' segments
+    pub moved_on : (judged' : Findings) (window' : List Event) → IsMovedOn judged' judged.head (h.before ++ window) window' → BeginsSegment judged' window' → IsJudging g start f at stage judged' window' segments
     moved_on judged' window' m whole = record {
       whole = whole;
       before = m.before;

@@ -1,5 +1,5 @@
 -- What a call leaves of the streams that it is given.
-use Rattle.std.specs.Prelude.{◌≡◌, ℕ, List, Option, Result}
+use Rattle.std.specs.Prelude.{◌≡◌, ℕ, List, Option}
 use Rattle.std.specs.Io.KnownBytes.{Appends, Keeps}
 use Rattle.pg_codec.specs.declared.stream.Source as sources
 use Rattle.pg_codec.specs.declared.stream.Sink as sinks

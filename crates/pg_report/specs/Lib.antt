@@ -5,3 +5,4 @@ pub mod Intake
 pub mod Audits
 pub mod Judging
 pub mod Merging
+pub mod Going

@@ -1,12 +1,14 @@
 //! Whole records, from any source.
 
-ghost use Rattle.std.specs.Prelude.{◌≡◌, ◌≢◌, IfSome, IfOk};
+ghost use Rattle.std.specs.Prelude.{◌≡◌, ◌≢◌, ℕ, List, Option, Ok, Err, IfSome, IfOk, IfErr, OnOk};
 ghost use Rattle.pg_event.specs.Spelling.{IsHead};
 ghost use Rattle.pg_codec.specs.declared.stage.Stage.TheVariants.{Start};
 ghost use Rattle.pg_codec.specs.Reads.{Pulls};
 ghost use Rattle.pg_codec.specs.Readers.{stage_after_header};
 ghost use Rattle.pg_report.specs.Changes.{drawn};
-ghost use Rattle.pg_report.specs.Intake.{IsErrorOf, header_up_to, ReadsRecord, TellsDevice};
+ghost use Rattle.pg_codec.specs.Streams.{FailsWithDevice};
+ghost use Rattle.pg_report.specs.Going.{IsGoing};
+ghost use Rattle.pg_report.specs.Intake.{IsErrorOf, header_up_to, ReadsRecord, TellsDevice, is_device};
 
 use crate::error::AuditError;
 use pg_check::History;
@@ -49,6 +51,39 @@ pub(crate) fn read_header_up_to<R: Source>(
     }
 }
 
+/// Reads what is left of a record behind its header, and adds its events.
+fn read_rest<R: Source>(
+    alloc: Global,
+    reader: &mut RecordReader,
+    source: &mut R,
+    history: &mut History,
+) -> Result<(), AuditError>
+    requires going { (newest : Version) × (start : Option (List ℕ)) × (f : ℕ)
+        × IsGoing R.Source newest start f
+        (reader.old.unread, source.old) reader.old.stage history.old 0 }
+    ensures whole { (newest : Version) (start : Option (List ℕ)) (f : ℕ) →
+        IsGoing R.Source newest start f
+        (reader.old.unread, source.old) reader.old.stage history.old 0 →
+        OnOk result (IfSome start (λ bytes. ReadsRecord newest bytes (Ok history.new))) }
+    ensures refused { (newest : Version) (start : Option (List ℕ)) (f : ℕ) →
+        IsGoing R.Source newest start f
+        (reader.old.unread, source.old) reader.old.stage history.old 0 →
+        IfErr result (λ e. IfSome start (λ bytes. ReadsRecord newest bytes (Err e))) }
+    ensures device { (newest : Version) (start : Option (List ℕ)) (f : ℕ) →
+        IsGoing R.Source newest start f
+        (reader.old.unread, source.old) reader.old.stage history.old 0 →
+        FailsWithDevice is_device f (R.failed source.new) result }
+{
+    for _ in 0..MOST_CHUNKS {
+        match reader.read_segment(alloc, source) {
+            Ok(Some(events)) => history.extend(&events)?,
+            Ok(None) => return Ok(()),
+            Err(error) => return Err(audit_error(error)),
+        }
+    }
+    unreachable!()
+}
+
 /// Reads the record of a version up to this that a source has left, all of it.
 fn read_up_to<R: Source>(
     alloc: Global,
@@ -64,14 +99,10 @@ fn read_up_to<R: Source>(
         Err(error) => return Err(audit_error(error)),
     };
     let mut history = History::new(alloc, header)?;
-    for _ in 0..MOST_CHUNKS {
-        match reader.read_segment(alloc, source) {
-            Ok(Some(events)) => history.extend(&events)?,
-            Ok(None) => return Ok(history),
-            Err(error) => return Err(audit_error(error)),
-        }
+    if let Err(error) = read_rest(alloc, &mut reader, source, &mut history) {
+        return Err(error);
     }
-    unreachable!()
+    Ok(history)
 }
 
 /// Reads the record that a source has left, all of it.

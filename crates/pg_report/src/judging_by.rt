@@ -1,12 +1,14 @@
 //! Whole records, judged by checkers as they are read.
 
-ghost use Rattle.std.specs.Prelude.{◌≡◌, ◌<◌, ◌^◌, ◌++◌, List, length, OnOk, IfErr};
+ghost use Rattle.std.specs.Prelude.{ℕ, ◌++◌, List, Option, OnOk, IfErr};
 ghost use Rattle.pg_event.specs.declared.event.Event.{Event};
 ghost use Rattle.pg_event.specs.Heads.{Head};
 ghost use Rattle.pg_check.specs.Judging.{IsJudged, MayFollow};
 ghost use Rattle.pg_check.specs.Kept.{AreWellFormed};
 ghost use Rattle.pg_report.specs.Changes.{drawn};
-ghost use Rattle.pg_report.specs.Intake.{TellsDevice};
+ghost use Rattle.pg_codec.specs.Streams.{FailsWithDevice};
+ghost use Rattle.pg_report.specs.Going.{IsJudging};
+ghost use Rattle.pg_report.specs.Intake.{TellsDevice, is_device};
 ghost use Rattle.pg_report.specs.Judging.{BeginsSegment, IsMovedOn, JudgesRecord, StopsJudging};
 
 use crate::crew::Crew;
@@ -25,22 +27,23 @@ use std::thread::Threads;
 /// threads takes time, so rounds are few and long.
 const WINDOW: usize = 1 << 18;
 
-/// Judges the events of a window once they are many, and lets them go. After an error `judged` is
-/// not to be used.
-fn judge_many<T: Threads + Wait + Sync, G: Gate>(
+/// Puts a segment into a window, and judges the window and lets it go once its events are many.
+/// After an error `judged` is not to be used.
+fn take_in<T: Threads + Wait + Sync, G: Gate>(
     crew: &Crew<'_, T, G>,
     judged: &mut Judged,
     window: &mut Vec<Event>,
+    segment: &[Event],
 ) -> Result<(), AuditError>
-    requires next { MayFollow judged.old window.old.items }
-    requires whole { BeginsSegment judged.old window.old.items }
-    ensures few { OnOk result (length window.new.items < 2 ^ 18) }
+    requires next { MayFollow judged.old (window.old.items ++ segment.now) }
+    requires whole { BeginsSegment judged.old (window.old.items ++ segment.now) }
     ensures whole { OnOk result (BeginsSegment judged.new window.new.items) }
     ensures err { IfErr result StopsJudging }
     ensures moved { (head : Head) (before : List Event) → IsJudged judged.old head before →
-        AreWellFormed head window.old.items → OnOk result
-        (IsMovedOn judged.new head (before ++ window.old.items) window.new.items) }
+        AreWellFormed head (window.old.items ++ segment.now) → OnOk result
+        (IsMovedOn judged.new head (before ++ (window.old.items ++ segment.now)) window.new.items) }
 {
+    window.extend_from_slice(segment)?;
     if window.len() >= WINDOW {
         crew.judge(judged, window.as_slice())?;
         window.clear();
@@ -48,8 +51,46 @@ fn judge_many<T: Threads + Wait + Sync, G: Gate>(
     Ok(())
 }
 
-/// Reads the record that a source has left, all of it, and judges it by checkers as it is read: no
-/// more events are kept than wait to be judged, and those of the segment that was read last.
+/// Reads what is left of a record behind its header, and has it judged by checkers as it is read:
+/// no more events are kept than wait to be judged, and those of the segment that was read last.
+fn judge_rest<T: Threads + Wait + Sync, G: Gate, R: Source>(
+    crew: &Crew<'_, T, G>,
+    reader: &mut RecordReader,
+    source: &mut R,
+    judged: &mut Judged,
+    window: &mut Vec<Event>,
+) -> Result<Report, AuditError>
+    requires going { (start : Option (List ℕ)) × (f : ℕ) × IsJudging R.Source start f
+        (reader.old.unread, source.old) reader.old.stage judged.old window.old.items 0 }
+    ensures judges { (start : Option (List ℕ)) (f : ℕ) → IsJudging R.Source start f
+        (reader.old.unread, source.old) reader.old.stage judged.old window.old.items 0 →
+        JudgesRecord start result }
+    ensures device { (start : Option (List ℕ)) (f : ℕ) → IsJudging R.Source start f
+        (reader.old.unread, source.old) reader.old.stage judged.old window.old.items 0 →
+        FailsWithDevice is_device f (R.failed source.new) result }
+{
+    let mut room = Vec::new(crew.alloc);
+    for _ in 0..MOST_CHUNKS {
+        match reader.read_segment_in(room, source) {
+            Ok(Some(events)) => {
+                if let Err(error) = take_in(crew, judged, window, &events) {
+                    return Err(error);
+                }
+                room = events;
+            }
+            Ok(None) => {
+                if let Err(error) = crew.judge(judged, window) {
+                    return Err(error);
+                }
+                return Ok(report_of_judged(judged));
+            }
+            Err(error) => return Err(audit_error(error)),
+        }
+    }
+    unreachable!()
+}
+
+/// Reads the record that a source has left, all of it, and judges it by checkers as it is read.
 pub fn judge_record_by<T: Threads + Wait + Sync, G: Gate, R: Source>(
     crew: &Crew<'_, T, G>,
     source: &mut R,
@@ -65,24 +106,5 @@ pub fn judge_record_by<T: Threads + Wait + Sync, G: Gate, R: Source>(
     };
     let mut judged = Judged::new(alloc, header)?;
     let mut window = Vec::new(alloc);
-    let mut room = Vec::new(alloc);
-    for _ in 0..MOST_CHUNKS {
-        match reader.read_segment_in(room, source) {
-            Ok(Some(events)) => {
-                window.extend_from_slice(&events)?;
-                if let Err(error) = judge_many(crew, &mut judged, &mut window) {
-                    return Err(error);
-                }
-                room = events;
-            }
-            Ok(None) => {
-                if let Err(error) = crew.judge(&mut judged, &window) {
-                    return Err(error);
-                }
-                return Ok(report_of_judged(&judged));
-            }
-            Err(error) => return Err(audit_error(error)),
-        }
-    }
-    unreachable!()
+    judge_rest(crew, &mut reader, source, &mut judged, &mut window)
 }

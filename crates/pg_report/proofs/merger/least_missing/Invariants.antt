@@ -1,4 +1,4 @@
-use Rattle.std.proofs.Common.{ℕ, ◌-◌, ◌<◌, ◌≤◌, slice_index_or}
+use Rattle.std.proofs.Common.{ℕ, ◌-◌, ◌<◌, slice_index_or}
 use Rattle.pg_pool.specs.Rounds.{IsIn}
 use Rattle.pg_report.proofs.merger.least_missing.Given as goal
 

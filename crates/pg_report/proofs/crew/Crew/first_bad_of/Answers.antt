@@ -1,4 +1,4 @@
-use Rattle.std.proofs.Common.{◌≡◌, ◌≤◌, ◌∙◌, ◌++◌, map, Ok, Err, List, subst, sym, ap}
+use Rattle.std.proofs.Common.{◌≤◌, ◌∙◌, ◌++◌, map, Ok, subst, sym, ap}
 use Rattle.pg_event.specs.Spelling.{Recorded}
 use Rattle.pg_check.specs.Segments.{segment_verdict}
 use Rattle.pg_check.specs.Stretches.{HasSegments}
