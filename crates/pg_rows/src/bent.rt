@@ -13,36 +13,16 @@ use std::sync::Wait;
 use std::test::Fail;
 use std::thread::Threads;
 
-/// How many bent records came to what.
-#[derive(Clone, Copy, PartialEq, Eq, Debug)]
-struct Tally {
-    yes: u32,
-    /// By the number of the reason, from 1.
-    no: [u32; 13],
-    /// By the number of the refusal, from 1.
-    refused: [u32; 10],
-}
+/// How many bent records came to what: first a yes, then by the number of the reason, from 1, and
+/// then by the number of the refusal, from 1.
+type Tally = [u32; 24];
 
-const NONE: Tally = Tally {
-    yes: 0,
-    no: [0; 13],
-    refused: [0; 10],
-};
-
-/// One more of this number. A number that is out of range is counted nowhere.
-fn count(counts: &mut [u32], number: u8) {
-    if let Some(one) = counts.get_mut((number as usize).wrapping_sub(1)) {
-        *one = one.wrapping_add(1);
-    }
-}
-
-impl Tally {
-    fn add(&mut self, answer: Result<Verdict, AuditError>) {
-        match answer {
-            Ok(Verdict::Yes) => self.yes = self.yes.wrapping_add(1),
-            Ok(Verdict::No { reason, .. }) => count(&mut self.no, reason_number(reason)),
-            Err(error) => count(&mut self.refused, error.number()),
-        }
+/// The place where an answer is counted.
+fn place_of(answer: Result<Verdict, AuditError>) -> usize {
+    match answer {
+        Ok(Verdict::Yes) => 0,
+        Ok(Verdict::No { reason, .. }) => reason_number(reason) as usize,
+        Err(error) => 13usize.wrapping_add(error.number() as usize),
     }
 }
 
@@ -55,22 +35,34 @@ fn bent(alloc: Global, record: &[u8], at: usize, value: u8) -> Result<Vec<u8>, A
     Ok(bytes)
 }
 
+/// What so many checkers say of the bytes, and write.
+fn audited_by<T: AllocGlobal + Abort + Threads + Wait + Sync>(
+    rt: &T,
+    bytes: &[u8],
+    checkers: u32,
+    output: &mut Watched<Vec<u8>>,
+) -> Result<Verdict, AuditError> {
+    let mut input = Watched::new(bytes);
+    if checkers == 1 {
+        audit_one(rt.alloc(), &mut input, output)
+    } else {
+        audit(rt, rt.alloc(), &mut input, output, checkers)
+    }
+}
+
 /// What the bytes come to, which one checker and two have to say and write alike.
 fn audited<T: AllocGlobal + Abort + Threads + Wait + Sync>(
     rt: &T,
     bytes: &[u8],
-    case: (usize, u8),
+    at: usize,
 ) -> Result<Verdict, AuditError> {
-    let mut input = Watched::new(bytes);
     let mut output = Watched::new(Vec::new(rt.alloc()));
-    let alone = audit_one(rt.alloc(), &mut input, &mut output);
-    let mut input = Watched::new(bytes);
     let mut other = Watched::new(Vec::new(rt.alloc()));
-    let by_two = audit(rt, rt.alloc(), &mut input, &mut other, 2);
-    assert_eq!(rt; alone, by_two, "{case:?}");
+    let alone = audited_by(rt, bytes, 1, &mut output);
+    let by_two = audited_by(rt, bytes, 2, &mut other);
     let written = output.inner.as_slice();
-    assert_eq!(rt; written, other.inner.as_slice(), "{case:?}");
-    assert_eq!(rt; alone.is_err(), written.is_empty(), "{case:?}");
+    let is_alike = alone == by_two && written == other.inner.as_slice();
+    assert!(rt; is_alike && alone.is_err() == written.is_empty(), "{at}");
     alone
 }
 
@@ -80,12 +72,15 @@ fn bend_each<T: AllocGlobal + Abort + Threads + Wait + Sync>(
     row: &Row,
 ) -> Result<Tally, Fail> {
     let record = bytes_of(rt.alloc(), row.input)?;
-    let mut tally = NONE;
+    let mut tally: Tally = [0; 24];
     for (at, byte) in record.iter().enumerate() {
         for value in 0..=255u8 {
             if value != *byte {
                 let bytes = bent(rt.alloc(), &record, at, value)?;
-                tally.add(audited(rt, &bytes, (at, value)));
+                let place = place_of(audited(rt, &bytes, at));
+                if let Some(count) = tally.get_mut(place) {
+                    *count = count.wrapping_add(1);
+                }
             }
         }
     }
@@ -93,30 +88,21 @@ fn bend_each<T: AllocGlobal + Abort + Threads + Wait + Sync>(
 }
 
 /// Counted by the auditor in plain Rust, bench/auditor.
-const FRESH_WALKS: Tally = Tally {
-    yes: 2117,
-    no: [4076, 12041, 0, 0, 0, 0, 0, 160, 3315, 0, 0, 0, 0],
-    refused: [2040, 509, 2265, 1020, 1010, 2301, 6120, 0, 1020, 1],
-};
+const FRESH_WALKS: Tally = [
+    2117, 4076, 12041, 0, 0, 0, 0, 0, 160, 3315, 0, 0, 0, 0, //
+    2040, 509, 2265, 1020, 1010, 2301, 6120, 0, 1020, 1,
+];
+
+/// Counted by the same.
+const DIRTY_ASSISTS: Tally = [
+    2289, 8151, 13174, 0, 0, 0, 0, 0, 0, 3315, 0, 96, 12, 1219, //
+    2040, 509, 2519, 1021, 1011, 2809, 9774, 0, 1020, 1,
+];
 
 #[test]
 fn each_byte_of_a_record(rt: HostRuntime) -> Result<(), Fail> {
-    let tally = bend_each(&rt, &FRESH_WALK)?;
-    assert_eq!(rt; tally, FRESH_WALKS);
-    Ok(())
-}
-
-/// Counted by the same.
-const DIRTY_ASSISTS: Tally = Tally {
-    yes: 2289,
-    no: [8151, 13174, 0, 0, 0, 0, 0, 0, 3315, 0, 96, 12, 1219],
-    refused: [2040, 509, 2519, 1021, 1011, 2809, 9774, 0, 1020, 1],
-};
-
-#[test]
-fn each_byte_of_a_record_of_version_2(rt: HostRuntime) -> Result<(), Fail> {
-    let tally = bend_each(&rt, &versions::DIRTY_ASSIST)?;
-    assert_eq!(rt; tally, DIRTY_ASSISTS);
+    assert_eq!(rt; bend_each(&rt, &FRESH_WALK)?, FRESH_WALKS);
+    assert_eq!(rt; bend_each(&rt, &versions::DIRTY_ASSIST)?, DIRTY_ASSISTS);
     Ok(())
 }
 
@@ -125,7 +111,7 @@ fn each_proper_beginning_by_one_and_two_checkers(rt: HostRuntime) -> Result<(), 
     for row in [&FRESH_WALK, &versions::DIRTY_ASSIST] {
         let record = bytes_of(rt.alloc(), row.input)?;
         for k in 0..record.len() {
-            let answer = audited(&rt, &record[..k], (k, 0));
+            let answer = audited(&rt, &record[..k], k);
             assert_eq!(rt; answer, Err(AuditError::Refused(Refusal::Truncated)), "{k}");
         }
     }

@@ -21,35 +21,35 @@ const SCRIPT: &str = "pcid-guest 1\nmachine 40 wp nxe\nsegment 16\ncpu 0x1001 1\
     0 invlpg 0x5000\n\
     0 read 0x5123 user\n";
 
-/// What the program answers and writes.
-#[derive(Drop, PartialEq, Eq, Debug)]
-struct Came {
-    status: u8,
-    output: Vec<u8>,
-    errors: Vec<u8>,
-}
+/// What the program wrote, and to where.
+type Written = Watched<Vec<u8>>;
 
-fn come<T: AllocGlobal + Abort + Threads + Wait + Sync>(
+/// Runs a script on one thread, or on a thread for the processor.
+fn run<T: AllocGlobal + Abort + Threads + Wait + Sync>(
     rt: &T,
     words: &[&str],
     text: &[u8],
-) -> Came {
+    output: &mut Written,
+    errors: &mut Written,
+) -> u8 {
     let mut input = Watched::new(text);
-    let mut output = Watched::new(Vec::new(rt.alloc()));
-    let mut errors = Watched::new(Vec::new(rt.alloc()));
-    let status = pcid_audit(rt, words, &mut input, &mut output, &mut errors);
-    Came {
-        status,
-        output: output.inner,
-        errors: errors.inner,
-    }
+    pcid_audit(rt, words, &mut input, output, errors)
 }
 
 /// What `run` comes to, which a thread for the processor and one thread for all have to say alike.
-fn ran<T: AllocGlobal + Abort + Threads + Wait + Sync>(rt: &T, text: &[u8]) -> Came {
-    let alone = come(rt, &["run", "--single"], text);
-    let by_threads = come(rt, &["run"], text);
-    assert_eq!(rt; alone, by_threads);
+fn ran<T: AllocGlobal + Abort + Threads + Wait + Sync>(
+    rt: &T,
+    text: &[u8],
+    output: &mut Written,
+    errors: &mut Written,
+) -> u8 {
+    let alone = run(rt, &["run", "--single"], text, output, errors);
+    let mut other = Watched::new(Vec::new(rt.alloc()));
+    let mut others = Watched::new(Vec::new(rt.alloc()));
+    let by_threads = run(rt, &["run"], text, &mut other, &mut others);
+    let is_alike = output.inner.as_slice() == other.inner.as_slice()
+        && errors.inner.as_slice() == others.inner.as_slice();
+    assert!(rt; is_alike && alone == by_threads);
     alone
 }
 
@@ -76,20 +76,16 @@ fn refusal(lines: usize, is_whole: bool) -> Option<&'static str> {
     }
 }
 
-/// What a proper beginning of the script comes to: it lacks a line, its last one is cut, or it is
-/// a script of fewer instructions.
-fn beginning(alloc: Global, text: &[u8]) -> Result<Came, AllocError> {
+/// What is told of a proper beginning of the script, with its status: it lacks a line, its last one
+/// is cut, or it is a script of fewer instructions.
+fn beginning(alloc: Global, text: &[u8]) -> Result<(u8, String), AllocError> {
     let lines = whole_lines(text);
     let is_whole = text.is_empty() || text.ends_with(b"\n");
-    Ok(match refusal(lines, is_whole) {
+    match refusal(lines, is_whole) {
         Some(name) => {
             let line = lines.wrapping_add(1);
             let told = format!(in alloc; "pcid-audit: script line {line} refused {name}\n")?;
-            Came {
-                status: 2,
-                output: Vec::new(alloc),
-                errors: told.into_bytes(),
-            }
+            Ok((2, told))
         }
         None => {
             let events = lines.wrapping_sub(4);
@@ -97,21 +93,36 @@ fn beginning(alloc: Global, text: &[u8]) -> Result<Came, AllocError> {
             let report = format!(in alloc;
                 "verdict: yes\nevents: {events}\nsegments: {segments}\n"
             )?;
-            Came {
-                status: 0,
-                output: report.into_bytes(),
-                errors: Vec::new(alloc),
-            }
+            Ok((0, report))
         }
-    })
+    }
+}
+
+/// A proper beginning comes to what it should: a report is written, or a refusal told.
+fn expect_beginning<T: AllocGlobal + Abort + Threads + Wait + Sync>(
+    rt: &T,
+    text: &[u8],
+    status: u8,
+    told: &str,
+) {
+    let mut output = Watched::new(Vec::new(rt.alloc()));
+    let mut errors = Watched::new(Vec::new(rt.alloc()));
+    let came = ran(rt, text, &mut output, &mut errors);
+    let (some, none) = if status == 0 {
+        (&output, &errors)
+    } else {
+        (&errors, &output)
+    };
+    let is_told = some.inner.as_slice() == told.as_bytes() && none.inner.is_empty();
+    assert!(rt; came == status && is_told, "{told}");
 }
 
 #[test]
 fn each_proper_beginning_of_a_script(rt: HostRuntime) -> Result<(), Fail> {
     let text = SCRIPT.as_bytes();
     for k in 0..text.len() {
-        let wanted = beginning(rt.alloc(), &text[..k])?;
-        assert_eq!(rt; ran(&rt, &text[..k]), wanted, "{k}");
+        let (status, told) = beginning(rt.alloc(), &text[..k])?;
+        expect_beginning(&rt, &text[..k], status, told.as_str());
     }
     Ok(())
 }
@@ -147,20 +158,23 @@ fn number_told(line: &[u8]) -> usize {
     0
 }
 
-/// What a bent script comes to, as the number of its refusal: it is run, which is a yes, and then
-/// that is 0, or refused with its line, and then nothing is written.
-fn number_of<T: AllocGlobal + Abort + Threads + Wait + Sync>(rt: &T, text: &[u8]) -> usize {
-    let came = ran(rt, text);
-    let number = number_told(&came.errors);
+/// Whether a script was run, which is a yes, or refused with a line of its own, and then nothing is
+/// written.
+fn is_well_told(number: usize, status: u8, output: &[u8], line: &[u8]) -> bool {
     if number == 0 {
-        assert_eq!(rt; came.status, 0);
-        assert!(rt; came.output.starts_with(b"verdict: yes\n"));
-        assert!(rt; came.errors.is_empty());
+        status == 0 && output.starts_with(b"verdict: yes\n") && line.is_empty()
     } else {
-        assert_eq!(rt; came.status, 2);
-        assert!(rt; came.output.is_empty());
-        assert!(rt; came.errors.starts_with(b"pcid-audit: script line "));
+        status == 2 && output.is_empty() && line.starts_with(b"pcid-audit: script line ")
     }
+}
+
+/// What a bent script comes to, as the number of its refusal, and 0 where it is run.
+fn number_of<T: AllocGlobal + Abort + Threads + Wait + Sync>(rt: &T, text: &[u8]) -> usize {
+    let mut output = Watched::new(Vec::new(rt.alloc()));
+    let mut errors = Watched::new(Vec::new(rt.alloc()));
+    let status = ran(rt, text, &mut output, &mut errors);
+    let number = number_told(&errors.inner);
+    assert!(rt; is_well_told(number, status, &output.inner, &errors.inner));
     number
 }
 

@@ -1,7 +1,7 @@
 //! Each cell of the table of allowed accesses (Intel SDM, vol. 3, 4.6.1), and each summand of the
 //! error code (4.7), through the whole program.
 
-use crate::row::{Row, run_on};
+use crate::case::{Case, answer_on};
 use pg_codec::Watched;
 use std::alloc::{AllocError, AllocGlobal, Global};
 use std::process::Abort;
@@ -121,49 +121,52 @@ fn record(alloc: Global, cell: &Cell, code: Option<u16>) -> Result<Vec<u8>, Allo
     Ok(bytes)
 }
 
-const YES: Row = Row {
-    name: "what_the_table_says",
-    words: &["check"],
-    input: &[],
-    output: "verdict: yes\nevents: 5\nsegments: 1\n",
-    line: "",
-    status: 0,
-};
+/// What `check` answers of a record.
+fn judged<'a>(name: &'a str, input: &'a [u8], output: &'a str, status: u8) -> Case<'a> {
+    Case {
+        name,
+        words: &["check"],
+        input,
+        output: output.as_bytes(),
+        line: "",
+        status,
+    }
+}
 
-const NO: Row = Row {
-    name: "what_the_table_denies",
-    words: &["check"],
-    input: &[],
-    output: "verdict: no\nevent: 4\nreason: 8 rights\nevents: 5\nsegments: 1\n",
-    line: "",
-    status: 1,
-};
+const YES: &str = "verdict: yes\nevents: 5\nsegments: 1\n";
 
-fn run_cell<T: AllocGlobal + Abort + Threads + Wait + Sync>(
+const NO: &str = "verdict: no\nevent: 4\nreason: 8 rights\nevents: 5\nsegments: 1\n";
+
+/// What the table says is a yes, and the other answer a no.
+fn run_cells<T: AllocGlobal + Abort + Threads + Wait + Sync>(
     rt: &T,
-    case: usize,
-    cell: &Cell,
+    cells: &[Cell],
 ) -> Result<(), Fail> {
-    let denied = cell.3;
-    let told = record(rt.alloc(), cell, denied)?;
-    run_on(rt, &YES, case, &mut Watched::new(told.as_slice()))?;
-    let other = if denied.is_some() { None } else { Some(1) };
-    let turned = record(rt.alloc(), cell, other)?;
-    run_on(rt, &NO, case, &mut Watched::new(turned.as_slice()))
-}
-
-#[test]
-fn user_accesses(rt: HostRuntime) -> Result<(), Fail> {
-    for (case, cell) in USER_CELLS.iter().enumerate() {
-        run_cell(&rt, case, cell)?;
+    for (at, cell) in cells.iter().enumerate() {
+        let denied = cell.3;
+        let other = if denied.is_some() { None } else { Some(1) };
+        let told = record(rt.alloc(), cell, denied)?;
+        let mut input = Watched::new(told.as_slice());
+        answer_on(
+            rt,
+            judged("what_the_table_says", &told, YES, 0),
+            at,
+            &mut input,
+        );
+        let turned = record(rt.alloc(), cell, other)?;
+        let mut input = Watched::new(turned.as_slice());
+        answer_on(
+            rt,
+            judged("what_the_table_denies", &turned, NO, 1),
+            at,
+            &mut input,
+        );
     }
     Ok(())
 }
 
 #[test]
-fn supervisor_accesses(rt: HostRuntime) -> Result<(), Fail> {
-    for (case, cell) in SUPERVISOR_CELLS.iter().enumerate() {
-        run_cell(&rt, case, cell)?;
-    }
-    Ok(())
+fn each_cell(rt: HostRuntime) -> Result<(), Fail> {
+    run_cells(&rt, &USER_CELLS)?;
+    run_cells(&rt, &SUPERVISOR_CELLS)
 }

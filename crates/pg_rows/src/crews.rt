@@ -1,12 +1,12 @@
 //! Records audited by many checkers.
 
+use crate::case::{Case, answer};
 use crate::row::bytes_of;
 use crate::streams::TEN_SEGMENTS;
 use pg_codec::Watched;
 use pg_event::Reason;
 use pg_pool::Gate;
 use pg_report::{AuditError, Verdict, audit, audit_watched};
-use pg_tool::pcid_audit;
 use std::sync::atomic::{AtomicU64, Ordering};
 use std::test::Fail;
 use std::thread;
@@ -17,38 +17,29 @@ const TURNS: u32 = 10_000_000;
 #[test]
 fn the_same_by_any_number_of_checkers(rt: HostRuntime) -> Result<(), Fail> {
     let bytes = bytes_of(rt.alloc(), TEN_SEGMENTS.input)?;
+    let no = Ok(Verdict::No {
+        event: 7,
+        reason: Reason::Answer,
+    });
     for checkers in [1, 2, 7, 64] {
         let mut input = Watched::new(bytes.as_slice());
         let mut output = Watched::new(Vec::new(rt.alloc()));
         let verdict = audit(&rt, rt.alloc(), &mut input, &mut output, checkers);
-        assert_eq!(rt;
-            verdict,
-            Ok(Verdict::No {
-                event: 7,
-                reason: Reason::Answer
-            })
-        );
-        assert_eq!(rt; output.inner.as_slice(), TEN_SEGMENTS.output.as_bytes());
+        let is_told = output.inner.as_slice() == TEN_SEGMENTS.output.as_bytes();
+        assert!(rt; verdict == no && is_told, "{checkers}");
     }
     Ok(())
 }
 
 #[test]
 fn the_same_by_the_program(rt: HostRuntime) -> Result<(), Fail> {
+    let input = bytes_of(rt.alloc(), TEN_SEGMENTS.input)?;
     for checkers in ["1", "2", "7", "64"] {
-        let bytes = bytes_of(rt.alloc(), TEN_SEGMENTS.input)?;
-        let mut input = Watched::new(bytes.as_slice());
-        let mut output = Watched::new(Vec::new(rt.alloc()));
-        let mut errors = Watched::new(Vec::new(rt.alloc()));
-        let words = ["check", "--checkers", checkers];
-        let status = pcid_audit(&rt, &words, &mut input, &mut output, &mut errors);
-        assert_eq!(rt; status, 1, "{checkers}");
-        assert_eq!(rt;
-            output.inner.as_slice(),
-            TEN_SEGMENTS.output.as_bytes(),
-            "{checkers}"
-        );
-        assert!(rt; errors.inner.is_empty(), "{checkers}");
+        let by_many = Case {
+            words: &["check", "--checkers", checkers],
+            ..TEN_SEGMENTS.case(&input)
+        };
+        answer(&rt, by_many);
     }
     Ok(())
 }
@@ -60,10 +51,9 @@ fn no_checkers_or_too_many(rt: HostRuntime) -> Result<(), Fail> {
         let mut input = Watched::new(bytes.as_slice());
         let mut output = Watched::new(Vec::new(rt.alloc()));
         let refused = audit(&rt, rt.alloc(), &mut input, &mut output, checkers);
-        assert_eq!(rt; refused, Err(AuditError::Checkers));
-        assert_eq!(rt; refused.err().map(|error| error.number()), Some(15));
-        assert_eq!(rt; input.inner.len(), bytes.len());
-        assert!(rt; output.inner.is_empty());
+        let is_unread = input.inner.len() == bytes.len() && output.inner.is_empty();
+        assert!(rt; refused == Err(AuditError::Checkers) && is_unread);
+        assert_eq!(rt; AuditError::Checkers.number(), 15);
     }
     Ok(())
 }
@@ -90,6 +80,15 @@ fn comes(flag: &AtomicU64) -> bool {
 }
 
 impl Held {
+    /// Both came in time, ten segments came, and the first two to workers 1 and 2: checker 1 begins
+    /// with segment 1, and waits in it for segment 0.
+    fn is_met(&self) -> bool {
+        self.failed.load(Ordering::SeqCst) == 0
+            && self.comings.load(Ordering::SeqCst) == 10
+            && self.workers[0].load(Ordering::SeqCst) == 1
+            && self.workers[1].load(Ordering::SeqCst) == 2
+    }
+
     fn await_other(&self, number: usize) -> bool {
         if number == 0 {
             self.came.store(1, Ordering::SeqCst);
@@ -131,13 +130,8 @@ fn two_checkers_of_one_record_at_the_same_time(rt: HostRuntime) -> Result<(), Fa
     let mut input = Watched::new(bytes.as_slice());
     let mut output = Watched::new(Vec::new(rt.alloc()));
     let verdict = audit_watched(&rt, rt.alloc(), &mut input, &mut output, 2, &gate);
-    assert!(rt; verdict.is_ok());
-    assert_eq!(rt; output.inner.as_slice(), TEN_SEGMENTS.output.as_bytes());
-    assert_eq!(rt; gate.failed.load(Ordering::SeqCst), 0);
-    assert_eq!(rt; gate.comings.load(Ordering::SeqCst), 10);
-    let first = gate.workers[0].load(Ordering::SeqCst);
-    let second = gate.workers[1].load(Ordering::SeqCst);
-    // Checker 1 begins with segment 1, and waits in it for segment 0.
-    assert_eq!(rt; (first, second), (1, 2));
+    let is_told = output.inner.as_slice() == TEN_SEGMENTS.output.as_bytes();
+    assert!(rt; verdict.is_ok() && is_told);
+    assert!(rt; gate.is_met());
     Ok(())
 }

@@ -610,3 +610,31 @@ final: no moments prove this assist
         status: 1,
     },
 ];
+
+/// Why the read of a page is no longer answered that was invalidated before.
+pub const STALE_LEAF: Row = Row {
+    name: "explanation_of_a_stale_leaf",
+    words: &["explain"],
+    input: &[
+        "50475245434f5244010028030110000000011000000000000001",
+        "010000000007000000",
+        "100000100000000000000720000000000000",
+        "100000200000000000000730000000000000",
+        "100000300000000000000740000000000000",
+        "100028400000000000000790000000000000",
+        "100028400000000000000000000000000000",
+        "13000050000000000000",
+        "11000423510000000000000023910000000000000404000000040000000400000004000000",
+        "0207000000",
+    ],
+    output: "verdict: no\nevent: 6\nreason: 5 translation dropped\nevents: 7\nsegments: 1\n\
+        event: 6 cpu 0 user read 0x5123 -> 0x9123 moments 4 4 4 4\n\
+        level 4: moment 4 pcid 0x1 [0x1000] = 0x2007 table, written by event 0\n\
+        level 3: moment 4 pcid 0x1 [0x2000] = 0x3007 table, written by event 1\n\
+        level 2: moment 4 pcid 0x1 [0x3000] = 0x4007 table, written by event 2\n\
+        level 1: moment 4 pcid 0x1 [0x4028] = 0x9007 leaf, written by event 3\n\
+        dropped: translation of level 1 by 5 cpu 0 invlpg 0x5000\n\
+        final: no moments prove this access\n",
+    line: "",
+    status: 1,
+};

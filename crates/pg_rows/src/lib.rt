@@ -6,11 +6,11 @@ mod bent;
 #[cfg(test)]
 mod bent_scripts;
 #[cfg(test)]
+mod case;
+#[cfg(test)]
 mod cells;
 #[cfg(test)]
 mod crews;
-#[cfg(test)]
-mod devices;
 #[cfg(test)]
 mod explanations;
 #[cfg(test)]

@@ -2,13 +2,9 @@
 
 ghost use Rattle.std.specs.Prelude.{◌≤◌};
 
-use crate::row::{Row, run_on};
-use pg_codec::Watched;
-use std::alloc::{AllocError, AllocGlobal, Global};
-use std::process::Abort;
-use std::sync::Wait;
+use crate::case::{Case, answer};
+use std::alloc::{AllocError, Global};
 use std::test::Fail;
-use std::thread::Threads;
 
 /// The settings but for the segment size.
 const SETTINGS: [u8; 13] = [
@@ -114,77 +110,62 @@ pub fn push_record(
     Ok(bytes)
 }
 
-/// A record of so many events in segments of so many, and what the program says of it.
-fn run_record<T: AllocGlobal + Abort + Threads + Wait + Sync>(
-    rt: &T,
-    events: u32,
-    segment: u32,
-    bad: u32,
-    row: &Row,
-) -> Result<(), Fail>
-    requires { 1 ≤ segment }
-{
-    let bytes = push_record(rt.alloc(), events, segment, bad)?;
-    let mut input = Watched::new(bytes.as_slice());
-    run_on(rt, row, bytes.len(), &mut input)
-}
+/// A record of so many events in segments of so many, of which one is bad, if it has that number;
+/// and what the program answers.
+type LongRow = (u32, u32, u32, &'static str, u8);
 
-const ALL_GOOD: Row = Row {
-    name: "2000_events",
-    words: &["check"],
-    input: &[],
-    output: "verdict: yes\nevents: 2000\nsegments: 1\n",
-    line: "",
-    status: 0,
-};
-
-const LAST_BAD: Row = Row {
-    name: "2000_events_last_bad",
-    words: &["check"],
-    input: &[],
-    output: "verdict: no\nevent: 1999\nreason: 9 answer\nevents: 2000\nsegments: 1\n",
-    line: "",
-    status: 1,
-};
-
-#[test]
-fn two_thousand_events(rt: HostRuntime) -> Result<(), Fail> {
-    run_record(&rt, 2000, 65536, 2000, &ALL_GOOD)?;
-    run_record(&rt, 2000, 65536, 1999, &LAST_BAD)
-}
-
-// Forty thousand events in segments of ten thousand: two segments fill a window.
-
-const WINDOWS_GOOD: Row = Row {
-    name: "40000_events",
-    words: &["check"],
-    input: &[],
-    output: "verdict: yes\nevents: 40000\nsegments: 4\n",
-    line: "",
-    status: 0,
-};
-
-const FIRST_WINDOW_BAD: Row = Row {
-    name: "40000_events_first_window_bad",
-    words: &["check"],
-    input: &[],
-    output: "verdict: no\nevent: 19999\nreason: 9 answer\nevents: 40000\nsegments: 4\n",
-    line: "",
-    status: 1,
-};
-
-const SECOND_WINDOW_BAD: Row = Row {
-    name: "40000_events_second_window_bad",
-    words: &["check"],
-    input: &[],
-    output: "verdict: no\nevent: 30001\nreason: 9 answer\nevents: 40000\nsegments: 4\n",
-    line: "",
-    status: 1,
-};
+const ROWS: [LongRow; 5] = [
+    (
+        2000,
+        65536,
+        2000,
+        "verdict: yes\nevents: 2000\nsegments: 1\n",
+        0,
+    ),
+    (
+        2000,
+        65536,
+        1999,
+        "verdict: no\nevent: 1999\nreason: 9 answer\nevents: 2000\nsegments: 1\n",
+        1,
+    ),
+    // In segments of ten thousand, of which two fill a window.
+    (
+        40000,
+        10000,
+        40000,
+        "verdict: yes\nevents: 40000\nsegments: 4\n",
+        0,
+    ),
+    (
+        40000,
+        10000,
+        19999,
+        "verdict: no\nevent: 19999\nreason: 9 answer\nevents: 40000\nsegments: 4\n",
+        1,
+    ),
+    (
+        40000,
+        10000,
+        30001,
+        "verdict: no\nevent: 30001\nreason: 9 answer\nevents: 40000\nsegments: 4\n",
+        1,
+    ),
+];
 
 #[test]
-fn forty_thousand_events_in_windows(rt: HostRuntime) -> Result<(), Fail> {
-    run_record(&rt, 40000, 10000, 40000, &WINDOWS_GOOD)?;
-    run_record(&rt, 40000, 10000, 19999, &FIRST_WINDOW_BAD)?;
-    run_record(&rt, 40000, 10000, 30001, &SECOND_WINDOW_BAD)
+fn thousands_of_events_in_windows(rt: HostRuntime) -> Result<(), Fail> {
+    for (events, segment, bad, output, status) in ROWS {
+        let bytes = push_record(rt.alloc(), events, segment.max(1), bad)?;
+        let long = Case {
+            name: output,
+            words: &["check"],
+            input: &bytes,
+            output: output.as_bytes(),
+            line: "",
+            status,
+        };
+        answer(&rt, long);
+    }
+    Ok(())
 }

@@ -1,7 +1,7 @@
 //! Headers of version 2 with a field out of its range.
 
-use crate::row::{Row, bytes_of, run_on};
-use pg_codec::Watched;
+use crate::case::{Case, answer};
+use crate::row::bytes_of;
 use std::test::Fail;
 
 /// What stands behind the header: a dirty assist, and the write that it was for.
@@ -11,15 +11,6 @@ const REST: &str =
     00000000001600001523510000000000002840000000000000040400000004000000040000000400\
     00001100000523510000000000000023910000000000000405000000050000000500000005000000\
     0206000000";
-
-const REFUSED: Row = Row {
-    name: "new_header",
-    words: &["check"],
-    input: &[],
-    output: "",
-    line: "pcid-audit: refused 3 header field\n",
-    status: 2,
-};
 
 /// With what is out of its range.
 const HEADERS: [(&str, &str); 12] = [
@@ -74,16 +65,15 @@ const HEADERS: [(&str, &str); 12] = [
 fn headers_of_version_2_out_of_range(rt: HostRuntime) -> Result<(), Fail> {
     for (field, header) in HEADERS {
         let bytes = bytes_of(rt.alloc(), &[header, REST])?;
-        let mut input = Watched::new(bytes.as_slice());
-        run_on(
-            &rt,
-            &Row {
-                name: field,
-                ..REFUSED
-            },
-            0,
-            &mut input,
-        )?;
+        let refused = Case {
+            name: field,
+            words: &["check"],
+            input: &bytes,
+            output: &[],
+            line: "pcid-audit: refused 3 header field\n",
+            status: 2,
+        };
+        answer(&rt, refused);
     }
     Ok(())
 }

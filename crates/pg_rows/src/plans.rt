@@ -1,142 +1,197 @@
 use pg_plan::{Command, Plan, Usage, plan};
+use std::alloc::Global;
 use std::test::Fail;
 
-fn planned(command: Command, checkers: u16) -> Option<Plan> {
-    Some(Plan {
-        command,
-        checkers,
-        single: false,
-        bytes: false,
-        from: 0,
-        to: 4_294_967_295,
-    })
-}
+/// A command with no option.
+const BARE: Plan = Plan {
+    command: Command::Check,
+    checkers: 1,
+    single: false,
+    bytes: false,
+    from: 0,
+    to: 4_294_967_295,
+};
+
+/// Command lines and their plans.
+const PLANNED: [(&[&str], Plan); 15] = [
+    (&["check"], BARE),
+    (
+        &["run-of"],
+        Plan {
+            command: Command::RunOf,
+            ..BARE
+        },
+    ),
+    (
+        &["explain"],
+        Plan {
+            command: Command::Explain,
+            ..BARE
+        },
+    ),
+    (
+        &["upgrade"],
+        Plan {
+            command: Command::Upgrade,
+            ..BARE
+        },
+    ),
+    (
+        &["show"],
+        Plan {
+            command: Command::Show,
+            ..BARE
+        },
+    ),
+    (
+        &["run"],
+        Plan {
+            command: Command::Run,
+            ..BARE
+        },
+    ),
+    (
+        &["check", "--checkers", "2"],
+        Plan {
+            checkers: 2,
+            ..BARE
+        },
+    ),
+    (
+        &["check", "--checkers=02"],
+        Plan {
+            checkers: 2,
+            ..BARE
+        },
+    ),
+    (
+        &["check", "--checkers", "64"],
+        Plan {
+            checkers: 64,
+            ..BARE
+        },
+    ),
+    (
+        &["run", "--bytes", "--checkers", "3", "--single"],
+        Plan {
+            command: Command::Run,
+            checkers: 3,
+            single: true,
+            bytes: true,
+            ..BARE
+        },
+    ),
+    (
+        &["show", "--from", "3", "--to", "12"],
+        Plan {
+            command: Command::Show,
+            from: 3,
+            to: 12,
+            ..BARE
+        },
+    ),
+    (
+        &["show", "--to=3", "--from=012"],
+        Plan {
+            command: Command::Show,
+            from: 12,
+            to: 3,
+            ..BARE
+        },
+    ),
+    (
+        &["show", "--from", "7"],
+        Plan {
+            command: Command::Show,
+            from: 7,
+            ..BARE
+        },
+    ),
+    (
+        &["show", "--to", "0"],
+        Plan {
+            command: Command::Show,
+            to: 0,
+            ..BARE
+        },
+    ),
+    (
+        &["show", "--from", "4294967295"],
+        Plan {
+            command: Command::Show,
+            from: 4_294_967_295,
+            ..BARE
+        },
+    ),
+];
 
 #[test]
 fn plans(rt: HostRuntime) -> Result<(), Fail> {
-    let alloc = rt.alloc();
-    assert_eq!(rt; plan(alloc, &["check"]).ok(), planned(Command::Check, 1));
-    assert_eq!(rt; plan(alloc, &["run-of"]).ok(), planned(Command::RunOf, 1));
-    assert_eq!(rt;
-        plan(alloc, &["explain"]).ok(),
-        planned(Command::Explain, 1)
-    );
-    assert_eq!(rt;
-        plan(alloc, &["upgrade"]).ok(),
-        planned(Command::Upgrade, 1)
-    );
-    assert_eq!(rt; plan(alloc, &["show"]).ok(), planned(Command::Show, 1));
-    Ok(())
-}
-
-#[test]
-fn reads_the_number_of_checkers(rt: HostRuntime) -> Result<(), Fail> {
-    let alloc = rt.alloc();
-    let two = planned(Command::Check, 2);
-    assert_eq!(rt; plan(alloc, &["check", "--checkers", "2"]).ok(), two);
-    assert_eq!(rt; plan(alloc, &["check", "--checkers=02"]).ok(), two);
-    let most = planned(Command::Check, 64);
-    assert_eq!(rt; plan(alloc, &["check", "--checkers", "64"]).ok(), most);
-    Ok(())
-}
-
-#[test]
-fn refuses_other_numbers_of_checkers(rt: HostRuntime) -> Result<(), Fail> {
-    let alloc = rt.alloc();
-    for number in ["0", "65", "+2", "-1", "", "two", "4294967298"] {
-        let planned = plan(alloc, &["check", "--checkers", number]);
-        assert!(rt; matches!(planned, Err(Usage::Fault(_))));
+    for (words, wanted) in PLANNED {
+        assert_eq!(rt; plan(rt.alloc(), words).ok(), Some(wanted), "{words:?}");
     }
-    assert!(rt; matches!(plan(alloc, &["check", "--checkers"]), Err(Usage::Fault(_))));
-    assert!(rt;
-        matches!(
-            plan(alloc, &["run-of", "--checkers", "2"]),
-            Err(Usage::Fault(_))
-        )
-    );
     Ok(())
 }
 
-#[test]
-fn reads_the_switches_of_run(rt: HostRuntime) -> Result<(), Fail> {
-    let alloc = rt.alloc();
-    let bare = planned(Command::Run, 1);
-    assert_eq!(rt; plan(alloc, &["run"]).ok(), bare);
-    let full = Some(Plan {
-        command: Command::Run,
-        checkers: 3,
-        single: true,
-        bytes: true,
-        from: 0,
-        to: 4_294_967_295,
-    });
-    let words = ["run", "--bytes", "--checkers", "3", "--single"];
-    assert_eq!(rt; plan(alloc, &words).ok(), full);
-    assert!(rt;
-        matches!(
-            plan(alloc, &["run", "--single", "--single"]),
-            Err(Usage::Fault(_))
-        )
-    );
-    assert!(rt; matches!(plan(alloc, &["run", "more"]), Err(Usage::Fault(_))));
-    Ok(())
-}
+/// Command lines that are refused.
+const FAULTS: [&[&str]; 20] = [
+    &[],
+    &["judge"],
+    &["check", "more"],
+    &["check", "--single"],
+    &["check", "--version"],
+    &["check", "--checkers"],
+    &["run-of", "--checkers", "2"],
+    &["run", "--single", "--single"],
+    &["run", "more"],
+    &["show", "--from"],
+    &["show", "--to", "1", "--to", "2"],
+    &["show", "5"],
+    &["explain", "--from", "2"],
+    &["check", "--checkers", "0"],
+    &["check", "--checkers", "65"],
+    &["check", "--checkers", "4294967298"],
+    &["show", "--from", "4294967296"],
+    &["show", "--to", "4294967296"],
+    &["show", "--from", "0x5"],
+    &["show", "--to", "1 "],
+];
 
-fn shown(from: u32, to: u32) -> Option<Plan> {
-    Some(Plan {
-        command: Command::Show,
-        checkers: 1,
-        single: false,
-        bytes: false,
-        from,
-        to,
-    })
-}
+/// What is no number, for each option that takes one.
+const NO_NUMBERS: [&str; 4] = ["+2", "-1", "", "two"];
 
-#[test]
-fn reads_the_event_numbers_of_show(rt: HostRuntime) -> Result<(), Fail> {
-    let alloc = rt.alloc();
-    let most = 4_294_967_295;
-    let both = ["show", "--from", "3", "--to", "12"];
-    assert_eq!(rt; plan(alloc, &both).ok(), shown(3, 12));
-    let turned = ["show", "--to=3", "--from=012"];
-    assert_eq!(rt; plan(alloc, &turned).ok(), shown(12, 3));
-    assert_eq!(rt; plan(alloc, &["show", "--from", "7"]).ok(), shown(7, most));
-    assert_eq!(rt; plan(alloc, &["show", "--to", "0"]).ok(), shown(0, 0));
-    let last = ["show", "--from", "4294967295"];
-    assert_eq!(rt; plan(alloc, &last).ok(), shown(most, most));
-    Ok(())
+const WITH_NUMBERS: [[&str; 2]; 3] = [
+    ["check", "--checkers"],
+    ["show", "--from"],
+    ["show", "--to"],
+];
+
+fn is_fault(alloc: Global, words: &[&str]) -> bool {
+    matches!(plan(alloc, words), Err(Usage::Fault(_)))
 }
 
 #[test]
-fn refuses_other_event_numbers(rt: HostRuntime) -> Result<(), Fail> {
-    let alloc = rt.alloc();
-    for number in ["4294967296", "+2", "-1", "", "two", "0x5", "1 "] {
-        let from = plan(alloc, &["show", "--from", number]);
-        assert!(rt; matches!(from, Err(Usage::Fault(_))));
-        let to = plan(alloc, &["show", "--to", number]);
-        assert!(rt; matches!(to, Err(Usage::Fault(_))));
+fn tells_faults(rt: HostRuntime) -> Result<(), Fail> {
+    for words in FAULTS {
+        assert!(rt; is_fault(rt.alloc(), words), "{words:?}");
     }
-    assert!(rt; matches!(plan(alloc, &["show", "--from"]), Err(Usage::Fault(_))));
-    let twice = ["show", "--to", "1", "--to", "2"];
-    assert!(rt; matches!(plan(alloc, &twice), Err(Usage::Fault(_))));
-    assert!(rt; matches!(plan(alloc, &["show", "5"]), Err(Usage::Fault(_))));
-    let other = ["explain", "--from", "2"];
-    assert!(rt; matches!(plan(alloc, &other), Err(Usage::Fault(_))));
+    for [command, option] in WITH_NUMBERS {
+        for number in NO_NUMBERS {
+            assert!(rt;
+                is_fault(rt.alloc(), &[command, option, number]),
+                "{option} {number}"
+            );
+        }
+    }
     Ok(())
 }
 
-#[test]
-fn gives_help(rt: HostRuntime) -> Result<(), Fail> {
-    let alloc = rt.alloc();
-    assert!(rt; matches!(plan(alloc, &["help"]), Err(Usage::Help(_))));
-    assert!(rt; matches!(plan(alloc, &["--help"]), Err(Usage::Help(_))));
-    assert!(rt; matches!(plan(alloc, &["check", "--help"]), Err(Usage::Help(_))));
-    Ok(())
+fn is_help(alloc: Global, words: &[&str]) -> bool {
+    matches!(plan(alloc, words), Err(Usage::Help(_)))
 }
 
-fn is_version_line(answer: &Result<Plan, Usage>) -> bool {
-    match answer {
+fn is_version(alloc: Global, words: &[&str]) -> bool {
+    match plan(alloc, words) {
         Err(Usage::Version(text)) => {
             text.as_str() == "pcid-audit 0.2.0 (record versions 1 and 2)\n"
         }
@@ -145,20 +200,12 @@ fn is_version_line(answer: &Result<Plan, Usage>) -> bool {
 }
 
 #[test]
-fn gives_the_version(rt: HostRuntime) -> Result<(), Fail> {
+fn gives_help_and_the_version(rt: HostRuntime) -> Result<(), Fail> {
     let alloc = rt.alloc();
-    assert!(rt; is_version_line(&plan(alloc, &["--version"])));
-    assert!(rt; is_version_line(&plan(alloc, &["-V"])));
-    Ok(())
-}
-
-#[test]
-fn tells_faults(rt: HostRuntime) -> Result<(), Fail> {
-    let alloc = rt.alloc();
-    assert!(rt; matches!(plan(alloc, &[]), Err(Usage::Fault(_))));
-    assert!(rt; matches!(plan(alloc, &["judge"]), Err(Usage::Fault(_))));
-    assert!(rt; matches!(plan(alloc, &["check", "more"]), Err(Usage::Fault(_))));
-    assert!(rt; matches!(plan(alloc, &["check", "--single"]), Err(Usage::Fault(_))));
-    assert!(rt; matches!(plan(alloc, &["check", "--version"]), Err(Usage::Fault(_))));
+    for words in [&["help"][..], &["--help"], &["check", "--help"]] {
+        assert!(rt; is_help(alloc, words), "{words:?}");
+    }
+    assert!(rt; is_version(alloc, &["--version"]));
+    assert!(rt; is_version(alloc, &["-V"]));
     Ok(())
 }

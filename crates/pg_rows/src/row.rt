@@ -1,12 +1,11 @@
-use pg_codec::{Source, Watched};
-use pg_tool::pcid_audit;
+use crate::case::{Case, answer};
 use std::alloc::{AllocGlobal, Global};
 use std::process::Abort;
 use std::sync::Wait;
 use std::test::Fail;
 use std::thread::Threads;
 
-/// What the program is given, and what it must answer.
+/// A record, and what the program must answer.
 #[derive(Clone, Copy)]
 pub struct Row {
     /// What the row shows.
@@ -33,34 +32,28 @@ pub fn bytes_of(alloc: Global, pieces: &[&str]) -> Result<Vec<u8>, Fail> {
     Ok(bytes)
 }
 
-/// Runs the program on a source in the place of a row's input. The case is named where it fails.
-pub fn run_on<T: AllocGlobal + Abort + Threads + Wait + Sync, R: Source>(
-    rt: &T,
-    row: &Row,
-    case: usize,
-    input: &mut R,
-) -> Result<(), Fail> {
-    let mut output = Watched::new(Vec::new(rt.alloc()));
-    let mut errors = Watched::new(Vec::new(rt.alloc()));
-    let status = pcid_audit(rt, row.words, input, &mut output, &mut errors);
-    let name = row.name;
-    assert_eq!(rt;
-        errors.inner.as_slice(),
-        row.line.as_bytes(),
-        "{name}, {case}"
-    );
-    assert_eq!(rt;
-        output.inner.as_slice(),
-        row.output.as_bytes(),
-        "{name}, {case}"
-    );
-    assert_eq!(rt; status, row.status, "{name}, {case}");
-    Ok(())
+impl Row {
+    /// The row with the bytes that its input spells.
+    pub fn case<'a>(&self, input: &'a [u8]) -> Case<'a> {
+        Case {
+            name: self.name,
+            words: self.words,
+            input,
+            output: self.output.as_bytes(),
+            line: self.line,
+            status: self.status,
+        }
+    }
 }
 
-/// Runs the program on a row, over memory.
-pub fn run<T: AllocGlobal + Abort + Threads + Wait + Sync>(rt: &T, row: &Row) -> Result<(), Fail> {
-    let bytes = bytes_of(rt.alloc(), row.input)?;
-    let mut input = Watched::new(bytes.as_slice());
-    run_on(rt, row, 0, &mut input)
+/// Runs the program on each row, over memory.
+pub fn run_all<T: AllocGlobal + Abort + Threads + Wait + Sync>(
+    rt: &T,
+    rows: &[Row],
+) -> Result<(), Fail> {
+    for row in rows {
+        let input = bytes_of(rt.alloc(), row.input)?;
+        answer(rt, row.case(&input));
+    }
+    Ok(())
 }

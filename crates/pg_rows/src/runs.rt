@@ -100,7 +100,7 @@ pub const ROWS: [Row; 5] = [
 ];
 
 /// Two processors, pages of three sizes, a stale leaf and a global one under another PCID.
-const MIXED: &[&str] = &[
+const MIXED_INPUT: &[&str] = &[
     "50475245434f5244010028030240000000011000000000000001011000000000000001",
     "01000000000e000000",
     "100000100000000000000720000000000000",
@@ -120,27 +120,29 @@ const MIXED: &[&str] = &[
     "020e000000",
 ];
 
-pub const MIXED_CHECKED: Row = Row {
-    name: "pages_of_three_sizes_on_two_processors",
-    words: &["check"],
-    input: MIXED,
-    output: "verdict: yes\nevents: 14\nsegments: 1\n",
-    line: "",
-    status: 0,
-};
-
-pub const MIXED_RUN: Row = Row {
-    name: "run_of_pages_of_three_sizes_on_two_processors",
-    words: &["run-of"],
-    input: MIXED,
-    output: "do 0\ndo 1\ndo 2\ndo 3\ndo 4\ndo 5\nfill4 0 0x5123\nfill3 0 0x5123 0x2000 wu-\n\
-        fill2 0 0x5123 0x3000 wu-\nleaf 0 0x5123 1 0x4000 wu-\nfill4 0 0x5123\n\
-        fill3 0 0x5123 0x2000 wu-\nfill2 0 0x5123 0x3000 wu-\nleaf 0 0x5123 1 0x4000 wu-\n\
-        fill4 0 0x5123\nfill3 0 0x5123 0x2000 wu-\nfill2 0 0x5123 0x3000 wu-\n\
-        leaf 0 0x5123 1 0x4000 wu-\ndo 6\nfill4 1 0x205123\nfill3 1 0x205123 0x2000 wu-\n\
-        leaf 1 0x205123 2 0x3000 wu-\ndo 7\nfill4 0 0x40005123\n\
-        leaf 0 0x40005123 3 0x2000 wu-\ndo 8\ndo 9\ndo 10\ndo 11\ndo 12\nfill4 1 0x5123\n\
-        fill3 1 0x5123 0x2000 wu-\nfill2 1 0x5123 0x3000 wu-\ndo 13\n",
-    line: "",
-    status: 0,
-};
+/// Pages of three sizes on two processors.
+pub const MIXED: [Row; 2] = [
+    Row {
+        name: "pages_of_three_sizes_on_two_processors",
+        words: &["check"],
+        input: MIXED_INPUT,
+        output: "verdict: yes\nevents: 14\nsegments: 1\n",
+        line: "",
+        status: 0,
+    },
+    Row {
+        name: "run_of_pages_of_three_sizes_on_two_processors",
+        words: &["run-of"],
+        input: MIXED_INPUT,
+        output: "do 0\ndo 1\ndo 2\ndo 3\ndo 4\ndo 5\nfill4 0 0x5123\nfill3 0 0x5123 0x2000 wu-\n\
+            fill2 0 0x5123 0x3000 wu-\nleaf 0 0x5123 1 0x4000 wu-\nfill4 0 0x5123\n\
+            fill3 0 0x5123 0x2000 wu-\nfill2 0 0x5123 0x3000 wu-\nleaf 0 0x5123 1 0x4000 wu-\n\
+            fill4 0 0x5123\nfill3 0 0x5123 0x2000 wu-\nfill2 0 0x5123 0x3000 wu-\n\
+            leaf 0 0x5123 1 0x4000 wu-\ndo 6\nfill4 1 0x205123\nfill3 1 0x205123 0x2000 wu-\n\
+            leaf 1 0x205123 2 0x3000 wu-\ndo 7\nfill4 0 0x40005123\n\
+            leaf 0 0x40005123 3 0x2000 wu-\ndo 8\ndo 9\ndo 10\ndo 11\ndo 12\nfill4 1 0x5123\n\
+            fill3 1 0x5123 0x2000 wu-\nfill2 1 0x5123 0x3000 wu-\ndo 13\n",
+        line: "",
+        status: 0,
+    },
+];

@@ -2,16 +2,11 @@
 
 ghost use Rattle.std.specs.Prelude.{None};
 
-use crate::pieces::{Crumbs, Fault, Pieces};
-use crate::row::{Row, bytes_of, run_on};
-use pg_codec::{Failed, Source, Watched};
-use pg_tool::pcid_audit;
-use std::alloc::AllocGlobal;
-use std::io::ErrorKind;
-use std::process::Abort;
-use std::sync::Wait;
+use crate::case::{Case, answer, answer_on};
+use crate::row::bytes_of;
+use pg_codec::{Failed, Source};
+use std::alloc::{AllocError, Global};
 use std::test::Fail;
-use std::thread::Threads;
 
 /// A script, its report by `run --single`, and its record by `run --single --bytes`.
 #[derive(Clone, Copy)]
@@ -185,51 +180,38 @@ const ROWS: [Script; 8] = [
     },
 ];
 
-/// Runs the program on a text, and says what it wrote.
-fn run<T: AllocGlobal + Abort + Threads + Wait + Sync>(
-    rt: &T,
-    words: &[&str],
-    pieces: [&str; 2],
-) -> Result<(u8, Vec<u8>, Vec<u8>), Fail> {
-    let mut text = Vec::new(rt.alloc());
-    for piece in pieces {
-        text.extend_from_slice(piece.as_bytes())?;
+/// How a script is run for its report.
+const REPORTS: [&[&str]; 3] = [&["run", "--single"], &["run"], &["run", "--checkers", "2"]];
+
+/// The script's text.
+fn text_of(alloc: Global, row: &Script) -> Result<Vec<u8>, AllocError> {
+    let mut text = Vec::from_slice(alloc, row.head.as_bytes())?;
+    text.extend_from_slice(row.lines.as_bytes())?;
+    Ok(text)
+}
+
+/// A script is run, which is a yes, and this is written.
+fn ran<'a>(name: &'a str, words: &'a [&'a str], input: &'a [u8], output: &'a [u8]) -> Case<'a> {
+    Case {
+        name,
+        words,
+        input,
+        output,
+        line: "",
+        status: 0,
     }
-    let mut input = Watched::new(text.as_slice());
-    let mut output = Watched::new(Vec::new(rt.alloc()));
-    let mut errors = Watched::new(Vec::new(rt.alloc()));
-    let status = pcid_audit(rt, words, &mut input, &mut output, &mut errors);
-    Ok((status, output.inner, errors.inner))
 }
 
 #[test]
 fn reports_and_records_of_scripts(rt: HostRuntime) -> Result<(), Fail> {
     for row in &ROWS {
-        let name = row.name;
-        let (status, output, errors) = run(&rt, &["run", "--single"], [row.head, row.lines])?;
-        assert_eq!(rt; errors.as_slice(), "".as_bytes(), "{name}");
-        assert_eq!(rt; output.as_slice(), row.report.as_bytes(), "{name}");
-        assert_eq!(rt; status, 0, "{name}");
-        let words = ["run", "--single", "--bytes"];
-        let (status, output, errors) = run(&rt, &words, [row.head, row.lines])?;
+        let text = text_of(rt.alloc(), row)?;
         let record = bytes_of(rt.alloc(), row.record)?;
-        assert_eq!(rt; errors.as_slice(), "".as_bytes(), "{name}");
-        assert_eq!(rt; output.as_slice(), record.as_slice(), "{name}");
-        assert_eq!(rt; status, 0, "{name}");
-    }
-    Ok(())
-}
-
-#[test]
-fn reports_by_any_number_of_checkers(rt: HostRuntime) -> Result<(), Fail> {
-    for row in &ROWS {
-        let name = row.name;
-        for words in [&["run"][..], &["run", "--checkers", "2"]] {
-            let (status, output, errors) = run(&rt, words, [row.head, row.lines])?;
-            assert_eq!(rt; errors.as_slice(), "".as_bytes(), "{name}");
-            assert_eq!(rt; output.as_slice(), row.report.as_bytes(), "{name}");
-            assert_eq!(rt; status, 0, "{name}");
+        for words in REPORTS {
+            answer(&rt, ran(row.name, words, &text, row.report.as_bytes()));
         }
+        let words = ["run", "--single", "--bytes"];
+        answer(&rt, ran(row.name, &words, &text, &record));
     }
     Ok(())
 }
@@ -249,12 +231,10 @@ const TWO_THREADS: &str = "pcid-guest 1\nmachine 40 wp nxe\nsegment 16\n\
 
 #[test]
 fn two_processors_in_threads(rt: HostRuntime) -> Result<(), Fail> {
-    for words in [&["run"][..], &["run", "--checkers", "2"]] {
-        let (status, output, errors) = run(&rt, words, [TWO_THREADS, ""])?;
-        assert_eq!(rt; errors.as_slice(), "".as_bytes(), "{words:?}");
-        let report = "verdict: yes\nevents: 10\nsegments: 1\n";
-        assert_eq!(rt; output.as_slice(), report.as_bytes(), "{words:?}");
-        assert_eq!(rt; status, 0, "{words:?}");
+    let text = TWO_THREADS.as_bytes();
+    for words in REPORTS {
+        let report = b"verdict: yes\nevents: 10\nsegments: 1\n";
+        answer(&rt, ran("two_threads", words, text, report));
     }
     Ok(())
 }
@@ -307,10 +287,15 @@ const REFUSED: [(&str, &str); 11] = [
 #[test]
 fn texts_that_are_no_script(rt: HostRuntime) -> Result<(), Fail> {
     for (text, line) in REFUSED {
-        let (status, output, errors) = run(&rt, &["run", "--single"], [text, ""])?;
-        assert_eq!(rt; errors.as_slice(), line.as_bytes(), "{line}");
-        assert_eq!(rt; output.as_slice(), "".as_bytes(), "{line}");
-        assert_eq!(rt; status, 2, "{line}");
+        let refused = Case {
+            name: line,
+            words: &["run", "--single"],
+            input: text.as_bytes(),
+            output: &[],
+            line,
+            status: 2,
+        };
+        answer(&rt, refused);
     }
     Ok(())
 }
@@ -337,76 +322,18 @@ impl Source for Endless {
     }
 }
 
-const TOO_LONG: Row = Row {
-    name: "script_too_long",
-    words: &["run", "--single"],
-    input: &[],
-    output: "",
-    line: "pcid-audit: script line 0 refused 11 too long\n",
-    status: 2,
-};
-
 #[test]
 fn a_script_that_is_too_long(rt: HostRuntime) -> Result<(), Fail> {
+    let too_long = Case {
+        name: "script_too_long",
+        words: &["run", "--single"],
+        input: &[],
+        output: &[],
+        line: "pcid-audit: script line 0 refused 11 too long\n",
+        status: 2,
+    };
     let mut input = Endless { given: 0 };
-    run_on(&rt, &TOO_LONG, 0, &mut input)?;
+    answer_on(&rt, too_long, 0, &mut input);
     assert_eq!(rt; input.given, 134_217_729);
-    Ok(())
-}
-
-const DEVICE: Row = Row {
-    name: "script_failing_read",
-    words: &["run", "--single"],
-    input: &[],
-    output: "",
-    line: "pcid-audit: refused 11 device\n",
-    status: 2,
-};
-
-const SETTINGS: &str = "pcid-guest 1\nmachine 40 wp nxe\nsegment 16\ncpu 0x1001 1\n0 pge 1\n";
-
-#[test]
-fn each_read_of_a_script_failing(rt: HostRuntime) -> Result<(), Fail> {
-    for k in 0..6 {
-        let mut input = Watched::new(Pieces {
-            left: SETTINGS.as_bytes(),
-            most: 13,
-            reads: 0,
-            failing: Some((k, ErrorKind::UnexpectedEof)),
-        });
-        run_on(&rt, &DEVICE, k, &mut input)?;
-    }
-    Ok(())
-}
-
-/// Has the write with this number fail so: what was written before stays, and the status says it.
-fn fail_a_write<T: AllocGlobal + Abort + Threads + Wait + Sync>(
-    rt: &T,
-    words: &[&str],
-    k: usize,
-    fault: Fault,
-) -> Result<(), Fail> {
-    let mut input = Watched::new(SETTINGS.as_bytes());
-    let mut output = Watched::new(Crumbs::new(rt.alloc(), Some((k, fault)))?);
-    let mut errors = Watched::new(Vec::new(rt.alloc()));
-    let status = pcid_audit(rt, words, &mut input, &mut output, &mut errors);
-    assert_eq!(rt; errors.inner.as_slice(), DEVICE.line.as_bytes(), "{k}");
-    assert_eq!(rt; output.inner.taken.len(), k, "{k}");
-    assert_eq!(rt; status, 2, "{k}");
-    Ok(())
-}
-
-#[test]
-fn each_write_failing(rt: HostRuntime) -> Result<(), Fail> {
-    for fault in [Fault::Error, Fault::TakesNone] {
-        // 26 bytes of header, 9 before the event, 3 of the event, 5 of the end.
-        for k in 0..43 {
-            fail_a_write(&rt, &["run", "--single", "--bytes"], k, fault)?;
-        }
-        // "verdict: yes\nevents: 1\nsegments: 1\n"
-        for k in 0..35 {
-            fail_a_write(&rt, &["run", "--single"], k, fault)?;
-        }
-    }
     Ok(())
 }

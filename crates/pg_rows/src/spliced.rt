@@ -1,8 +1,7 @@
 //! Records put together of parts of others: segments in another order, left out, repeated, of
 //! another version, and records twice over.
 
-use crate::row::{Row, run};
-use std::test::Fail;
+use crate::row::Row;
 
 // A record of 20 events in segments of two.
 const HEAD: &str = "50475245434f5244010028030102000000011000000000000001";
@@ -89,7 +88,7 @@ const NEW_HEAD_OF_TWO: &str = "50475245434f5244020028030100020000000110000000000
 /// Of version 1, for segments of four.
 const OLD_HEAD_OF_FOUR: &str = "50475245434f5244010028030104000000011000000000000001";
 
-const ROWS: [Row; 18] = [
+pub const ROWS: [Row; 18] = [
     Row {
         name: "segments_in_each_others_place",
         words: &["check"],
@@ -254,11 +253,3 @@ const ROWS: [Row; 18] = [
         status: 2,
     },
 ];
-
-#[test]
-fn parts_of_records_put_together(rt: HostRuntime) -> Result<(), Fail> {
-    for row in &ROWS {
-        run(&rt, row)?;
-    }
-    Ok(())
-}

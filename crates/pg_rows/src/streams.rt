@@ -1,35 +1,15 @@
 //! The program over streams that move few bytes a call, that end early and that fail.
 
-use crate::pieces::{Crumbs, Fault, Pieces};
-use crate::row::{Row, bytes_of, run_on};
+use crate::case::{Case, answer, answer_by_bytes, fail_each_read, fail_each_write};
+use crate::long_run::push_record;
+use crate::row::{Row, bytes_of};
 use crate::walks::FRESH_WALK;
-use crate::{headers, refusals};
-use pg_codec::Watched;
-use pg_tool::pcid_audit;
+use crate::{explanations, headers, refusals, runs};
 use std::alloc::AllocGlobal;
-use std::io::ErrorKind;
 use std::process::Abort;
 use std::sync::Wait;
 use std::test::Fail;
 use std::thread::Threads;
-
-const TRUNCATED: Row = Row {
-    name: "proper_beginning",
-    words: &["check"],
-    input: &[],
-    output: "",
-    line: "pcid-audit: refused 8 truncated\n",
-    status: 2,
-};
-
-const DEVICE: Row = Row {
-    name: "failing_call",
-    words: &["check"],
-    input: &[],
-    output: "",
-    line: "pcid-audit: refused 11 device\n",
-    status: 2,
-};
 
 pub const TEN_SEGMENTS: Row = Row {
     name: "ten_segments_two_bad_events",
@@ -61,59 +41,24 @@ pub const TEN_SEGMENTS: Row = Row {
     status: 1,
 };
 
+/// Runs the program on each row, one byte a read and a write.
 fn run_by_bytes<T: AllocGlobal + Abort + Threads + Wait + Sync>(
     rt: &T,
-    row: &Row,
+    rows: &[Row],
 ) -> Result<(), Fail> {
-    let bytes = bytes_of(rt.alloc(), row.input)?;
-    let mut input = Watched::new(Pieces::new(bytes.as_slice(), 1));
-    run_on(rt, row, 1, &mut input)
-}
-
-#[test]
-fn one_byte_a_read(rt: HostRuntime) -> Result<(), Fail> {
-    run_by_bytes(&rt, &FRESH_WALK)?;
-    run_by_bytes(&rt, &TEN_SEGMENTS)?;
-    for row in &headers::ROWS {
-        run_by_bytes(&rt, row)?;
+    for row in rows {
+        let input = bytes_of(rt.alloc(), row.input)?;
+        answer_by_bytes(rt, row.case(&input))?;
     }
-    for row in &refusals::ROWS {
-        run_by_bytes(&rt, row)?;
-    }
-    Ok(())
-}
-
-fn write_by_bytes<T: AllocGlobal + Abort + Threads + Wait + Sync>(
-    rt: &T,
-    row: &Row,
-) -> Result<(), Fail> {
-    let bytes = bytes_of(rt.alloc(), row.input)?;
-    let mut input = Watched::new(bytes.as_slice());
-    let mut output = Watched::new(Crumbs::new(rt.alloc(), None)?);
-    let mut errors = Watched::new(Crumbs::new(rt.alloc(), None)?);
-    let status = pcid_audit(rt, row.words, &mut input, &mut output, &mut errors);
-    let name = row.name;
-    assert_eq!(rt;
-        errors.inner.taken.as_slice(),
-        row.line.as_bytes(),
-        "{name}"
-    );
-    assert_eq!(rt;
-        output.inner.taken.as_slice(),
-        row.output.as_bytes(),
-        "{name}"
-    );
-    assert_eq!(rt; status, row.status, "{name}");
     Ok(())
 }
 
 #[test]
-fn one_byte_a_write(rt: HostRuntime) -> Result<(), Fail> {
-    write_by_bytes(&rt, &FRESH_WALK)?;
-    for row in &refusals::ROWS {
-        write_by_bytes(&rt, row)?;
-    }
-    Ok(())
+fn one_byte_a_call(rt: HostRuntime) -> Result<(), Fail> {
+    run_by_bytes(&rt, &[FRESH_WALK, TEN_SEGMENTS])?;
+    run_by_bytes(&rt, &headers::ROWS)?;
+    run_by_bytes(&rt, &refusals::ROWS)?;
+    run_by_bytes(&rt, &explanations::SAMPLES)
 }
 
 #[test]
@@ -121,65 +66,154 @@ fn each_proper_beginning(rt: HostRuntime) -> Result<(), Fail> {
     let bytes = bytes_of(rt.alloc(), FRESH_WALK.input)?;
     assert_eq!(rt; bytes.len(), 149);
     for k in 0..bytes.len() {
-        let mut input = Watched::new(&bytes[..k]);
-        run_on(&rt, &TRUNCATED, k, &mut input)?;
+        let truncated = Case {
+            name: "proper_beginning",
+            words: &["check"],
+            input: &bytes[..k],
+            output: &[],
+            line: "pcid-audit: refused 8 truncated\n",
+            status: 2,
+        };
+        answer(&rt, truncated);
     }
     Ok(())
 }
+
+const READERS: [&[&str]; 5] = [
+    &["check"],
+    &["check", "--checkers", "2"],
+    &["run-of"],
+    &["explain"],
+    &["upgrade"],
+];
 
 #[test]
-fn each_read_failing(rt: HostRuntime) -> Result<(), Fail> {
-    let bytes = bytes_of(rt.alloc(), FRESH_WALK.input)?;
-    let mut whole = Watched::new(Pieces::new(bytes.as_slice(), 10));
-    run_on(&rt, &FRESH_WALK, 10, &mut whole)?;
-    let reads = whole.inner.reads;
-    // 15 pieces and the end.
-    assert!(rt; reads >= 16, "{reads} reads");
-    for k in 0..reads {
-        for kind in [ErrorKind::Interrupted, ErrorKind::UnexpectedEof] {
-            let mut input = Watched::new(Pieces {
-                left: bytes.as_slice(),
-                most: 10,
-                reads: 0,
-                failing: Some((k, kind)),
-            });
-            run_on(&rt, &DEVICE, k, &mut input)?;
-        }
+fn each_read_of_ten_segments(rt: HostRuntime) -> Result<(), Fail> {
+    let input = bytes_of(rt.alloc(), TEN_SEGMENTS.input)?;
+    for words in READERS {
+        let whole = Case {
+            words,
+            ..TEN_SEGMENTS.case(&input)
+        };
+        fail_each_read(&rt, whole, 10);
     }
     Ok(())
 }
 
-fn fail_write<T: AllocGlobal + Abort + Threads + Wait + Sync>(
+/// More than the reader takes in at once, so that reads fail between segments too.
+#[test]
+fn each_read_of_a_long_record(rt: HostRuntime) -> Result<(), Fail> {
+    let input = push_record(rt.alloc(), 5000, 100, 5000)?;
+    for words in READERS {
+        let whole = Case {
+            words,
+            ..TEN_SEGMENTS.case(&input)
+        };
+        fail_each_read(&rt, whole, 8192);
+    }
+    Ok(())
+}
+
+/// Has each write of a row's output fail in its turn.
+fn fail_writes_of<T: AllocGlobal + Abort + Threads + Wait + Sync>(
     rt: &T,
-    bytes: &[u8],
-    report: &[u8],
-    failing: (usize, Fault),
+    rows: &[Row],
 ) -> Result<(), Fail> {
-    let mut input = Watched::new(bytes);
-    let mut output = Watched::new(Crumbs::new(rt.alloc(), Some(failing))?);
-    let mut errors = Watched::new(Vec::new(rt.alloc()));
-    let status = pcid_audit(rt, &["check"], &mut input, &mut output, &mut errors);
-    let (k, fault) = failing;
-    let taken = output.inner.taken.as_slice();
-    assert_eq!(rt;
-        errors.inner.as_slice(),
-        DEVICE.line.as_bytes(),
-        "{fault:?} at {k}"
-    );
-    assert_eq!(rt; taken.len(), k, "{fault:?} at {k}");
-    assert!(rt; report.starts_with(taken), "{fault:?} at {k}");
-    assert_eq!(rt; status, 2, "{fault:?} at {k}");
+    for row in rows {
+        let input = bytes_of(rt.alloc(), row.input)?;
+        answer_by_bytes(rt, row.case(&input))?;
+        fail_each_write(rt, row.case(&input))?;
+    }
     Ok(())
 }
 
 #[test]
-fn each_write_failing(rt: HostRuntime) -> Result<(), Fail> {
-    let bytes = bytes_of(rt.alloc(), FRESH_WALK.input)?;
-    let report = FRESH_WALK.output.as_bytes();
-    for k in 0..report.len() {
-        for fault in [Fault::Error, Fault::TakesNone] {
-            fail_write(&rt, &bytes, report, (k, fault))?;
-        }
+fn each_write_of_a_text(rt: HostRuntime) -> Result<(), Fail> {
+    let by_two = Row {
+        words: &["check", "--checkers", "2"],
+        ..TEN_SEGMENTS
+    };
+    fail_writes_of(
+        &rt,
+        &[FRESH_WALK, TEN_SEGMENTS, by_two, explanations::STALE_LEAF],
+    )?;
+    fail_writes_of(&rt, &runs::ROWS)
+}
+
+/// The fresh walk as a record of version 2.
+const UPGRADED: [&str; 4] = [
+    "50475245434f52440200280301001000000001100000000000000101000000000500000010000000",
+    "10000000000000072000000000000010000000200000000000000730000000000000100000003000",
+    "00000000000740000000000000100000284000000000000007900000000000001100000423510000",
+    "0000000000239100000000000004040000000400000004000000040000000205000000",
+];
+
+#[test]
+fn each_write_of_an_upgrade(rt: HostRuntime) -> Result<(), Fail> {
+    let input = bytes_of(rt.alloc(), FRESH_WALK.input)?;
+    let output = bytes_of(rt.alloc(), &UPGRADED)?;
+    let whole = Case {
+        name: "upgrade",
+        words: &["upgrade"],
+        input: &input,
+        output: &output,
+        line: "verdict: no\nevent: 4\nreason: 11 accessed\nevents: 5\nsegments: 1\n",
+        status: 1,
+    };
+    answer_by_bytes(&rt, whole)?;
+    fail_each_write(&rt, whole)
+}
+
+const SCRIPT: &str = "pcid-guest 1\nmachine 40 wp nxe\nsegment 2\ncpu 0x1001 1\n\
+    0 invlpg 0x5000\n0 pge 0\n0 cr3 0x2003\n";
+
+/// Its record: an INVLPG, a MOV to CR4 and one to CR3.
+const RECORD: [&str; 7] = [
+    "50475245434f5244010028030102000000011000000000000001",
+    "010000000002000000",
+    "13000050000000000000",
+    "150000",
+    "010100000001000000",
+    "12000320000000000000",
+    "0203000000",
+];
+
+/// How the script is run for its report, and for its record.
+const REPORTS: [&[&str]; 2] = [&["run"], &["run", "--single"]];
+
+const RECORDS: [&[&str]; 2] = [&["run", "--bytes"], &["run", "--single", "--bytes"]];
+
+/// The script, run for this output.
+fn run_for<'a>(words: &'a [&'a str], output: &'a [u8]) -> Case<'a> {
+    Case {
+        name: "run",
+        words,
+        input: SCRIPT.as_bytes(),
+        output,
+        line: "",
+        status: 0,
+    }
+}
+
+/// Over small streams, and with each read and each write failing.
+fn run_over_streams<'a, T: AllocGlobal + Abort + Threads + Wait + Sync>(
+    rt: &T,
+    whole: Case<'a>,
+) -> Result<(), Fail> {
+    answer_by_bytes(rt, whole)?;
+    fail_each_read(rt, whole, 10);
+    fail_each_write(rt, whole)
+}
+
+#[test]
+fn each_read_and_write_of_a_run(rt: HostRuntime) -> Result<(), Fail> {
+    let record = bytes_of(rt.alloc(), &RECORD)?;
+    for words in REPORTS {
+        let report = b"verdict: yes\nevents: 3\nsegments: 2\n";
+        run_over_streams(&rt, run_for(words, report))?;
+    }
+    for words in RECORDS {
+        run_over_streams(&rt, run_for(words, &record))?;
     }
     Ok(())
 }

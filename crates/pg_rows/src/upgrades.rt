@@ -1,13 +1,8 @@
 //! Version 2 records of the events of version 1 records.
 
+use crate::case::{Case, answer};
 use crate::row::bytes_of;
-use pg_codec::Watched;
-use pg_tool::pcid_audit;
-use std::alloc::AllocGlobal;
-use std::process::Abort;
-use std::sync::Wait;
 use std::test::Fail;
-use std::thread::Threads;
 
 /// A record to upgrade, and what the program must answer.
 #[derive(Clone, Copy)]
@@ -61,24 +56,20 @@ const ROWS: [Upgrade; 3] = [
     },
 ];
 
-fn run<T: AllocGlobal + Abort + Threads + Wait + Sync>(rt: &T, row: &Upgrade) -> Result<(), Fail> {
-    let bytes = bytes_of(rt.alloc(), row.input)?;
-    let wanted = bytes_of(rt.alloc(), row.output)?;
-    let mut input = Watched::new(bytes.as_slice());
-    let mut output = Watched::new(Vec::new(rt.alloc()));
-    let mut errors = Watched::new(Vec::new(rt.alloc()));
-    let status = pcid_audit(rt, &["upgrade"], &mut input, &mut output, &mut errors);
-    let name = row.name;
-    assert_eq!(rt; errors.inner.as_slice(), row.errors.as_bytes(), "{name}");
-    assert_eq!(rt; output.inner.as_slice(), wanted.as_slice(), "{name}");
-    assert_eq!(rt; status, row.status, "{name}");
-    Ok(())
-}
-
 #[test]
 fn upgrades_and_their_reports(rt: HostRuntime) -> Result<(), Fail> {
     for row in &ROWS {
-        run(&rt, row)?;
+        let input = bytes_of(rt.alloc(), row.input)?;
+        let output = bytes_of(rt.alloc(), row.output)?;
+        let case = Case {
+            name: row.name,
+            words: &["upgrade"],
+            input: &input,
+            output: &output,
+            line: row.errors,
+            status: row.status,
+        };
+        answer(&rt, case);
     }
     Ok(())
 }

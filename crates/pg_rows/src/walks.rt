@@ -21,7 +21,8 @@ pub const FRESH_WALK: Row = Row {
     status: 0,
 };
 
-pub const ROWS: [Row; 12] = [
+pub const ROWS: [Row; 13] = [
+    FRESH_WALK,
     Row {
         name: "all_moments_the_greatest",
         words: &["check"],

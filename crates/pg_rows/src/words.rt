@@ -8,57 +8,48 @@ use std::sync::Wait;
 use std::test::Fail;
 use std::thread::Threads;
 
-const NO_RECORD: [u8; 0] = [];
+/// Words of no command.
+const FAULTS: [&[&str]; 13] = [
+    &["judge"],
+    &[],
+    &["check", "--single"],
+    &["check", "--checkers", "0"],
+    &["check", "--checkers", "65"],
+    &["check", "--checkers", "+2"],
+    &["check", "--checkers", "2", "--checkers", "2"],
+    &["run-of", "--checkers", "2"],
+    &["run", "--checkers", "65"],
+    &["show", "--from", "+1"],
+    &["show", "--to", "4294967296"],
+    &["show", "3"],
+    &["explain", "--from", "3"],
+];
 
-fn expect_usage<'a, T: AllocGlobal + Abort + Threads + Wait + Sync>(
+/// Words that ask for a text.
+const TEXTS: [&[&str]; 3] = [&["help"], &["--help"], &["--version"]];
+
+/// The words end with a status, and with something on standard output, or else on standard error.
+fn expect<'a, T: AllocGlobal + Abort + Threads + Wait + Sync>(
     rt: &T,
     words: &'a [&'a str],
-) -> Result<(), Fail> {
-    let mut input = Watched::new(NO_RECORD.as_slice());
+    status: u8,
+    is_text: bool,
+) {
+    let mut input = Watched::new([].as_slice());
     let mut output = Watched::new(Vec::new(rt.alloc()));
     let mut errors = Watched::new(Vec::new(rt.alloc()));
-    let status = pcid_audit(rt, words, &mut input, &mut output, &mut errors);
-    assert_eq!(rt; status, 64, "{words:?}");
-    assert!(rt; output.inner.is_empty(), "{words:?}");
-    assert!(rt; !errors.inner.is_empty(), "{words:?}");
-    Ok(())
+    let ended = pcid_audit(rt, words, &mut input, &mut output, &mut errors);
+    let is_told = output.inner.is_empty() != is_text && errors.inner.is_empty() == is_text;
+    assert!(rt; ended == status && is_told, "{words:?}");
 }
 
 #[test]
-fn words_of_no_command(rt: HostRuntime) -> Result<(), Fail> {
-    expect_usage(&rt, &["judge"])?;
-    expect_usage(&rt, &[])?;
-    expect_usage(&rt, &["check", "--single"])?;
-    expect_usage(&rt, &["check", "--checkers", "0"])?;
-    expect_usage(&rt, &["check", "--checkers", "65"])?;
-    expect_usage(&rt, &["check", "--checkers", "+2"])?;
-    expect_usage(&rt, &["check", "--checkers", "2", "--checkers", "2"])?;
-    expect_usage(&rt, &["run-of", "--checkers", "2"])?;
-    expect_usage(&rt, &["run", "--checkers", "65"])?;
-    expect_usage(&rt, &["show", "--from", "+1"])?;
-    expect_usage(&rt, &["show", "--to", "4294967296"])?;
-    expect_usage(&rt, &["show", "3"])?;
-    expect_usage(&rt, &["explain", "--from", "3"])
-}
-
-/// Words that ask for a text, which goes to standard output.
-fn expect_text<'a, T: AllocGlobal + Abort + Threads + Wait + Sync>(
-    rt: &T,
-    words: &'a [&'a str],
-) -> Result<(), Fail> {
-    let mut input = Watched::new(NO_RECORD.as_slice());
-    let mut output = Watched::new(Vec::new(rt.alloc()));
-    let mut errors = Watched::new(Vec::new(rt.alloc()));
-    let status = pcid_audit(rt, words, &mut input, &mut output, &mut errors);
-    assert_eq!(rt; status, 0, "{words:?}");
-    assert!(rt; !output.inner.is_empty(), "{words:?}");
-    assert!(rt; errors.inner.is_empty(), "{words:?}");
+fn words_of_no_command_and_of_texts(rt: HostRuntime) -> Result<(), Fail> {
+    for words in FAULTS {
+        expect(&rt, words, 64, false);
+    }
+    for words in TEXTS {
+        expect(&rt, words, 0, true);
+    }
     Ok(())
-}
-
-#[test]
-fn help_and_version_on_standard_output(rt: HostRuntime) -> Result<(), Fail> {
-    expect_text(&rt, &["help"])?;
-    expect_text(&rt, &["--help"])?;
-    expect_text(&rt, &["--version"])
 }

@@ -1,0 +1,138 @@
+//! What the program is given and must answer, over streams that are whole, small or failing.
+
+use crate::pieces::{Crumbs, Fault, Pieces};
+use pg_codec::{Source, Watched};
+use pg_tool::pcid_audit;
+use std::alloc::AllocGlobal;
+use std::io::ErrorKind;
+use std::process::Abort;
+use std::sync::Wait;
+use std::test::Fail;
+use std::thread::Threads;
+
+/// What the program is given, and what it must answer.
+#[derive(Clone, Copy)]
+pub struct Case<'a> {
+    pub name: &'a str,
+    /// The words after the program's name.
+    pub words: &'a [&'a str],
+    /// Standard input.
+    pub input: &'a [u8],
+    /// Standard output.
+    pub output: &'a [u8],
+    /// Standard error.
+    pub line: &'a str,
+    /// The exit status.
+    pub status: u8,
+}
+
+/// What it says where a stream fails.
+pub const DEVICE: &str = "pcid-audit: refused 11 device\n";
+
+/// Whether the program ended and wrote as the case says.
+fn is_answered<'a>(case: Case<'a>, status: u8, output: &[u8], line: &[u8]) -> bool {
+    status == case.status && output == case.output && line == case.line.as_bytes()
+}
+
+/// Runs the program on a source in the place of the case's input. The case is named where it fails.
+pub fn answer_on<'a, T: AllocGlobal + Abort + Threads + Wait + Sync, R: Source>(
+    rt: &T,
+    case: Case<'a>,
+    at: usize,
+    input: &mut R,
+) {
+    let mut output = Watched::new(Vec::new(rt.alloc()));
+    let mut errors = Watched::new(Vec::new(rt.alloc()));
+    let status = pcid_audit(rt, case.words, input, &mut output, &mut errors);
+    let is_right = is_answered(case, status, &output.inner, &errors.inner);
+    assert!(rt; is_right, "{}, {at}: {status}", case.name);
+}
+
+/// Over memory.
+pub fn answer<'a, T: AllocGlobal + Abort + Threads + Wait + Sync>(rt: &T, case: Case<'a>) {
+    let mut input = Watched::new(case.input);
+    answer_on(rt, case, 0, &mut input);
+}
+
+/// One byte a read, and one byte a write.
+pub fn answer_by_bytes<'a, T: AllocGlobal + Abort + Threads + Wait + Sync>(
+    rt: &T,
+    case: Case<'a>,
+) -> Result<(), Fail> {
+    let mut input = Watched::new(Pieces::new(case.input, 1));
+    let mut output = Watched::new(Crumbs::new(rt.alloc(), None)?);
+    let mut errors = Watched::new(Crumbs::new(rt.alloc(), None)?);
+    let status = pcid_audit(rt, case.words, &mut input, &mut output, &mut errors);
+    let is_right = is_answered(case, status, &output.inner.taken, &errors.inner.taken);
+    assert!(rt; is_right, "{}: {status}", case.name);
+    Ok(())
+}
+
+/// The read of this number fails so, by pieces of this size: the program says that a device failed,
+/// and writes nothing else.
+fn fail_read<'a, T: AllocGlobal + Abort + Threads + Wait + Sync>(
+    rt: &T,
+    case: Case<'a>,
+    most: usize,
+    read: usize,
+    kind: ErrorKind,
+) {
+    let failed = Case {
+        output: &[],
+        line: DEVICE,
+        status: 2,
+        ..case
+    };
+    let mut input = Watched::new(Pieces {
+        left: case.input,
+        most,
+        reads: 0,
+        failing: Some((read, kind)),
+    });
+    answer_on(rt, failed, read, &mut input);
+}
+
+/// Each read fails in its turn.
+pub fn fail_each_read<'a, T: AllocGlobal + Abort + Threads + Wait + Sync>(
+    rt: &T,
+    case: Case<'a>,
+    most: usize,
+) {
+    // So many pieces, and the end.
+    let reads = case.input.len().div_ceil(most.max(1)).wrapping_add(1);
+    for read in 0..reads {
+        fail_read(rt, case, most, read, ErrorKind::Interrupted);
+        fail_read(rt, case, most, read, ErrorKind::UnexpectedEof);
+    }
+}
+
+/// The write of this number to standard output fails so, one byte a write: what was written stays,
+/// and is a beginning of the whole.
+fn fail_write<'a, T: AllocGlobal + Abort + Threads + Wait + Sync>(
+    rt: &T,
+    case: Case<'a>,
+    write: usize,
+    fault: Fault,
+) -> Result<(), Fail> {
+    let mut input = Watched::new(case.input);
+    let mut output = Watched::new(Crumbs::new(rt.alloc(), Some((write, fault)))?);
+    let mut errors = Watched::new(Vec::new(rt.alloc()));
+    let status = pcid_audit(rt, case.words, &mut input, &mut output, &mut errors);
+    let taken = output.inner.taken.as_slice();
+    let is_told = status == 2 && errors.inner.as_slice() == DEVICE.as_bytes();
+    let is_begun = taken.len() == write && case.output.starts_with(taken);
+    assert!(rt; is_told && is_begun, "{}, {fault:?} at {write}", case.name);
+    Ok(())
+}
+
+/// Each write to standard output fails in its turn.
+pub fn fail_each_write<'a, T: AllocGlobal + Abort + Threads + Wait + Sync>(
+    rt: &T,
+    case: Case<'a>,
+) -> Result<(), Fail> {
+    for write in 0..case.output.len() {
+        fail_write(rt, case, write, Fault::Error)?;
+        fail_write(rt, case, write, Fault::TakesNone)?;
+    }
+    Ok(())
+}
