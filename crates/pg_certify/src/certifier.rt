@@ -9,6 +9,7 @@ ghost use Rattle.pg_search.specs.Law.{names_moments, with_moments, CanBeWitnesse
 ghost use Rattle.pg_certify.specs.Certified.{IsFound, IsDenied, NamesMoments, Certifies};
 ghost use Rattle.pg_certify.specs.Certified.{CanBeCertified, IsEvent};
 
+use crate::changes::{Changes, KEPT};
 use crate::guesses::{Guesses, Key, Scope, key_of};
 use crate::walk::{Walk, first_moments, walk_by};
 use pg_check::{History, Memo, failing};
@@ -33,6 +34,7 @@ struct Certifier<'a> {
     history: &'a History,
     memo: Memo<'a>,
     guesses: Guesses,
+    changes: Changes,
 }
 
 impl<'a> Model for Certifier<'a> {
@@ -189,6 +191,7 @@ impl<'a> Certifier<'a> {
             history,
             memo: history.stretch().memo(count),
             guesses: Guesses::new(alloc, count),
+            changes: Changes::new(alloc, count),
         }
     }
 
@@ -277,6 +280,111 @@ impl<'a> Certifier<'a> {
             .note(p, pcid, la, &walk, matches!(asks, Asks::Page));
     }
 
+    /// The event by the tables of the walk that was found last with the same upper bits of the
+    /// address, and what lies below as it is read now, or by all moments of that walk.
+    fn guess_tables(&mut self, event: &Event, case: Case, shift: u8, count: usize) -> Option<Event>
+        requires event { IsEvent self.old.head self.old.events case.i event.now }
+        requires processor { case.p < length self.old.head.processors }
+        ensures same { self.new ≡ self.old }
+        ensures found { IfSome result (IsFound self.old.head self.old.events case.i) }
+    {
+        let near = self
+            .guesses
+            .last(key_of(case.p, Scope::Tables(case.pcid), shift, case.la))?;
+        let tables = first_moments(&near, count);
+        match self.guess_walk(event, case, tables.as_slice(), case.i) {
+            Some(found) => Some(found),
+            None => self.guess_walk(event, case, near.as_slice(), case.i),
+        }
+    }
+
+    /// The event by walks that were found for addresses near its own, the nearest first.
+    fn guess_near(&mut self, event: &Event, case: Case) -> Option<Event>
+        requires event { IsEvent self.old.head self.old.events case.i event.now }
+        requires processor { case.p < length self.old.head.processors }
+        ensures same { self.new ≡ self.old }
+        ensures found { IfSome result (IsFound self.old.head self.old.events case.i) }
+    {
+        for (shift, count) in [(21, 3), (30, 2), (39, 1)] {
+            if let Some(found) = self.guess_tables(event, case, shift, count) {
+                return Some(found);
+            }
+        }
+        None
+    }
+
+    /// The event by a walk at an earlier moment, or by the tables of one, `count` of them, and what
+    /// lies below as it is read now.
+    fn guess_at(&mut self, event: &Event, case: Case, moment: u32, count: usize) -> Option<Event>
+        requires event { IsEvent self.old.head self.old.events case.i event.now }
+        requires processor { case.p < length self.old.head.processors }
+        ensures same { self.new ≡ self.old }
+        ensures found { IfSome result (IsFound self.old.head self.old.events case.i) }
+    {
+        if let Some(found) = self.guess_walk(event, case, &[], moment) {
+            return Some(found);
+        }
+        let tables = [moment; 3];
+        self.guess_walk(event, case, &tables[..count.min(3)], case.i)
+    }
+
+    /// The event by walks just after and just before a change of a word.
+    fn guess_change(
+        &mut self,
+        event: &Event,
+        case: Case,
+        change: u32,
+        count: usize,
+    ) -> Option<Event>
+        requires event { IsEvent self.old.head self.old.events case.i event.now }
+        requires processor { case.p < length self.old.head.processors }
+        ensures same { self.new ≡ self.old }
+        ensures found { IfSome result (IsFound self.old.head self.old.events case.i) }
+    {
+        match self.guess_at(event, case, change.saturating_add(1), count) {
+            Some(found) => Some(found),
+            None => self.guess_at(event, case, change, count),
+        }
+    }
+
+    /// The event by walks about the last changes of what is read now, 16 of them at most.
+    fn guess_earlier(&mut self, event: &Event, case: Case) -> Option<Event>
+        requires event { IsEvent self.old.head self.old.events case.i event.now }
+        requires processor { case.p < length self.old.head.processors }
+        ensures same { self.new ≡ self.old }
+        ensures found { IfSome result (IsFound self.old.head self.old.events case.i) }
+    {
+        let walk = walk_by(self.history, case.p, case.la, &[], case.i);
+        let depth = walk.moments.len();
+        for place in 0..4 * KEPT {
+            let (level, rank) = (place % 4, place / 4);
+            if level < depth {
+                if let Some(change) = self.changes.of(walk.words[level])[rank] {
+                    if let Some(found) = self.guess_change(event, case, change, depth - 1) {
+                        return Some(found);
+                    }
+                }
+            }
+        }
+        None
+    }
+
+    /// The event by walks that are made anew: now, near by, or earlier.
+    fn guess_new(&mut self, event: &Event, case: Case) -> Option<Event>
+        requires event { IsEvent self.old.head self.old.events case.i event.now }
+        requires processor { case.p < length self.old.head.processors }
+        ensures same { self.new ≡ self.old }
+        ensures found { IfSome result (IsFound self.old.head self.old.events case.i) }
+    {
+        if let Some(found) = self.guess_walk(event, case, &[], case.i) {
+            return Some(found);
+        }
+        match self.guess_near(event, case) {
+            Some(found) => Some(found),
+            None => self.guess_earlier(event, case),
+        }
+    }
+
     /// The event with moments of a walk that is made anew, or of a search of all, or `None` where
     /// no moments witness it.
     fn find_new(&mut self, event: &Event, case: Case) -> Result<Option<Event>, AllocError>
@@ -289,7 +397,7 @@ impl<'a> Certifier<'a> {
         ensures none { IfOk result
             (λ r. IfNone r (CanBeWitnessed self.old.head self.old.events case.i → ⊥)) }
     {
-        match self.guess_walk(event, case, &[], case.i) {
+        match self.guess_new(event, case) {
             Some(found) => Ok(Some(found)),
             None => search(self.alloc, self.history, case.i as u64, event),
         }
@@ -316,6 +424,21 @@ impl<'a> Certifier<'a> {
         Ok(found)
     }
 
+    /// Takes note of what an event changes in table memory.
+    fn note_change(&mut self, i: u32, event: &Event)
+        ensures { self.new ≡ self.old }
+    {
+        match *event {
+            Event::Write { addr, .. } => self.changes.note(addr, i),
+            Event::Assist { word, .. } => self.changes.note(word, i),
+            Event::Access { .. }
+            | Event::MovCr3 { .. }
+            | Event::Invlpg { .. }
+            | Event::Invpcid { .. }
+            | Event::MovCr4Pge { .. } => {}
+        }
+    }
+
     /// The event with this number with moments that witness it, which is itself where it names
     /// none, or `None` where no moments do.
     fn find(&mut self, i: u64) -> Result<Option<Event>, AllocError>
@@ -328,6 +451,7 @@ impl<'a> Certifier<'a> {
             (λ r. IfNone r (CanBeWitnessed self.old.head self.old.events i → ⊥)) }
     {
         let event = &self.history.events()[i as usize];
+        self.note_change(i as u32, event);
         match case_of(self.history, i as u32, event) {
             Some(case) => self.find_case(event, case),
             None => Ok(Some(*event)),

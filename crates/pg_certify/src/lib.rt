@@ -4,6 +4,7 @@
 #![tactic(auto)]
 
 mod certifier;
+mod changes;
 mod guesses;
 mod laws;
 mod walk;
