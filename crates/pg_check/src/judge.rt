@@ -13,8 +13,10 @@ use crate::assist::failing_assist;
 use crate::memo::Memo;
 use pg_event::{Claim, Event, Reason, Update, access_kind, says_dirty};
 
-/// The least reason that fails for an event with this number.
-pub(crate) fn failing(memo: &mut Memo<'_>, number: u32, event: &Event) -> Option<Reason>
+/// The least reason that fails for an event with this number, perhaps with other moments than those
+/// that the record names: so moments can be tried. It is judged by the past of a memo, which keeps
+/// walks that the next ones may share.
+pub fn failing(memo: &mut Memo<'_>, number: u32, event: &Event) -> Option<Reason>
     requires { processor_of event.now < processor_count memo.old }
     ensures past { memo.new ≡ memo.old }
     ensures failing { (head : Head) (events : List Event) → IsPast memo.old head events →

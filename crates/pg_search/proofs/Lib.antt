@@ -12,3 +12,4 @@ mod Found
 mod Complete
 mod Picks
 mod Answered
+mod Lasts

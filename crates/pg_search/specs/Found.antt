@@ -108,6 +108,15 @@ found_in head events i p la sought s =
     found_at head events i p la sought s Four ++ (found_at head events i p la sought s Three
     ++ (found_at head events i p la sought s Two ++ found_at head events i p la sought s One))
 
+-- the moments of each translation and of each walk that gives what is sought at moment i
+abbrev pub found_sought : Head → List Event → ℕ → ℕ → ℕ → Sought → List (List ℕ)
+found_sought head events i p la (soughts.Fault c) =
+    let s = standing head events p la i in
+    map moments_of (filter (gives head (control_at head events p i).pcid c) s.made)
+    ++ found_in head events i p la (soughts.Fault c) s
+found_sought head events i p la (soughts.Word u) =
+    found_in head events i p la (soughts.Word u) (standing head events p la i)
+
 -- the moments of each translation that gives what an access claims, and of each walk that faults
 abbrev pub found_access : Head → List Event → Claim → List (List ℕ)
 found_access head events c =

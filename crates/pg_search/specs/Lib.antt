@@ -5,3 +5,4 @@ pub mod Law
 pub mod Exact
 pub mod Held
 pub mod Swept
+pub mod Last

@@ -36,7 +36,12 @@ pub fn names_moments(event: &Event) -> bool
 }
 
 /// The freshest moments of a translation that gives what an access claims.
-fn best_made(header: &Header, pcid: u16, claim: &Claim, made: &[HeldFound]) -> Option<Moments>
+pub(crate) fn best_made(
+    header: &Header,
+    pcid: u16,
+    claim: &Claim,
+    made: &[HeldFound],
+) -> Option<Moments>
     ensures { IsPick (map moments_of (filter (gives header.now pcid claim.now) made.now)) result }
 {
     let mut best = None;
@@ -85,7 +90,12 @@ fn best_at(
 }
 
 /// The freshest moments of a walk that reads what is sought now.
-fn best_in(history: &History, now: Now, sought: &Sought, sweep: &Sweep) -> Option<Moments>
+pub(crate) fn best_in(
+    history: &History,
+    now: Now,
+    sought: &Sought,
+    sweep: &Sweep,
+) -> Option<Moments>
     requires now { IsNow history.now now }
     requires sweep { IsSweep (is_useful history.now.head sought.now) sweep.now
         (standing history.now.head history.now.events now.p now.la now.moment) }

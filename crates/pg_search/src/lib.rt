@@ -6,12 +6,14 @@ mod fill;
 mod finder;
 mod fresh;
 mod held;
+mod last;
 mod laws;
 mod now;
 mod sought;
 mod sweeper;
 
 pub use finder::{find_moments, names_moments};
+pub use last::{Last, last_moments};
 pub use laws::{
     found_moments_witness, made_is_exact, none_found_none_witness, standing_is_exact,
     unwitnessed_events_have_no_run,

@@ -59,7 +59,12 @@ fn fill_level(
 }
 
 /// All fills of a moment, from level 4 down.
-fn fill(sweep: &mut Sweep, history: &History, now: Now, sought: &Sought) -> Result<(), AllocError>
+pub(crate) fn fill(
+    sweep: &mut Sweep,
+    history: &History,
+    now: Now,
+    sought: &Sought,
+) -> Result<(), AllocError>
     requires now { IsNow history.now now }
     requires before { IsSweep (is_useful history.now.head sought.now) sweep.old
         (swept history.now.head history.now.events now.p now.la now.moment) }
@@ -138,7 +143,7 @@ fn leave_spots(spots: &mut Vec<HeldSpot>, history: &History, now: &Now, event: &
 }
 
 /// What an event leaves.
-fn leave(sweep: &mut Sweep, history: &History, now: &Now, sought: &Sought, event: &Event)
+pub(crate) fn leave(sweep: &mut Sweep, history: &History, now: &Now, sought: &Sought, event: &Event)
     requires now { IsNow history.now now.now }
     requires event { slice_get history.now.events now.now.moment ≡ Some event.now }
     requires before { IsSweep (is_useful history.now.head sought.now) sweep.old

@@ -1,0 +1,3 @@
+mod Gathered
+mod Founds
+mod Meaning

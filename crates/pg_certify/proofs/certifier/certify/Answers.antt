@@ -1,0 +1,33 @@
+use Rattle.std.proofs.Common.{ℕ, ◌+◌, ◌<◌, ◌≡◌, ◌∷◌, ◌++◌, [], List, length, arith, sym, ap, ◌∙◌, subst}
+use Rattle.pg_event.specs.declared.event.Event.{Event}
+use Rattle.pg_event.specs.Heads.{Head}
+use Rattle.pg_run_of.specs.Converse.{HasMoments}
+use Rattle.pg_search.specs.Law.{CanBeWitnessed}
+use Rattle.pg_certify.specs.Certified.{IsFound}
+use Rattle.pg_certify.proofs.Gathered.{UpTo, none_yet, one_more}
+use Rattle.pg_certify.proofs.Founds.{denied_at, found_at, found_can, found_good, each_more, all_found}
+use Rattle.pg_certify.proofs.certifier.certify.Goals as goal
+
+pub returns-in-None : goal.returns-in-None
+returns-in-None c =
+    denied_at c.args.history.now c.loop-i.certifier c.loop-i.i c.in_ok-event.field-0 c.loop-i.invariant.same (omega (arith, c.loop-i-test.true, c.len-i-end.ensures.length)) c.in-None.is
+    c.in_ok-event.ensures.names c.in_ok-event.ensures.none c.loop-i.invariant.before
+
+pub loop-i-preserved : goal.loop-i-preserved
+loop-i-preserved c =
+    let head : Head = c.args.history.now.head in
+    let events : List Event = c.args.history.now.events in
+    let i : ℕ = c.loop-i.i in
+    let x : Event = c.in-Some.event in
+    let f : IsFound head events i x = found_at c.args.history.now c.loop-i.certifier i c.in_ok-event.field-0 x c.loop-i.invariant.same c.in-Some.is c.in_ok-event.ensures.found in
+    let more : UpTo HasMoments head events (i + 1) (c.loop-i.found.items ++ x ∷ []) = one_more HasMoments head events i c.loop-i.found.items x c.loop-i.invariant.found (found_good head events i x f) in
+    record {
+      same = c.find.ensures.same ∙ c.loop-i.invariant.same;
+      found = subst (UpTo HasMoments head events (i + 1)) (sym c.in_ok-push-in-Some.ensures.items) more;
+      before = each_more (CanBeWitnessed head events) i c.loop-i.invariant.before (found_can head events i x f);
+    }
+
+pub returns : goal.returns
+returns c =
+    let end : c.loop-i.i ≡ length c.args.history.now.events = omega (arith, c.loop-i-test.false, c.loop-i.auto.i-end, c.len-i-end.ensures.length) in
+    all_found c.args.history.now.head c.args.history.now.events c.loop-i.found.items c.loop-i.i end c.loop-i.invariant.found

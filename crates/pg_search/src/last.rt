@@ -1,0 +1,146 @@
+ghost use Rattle.std.specs.Prelude.{◌≡◌, ◌<◌, true, length, slice_get};
+ghost use Rattle.std.specs.Prelude.{IfOk, IfSome, IfNone};
+ghost use Rattle.pg_event.specs.Form.{processor_of};
+ghost use Rattle.pg_search.specs.Sweep.{standing};
+ghost use Rattle.pg_search.specs.Found.{is_useful, found_sought, IsPick};
+ghost use Rattle.pg_search.specs.Held.{IsNow};
+ghost use Rattle.pg_search.specs.Swept.{IsSweep};
+ghost use Rattle.pg_search.specs.Law.{names_moments};
+ghost use Rattle.pg_search.specs.Last.{latest, IsLatestFound, IsLatestOf, IsLast};
+ghost use Rattle.pg_search.specs.Last.{HasNoLast};
+
+use crate::finder::{best_in, best_made};
+use crate::fresh::fresher;
+use crate::now::{Now, after, at_start};
+use crate::sought::Sought;
+use crate::sweeper::{Sweep, fill, leave};
+use pg_check::History;
+use pg_event::{Event, Moments, claim_of, update_of};
+use std::alloc::{AllocError, Global};
+
+/// When an event would last have been witnessed.
+#[derive(Clone, Copy, PartialEq, Eq, Debug)]
+pub struct Last {
+    /// The number that the event would have had.
+    pub number: u32,
+    /// The freshest moments that witness it there.
+    pub moments: Moments,
+}
+
+/// The freshest moments that give what is sought now.
+fn best_now(history: &History, now: Now, sought: &Sought, sweep: &Sweep) -> Option<Moments>
+    requires now { IsNow history.now now }
+    requires sweep { IsSweep (is_useful history.now.head sought.now) sweep.now
+        (standing history.now.head history.now.events now.p now.la now.moment) }
+    ensures { IsPick (found_sought history.now.head history.now.events now.moment now.p now.la
+        sought.now) result }
+{
+    let word = best_in(history, now, sought, sweep);
+    match sought {
+        Sought::Fault(claim) => {
+            let made = best_made(history.header(), now.control.pcid, claim, &sweep.made);
+            fresher(made, word)
+        }
+        Sought::Word(_) => word,
+    }
+}
+
+/// What is latest, once a moment more was looked at, which has these moments.
+fn latest(last: Option<Last>, number: u32, best: Option<Moments>) -> Option<Last>
+    ensures { result ≡ latest last number best }
+{
+    match best {
+        Some(moments) => Some(Last { number, moments }),
+        None => last,
+    }
+}
+
+/// The latest moment before an event at which the sweep has what is sought, with its freshest
+/// moments.
+fn find_last(
+    alloc: Global,
+    history: &History,
+    p: u16,
+    la: u64,
+    number: u32,
+    sought: &Sought,
+) -> Result<Option<Last>, AllocError>
+    requires processor { p < length history.now.head.processors }
+    requires within { number < length history.now.events }
+    ensures { IfOk result (IsLatestFound history.now.head history.now.events p la sought.now
+        number) }
+{
+    let mut sweep = Sweep {
+        threes: Vec::new(alloc),
+        twos: Vec::new(alloc),
+        ones: Vec::new(alloc),
+        made: Vec::new(alloc),
+    };
+    let mut now = at_start(history, p, la);
+    let mut last = None;
+    for event in &history.events()[..number as usize] {
+        fill(&mut sweep, history, now, sought)?;
+        last = latest(last, now.moment, best_now(history, now, sought, &sweep));
+        leave(&mut sweep, history, &now, sought, event);
+        now = after(history, now, event);
+    }
+    Ok(last)
+}
+
+/// The same for what an event seeks.
+fn last_for(
+    alloc: Global,
+    history: &History,
+    i: u32,
+    event: &Event,
+) -> Result<Option<Last>, AllocError>
+    requires processor { processor_of event.now < length history.now.head.processors }
+    requires within { i < length history.now.events }
+    ensures { IfOk result (IsLatestOf history.now.head history.now.events event.now i) }
+{
+    match *event {
+        Event::Access {
+            p,
+            flags,
+            la,
+            outcome,
+            ..
+        } => {
+            let sought = Sought::Fault(claim_of(i, p, flags, la, outcome));
+            find_last(alloc, history, p, la, i, &sought)
+        }
+        Event::Assist {
+            p,
+            flags,
+            la,
+            word,
+            ..
+        } => {
+            let sought = Sought::Word(update_of(i, p, flags, la, word));
+            find_last(alloc, history, p, la, i, &sought)
+        }
+        Event::Write { .. }
+        | Event::MovCr3 { .. }
+        | Event::Invlpg { .. }
+        | Event::Invpcid { .. }
+        | Event::MovCr4Pge { .. } => Ok(None),
+    }
+}
+
+/// The latest number below that of an access or an assist which the event could have had: some
+/// moments would witness it there, and none would at any number between. `None` where there is no
+/// such number: then no moments would have witnessed the event anywhere before. `names_moments`
+/// tells whether an event is an access or an assist.
+///
+/// It takes one pass over the events before this one. It fails only where memory is refused.
+pub fn last_moments(alloc: Global, history: &History, i: u64) -> Result<Option<Last>, AllocError>
+    requires within { i < length history.now.events }
+    requires names { IfSome (slice_get history.now.events i) (λ e. names_moments e ≡ true) }
+    ensures some { IfOk result
+        (λ last. IfSome last (IsLast history.now.head history.now.events i)) }
+    ensures none { IfOk result (λ last. IfNone last
+        (HasNoLast history.now.head history.now.events i)) }
+{
+    let event = &history.events()[i as usize];
+    last_for(alloc, history, i as u32, event)
+}
