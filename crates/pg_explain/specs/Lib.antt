@@ -6,3 +6,4 @@ pub mod Walk
 pub mod Explained
 pub mod Laws
 pub mod Text
+pub mod Denied

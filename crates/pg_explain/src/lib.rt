@@ -1,6 +1,8 @@
 //! Events as lines for a person, and what stands behind a "no".
 #![tactic(auto)]
 
+mod denial;
+mod denial_lines;
 mod dropped;
 mod end_finding;
 mod entry;
@@ -15,6 +17,8 @@ mod text;
 mod walk_finding;
 mod walk_text;
 
+pub use denial::{Denial, deny};
+pub use denial_lines::denial_text;
 pub use entry::WalkEntry;
 pub use explainer::{Explanation, explain};
 pub use finding::{Finding, Limit, Misfit, Tagged, Wish};

@@ -44,7 +44,7 @@ pub(crate) fn push_kind(text: &mut String, kind: AccessKind) -> Result<(), Alloc
 }
 
 /// Appends an access by its flags, to a linear address.
-fn push_access(text: &mut String, flags: u8, la: u64) -> Result<(), AllocError>
+pub(crate) fn push_access(text: &mut String, flags: u8, la: u64) -> Result<(), AllocError>
     ensures { OnOk result
         (string_bytes text.new ≡ string_bytes text.old ++ access_text flags la) }
 {
@@ -103,7 +103,7 @@ pub(crate) fn push_code(text: &mut String, code: u16) -> Result<(), AllocError>
     push_bits(text, code)
 }
 
-fn push_outcome(text: &mut String, outcome: Outcome) -> Result<(), AllocError>
+pub(crate) fn push_outcome(text: &mut String, outcome: Outcome) -> Result<(), AllocError>
     ensures { OnOk result
         (string_bytes text.new ≡ string_bytes text.old ++ outcome_text outcome) }
 {
@@ -157,7 +157,7 @@ pub(crate) fn push_word(text: &mut String, address: u64) -> Result<(), AllocErro
 }
 
 /// Appends an assist after its access.
-fn push_assist(text: &mut String, flags: u8, word: u64) -> Result<(), AllocError>
+pub(crate) fn push_assist(text: &mut String, flags: u8, word: u64) -> Result<(), AllocError>
     ensures { OnOk result
         (string_bytes text.new ≡ string_bytes text.old ++ assist_text flags word) }
 {
@@ -168,7 +168,7 @@ fn push_assist(text: &mut String, flags: u8, word: u64) -> Result<(), AllocError
 }
 
 /// Appends what an event did.
-fn push_deed(text: &mut String, event: &Event) -> Result<(), AllocError>
+pub(crate) fn push_deed(text: &mut String, event: &Event) -> Result<(), AllocError>
     ensures { OnOk result
         (string_bytes text.new ≡ string_bytes text.old ++ event_text event.now) }
 {

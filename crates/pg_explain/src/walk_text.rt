@@ -47,7 +47,7 @@ fn push_read(text: &mut String, level: Level, moment: u32, pcid: u16) -> Result<
     write!(text, "level {level}: moment {moment} pcid 0x{pcid:x} ")
 }
 
-fn push_writer(text: &mut String, writer: Option<u32>) -> Result<(), AllocError>
+pub(crate) fn push_writer(text: &mut String, writer: Option<u32>) -> Result<(), AllocError>
     ensures { OnOk result
         (string_bytes text.new ≡ string_bytes text.old ++ writer_text writer) }
 {

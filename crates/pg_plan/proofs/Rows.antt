@@ -16,6 +16,14 @@ check : Gives (codes "check" ∷ []) []
 unfolding clap_on_literals
 check = refl
 
+certify : Gives (codes "certify" ∷ codes "--bytes" ∷ codes "--checkers" ∷ codes "2" ∷ []) []
+unfolding clap_on_literals
+certify = refl
+
+certify_single : Gives (codes "certify" ∷ codes "--single" ∷ []) (UnknownArgument ∷ [])
+unfolding clap_on_literals
+certify_single = refl
+
 run_of : Gives (codes "run-of" ∷ []) []
 unfolding clap_on_literals
 run_of = refl

@@ -12,8 +12,8 @@ use Rattle.clap.specs.declared.builder.action.ArgAction.TheVariants.{Set, SetTru
 use Rattle.clap.specs.declared.builder.value_parser.ValueParser.TheVariants as parsers
 use Rattle.clap.specs.declared.error.kind.ErrorKind.TheVariants.{DisplayHelp, DisplayVersion}
 use Rattle.pg_plan.specs.declared.request.Command.{Command}
-use Rattle.pg_plan.specs.declared.request.Command.TheVariants.{Check, Run, RunOf, Explain, Show}
-use Rattle.pg_plan.specs.declared.request.Command.TheVariants.{Upgrade}
+use Rattle.pg_plan.specs.declared.request.Command.TheVariants.{Check, Certify, Run, RunOf}
+use Rattle.pg_plan.specs.declared.request.Command.TheVariants.{Explain, Show, Upgrade}
 use Rattle.pg_plan.specs.declared.request.Plan.{Plan}
 use Rattle.pg_plan.specs.declared.request.Usage.{Usage}
 use Rattle.pg_plan.specs.declared.request.Usage.TheVariants.{Help, Version, Fault, Memory}
@@ -21,13 +21,14 @@ pub use Rattle.clap.specs.Walk.{texts}
 
 abbrev pub command_word : Command → List ℕ
 command_word Check = codes "check"
+command_word Certify = codes "certify"
 command_word Run = codes "run"
 command_word RunOf = codes "run-of"
 command_word Explain = codes "explain"
 command_word Show = codes "show"
 command_word Upgrade = codes "upgrade"
 
--- ---- the command line: one of the commands, of which `check`, `run` and `show` have options
+-- ---- the command line: one of the commands, of which some have options
 
 abbrev pub bare_line : App
 bare_line = on_top (λ s. record s {
@@ -52,6 +53,11 @@ check_line = with_rule (new_app (command_word Check)) checkers_rule
 abbrev pub switch_rule : Text → Rule
 switch_rule name = record (new_rule name) { long = Some name; action = Some SetTrue }
 
+abbrev pub certify_line : App
+certify_line =
+    with_rule (with_rule (new_app (command_word Certify)) checkers_rule)
+    (switch_rule (codes "bytes"))
+
 abbrev pub run_line : App
 run_line =
     let line = with_rule (new_app (command_word Run)) checkers_rule in
@@ -71,20 +77,24 @@ show_line =
     let line = with_rule (new_app (command_word Show)) (number_rule (codes "from")) in
     with_rule line (number_rule (codes "to"))
 
--- the commands that judge by so many checkers
-abbrev pub options_line : App
-options_line = with_subcommand (with_subcommand bare_line check_line.top) run_line.top
+-- the commands that judge a record
+abbrev pub judging_line : App
+judging_line = with_subcommand (with_subcommand bare_line check_line.top) certify_line.top
+
+-- and those that have to do with runs
+abbrev pub running_line : App
+running_line =
+    with_subcommand (with_subcommand judging_line run_line.top)
+    (new_app (command_word RunOf)).top
 
 -- and those that say more of a record
-abbrev pub records_line : App
-records_line =
-    with_subcommand (with_subcommand options_line (new_app (command_word RunOf)).top)
-    (new_app (command_word Explain)).top
+abbrev pub telling_line : App
+telling_line =
+    with_subcommand (with_subcommand running_line (new_app (command_word Explain)).top)
+    show_line.top
 
 abbrev pub command_line : App
-command_line =
-    with_subcommand (with_subcommand records_line show_line.top)
-    (new_app (command_word Upgrade)).top
+command_line = with_subcommand telling_line (new_app (command_word Upgrade)).top
 
 -- the kinds of error that `clap` gives for the words: none where they are taken
 abbrev pub faults : List Text → Kinds

@@ -5,8 +5,8 @@ ghost use Rattle.clap.specs.Simple.{app_of, subcommand_rows_of};
 ghost use Rattle.clap.specs.Matches.{first_value, found_of};
 ghost use Rattle.clap.specs.Walk.{rule_of};
 ghost use Rattle.clap.specs.declared.builder.command.Command.TheViews.{out-Command as fields_of};
-ghost use Rattle.pg_plan.specs.Commands.{texts, bare_line, check_line, run_line, options_line};
-ghost use Rattle.pg_plan.specs.Commands.{records_line, show_line};
+ghost use Rattle.pg_plan.specs.Commands.{texts, bare_line, check_line, certify_line, run_line};
+ghost use Rattle.pg_plan.specs.Commands.{judging_line, running_line, telling_line, show_line};
 ghost use Rattle.pg_plan.specs.Commands.{checkers_rule, number_rule, switch_rule, command_line};
 ghost use Rattle.pg_plan.specs.Commands.{command_word, AreAsked, AreFrom1To64, is_on};
 ghost use Rattle.pg_plan.specs.Commands.{IsAsked, IsNumberIn};
@@ -24,6 +24,11 @@ use std::alloc::{AllocError, Global};
 const CHECK: &str = "check";
 
 const CHECK_ABOUT: &str = "Reads a record from standard input, and writes its report";
+
+const CERTIFY: &str = "certify";
+
+const CERTIFY_ABOUT: &str = "Reads a record from standard input, whatever moments it names, and \
+    writes whether any run has its events";
 
 const RUN: &str = "run";
 
@@ -120,6 +125,16 @@ fn switch<'a>(alloc: Global, name: &'a str, about: &'a str) -> Arg<'a>
         .action(ArgAction::SetTrue)
 }
 
+fn certify_line<'a>(alloc: Global) -> Result<CommandLine<'a>, AllocError>
+    ensures line { IfOk result (λ line. app_of line ≡ certify_line) }
+    ensures local { IfOk result (λ line. (fields_of line).has_globals ≡ false) }
+{
+    CommandLine::new(alloc, CERTIFY)
+        .about(CERTIFY_ABOUT)
+        .arg(checkers_option(alloc))?
+        .arg(switch(alloc, BYTES, BYTES_ABOUT))
+}
+
 fn run_line<'a>(alloc: Global) -> Result<CommandLine<'a>, AllocError>
     ensures line { IfOk result (λ line. app_of line ≡ run_line) }
     ensures local { IfOk result (λ line. (fields_of line).has_globals ≡ false) }
@@ -154,30 +169,37 @@ fn show_line<'a>(alloc: Global) -> Result<CommandLine<'a>, AllocError>
         .arg(number_option(alloc, TO, "B", TO_ABOUT))
 }
 
-/// The commands that judge by so many checkers.
-fn options_line<'a>(alloc: Global) -> Result<CommandLine<'a>, AllocError>
-    ensures { IfOk result (λ line. app_of line ≡ options_line) }
+/// The commands that judge a record.
+fn judging_line<'a>(alloc: Global) -> Result<CommandLine<'a>, AllocError>
+    ensures { IfOk result (λ line. app_of line ≡ judging_line) }
 {
     bare_line(alloc)
         .subcommand(check_line(alloc)?)?
-        .subcommand(run_line(alloc)?)
+        .subcommand(certify_line(alloc)?)
+}
+
+/// And those that have to do with runs.
+fn running_line<'a>(alloc: Global) -> Result<CommandLine<'a>, AllocError>
+    ensures { IfOk result (λ line. app_of line ≡ running_line) }
+{
+    judging_line(alloc)?
+        .subcommand(run_line(alloc)?)?
+        .subcommand(CommandLine::new(alloc, RUN_OF).about(RUN_OF_ABOUT))
 }
 
 /// And those that say more of a record.
-fn records_line<'a>(alloc: Global) -> Result<CommandLine<'a>, AllocError>
-    ensures { IfOk result (λ line. app_of line ≡ records_line) }
+fn telling_line<'a>(alloc: Global) -> Result<CommandLine<'a>, AllocError>
+    ensures { IfOk result (λ line. app_of line ≡ telling_line) }
 {
-    options_line(alloc)?
-        .subcommand(CommandLine::new(alloc, RUN_OF).about(RUN_OF_ABOUT))?
-        .subcommand(CommandLine::new(alloc, EXPLAIN).about(EXPLAIN_ABOUT))
+    running_line(alloc)?
+        .subcommand(CommandLine::new(alloc, EXPLAIN).about(EXPLAIN_ABOUT))?
+        .subcommand(show_line(alloc)?)
 }
 
 fn command_line<'a>(alloc: Global) -> Result<CommandLine<'a>, AllocError>
     ensures { IfOk result (λ line. app_of line ≡ command_line) }
 {
-    records_line(alloc)?
-        .subcommand(show_line(alloc)?)?
-        .subcommand(CommandLine::new(alloc, UPGRADE).about(UPGRADE_ABOUT))
+    telling_line(alloc)?.subcommand(CommandLine::new(alloc, UPGRADE).about(UPGRADE_ABOUT))
 }
 
 fn usage_of(alloc: Global, error: Error) -> Usage
@@ -206,6 +228,7 @@ fn command_of(name: &str) -> Option<Command>
 {
     match name {
         CHECK => Some(Command::Check),
+        CERTIFY => Some(Command::Certify),
         RUN => Some(Command::Run),
         RUN_OF => Some(Command::RunOf),
         EXPLAIN => Some(Command::Explain),

@@ -8,4 +8,5 @@ pub mod Guests
 pub mod Lines
 pub mod Texts
 pub mod Explanations
+pub mod Certificates
 pub mod Answers

@@ -1,6 +1,7 @@
 //! The whole program over any streams.
 #![tactic(auto)]
 
+mod certificates;
 mod explanations;
 mod guest_error;
 mod guest_refusals;
@@ -13,6 +14,7 @@ mod runs;
 mod shown;
 mod upgrader;
 
+pub use certificates::certify;
 pub use explanations::explain;
 pub use guest_error::GuestError;
 pub use lines::show;

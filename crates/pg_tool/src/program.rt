@@ -11,6 +11,7 @@ ghost use Rattle.pg_tool.specs.Status.{Checks, IsAbleBy, ShowsRun};
 ghost use Rattle.pg_tool.specs.Streams.{streams};
 ghost use Rattle.pg_tool.specs.Upgrades.{IsReportText, report_in, TellsReport, Upgrades};
 
+use crate::certificates::certify;
 use crate::explanations::explain;
 use crate::guest_error::GuestError;
 use crate::guest_refusals::tell_guest;
@@ -39,7 +40,7 @@ const MEMORY: u8 = 3;
 
 const USAGE: u8 = 64;
 
-fn error_status(error: AuditError) -> u8
+pub(crate) fn error_status(error: AuditError) -> u8
     ensures { result ≡ error_status error }
 {
     match error {
@@ -250,6 +251,7 @@ fn perform<T: AllocGlobal + Threads + Wait + Sync, R: Source, O: Sink, E: Sink>(
 {
     match plan.command {
         Command::Check => check(rt, plan.checkers, input, output, errors),
+        Command::Certify => certify(rt.alloc(), input, output, errors),
         Command::Run => run(rt, plan, input, output, errors),
         Command::RunOf => run_of(rt.alloc(), input, output, errors),
         Command::Explain => explain(rt.alloc(), input, output, errors),

@@ -29,6 +29,14 @@ pub struct ToldText {
     pub text: String,
 }
 
+/// What certifying a record came to, and what is written of it.
+#[derive(Drop)]
+pub struct CertificateText {
+    /// The least event that no moments witness, where there is one.
+    pub denied: Option<u64>,
+    pub text: String,
+}
+
 /// Writes what is told of a record, and gives its verdict.
 pub(crate) fn give<O: Sink>(output: &mut O, told: ToldText) -> Result<Verdict, AuditError>
     ensures text { WritesText (filled O.Sink output.old output.new)

@@ -1,0 +1,103 @@
+-- What stands behind an event that no moments witness, and its text, a fact a line.
+--
+--     event: LINE                             the event, as it is shown, without its moments
+--     now: level L [HEX] = HEX KIND, WRITTEN  for each entry that the processor would read at the
+--                                             event, down to the first that is no table
+--     last: moment M by W ..; taken by LINE   the last number at which the event would have been
+--                                             witnessed, the freshest moments that would have, and
+--                                             the event there, behind which it never was
+--     last: never                             where there is none
+use Rattle.std.specs.Prelude.{◌≡◌, ℕ, if◌then◌else◌, List, [], ◌∷◌, ◌++◌, Option, Some, None}
+use Rattle.std.specs.Prelude.{codes, decimal, slice_get, IfSome, IfNone}
+use Rattle.pg_entry.specs.declared.Level.{Level}
+use Rattle.pg_event.specs.declared.event.Event.{Event}
+use Rattle.pg_event.specs.declared.event.Event.TheVariants.{Write, Access, Assist, MovCr3, Invlpg}
+use Rattle.pg_event.specs.declared.event.Event.TheVariants.{Invpcid, MovCr4Pge}
+use Rattle.pg_event.specs.Heads.{Head}
+use Rattle.pg_event.specs.Form.{processor_of}
+use Rattle.pg_event.specs.Wants.{is_table}
+use Rattle.pg_search.specs.declared.last.Last.{Last}
+use Rattle.pg_search.specs.Last.{IsLast, HasNoLast}
+use Rattle.pg_explain.specs.declared.entry.WalkEntry.{WalkEntry}
+use Rattle.pg_explain.specs.declared.denial.Denial.{Denial}
+use Rattle.pg_explain.specs.Line.{access_text, outcome_text, assist_text, event_text, numbers_text}
+use Rattle.pg_explain.specs.Names.{level_number}
+use Rattle.pg_explain.specs.Text.{held_text, writer_text, numbered_text}
+use Rattle.pg_explain.specs.Walk.{IsWalk}
+
+-- these are the entries of a walk at the event
+abbrev pub IsWalkNow : Head → List Event → ℕ → Event → List WalkEntry → Type 0
+IsWalkNow head events i (Write p addr value) walk = walk ≡ []
+IsWalkNow head events i (Access p flags la outcome moments) walk =
+    IsWalk head events p la (i ∷ i ∷ i ∷ i ∷ []) walk
+IsWalkNow head events i (Assist p flags la word moments) walk =
+    IsWalk head events p la (i ∷ i ∷ i ∷ i ∷ []) walk
+IsWalkNow head events i (MovCr3 p operand) walk = walk ≡ []
+IsWalkNow head events i (Invlpg p la) walk = walk ≡ []
+IsWalkNow head events i (Invpcid p kind pcid la) walk = walk ≡ []
+IsWalkNow head events i (MovCr4Pge p on) walk = walk ≡ []
+
+-- this stands behind event i, where no moments witness it
+pub record IsDenialOf (head : Head) (events : List Event) (i : ℕ) (x : Denial) : Type 0 where
+  pub number : x.number ≡ i
+  pub walk : IfSome (slice_get events i) (λ e. IsWalkNow head events i e x.walk.items)
+  pub last : IfSome x.last (IsLast head events i)
+  pub never : IfNone x.last (HasNoLast head events i)
+
+-- ---- its text
+
+-- an event without the moments that it names
+abbrev pub claim_text : Event → List ℕ
+claim_text (Write p addr value) = event_text (Write p addr value)
+claim_text (Access p flags la outcome moments) =
+    access_text flags la ++ (codes " -> " ++ outcome_text outcome)
+claim_text (Assist p flags la word moments) = access_text flags la ++ assist_text flags word
+claim_text (MovCr3 p operand) = event_text (MovCr3 p operand)
+claim_text (Invlpg p la) = event_text (Invlpg p la)
+claim_text (Invpcid p kind pcid la) = event_text (Invpcid p kind pcid la)
+claim_text (MovCr4Pge p on) = event_text (MovCr4Pge p on)
+
+abbrev pub claim_line : ℕ → Event → List ℕ
+claim_line number e =
+    decimal number ++ (codes " cpu " ++ (decimal (processor_of e) ++ (codes " " ++ claim_text e)))
+
+abbrev pub claim_at : ℕ → Option Event → List ℕ
+claim_at number None = []
+claim_at number (Some e) = claim_line number e
+
+abbrev pub claimed_text : List Event → ℕ → List ℕ
+claimed_text events number =
+    codes "event: " ++ (claim_at number (slice_get events number) ++ codes "\n")
+
+abbrev pub now_level_text : Level → List ℕ
+now_level_text level = codes "now: level " ++ (decimal (level_number level) ++ codes " ")
+
+abbrev pub now_entry_text : WalkEntry → List ℕ
+now_entry_text x =
+    now_level_text x.step.level
+    ++ (held_text x.step.address x.step.value x.kind ++ writer_text x.writer)
+
+-- the entries down to the first that is no table
+abbrev pub now_walk_text : List WalkEntry → List ℕ
+now_walk_text [] = []
+now_walk_text (x ∷ xs) = now_entry_text x ++ (if is_table x.kind then now_walk_text xs else [])
+
+abbrev pub by_text : List ℕ → List ℕ
+by_text ws = codes " by" ++ numbers_text ws
+
+abbrev pub last_moments_text : Last → List ℕ
+last_moments_text last = codes "last: moment " ++ (decimal last.number ++ by_text last.moments)
+
+abbrev pub last_seen_text : List Event → Last → List ℕ
+last_seen_text events last =
+    last_moments_text last
+    ++ (codes "; taken by " ++ (numbered_text events last.number ++ codes "\n"))
+
+abbrev pub taken_text : List Event → Option Last → List ℕ
+taken_text events None = codes "last: never\n"
+taken_text events (Some last) = last_seen_text events last
+
+-- the text of what stands behind an event, where these are the events of its run
+abbrev pub denial_text : List Event → Denial → List ℕ
+denial_text events x =
+    claimed_text events x.number ++ (now_walk_text x.walk.items ++ taken_text events x.last)

@@ -1,0 +1,172 @@
+//! The text of what stands behind an event that no moments witness.
+
+ghost use Rattle.std.specs.Prelude.{◌≡◌, ◌++◌, IfOk, OnOk, string_bytes, slice_get};
+ghost use Rattle.pg_explain.specs.Denied.{claim_text, claimed_text, now_entry_text, now_walk_text};
+ghost use Rattle.pg_explain.specs.Denied.{claim_line, claim_at, last_moments_text, last_seen_text};
+ghost use Rattle.pg_explain.specs.Denied.{by_text, now_level_text, taken_text, denial_text};
+
+use crate::denial::Denial;
+use crate::entry::WalkEntry;
+use crate::finding_text::push_numbered;
+use crate::line::{push_access, push_assist, push_deed, push_numbers, push_outcome};
+use crate::names::level_number;
+use crate::walk_finding::is_table;
+use crate::walk_text::{push_held, push_writer};
+use pg_chain::Step;
+use pg_entry::Level;
+use pg_event::{Event, Moments, processor_of};
+use pg_search::Last;
+use std::alloc::{AllocError, Global};
+
+/// Appends what an event did, without the moments that it names.
+fn push_claim(text: &mut String, event: &Event) -> Result<(), AllocError>
+    ensures { OnOk result
+        (string_bytes text.new ≡ string_bytes text.old ++ claim_text event.now) }
+{
+    match *event {
+        Event::Access {
+            flags, la, outcome, ..
+        } => {
+            push_access(text, flags, la)?;
+            text.push_str(" -> ")?;
+            push_outcome(text, outcome)
+        }
+        Event::Assist {
+            flags, la, word, ..
+        } => {
+            push_access(text, flags, la)?;
+            push_assist(text, flags, word)
+        }
+        Event::Write { .. }
+        | Event::MovCr3 { .. }
+        | Event::Invlpg { .. }
+        | Event::Invpcid { .. }
+        | Event::MovCr4Pge { .. } => push_deed(text, event),
+    }
+}
+
+/// Appends the line of an event without the moments that it names.
+fn push_claim_line(text: &mut String, number: u32, event: &Event) -> Result<(), AllocError>
+    ensures { OnOk result
+        (string_bytes text.new ≡ string_bytes text.old ++ claim_line number event.now) }
+{
+    let p = processor_of(event);
+    write!(text, "{number} cpu {p} ")?;
+    push_claim(text, event)
+}
+
+/// The same of the event with this number, where there is one.
+fn push_claim_at(text: &mut String, events: &[Event], number: u32) -> Result<(), AllocError>
+    ensures { OnOk result (string_bytes text.new
+        ≡ string_bytes text.old ++ claim_at number (slice_get events.now number)) }
+{
+    match events.get(number as usize) {
+        Some(event) => push_claim_line(text, number, event),
+        None => Ok(()),
+    }
+}
+
+/// Appends the event of this number, as it is shown, without the moments that it names.
+fn push_claimed(text: &mut String, events: &[Event], number: u32) -> Result<(), AllocError>
+    ensures { OnOk result
+        (string_bytes text.new ≡ string_bytes text.old ++ claimed_text events.now number) }
+{
+    text.push_str("event: ")?;
+    push_claim_at(text, events, number)?;
+    text.push_str("\n")
+}
+
+fn push_now_level(text: &mut String, level: Level) -> Result<(), AllocError>
+    ensures { OnOk result
+        (string_bytes text.new ≡ string_bytes text.old ++ now_level_text level) }
+{
+    let level = level_number(level);
+    write!(text, "now: level {level} ")
+}
+
+fn push_now_entry(text: &mut String, entry: &WalkEntry) -> Result<(), AllocError>
+    ensures { OnOk result
+        (string_bytes text.new ≡ string_bytes text.old ++ now_entry_text entry.now) }
+{
+    let Step {
+        level,
+        address,
+        value,
+        ..
+    } = entry.step;
+    push_now_level(text, level)?;
+    push_held(text, address, value, entry.kind)?;
+    push_writer(text, entry.writer)
+}
+
+/// Appends the entries of a walk, down to the first that is no table.
+fn push_now_walk(text: &mut String, walk: &[WalkEntry]) -> Result<(), AllocError>
+    ensures { OnOk result
+        (string_bytes text.new ≡ string_bytes text.old ++ now_walk_text walk.now) }
+{
+    for entry in walk {
+        push_now_entry(text, entry)?;
+        if !is_table(entry.kind) {
+            return Ok(());
+        }
+    }
+    Ok(())
+}
+
+/// Appends moments behind a word.
+fn push_by(text: &mut String, moments: &Moments) -> Result<(), AllocError>
+    ensures { OnOk result
+        (string_bytes text.new ≡ string_bytes text.old ++ by_text moments.now) }
+{
+    text.push_str(" by")?;
+    push_numbers(text, moments.as_slice())
+}
+
+/// Appends the last number at which an event would have been witnessed, and its moments there.
+fn push_last_moments(text: &mut String, last: &Last) -> Result<(), AllocError>
+    ensures { OnOk result
+        (string_bytes text.new ≡ string_bytes text.old ++ last_moments_text last.now) }
+{
+    let number = last.number;
+    write!(text, "last: moment {number}")?;
+    push_by(text, &last.moments)?;
+    Ok(())
+}
+
+/// The same with the event that took that away.
+fn push_last_seen(text: &mut String, events: &[Event], last: &Last) -> Result<(), AllocError>
+    ensures { OnOk result
+        (string_bytes text.new ≡ string_bytes text.old ++ last_seen_text events.now last.now) }
+{
+    push_last_moments(text, last)?;
+    text.push_str("; taken by ")?;
+    push_numbered(text, events, last.number)?;
+    text.push_str("\n")
+}
+
+/// Appends when an event would last have been witnessed, and what took that away.
+fn push_taken(text: &mut String, events: &[Event], last: Option<Last>) -> Result<(), AllocError>
+    ensures { OnOk result
+        (string_bytes text.new ≡ string_bytes text.old ++ taken_text events.now last) }
+{
+    match last {
+        None => text.push_str("last: never\n"),
+        Some(last) => push_last_seen(text, events, &last),
+    }
+}
+
+/// The text of what stands behind an event that no moments witness, where these are the events of
+/// its run. `Err` is for want of memory alone.
+pub fn denial_text(
+    alloc: Global,
+    events: &[Event],
+    denial: &Denial,
+) -> Result<String, AllocError>
+    ensures { IfOk result (λ t. string_bytes t ≡ denial_text events.now denial.now) }
+{
+    let mut text = String::new(alloc);
+    push_claimed(&mut text, events, denial.number)?;
+    push_now_walk(&mut text, &denial.walk)?;
+    push_taken(&mut text, events, denial.last)?;
+    Ok(text)
+}
