@@ -106,12 +106,12 @@ fn moments_fit(moments: Moments)
 /// under the own PCID, and if it is global.
 fn pages_of(p: u16, pcid: u16, la: u64) -> [u64; 6] {
     [
-        key_of(p, Scope::Page(pcid), Part::Page4K, la),
-        key_of(p, Scope::Page(pcid), Part::Page2M, la),
-        key_of(p, Scope::Page(pcid), Part::Page1G, la),
-        key_of(p, Scope::GlobalPage, Part::Page4K, la),
-        key_of(p, Scope::GlobalPage, Part::Page2M, la),
-        key_of(p, Scope::GlobalPage, Part::Page1G, la),
+        key_of(p, Scope::Page(pcid), Part::Of4K, la),
+        key_of(p, Scope::Page(pcid), Part::Of2M, la),
+        key_of(p, Scope::Page(pcid), Part::Of1G, la),
+        key_of(p, Scope::GlobalPage, Part::Of4K, la),
+        key_of(p, Scope::GlobalPage, Part::Of2M, la),
+        key_of(p, Scope::GlobalPage, Part::Of1G, la),
     ]
 }
 
@@ -327,7 +327,7 @@ impl<'a> Certifier<'a> {
         ensures same { self.new ≡ self.old }
         ensures found { IfSome result (IsFound self.old.head self.old.events case.i) }
     {
-        for (part, count) in [(Part::Page2M, 3), (Part::Page1G, 2), (Part::Half, 1)] {
+        for (part, count) in [(Part::Of2M, 3), (Part::Of1G, 2), (Part::Of512G, 1)] {
             if let Some(found) = self.guess_tables(event, case, part, count) {
                 return Some(found);
             }

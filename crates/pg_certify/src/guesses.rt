@@ -31,13 +31,18 @@ pub(crate) struct Guesses {
     lists: HashMap<u64, Lists>,
 }
 
-/// The lowest bit of the part of an address that tells a page, or what lies below a table.
+/// A part of the linear address space, told by the upper bits of an address: a page by its size, or
+/// what lies below an entry of level 2, 3 or 4.
 #[derive(Clone, Copy)]
 pub(crate) enum Part {
-    Page4K,
-    Page2M,
-    Page1G,
-    Half,
+    /// Bits 47:12.
+    Of4K,
+    /// Bits 47:21.
+    Of2M,
+    /// Bits 47:30.
+    Of1G,
+    /// Bits 47:39.
+    Of512G,
 }
 
 /// What moments were found for: a part of the address space of a processor.
@@ -48,10 +53,10 @@ pub(crate) fn key_of(p: u16, scope: Scope, part: Part, la: u64) -> u64 {
         Scope::Tables(pcid) => 1 << 13 | pcid as u64 % 4096,
     };
     let (part, number) = match part {
-        Part::Page4K => (0, bits_from(12, la)),
-        Part::Page2M => (1, bits_from(21, la)),
-        Part::Page1G => (2, bits_from(30, la)),
-        Part::Half => (3, bits_from(39, la)),
+        Part::Of4K => (0, bits_from(12, la)),
+        Part::Of2M => (1, bits_from(21, la)),
+        Part::Of1G => (2, bits_from(30, la)),
+        Part::Of512G => (3, bits_from(39, la)),
     };
     (p as u64) << 52 | scope << 38 | part << 36 | number
 }
@@ -59,10 +64,10 @@ pub(crate) fn key_of(p: u16, scope: Scope, part: Part, la: u64) -> u64 {
 /// The page that a walk by so many moments comes to.
 fn page_by(count: usize) -> Part {
     match count {
-        4 => Part::Page4K,
-        3 => Part::Page2M,
-        2 => Part::Page1G,
-        _ => Part::Half,
+        4 => Part::Of4K,
+        3 => Part::Of2M,
+        2 => Part::Of1G,
+        _ => Part::Of512G,
     }
 }
 
@@ -98,7 +103,7 @@ impl Guesses {
     /// by and, if a page serves the event, for that page.
     pub(crate) fn note(&mut self, p: u16, pcid: u16, la: u64, walk: &Walk, is_page: bool) {
         let moments = walk.moments;
-        for part in [Part::Page2M, Part::Page1G, Part::Half] {
+        for part in [Part::Of2M, Part::Of1G, Part::Of512G] {
             self.keep(key_of(p, Scope::Tables(pcid), part, la), moments);
         }
         if is_page {
