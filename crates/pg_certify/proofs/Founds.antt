@@ -1,21 +1,20 @@
 -- What is found for an event witnesses it.
-use Rattle.std.proofs.Common.{◌≡◌, ℕ, ◌+◌, ◌<◌, ◌≤◌, true, false, List, [], ◌∷◌, ◌++◌, length, refl, ap, sym, ◌∙◌, subst, arith, inl, inr, ◌⊎◌, Option, Some, None, take, take_all, map}
+use Rattle.std.proofs.Common.{◌≡◌, ℕ, ◌+◌, ◌<◌, ◌≤◌, false, List, [], ◌∷◌, length, refl, ap, sym, ◌∙◌, subst, arith, inl, inr, Option, Some, None, take_all, map}
 use Rattle.std.specs.Prelude.{slice_get, IfSome, IfNone}
-use Rattle.std.specs.List.{AllByRecursion}
 use Rattle.std.proofs.lemmas.Bool.{cases_lt}
 use Rattle.pg_event.specs.declared.event.Event.{Event}
 use Rattle.pg_event.specs.declared.event.Event.TheVariants.{Write, Access, Assist, MovCr3, Invlpg, Invpcid, MovCr4Pge}
 use Rattle.pg_event.specs.Heads.{Head}
-use Rattle.pg_event.specs.Form.{processor_of, broken_rule}
+use Rattle.pg_event.specs.Form.{processor_of}
 use Rattle.pg_event.specs.Spelling.{Recorded, AreMoments}
-use Rattle.pg_event.specs.Witness.{Accepted, failing_event}
+use Rattle.pg_event.specs.Witness.{failing_event}
 use Rattle.pg_chain.specs.declared.history.Past.{Past}
 use Rattle.pg_chain.specs.Standing.{IsPast, processor_count}
 use Rattle.pg_chain.proofs.Notes.{processor_count-past}
 use Rattle.pg_check.proofs.Known.{processor-known}
 use Rattle.pg_run_of.specs.Converse.{without_moments, HasMoments, AreSameButMoments}
 use Rattle.pg_run_of.proofs.Moments.{judged_alike}
-use Rattle.pg_search.specs.Law.{names_moments, with_moments, AreWitness, WitnessedBy, CanBeWitnessed}
+use Rattle.pg_search.specs.Law.{names_moments, with_moments, WitnessedBy, CanBeWitnessed}
 use Rattle.pg_certify.specs.Certified.{IsEvent, IsFound, IsCertified, IsDenied, NamesMoments}
 use Rattle.pg_certify.proofs.Gathered.{Good, UpTo}
 

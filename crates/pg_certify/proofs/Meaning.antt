@@ -1,22 +1,21 @@
 -- What an answer means for runs of the machine.
-use Rattle.std.proofs.Common.{◌≡◌, ℕ, zero, suc, ◌+◌, ◌-◌, ◌^◌, ◌<◌, ◌≤◌, List, [], ◌∷◌, length, refl, ap, sym, ◌∙◌, subst, arith, Option, Some, None, take, take_all, map}
+use Rattle.std.proofs.Common.{◌≡◌, ℕ, zero, suc, ◌-◌, ◌^◌, ◌<◌, ◌≤◌, List, [], ◌∷◌, length, refl, ap, sym, ◌∙◌, arith, take, take_all, map}
 use Rattle.std.specs.Prelude.{slice_get}
-use Rattle.std.specs.List.{AllByRecursion}
 use Rattle.std.proofs.lemmas.List.{length-take, length-map, take-take}
 use Rattle.pg_event.specs.declared.event.Event.{Event}
 use Rattle.pg_event.specs.Heads.{Head}
-use Rattle.pg_event.specs.Witness.{Accepted, failing_event}
+use Rattle.pg_event.specs.Witness.{Accepted}
 use Rattle.pg_event.proofs.Alike.{same_judged}
 use Rattle.pg_check.specs.Kept.{AreWellFormed}
 use Rattle.pg_machine.specs.declared.step.Step.{Step}
-use Rattle.pg_machine.specs.Machine.{IsRun, visible}
+use Rattle.pg_machine.specs.Machine.{visible}
 use Rattle.pg_run_of.specs.Converse.{without_moments, AreSameButMoments}
 use Rattle.pg_run_of.proofs.Whole.{accepted_events_run}
 use Rattle.pg_run_of.proofs.Converse.{runs_are_accepted}
 use Rattle.pg_run_of.proofs.Moments.{judged_alike, well_same}
-use Rattle.pg_search.specs.Law.{CanBeWitnessed, RunBeginsWith, UnwitnessedEventsHaveNoRun}
-use Rattle.pg_certify.specs.Certified.{IsCertified, IsDenied, HasRunButMoments, CertifiedEventsRun, DeniedEventsHaveNoRun, CertifiedExactlyWhereARunExists}
-use Rattle.pg_certify.proofs.Gathered.{Good, UpTo, gathered}
+use Rattle.pg_search.specs.Law.{CanBeWitnessed, UnwitnessedEventsHaveNoRun}
+use Rattle.pg_certify.specs.Certified.{IsCertified, HasRunButMoments, CertifiedEventsRun, DeniedEventsHaveNoRun, CertifiedExactlyWhereARunExists}
+use Rattle.pg_certify.proofs.Gathered.{Good, gathered}
 use Rattle.pg_certify.proofs.Founds.{can_good}
 
 -- the form of events reads no moments

@@ -9,8 +9,8 @@ ghost use Rattle.pg_search.specs.Law.{names_moments, with_moments, CanBeWitnesse
 ghost use Rattle.pg_certify.specs.Certified.{IsFound, IsDenied, NamesMoments, Certifies};
 ghost use Rattle.pg_certify.specs.Certified.{CanBeCertified, IsEvent};
 
-use crate::changes::{Changes, KEPT};
-use crate::guesses::{Guesses, Key, Scope, key_of};
+use crate::guesses::{Guesses, Part, Scope, key_of};
+use crate::recent::Recent;
 use crate::walk::{Walk, first_moments, walk_by};
 use pg_check::{History, Memo, failing};
 use pg_event::{Event, Moments, Outcome, uses_last, want_of};
@@ -34,7 +34,8 @@ struct Certifier<'a> {
     history: &'a History,
     memo: Memo<'a>,
     guesses: Guesses,
-    changes: Changes,
+    /// When words of table memory were changed, and when processors left PCIDs.
+    changes: Recent,
 }
 
 impl<'a> Model for Certifier<'a> {
@@ -103,15 +104,23 @@ fn moments_fit(moments: Moments)
 
 /// What moments may have been found for that serve an access to a page: the page by each size,
 /// under the own PCID, and if it is global.
-fn pages_of(p: u16, pcid: u16, la: u64) -> [Key; 6] {
+fn pages_of(p: u16, pcid: u16, la: u64) -> [u64; 6] {
     [
-        key_of(p, Scope::Page(pcid), 12, la),
-        key_of(p, Scope::Page(pcid), 21, la),
-        key_of(p, Scope::Page(pcid), 30, la),
-        key_of(p, Scope::GlobalPage, 12, la),
-        key_of(p, Scope::GlobalPage, 21, la),
-        key_of(p, Scope::GlobalPage, 30, la),
+        key_of(p, Scope::Page(pcid), Part::Of4K, la),
+        key_of(p, Scope::Page(pcid), Part::Of2M, la),
+        key_of(p, Scope::Page(pcid), Part::Of1G, la),
+        key_of(p, Scope::GlobalPage, Part::Of4K, la),
+        key_of(p, Scope::GlobalPage, Part::Of2M, la),
+        key_of(p, Scope::GlobalPage, Part::Of1G, la),
     ]
+}
+
+/// So many changes of a word are looked at.
+const MOST_CHANGES: usize = 16;
+
+/// A number that tells a PCID of a processor, and is no address of a word.
+fn space_of(p: u16, pcid: u16) -> u64 {
+    (p as u64) << 32 | (pcid as u64) << 8 | 1
 }
 
 /// The moments that an event names, if it names some.
@@ -190,8 +199,8 @@ impl<'a> Certifier<'a> {
             alloc,
             history,
             memo: history.stretch().memo(count),
-            guesses: Guesses::new(alloc, count),
-            changes: Changes::new(alloc, count),
+            guesses: Guesses::new(alloc),
+            changes: Recent::new(alloc),
         }
     }
 
@@ -209,17 +218,31 @@ impl<'a> Certifier<'a> {
         }
     }
 
-    /// The access to a page with the moments that were found last for that, if they witness it.
+    /// The event with moments that were found for a key, if they witness it.
+    fn judge_kept(&mut self, event: &Event, i: u32, key: u64) -> Option<Event>
+        requires { IsEvent self.old.head self.old.events i event.now }
+        ensures same { self.new ≡ self.old }
+        ensures found { IfSome result (IsFound self.old.head self.old.events i) }
+    {
+        let lists = self.guesses.of(key)?;
+        if let Some(found) = self.judge(event, i, lists.newer) {
+            return Some(found);
+        }
+        match lists.older {
+            Some(moments) => self.judge(event, i, moments),
+            None => None,
+        }
+    }
+
+    /// The access to a page with moments that were found for that, if they witness it.
     fn guess_last(&mut self, event: &Event, case: Case) -> Option<Event>
         requires { IsEvent self.old.head self.old.events case.i event.now }
         ensures same { self.new ≡ self.old }
         ensures found { IfSome result (IsFound self.old.head self.old.events case.i) }
     {
         for key in pages_of(case.p, case.pcid, case.la) {
-            if let Some(moments) = self.guesses.last(key) {
-                if let Some(found) = self.judge(event, case.i, moments) {
-                    return Some(found);
-                }
+            if let Some(found) = self.judge_kept(event, case.i, key) {
+                return Some(found);
             }
         }
         None
@@ -282,15 +305,14 @@ impl<'a> Certifier<'a> {
 
     /// The event by the tables of the walk that was found last with the same upper bits of the
     /// address, and what lies below as it is read now, or by all moments of that walk.
-    fn guess_tables(&mut self, event: &Event, case: Case, shift: u8, count: usize) -> Option<Event>
+    fn guess_tables(&mut self, event: &Event, case: Case, part: Part, count: usize) -> Option<Event>
         requires event { IsEvent self.old.head self.old.events case.i event.now }
         requires processor { case.p < length self.old.head.processors }
         ensures same { self.new ≡ self.old }
         ensures found { IfSome result (IsFound self.old.head self.old.events case.i) }
     {
-        let near = self
-            .guesses
-            .last(key_of(case.p, Scope::Tables(case.pcid), shift, case.la))?;
+        let key = key_of(case.p, Scope::Tables(case.pcid), part, case.la);
+        let near = self.guesses.of(key)?.newer;
         let tables = first_moments(&near, count);
         match self.guess_walk(event, case, tables.as_slice(), case.i) {
             Some(found) => Some(found),
@@ -305,8 +327,8 @@ impl<'a> Certifier<'a> {
         ensures same { self.new ≡ self.old }
         ensures found { IfSome result (IsFound self.old.head self.old.events case.i) }
     {
-        for (shift, count) in [(21, 3), (30, 2), (39, 1)] {
-            if let Some(found) = self.guess_tables(event, case, shift, count) {
+        for (part, count) in [(Part::Of2M, 3), (Part::Of1G, 2), (Part::Of512G, 1)] {
+            if let Some(found) = self.guess_tables(event, case, part, count) {
                 return Some(found);
             }
         }
@@ -328,7 +350,19 @@ impl<'a> Certifier<'a> {
         self.guess_walk(event, case, &tables[..count.min(3)], case.i)
     }
 
-    /// The event by walks just after and just before a change of a word.
+    /// The latest moment up to one at which the processor had the PCID, as far as it is kept.
+    fn latest_under(&self, case: Case, moment: u32) -> Option<u32>
+        requires { case.p < length self.now.head.processors }
+    {
+        if self.history.control_at(case.p, moment).pcid == case.pcid {
+            Some(moment)
+        } else {
+            self.changes.last_to(space_of(case.p, case.pcid), moment)
+        }
+    }
+
+    /// The event by walks before a change of a word, under the own PCID or, as global pages may be
+    /// read, under any.
     fn guess_change(
         &mut self,
         event: &Event,
@@ -341,13 +375,33 @@ impl<'a> Certifier<'a> {
         ensures same { self.new ≡ self.old }
         ensures found { IfSome result (IsFound self.old.head self.old.events case.i) }
     {
-        match self.guess_at(event, case, change.saturating_add(1), count) {
-            Some(found) => Some(found),
-            None => self.guess_at(event, case, change, count),
+        if let Some(moment) = self.latest_under(case, change) {
+            if let Some(found) = self.guess_at(event, case, moment, count) {
+                return Some(found);
+            }
         }
+        self.guess_at(event, case, change, count)
     }
 
-    /// The event by walks about the last changes of what is read now, 16 of them at most.
+    /// The event by walks before the last changes of a word, the newest first.
+    fn guess_changes(&mut self, event: &Event, case: Case, word: u64, count: usize) -> Option<Event>
+        requires event { IsEvent self.old.head self.old.events case.i event.now }
+        requires processor { case.p < length self.old.head.processors }
+        ensures same { self.new ≡ self.old }
+        ensures found { IfSome result (IsFound self.old.head self.old.events case.i) }
+    {
+        let mut next = self.changes.last(word);
+        for _ in 0..MOST_CHANGES {
+            let change = next?;
+            if let Some(found) = self.guess_change(event, case, change, count) {
+                return Some(found);
+            }
+            next = self.changes.before(change);
+        }
+        None
+    }
+
+    /// The event by walks before the last changes of what is read now, from the last entry up.
     fn guess_earlier(&mut self, event: &Event, case: Case) -> Option<Event>
         requires event { IsEvent self.old.head self.old.events case.i event.now }
         requires processor { case.p < length self.old.head.processors }
@@ -356,14 +410,10 @@ impl<'a> Certifier<'a> {
     {
         let walk = walk_by(self.history, case.p, case.la, &[], case.i);
         let depth = walk.moments.len();
-        for place in 0..4 * KEPT {
-            let (level, rank) = (place % 4, place / 4);
-            if level < depth {
-                if let Some(change) = self.changes.of(walk.words[level])[rank] {
-                    if let Some(found) = self.guess_change(event, case, change, depth - 1) {
-                        return Some(found);
-                    }
-                }
+        for place in 1..depth + 1 {
+            let word = walk.words[depth - place];
+            if let Some(found) = self.guess_changes(event, case, word, depth - 1) {
+                return Some(found);
             }
         }
         None
@@ -424,19 +474,21 @@ impl<'a> Certifier<'a> {
         Ok(found)
     }
 
-    /// Takes note of what an event changes in table memory.
+    /// Takes note of an event that changes a word of table memory, or may change a PCID.
     fn note_change(&mut self, i: u32, event: &Event)
+        requires { processor_of event.now < length self.old.head.processors }
         ensures { self.new ≡ self.old }
     {
-        match *event {
-            Event::Write { addr, .. } => self.changes.note(addr, i),
-            Event::Assist { word, .. } => self.changes.note(word, i),
+        let key = match *event {
+            Event::Write { addr, .. } => Some(addr),
+            Event::Assist { word, .. } => Some(word),
+            Event::MovCr3 { p, .. } => Some(space_of(p, self.history.control_at(p, i).pcid)),
             Event::Access { .. }
-            | Event::MovCr3 { .. }
             | Event::Invlpg { .. }
             | Event::Invpcid { .. }
-            | Event::MovCr4Pge { .. } => {}
-        }
+            | Event::MovCr4Pge { .. } => None,
+        };
+        self.changes.note(i, key);
     }
 
     /// The event with this number with moments that witness it, which is itself where it names

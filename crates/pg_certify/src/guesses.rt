@@ -4,9 +4,10 @@
 use crate::walk::Walk;
 use pg_event::{Moments, bits_from};
 use std::alloc::Global;
+use std::collections::HashMap;
 
 /// For whom moments serve.
-#[derive(Clone, Copy, PartialEq, Eq)]
+#[derive(Clone, Copy)]
 pub(crate) enum Scope {
     /// A page under this PCID.
     Page(u16),
@@ -16,111 +17,100 @@ pub(crate) enum Scope {
     Tables(u16),
 }
 
-/// What moments were found for: an address of a processor from some bit up, which tells a page or
-/// what lies below a table.
-#[derive(Clone, Copy, PartialEq, Eq)]
-pub(crate) struct Key {
-    pub p: u16,
-    pub scope: Scope,
-    pub shift: u8,
-    pub number: u64,
-}
-
+/// The moments that were found last, and those that were found before.
 #[derive(Clone, Copy)]
-pub(crate) struct Slot {
-    pub key: Key,
-    pub moments: Moments,
+pub(crate) struct Lists {
+    pub newer: Moments,
+    pub older: Option<Moments>,
 }
 
-/// The moments that were found last, by what they were found for. A slot that is needed for another
-/// key is taken.
+/// The moments that were found for pages, and for tables. Where memory is refused, some are not
+/// kept.
 #[derive(Drop)]
 pub(crate) struct Guesses {
-    slots: Vec<Option<Slot>>,
+    lists: HashMap<u64, Lists>,
 }
 
-/// So many lists of moments are kept at most: more would not stay in a cache of the processor that
-/// guesses.
-const MOST_SLOTS: usize = 32_768;
-
-/// An odd number whose bits are spread, which spreads those of what it is multiplied by.
-const SPREAD: u64 = 0x9e37_79b9_7f4a_7c15;
-
-pub(crate) fn key_of(p: u16, scope: Scope, shift: u8, la: u64) -> Key {
-    Key {
-        p,
-        scope,
-        shift,
-        number: bits_from(shift % 48, la),
-    }
+/// A part of the linear address space, told by the upper bits of an address: a page by its size, or
+/// what lies below an entry of level 2, 3 or 4.
+#[derive(Clone, Copy)]
+pub(crate) enum Part {
+    /// Bits 47:12.
+    Of4K,
+    /// Bits 47:21.
+    Of2M,
+    /// Bits 47:30.
+    Of1G,
+    /// Bits 47:39.
+    Of512G,
 }
 
-/// The binary logarithm of the size of the page that a walk by so many moments comes to.
-fn shift_by(count: usize) -> u8 {
+/// What moments were found for: a part of the address space of a processor.
+pub(crate) fn key_of(p: u16, scope: Scope, part: Part, la: u64) -> u64 {
+    let scope = match scope {
+        Scope::Page(pcid) => pcid as u64 % 4096,
+        Scope::GlobalPage => 1 << 12,
+        Scope::Tables(pcid) => 1 << 13 | pcid as u64 % 4096,
+    };
+    let (part, number) = match part {
+        Part::Of4K => (0, bits_from(12, la)),
+        Part::Of2M => (1, bits_from(21, la)),
+        Part::Of1G => (2, bits_from(30, la)),
+        Part::Of512G => (3, bits_from(39, la)),
+    };
+    (p as u64) << 52 | scope << 38 | part << 36 | number
+}
+
+/// The page that a walk by so many moments comes to.
+fn page_by(count: usize) -> Part {
     match count {
-        4 => 12,
-        3 => 21,
-        2 => 30,
-        _ => 39,
+        4 => Part::Of4K,
+        3 => Part::Of2M,
+        2 => Part::Of1G,
+        _ => Part::Of512G,
     }
 }
 
 impl Guesses {
-    /// No moments. There is room for so many lists, up to a limit; where memory is refused, none is
-    /// kept.
-    pub(crate) fn new(alloc: Global, lists: usize) -> Guesses {
-        let count = lists.min(MOST_SLOTS);
-        let slots = match Vec::from_elem(alloc, None, count) {
-            Ok(slots) => slots,
-            Err(_) => Vec::new(alloc),
-        };
-        Guesses { slots }
+    pub(crate) fn new(alloc: Global) -> Guesses {
+        Guesses {
+            lists: HashMap::new(alloc),
+        }
     }
 
-    /// The place of a key, where there are any.
-    fn place_of(&self, key: Key) -> usize {
-        let scope = match key.scope {
-            Scope::Page(pcid) => pcid as u64,
-            Scope::GlobalPage => 1 << 16,
-            Scope::Tables(pcid) => 1 << 17 | pcid as u64,
-        };
-        let who = (key.p as u64) << 32 | scope << 8 | key.shift as u64;
-        let mixed = key.number.wrapping_mul(SPREAD) ^ who.wrapping_mul(SPREAD).rotate_left(29);
-        // The upper bits depend on all others, and the place is told by the lower ones.
-        let place = (mixed ^ (mixed >> 32)).wrapping_mul(SPREAD) >> 32;
-        place as usize % self.slots.len().max(1)
-    }
-
-    /// The moments that were found last for a key.
-    pub(crate) fn last(&self, key: Key) -> Option<Moments> {
-        let slot = (*self.slots.get(self.place_of(key))?)?;
-        if slot.key == key {
-            Some(slot.moments)
-        } else {
-            None
+    /// The moments that were found for a key.
+    pub(crate) fn of(&self, key: u64) -> Option<Lists> {
+        match self.lists.get(&key) {
+            Some(lists) => Some(*lists),
+            None => None,
         }
     }
 
     /// Keeps moments that were found for a key.
-    fn keep(&mut self, key: Key, moments: Moments) {
-        let place = self.place_of(key);
-        if place < self.slots.len() {
-            self.slots[place] = Some(Slot { key, moments });
-        }
+    fn keep(&mut self, key: u64, moments: Moments) {
+        let older = match self.of(key) {
+            Some(lists) => Some(lists.newer),
+            None => None,
+        };
+        let lists = Lists {
+            newer: moments,
+            older,
+        };
+        let _refused = self.lists.insert(key, lists).is_err();
     }
 
     /// Keeps the moments of a walk that witness an event under a PCID, for the tables that it comes
     /// by and, if a page serves the event, for that page.
     pub(crate) fn note(&mut self, p: u16, pcid: u16, la: u64, walk: &Walk, is_page: bool) {
         let moments = walk.moments;
-        for shift in [21, 30, 39] {
-            self.keep(key_of(p, Scope::Tables(pcid), shift, la), moments);
+        for part in [Part::Of2M, Part::Of1G, Part::Of512G] {
+            self.keep(key_of(p, Scope::Tables(pcid), part, la), moments);
         }
         if is_page {
-            let shift = shift_by(moments.len());
-            self.keep(key_of(p, Scope::Page(pcid), shift, la), moments);
+            let part = page_by(moments.len());
+            self.keep(key_of(p, Scope::Page(pcid), part, la), moments);
             if walk.is_global {
-                self.keep(key_of(p, Scope::GlobalPage, shift, la), moments);
+                self.keep(key_of(p, Scope::GlobalPage, part, la), moments);
             }
         }
     }

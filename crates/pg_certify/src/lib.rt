@@ -4,9 +4,9 @@
 #![tactic(auto)]
 
 mod certifier;
-mod changes;
 mod guesses;
 mod laws;
+mod recent;
 mod walk;
 
 pub use certifier::{Certified, certify, first_denied};

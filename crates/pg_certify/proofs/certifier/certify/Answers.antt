@@ -1,10 +1,10 @@
-use Rattle.std.proofs.Common.{ℕ, ◌+◌, ◌<◌, ◌≡◌, ◌∷◌, ◌++◌, [], List, length, arith, sym, ap, ◌∙◌, subst}
+use Rattle.std.proofs.Common.{ℕ, ◌+◌, ◌≡◌, ◌∷◌, ◌++◌, [], List, length, arith, sym, ◌∙◌, subst}
 use Rattle.pg_event.specs.declared.event.Event.{Event}
 use Rattle.pg_event.specs.Heads.{Head}
 use Rattle.pg_run_of.specs.Converse.{HasMoments}
 use Rattle.pg_search.specs.Law.{CanBeWitnessed}
 use Rattle.pg_certify.specs.Certified.{IsFound}
-use Rattle.pg_certify.proofs.Gathered.{UpTo, none_yet, one_more}
+use Rattle.pg_certify.proofs.Gathered.{UpTo, one_more}
 use Rattle.pg_certify.proofs.Founds.{denied_at, found_at, found_can, found_good, each_more, all_found}
 use Rattle.pg_certify.proofs.certifier.certify.Goals as goal
 

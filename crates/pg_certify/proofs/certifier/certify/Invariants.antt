@@ -1,5 +1,4 @@
 use Rattle.std.proofs.Common.{◌≡◌, ℕ, ◌<◌}
-use Rattle.pg_event.specs.declared.event.Event.{Event}
 use Rattle.pg_run_of.specs.Converse.{HasMoments}
 use Rattle.pg_search.specs.Law.{CanBeWitnessed}
 use Rattle.pg_certify.proofs.Gathered.{UpTo}

@@ -1,10 +1,10 @@
-use Rattle.std.proofs.Common.{ℕ, ◌<◌, ◌≡◌, length, arith, sym, ap, ◌∙◌}
+use Rattle.std.proofs.Common.{◌≡◌, length, arith, ◌∙◌}
 use Rattle.pg_event.specs.declared.event.Event.{Event}
 use Rattle.pg_event.specs.Heads.{Head}
 use Rattle.std.proofs.Common.{List}
 use Rattle.pg_run_of.specs.Converse.{HasMoments}
 use Rattle.pg_certify.specs.Certified.{IsFound}
-use Rattle.pg_certify.proofs.Gathered.{Good, gathered}
+use Rattle.pg_certify.proofs.Gathered.{gathered}
 use Rattle.pg_certify.proofs.Founds.{denied_at, found_at, found_can, found_good, each_more, all_found}
 use Rattle.pg_certify.proofs.certifier.first_denied.Goals as goal
 
