@@ -25,14 +25,20 @@ fn push_claim(text: &mut String, event: &Event) -> Result<(), AllocError>
 {
     match *event {
         Event::Access {
-            flags, la, outcome, ..
+            flags,
+            la,
+            outcome,
+            ..
         } => {
             push_access(text, flags, la)?;
             text.push_str(" -> ")?;
             push_outcome(text, outcome)
         }
         Event::Assist {
-            flags, la, word, ..
+            flags,
+            la,
+            word,
+            ..
         } => {
             push_access(text, flags, la)?;
             push_assist(text, flags, word)
@@ -157,11 +163,7 @@ fn push_taken(text: &mut String, events: &[Event], last: Option<Last>) -> Result
 
 /// The text of what stands behind an event that no moments witness, where these are the events of
 /// its run. `Err` is for want of memory alone.
-pub fn denial_text(
-    alloc: Global,
-    events: &[Event],
-    denial: &Denial,
-) -> Result<String, AllocError>
+pub fn denial_text(alloc: Global, events: &[Event], denial: &Denial) -> Result<String, AllocError>
     ensures { IfOk result (λ t. string_bytes t ≡ denial_text events.now denial.now) }
 {
     let mut text = String::new(alloc);

@@ -16,7 +16,7 @@ check : Gives (codes "check" ∷ []) []
 unfolding clap_on_literals
 check = refl
 
-certify : Gives (codes "certify" ∷ codes "--bytes" ∷ codes "--checkers" ∷ codes "2" ∷ []) []
+certify : Gives (codes "certify" ∷ codes "--checkers" ∷ codes "2" ∷ []) []
 unfolding clap_on_literals
 certify = refl
 

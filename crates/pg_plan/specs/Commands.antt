@@ -54,9 +54,7 @@ abbrev pub switch_rule : Text → Rule
 switch_rule name = record (new_rule name) { long = Some name; action = Some SetTrue }
 
 abbrev pub certify_line : App
-certify_line =
-    with_rule (with_rule (new_app (command_word Certify)) checkers_rule)
-    (switch_rule (codes "bytes"))
+certify_line = with_rule (new_app (command_word Certify)) checkers_rule
 
 abbrev pub run_line : App
 run_line =

@@ -131,8 +131,7 @@ fn certify_line<'a>(alloc: Global) -> Result<CommandLine<'a>, AllocError>
 {
     CommandLine::new(alloc, CERTIFY)
         .about(CERTIFY_ABOUT)
-        .arg(checkers_option(alloc))?
-        .arg(switch(alloc, BYTES, BYTES_ABOUT))
+        .arg(checkers_option(alloc))
 }
 
 fn run_line<'a>(alloc: Global) -> Result<CommandLine<'a>, AllocError>

@@ -4,7 +4,7 @@ pub enum Command {
     /// Read a record, and write its report.
     Check,
     /// Read a record, take no notice of the moments that it names, and write whether any run of the
-    /// manual's machine has its events; or the record with the moments that were found.
+    /// manual's machine has its events and, where none has, what stands behind that.
     Certify,
     /// Read a guest script, run it, and write the report of the run's record, or the record.
     Run,
@@ -24,12 +24,12 @@ pub enum Command {
 pub struct Plan {
     /// The command.
     pub command: Command,
-    /// How many checkers `check`, `certify` and `run` have, 1 to 64. It is 1 where the words say
+    /// How many checkers `check`, `certify` and `run` may have, 1 to 64. It is 1 where the words say
     /// nothing.
     pub checkers: u16,
     /// Whether `run` keeps to one thread, and carries out the script's lines in their order.
     pub single: bool,
-    /// Whether `certify` and `run` write the record in the place of its report.
+    /// Whether `run` writes the record in the place of its report.
     pub bytes: bool,
     /// The number of the first event that `show` writes. It is 0 where the words say nothing.
     pub from: u32,

@@ -10,6 +10,8 @@ mod case;
 #[cfg(test)]
 mod cells;
 #[cfg(test)]
+mod certificates;
+#[cfg(test)]
 mod crews;
 #[cfg(test)]
 mod explanations;

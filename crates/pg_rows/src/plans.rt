@@ -13,7 +13,7 @@ const BARE: Plan = Plan {
 };
 
 /// Command lines and their plans.
-const PLANNED: [(&[&str], Plan); 15] = [
+const PLANNED: [(&[&str], Plan); 17] = [
     (&["check"], BARE),
     (
         &["run-of"],

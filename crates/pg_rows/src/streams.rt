@@ -79,9 +79,10 @@ fn each_proper_beginning(rt: HostRuntime) -> Result<(), Fail> {
     Ok(())
 }
 
-const READERS: [&[&str]; 5] = [
+const READERS: [&[&str]; 6] = [
     &["check"],
     &["check", "--checkers", "2"],
+    &["certify"],
     &["run-of"],
     &["explain"],
     &["upgrade"],

@@ -1,7 +1,7 @@
 use crate::row::run_all;
 use crate::{
-    explanations, headers, invalidations, lines, many_lines, refusals, rights, runs, spliced,
-    versions, walks,
+    certificates, explanations, headers, invalidations, lines, many_lines, refusals, rights, runs,
+    spliced, versions, walks,
 };
 use std::test::Fail;
 
@@ -36,4 +36,9 @@ fn records_shown(rt: HostRuntime) -> Result<(), Fail> {
     run_all(&rt, &lines::SAMPLES)?;
     run_all(&rt, &lines::RANGES)?;
     run_all(&rt, &many_lines::ROWS)
+}
+
+#[test]
+fn records_certified(rt: HostRuntime) -> Result<(), Fail> {
+    run_all(&rt, &certificates::ROWS)
 }

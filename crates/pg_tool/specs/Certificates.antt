@@ -37,10 +37,11 @@ certified_report r = record {
 }
 
 -- the report of a no at event n
+abbrev pub denied_head : ℕ → List ℕ
+denied_head n = codes "verdict: no\nevent: " ++ (decimal n ++ codes "\nreason: 14 no moments\n")
+
 abbrev pub denied_report : Recorded → ℕ → List ℕ
-denied_report r n =
-    (codes "verdict: no\nevent: " ++ (decimal n ++ codes "\nreason: 14 no moments\n"))
-    ++ counts_text (length r.events) (segment_count r)
+denied_report r n = denied_head n ++ counts_text (length r.events) (segment_count r)
 
 -- the report of a no at event n, and what stands behind it
 abbrev pub IsDenialText : Recorded → ℕ → List ℕ → Type 0

@@ -6,9 +6,11 @@ ghost use Rattle.pg_search.specs.Law.{names_moments};
 ghost use Rattle.pg_report.specs.Audits.{WritesText};
 ghost use Rattle.pg_report.specs.Changes.{drawn, filled};
 ghost use Rattle.pg_report.specs.Intake.{TellsDevice};
-ghost use Rattle.pg_report.specs.Text.{report_text};
+ghost use Rattle.pg_event.specs.Spelling.{segment_count};
+ghost use Rattle.pg_report.specs.Text.{report_text, counts_text};
 ghost use Rattle.pg_tool.specs.Certificates.{CertifiesRecord, IsCertificateOf, IsDenialText};
 ghost use Rattle.pg_tool.specs.Certificates.{certificate_status, certified_report, denied_report};
+ghost use Rattle.pg_tool.specs.Certificates.{denied_head};
 ghost use Rattle.pg_tool.specs.Streams.{streams};
 ghost use Rattle.pg_tool.specs.Texts.{IsTextGiven};
 
@@ -34,14 +36,28 @@ fn yes_text(alloc: Global, history: &History) -> Result<String, AllocError>
     report.text(alloc)
 }
 
+fn no_head(alloc: Global, event: u64) -> Result<String, AllocError>
+    ensures { IfOk result (λ t. string_bytes t ≡ denied_head event) }
+{
+    format!(in alloc; "verdict: no\nevent: {event}\nreason: 14 no moments\n")
+}
+
+fn counts_of(alloc: Global, history: &History) -> Result<String, AllocError>
+    ensures { IfOk result (λ t. string_bytes t
+        ≡ counts_text (length history.now.events) (segment_count history.now)) }
+{
+    let events = history.len();
+    let segments = history.segments();
+    format!(in alloc; "events: {events}\nsegments: {segments}\n")
+}
+
 /// The report of a no.
 fn no_report(alloc: Global, history: &History, event: u64) -> Result<String, AllocError>
     ensures { IfOk result (λ t. string_bytes t ≡ denied_report history.now event) }
 {
-    let mut text = format!(in alloc; "verdict: no\nevent: {event}\nreason: 14 no moments\n")?;
-    let events = history.len();
-    let segments = history.segments();
-    write!(text, "events: {events}\nsegments: {segments}\n")?;
+    let mut text = no_head(alloc, event)?;
+    let counts = counts_of(alloc, history)?;
+    text.push_str(counts.as_str())?;
     Ok(text)
 }
 
