@@ -1,6 +1,6 @@
 //! Whole records, judged as they are read.
 
-ghost use Rattle.std.specs.Prelude.{◌≢◌, ℕ, ◌++◌, List, Option, Err, OnOk};
+ghost use Rattle.std.specs.Prelude.{◌≢◌, ◌<◌, ◌^◌, ℕ, ◌++◌, List, Option, length, Err, OnOk};
 ghost use Rattle.pg_event.specs.declared.event.Event.{Event};
 ghost use Rattle.pg_event.specs.Heads.{Head};
 ghost use Rattle.pg_check.specs.Judging.{IsJudged, MayFollow};
@@ -30,6 +30,7 @@ fn take_in(
 ) -> Result<(), AllocError>
     requires next { MayFollow judged.old (window.old.items ++ segment.now) }
     requires whole { BeginsSegment judged.old (window.old.items ++ segment.now) }
+    ensures few { OnOk result (length window.new.items < 2 ^ 16) }
     ensures whole { OnOk result (BeginsSegment judged.new window.new.items) }
     ensures moved { (head : Head) (before : List Event) → IsJudged judged.old head before →
         AreWellFormed head (window.old.items ++ segment.now) → OnOk result

@@ -1,6 +1,6 @@
 //! Whole records, judged by checkers as they are read.
 
-ghost use Rattle.std.specs.Prelude.{ℕ, ◌++◌, List, Option, OnOk, IfErr};
+ghost use Rattle.std.specs.Prelude.{◌<◌, ◌^◌, ℕ, ◌++◌, List, Option, length, OnOk, IfErr};
 ghost use Rattle.pg_event.specs.declared.event.Event.{Event};
 ghost use Rattle.pg_event.specs.Heads.{Head};
 ghost use Rattle.pg_check.specs.Judging.{IsJudged, MayFollow};
@@ -37,6 +37,7 @@ fn take_in<T: Threads + Wait + Sync, G: Gate>(
 ) -> Result<(), AuditError>
     requires next { MayFollow judged.old (window.old.items ++ segment.now) }
     requires whole { BeginsSegment judged.old (window.old.items ++ segment.now) }
+    ensures few { OnOk result (length window.new.items < 2 ^ 18) }
     ensures whole { OnOk result (BeginsSegment judged.new window.new.items) }
     ensures err { IfErr result StopsJudging }
     ensures moved { (head : Head) (before : List Event) → IsJudged judged.old head before →

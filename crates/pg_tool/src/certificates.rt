@@ -79,15 +79,23 @@ fn certificate_of(alloc: Global, history: &History) -> Result<CertificateText, A
     ensures { IfOk result (λ told. IsCertificateOf history.now told.denied
         (string_bytes told.text)) }
 {
-    // What a yes and a no say of runs.
+    // What a yes and a no say of runs, of events that are well formed and not too many.
     certified_events_run();
     denied_events_have_no_run();
-    let denied = first_denied(alloc, history)?;
-    let text = match denied {
-        None => yes_text(alloc, history)?,
-        Some(event) => no_text(alloc, history, event)?,
-    };
-    Ok(CertificateText { denied, text })
+    let _events = history.events();
+    match first_denied(alloc, history)? {
+        None => {
+            let text = yes_text(alloc, history)?;
+            Ok(CertificateText { denied: None, text })
+        }
+        Some(event) => {
+            let text = no_text(alloc, history, event)?;
+            Ok(CertificateText {
+                denied: Some(event),
+                text,
+            })
+        }
+    }
 }
 
 /// Writes what is told of a record, and gives the event of a no.
