@@ -24,7 +24,7 @@ pub enum Command {
 pub struct Plan {
     /// The command.
     pub command: Command,
-    /// How many checkers `check`, `certify` and `run` may have, 1 to 64. It is 1 where the words say
+    /// How many checkers `check`, `certify` and `run` may have, 1 to 64, and 1 where the words say
     /// nothing.
     pub checkers: u16,
     /// Whether `run` keeps to one thread, and carries out the script's lines in their order.

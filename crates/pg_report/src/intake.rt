@@ -8,7 +8,8 @@ ghost use Rattle.pg_codec.specs.Readers.{stage_after_header};
 ghost use Rattle.pg_report.specs.Changes.{drawn};
 ghost use Rattle.pg_codec.specs.Streams.{FailsWithDevice};
 ghost use Rattle.pg_report.specs.Going.{IsGoing};
-ghost use Rattle.pg_report.specs.Intake.{IsErrorOf, header_up_to, ReadsRecord, TellsDevice, is_device};
+ghost use Rattle.pg_report.specs.Intake.{IsErrorOf, header_up_to, ReadsRecord, TellsDevice};
+ghost use Rattle.pg_report.specs.Intake.{is_device};
 
 use crate::error::AuditError;
 use pg_check::History;

@@ -16,6 +16,21 @@ const BARE: Plan = Plan {
 const PLANNED: [(&[&str], Plan); 17] = [
     (&["check"], BARE),
     (
+        &["certify"],
+        Plan {
+            command: Command::Certify,
+            ..BARE
+        },
+    ),
+    (
+        &["certify", "--checkers", "2"],
+        Plan {
+            command: Command::Certify,
+            checkers: 2,
+            ..BARE
+        },
+    ),
+    (
         &["run-of"],
         Plan {
             command: Command::RunOf,

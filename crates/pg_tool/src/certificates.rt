@@ -1,7 +1,7 @@
 //! Whether some run of the machine has a record's events, whatever moments they name.
 
-ghost use Rattle.std.specs.Prelude.{◌≡◌, ◌<◌, ◌++◌, length, IfOk, IfSome, OnOk, slice_get, string_bytes};
-ghost use Rattle.std.specs.Prelude.{true};
+ghost use Rattle.std.specs.Prelude.{◌≡◌, ◌<◌, true, length, IfOk, IfSome, slice_get};
+ghost use Rattle.std.specs.Prelude.{string_bytes};
 ghost use Rattle.pg_search.specs.Law.{names_moments};
 ghost use Rattle.pg_report.specs.Audits.{WritesText};
 ghost use Rattle.pg_report.specs.Changes.{drawn, filled};
