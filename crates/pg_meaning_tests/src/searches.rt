@@ -1,6 +1,7 @@
 ghost use Rattle.std.specs.Prelude.{◌≡◌, ◌<◌, IfOk, true, length, slice_get, IfSome};
 ghost use Rattle.pg_event.specs.Spelling.{IsHead};
 
+use pg_certify::{Certified, certify};
 use pg_check::History;
 use pg_entry::{Cfg, CfgFlags};
 use pg_event::{Event, Header, Moments, Outcome, Version, well_formed};
@@ -175,4 +176,27 @@ fn assists_are_found_before_their_write(rt: HostRuntime) -> Result<(), Fail> {
     found(rt.alloc(), &history, Some(&[5, 5, 5, 5]))?;
     access(&mut history, WRITE, Outcome::Page(0x9123))?;
     found(rt.alloc(), &history, Some(&[6, 6, 6, 6]))
+}
+
+/// The moment at which the last event reads the entry that it reads last.
+fn last_moment(events: &[Event]) -> Option<u32> {
+    match events.last() {
+        Some(Event::Access { moments, .. }) => moments.as_slice().last().copied(),
+        Some(_) | None => None,
+    }
+}
+
+/// The leaf stands from moment 4 on, and event 4 clears it.
+#[test]
+fn a_stale_leaf_is_certified_by_its_one_moment(rt: HostRuntime) -> Result<(), Fail> {
+    let mut history = mapped(rt.alloc(), Version::One, 0)?;
+    write(&mut history, 0x4028, 0)?;
+    access(&mut history, READ, Outcome::Page(0x9123))?;
+    match certify(rt.alloc(), &history)? {
+        Certified::Yes(found) => {
+            assert!(rt; found.len() == 6 && last_moment(&found) == Some(4));
+            Ok(())
+        }
+        Certified::No(_) => Err(Fail::from("no moments")),
+    }
 }
