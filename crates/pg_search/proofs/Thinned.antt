@@ -1,5 +1,5 @@
 -- Memory, control registers and survival are the same among the events that change something.
-use Rattle.std.proofs.Common.{◌≡◌, ℕ, zero, suc, ◌+◌, ◌-◌, ◌<◌, ◌≤◌, Bool, true, false, not, cond, leb, ◌||◌, ◌==◌, List, [], ◌∷◌, length, take, fold, Option, Some, None, IfSome, refl, ap, sym, ◌∙◌, subst, inl, inr, ◌⊎◌, arith, filter}
+use Rattle.std.proofs.Common.{◌≡◌, ℕ, zero, suc, ◌+◌, ◌-◌, ◌<◌, ◌≤◌, Bool, true, false, not, cond, leb, ◌||◌, ◌==◌, List, [], ◌∷◌, length, take, fold, Option, Some, None, IfSome, refl, ap, sym, ◌∙◌, subst, inl, inr, ◌⊎◌, arith}
 use Rattle.std.specs.Prelude.{slice_get}
 use Rattle.std.proofs.lemmas.Bool.{cases_Bool, cases_lt, and_right, leb-true, le-leb}
 use Rattle.pg_event.specs.declared.control.Control.{Control}

@@ -1,6 +1,5 @@
 -- The freshest moments, and the last number, among the events that change something.
-use Rattle.std.proofs.Common.{◌≡◌, ℕ, zero, suc, ◌+◌, ◌<◌, ◌≤◌, Bool, true, false, ◌&&◌, ◌||◌, ◌==◌, nat_lt, List, [], ◌∷◌, ◌++◌, map, reverse, refl, ap, sym, ◌∙◌, subst, inl, inr, arith}
-use Rattle.std.specs.List.{AllByRecursion}
+use Rattle.std.proofs.Common.{◌≡◌, ℕ, ◌+◌, ◌<◌, ◌≤◌, Bool, true, false, ◌&&◌, ◌||◌, ◌==◌, nat_lt, List, [], ◌∷◌, ◌++◌, map, reverse, refl, ap, sym, ◌∙◌, subst, inl, inr, arith}
 use Rattle.std.proofs.lemmas.Bool.{cases_Bool, cases_lt, and_parts, and_from, or_left, or_right, eqb-true, eq-eqb, ltb-true, lt-ltb}
 use Rattle.std.proofs.lemmas.List.{reverse-append, map-append}
 use Rattle.pg_event.specs.declared.event.Event.{Event}
@@ -10,7 +9,7 @@ use Rattle.pg_search.specs.Freshness.{is_as_fresh, is_as_fresh_back}
 use Rattle.pg_search.specs.Last.{NoneWitness, IsLastOf}
 use Rattle.pg_search.specs.Law.{names_moments, AreWitness}
 use Rattle.pg_search.specs.Thinned.{thinned, rank, placed, last_placed, AreFreshestOf, FreshestAmongChanges, LastAmongChanges}
-use Rattle.pg_search.proofs.Thinned.{rank_rises, rank_by_one, rank_earlier, placed_low, placed_rank, placed_latest}
+use Rattle.pg_search.proofs.Thinned.{rank_rises, rank_earlier, placed_rank, placed_latest}
 use Rattle.pg_search.proofs.ThinnedWitness.{AreUpTo, witness_up_to, witness_thinned, witness_placed}
 
 -- lists from the last back

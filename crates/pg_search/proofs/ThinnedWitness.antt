@@ -1,8 +1,8 @@
 -- What moments read and what is judged of it, once the moments are carried to other events.
-use Rattle.std.proofs.Common.{◌≡◌, ℕ, zero, suc, ◌+◌, ◌-◌, ◌%◌, ◌^◌, ◌<◌, ◌≤◌, Bool, true, false, not, cond, leb, ◌&&◌, ◌||◌, ◌==◌, List, [], ◌∷◌, length, map, Option, Some, None, refl, ap, sym, ◌∙◌, subst, inl, inr, arith}
+use Rattle.std.proofs.Common.{◌≡◌, ℕ, ◌+◌, ◌%◌, ◌^◌, ◌≤◌, Bool, true, not, cond, leb, ◌&&◌, ◌||◌, ◌==◌, List, [], ◌∷◌, map, Option, Some, None, refl, ap, sym, ◌∙◌, subst, arith}
 use Rattle.std.specs.Option.{option_or}
-use Rattle.std.specs.List.{list_all, AllByRecursion}
-use Rattle.std.proofs.lemmas.Bool.{cases_Bool, and_parts, and_from, leb-true, le-leb, eqb-true, eq-eqb}
+use Rattle.std.specs.List.{AllByRecursion}
+use Rattle.std.proofs.lemmas.Bool.{and_parts, and_from, leb-true, le-leb, eqb-true, eq-eqb}
 use Rattle.std.proofs.lemmas.List.{length-map}
 use Rattle.pg_entry.specs.declared.Cfg.{Cfg}
 use Rattle.pg_entry.specs.declared.Rights.{Rights}
@@ -28,14 +28,14 @@ use Rattle.pg_event.specs.Heads.{Head}
 use Rattle.pg_event.specs.Values.{mem_at, control_at}
 use Rattle.pg_event.specs.Invalidation.{structure_key, translation_key, must_drop_structure, must_drop_translation}
 use Rattle.pg_event.specs.Walk.{Reading, readings, entry_address, below, root_of}
-use Rattle.pg_event.specs.Wants.{is_table, is_wanted, may_dirty}
+use Rattle.pg_event.specs.Wants.{is_table, may_dirty}
 use Rattle.pg_event.specs.Witness.{leads_to, is_in_order, is_one_context, last_or, survives, structures_survive, tables_accessed, Asked, asked_by, asked_of, is_updated, failing_leaf, failing_fault, failing_end, failing_flags, failing_walk, failing_claim, failing_update, walked, failing_access, failing_assist, claim_of, update_of, failing_event}
 use Rattle.pg_run_of.specs.Converse.{AreSameButMoments}
 use Rattle.pg_run_of.proofs.Accesses.{guard_none, last_none}
 use Rattle.pg_run_of.proofs.Moments.{event_same}
 use Rattle.pg_search.specs.Law.{names_moments, with_moments, AreWitness}
 use Rattle.pg_search.specs.Thinned.{thinned, rank, placed, WitnessedAmongChanges}
-use Rattle.pg_search.proofs.Thinned.{IsOfChanges, structures_of_changes, translations_of_changes, rank_rises, memory_thinned, control_thinned, survives_thinned, placed_low, placed_rank, placed_end, placed_rises}
+use Rattle.pg_search.proofs.Thinned.{IsOfChanges, structures_of_changes, translations_of_changes, rank_rises, memory_thinned, control_thinned, survives_thinned, placed_rank, placed_end, placed_rises}
 
 -- moments of some events, up to a last one, are carried to moments of others in their order, with
 -- the same memory, control registers and survival between them
