@@ -40,7 +40,7 @@ fn every_line_on_one_thread(rt: HostRuntime) -> Result<(), Fail> {
 
 #[test]
 fn errors_by_number_and_name(rt: HostRuntime) -> Result<(), Fail> {
-    assert_eq!(rt; RunError::Full.number(), 4);
+    assert_eq!(rt; RunError::Checkers.number(), 3);
     assert_eq!(rt; RunError::Thread.name(), "thread refused");
     Ok(())
 }

@@ -1,17 +1,14 @@
 -- One turn after another carries the lines out.
-use Rattle.std.proofs.Common.{◌≡◌, ◌≢◌, ℕ, zero, suc, ◌+◌, ◌<◌, ◌≤◌, ◌-◌, ◌^◌, Bool, true, false, not, nat_lt, cond, ◌⊎◌, inl, inr, List, [], ◌∷◌, ◌++◌, length, take, refl, sym, ◌∙◌, ap, subst, arith, Some, None}
+use Rattle.std.proofs.Common.{◌≡◌, ◌≢◌, ℕ, zero, suc, ◌+◌, ◌<◌, ◌≤◌, Bool, true, false, cond, ◌⊎◌, inl, inr, List, [], ◌∷◌, ◌++◌, length, take, refl, sym, ◌∙◌, ap, subst, arith, Some, None}
 use Rattle.std.specs.Prelude.{slice_get, slice_set}
-use Rattle.std.proofs.lemmas.Bool.{ne_eqb, eq-eqb, lt-ltb}
+use Rattle.std.proofs.lemmas.Bool.{ne_eqb, eq-eqb}
 use Rattle.std.proofs.lemmas.List.{append-nil, length-append}
 use Rattle.std.proofs.lemmas.Option.{same_Some}
-use Rattle.pg_event.specs.declared.version.Version.{Version}
-use Rattle.pg_event.specs.declared.version.Version.TheVariants.{One, Two}
-use Rattle.pg_event.specs.Heads.{Head}
 use Rattle.pg_event.specs.Spelling.{IsHead}
 use Rattle.pg_entry.specs.declared.Level.{Level}
 use Rattle.pg_world.specs.declared.receipt.Receipt.{Receipt}
 use Rattle.pg_script.specs.declared.instruction.Task.{Task}
-use Rattle.pg_script.specs.Reading.{Scripted, IsScript, most_instructions}
+use Rattle.pg_script.specs.Reading.{Scripted, IsScript}
 use Rattle.pg_script.specs.Tasks.{instructions_of}
 use Rattle.pg_world.specs.Recording.{Recording, is_full}
 use Rattle.pg_home.specs.declared.advance.Advance.{Advance}
@@ -22,10 +19,10 @@ use Rattle.pg_home.specs.CoreRun.{IsCoreRun}
 use Rattle.pg_home.specs.Progress.{measure, is_stopped, ComesNearer}
 use Rattle.pg_home.specs.Turn.{Processor, Turned, turned, MayStop, IsTurn}
 use Rattle.pg_home.proofs.Counts.{turns_come_nearer}
-use Rattle.pg_home.proofs.Further.{none_assist_in_version_one}
 use Rattle.pg_home.proofs.Runs.{each_processor}
 use Rattle.pg_home.proofs.Runs.{set_here}
-use Rattle.pg_runner.specs.Lines.{AreCarriedOut, FillsByLines, lines_left, tasks_of}
+use Rattle.pg_runner.specs.Lines.{AreCarriedOut, lines_left, tasks_of}
+use Rattle.pg_runner.proofs.Fullness.{never_full}
 use Rattle.pg_runner.proofs.Lines.{AddsBy, turn_adds, line_at, instructions_pushed, Stays, Carries}
 use Rattle.pg_runner.proofs.Orders.{GoBy, KeepsLine, by_one_more, by_one_done}
 use Rattle.pg_runner.proofs.Started.{quiet_of, told_of, head_of, open_of, instructions_are, one_turn_more}
@@ -59,15 +56,14 @@ take_one (t ∷ ts) (suc k) task at =
     ap (λ n. take n (t ∷ ts)) more ∙ ap (λ zs. t ∷ zs) (take_one ts k task at)
 
 stays : (script : Scripted) (k : ℕ) (r : Recording) (xs : List Processor) (task : Task) (x : Processor) (t : Turned) → AreCarriedOut script k r xs → slice_get script.tasks k ≡ Some task → slice_get xs task.p ≡ Some x
-    → IsTurn task.p r x t → Stays r x t → KeepsLine t.answer → (script.head.version ≡ One → length t.world.events ≡ length r.events) → AreCarriedOut script k t.world (slice_set xs task.p t.processor)
-stays script k r xs task x t before at here turn left keeps same =
+    → IsTurn task.p r x t → Stays r x t → KeepsLine t.answer → AreCarriedOut script k t.world (slice_set xs task.p t.processor)
+stays script k r xs task x t before at here turn left keeps =
     let by = by_one_more script.tasks k before.runs.turns before.runs.answers task t.answer at (before.order, before.left) keeps in record {
       runs = one_turn_more script r xs task.p x t before.runs here turn;
       order = by.0;
       left = by.1;
       lines = left.tasks ∙ before.lines;
       places = each_processor (λ q z. z.place ≡ length (instructions_of q (take k script.tasks))) xs task.p x t.processor here (left.place ∙ before.places task.p x here) (λ q z away at. before.places q z at);
-      count = λ one. same one ∙ before.count one;
     }
 
 pushed_own : (tasks : List Task) (task : Task) → length (instructions_of task.p (tasks ++ task ∷ [])) ≡ length (instructions_of task.p tasks) + 1
@@ -97,7 +93,6 @@ carries script k r xs task x t receipt before at here turn answer left =
       lines = line ∙ sym more;
       places = each_processor (λ q z. z.place ≡ length (instructions_of q (take (k + 1) script.tasks))) xs task.p x t.processor here own
           (λ q z away there. before.places q z there ∙ ap length (sym (pushed_other (take k script.tasks) task q away)) ∙ ap (λ ts. length (instructions_of q ts)) (sym more));
-      count = λ one. left.count ∙ ap (λ n. n + 1) (before.count one);
     }
 
 -- what a turn of the next line's processor leaves, by its answer
@@ -106,7 +101,7 @@ Leaves script k r xs (Read level) = AreCarriedOut script k r xs
 Leaves script k r xs (Assisted receipt) = AreCarriedOut script k r xs
 Leaves script k r xs (Done receipt) = AreCarriedOut script (k + 1) r xs
 Leaves script k r xs Ended = ⊥
-Leaves script k r xs (Stopped why) = (why ≢ stops.Finished) × (why ≡ stops.Full → FillsByLines script)
+Leaves script k r xs (Stopped why) = why ≡ stops.Memory
 
 finishes : (full finished : Bool) → finished ≡ false → cond full (Some stops.Full) (cond finished (Some stops.Finished) None) ≡ Some stops.Finished → ⊥
 finishes true false going_on is = cc
@@ -122,54 +117,19 @@ not_finished r (Done receipt) why going_on (inr refused) same = finishes (is_ful
 not_finished r Ended why going_on (inr refused) same = absurd (cc)
 not_finished r (Stopped w) why going_on (inr refused) same = absurd (cc)
 
-fills : (full finished : Bool) → cond full (Some stops.Full) (cond finished (Some stops.Finished) None) ≡ Some stops.Full → full ≡ true
-fills true finished is = refl
-fills false true is = cc
-fills false false is = cc
+refuses_nothing : (full finished : Bool) (why : Stop) → full ≡ false → finished ≡ false → cond full (Some stops.Full) (cond finished (Some stops.Finished) None) ≡ Some why → ⊥
+refuses_nothing false false why empty going_on is = cc
+refuses_nothing false true why empty going_on is = cc
+refuses_nothing true finished why empty going_on is = cc
 
-only_finished : (finished : Bool) → cond finished (Some stops.Finished) None ≡ Some stops.Full → ⊥
-only_finished true is = cc
-only_finished false is = cc
-
-pub is_full_where : (r : Recording) (due : Advance) (why : Stop) → MayStop r due why → why ≡ stops.Full → is_full r ≡ true
-is_full_where r due why (inl memory) same = let contrary : stops.Memory ≡ stops.Full = sym memory ∙ same in absurd (cc)
-is_full_where r (Read level) why (inr refused) same = absurd (only_finished r.finished (refused ∙ ap Some same))
-is_full_where r (Assisted receipt) why (inr refused) same = fills (is_full r) r.finished (refused ∙ ap Some same)
-is_full_where r (Done receipt) why (inr refused) same = fills (is_full r) r.finished (refused ∙ ap Some same)
-is_full_where r Ended why (inr refused) same = absurd (cc)
-is_full_where r (Stopped w) why (inr refused) same = absurd (cc)
-
--- so many lines fill no record
-not_full : (n : ℕ) → n ≤ most_instructions → not (nat_lt n (2 ^ 32 - 1)) ≡ true → ⊥
-not_full n few full =
-    let less : n < 2 ^ 32 - 1 = omega (arith, few) in
-    let contrary : false ≡ true = sym (ap not (lt-ltb n (2 ^ 32 - 1) less)) ∙ full in absurd (cc)
-
--- in version 1 none is ever full
-in_two : (script : Scripted) (k : ℕ) (r : Recording) (xs : List Processor) → IsScript script → AreCarriedOut script k r xs → k < length script.tasks → is_full r ≡ true → (version : Version) → script.head.version ≡ version → version ≡ Two
-in_two script k r xs is before within full Two same = refl
-in_two script k r xs is before within full One same =
-    let count : length r.events ≡ k = before.count same in
-    let few : length r.events ≤ most_instructions = omega (arith, count, within, is.few) in
-    absurd (not_full (length r.events) few full)
-
--- a full record of a run of these lines, one of which is next
-filled : (script : Scripted) (k : ℕ) (r : Recording) (xs : List Processor) (task : Task) (x : Processor) → IsScript script → AreCarriedOut script k r xs → slice_get script.tasks k ≡ Some task → slice_get xs task.p ≡ Some x
-    → is_full r ≡ true → FillsByLines script
-filled script k r xs task x is before at here full = record {
-  fills = record {
-    version = in_two script k r xs is before (below_length script.tasks k task at) full script.head.version refl;
-    end = r;
-    ends = xs;
-    runs = before.runs;
-    full = full;
-    p = task.p;
-    x = x;
-    at = here;
-    left = is_due script k r xs task x before at here;
-  };
-  order = before.order;
-}
+-- a record that is neither full nor finished refuses nothing but for want of memory
+for_memory : (r : Recording) (due : Advance) (why : Stop) → is_full r ≡ false → r.finished ≡ false → MayStop r due why → why ≡ stops.Memory
+for_memory r due why empty going_on (inl memory) = memory
+for_memory r (Read level) why empty going_on (inr refused) = absurd (refuses_nothing false r.finished why refl going_on refused)
+for_memory r (Assisted receipt) why empty going_on (inr refused) = absurd (refuses_nothing (is_full r) r.finished why empty going_on refused)
+for_memory r (Done receipt) why empty going_on (inr refused) = absurd (refuses_nothing (is_full r) r.finished why empty going_on refused)
+for_memory r Ended why empty going_on (inr refused) = absurd (cc)
+for_memory r (Stopped w) why empty going_on (inr refused) = absurd (cc)
 
 reading_keeps : (a : Advance) (level : Level) → a ≡ Read level → KeepsLine a
 reading_keeps a level is task later = ap (λ x. lines_left x (task ∷ later)) is
@@ -180,17 +140,13 @@ assisting_keeps a receipt is task later = ap (λ x. lines_left x (task ∷ later
 by_answer : (script : Scripted) (k : ℕ) (r : Recording) (xs : List Processor) (task : Task) (x : Processor) (t : Turned) → IsScript script → AreCarriedOut script k r xs → slice_get script.tasks k ≡ Some task
     → slice_get xs task.p ≡ Some x → IsTurn task.p r x t → (a : Advance) → t.answer ≡ a → AddsBy task.p r x t a → Leaves script k t.world (slice_set xs task.p t.processor) a
 by_answer script k r xs task x t is before at here turn (Read level) same adds =
-    stays script k r xs task x t before at here turn adds.0 (reading_keeps t.answer level same) (λ one. ap length adds.1)
+    stays script k r xs task x t before at here turn adds (reading_keeps t.answer level same)
 by_answer script k r xs task x t is before at here turn (Assisted receipt) same adds =
     stays script k r xs task x t before at here turn adds (assisting_keeps t.answer receipt same)
-    (λ one. absurd (none_assist_in_version_one task.p r x t receipt (ap (λ (h : Head). h.version) (head_of script r xs before.runs) ∙ one) turn same))
 by_answer script k r xs task x t is before at here turn (Done receipt) same adds = carries script k r xs task x t receipt before at here turn same adds
 by_answer script k r xs task x t is before at here turn Ended same adds = let contrary : Some task.instruction ≡ None = sym (next_is script k r xs task x before at here) ∙ adds in absurd (cc)
 by_answer script k r xs task x t is before at here turn (Stopped why) same adds =
-    let due : Advance = (turned task.p r x).answer in (
-      not_finished r due why (open_of script r xs before.runs) adds,
-      λ full. filled script k r xs task x is before at here (is_full_where r due why adds full),
-    )
+    for_memory r (turned task.p r x).answer why (never_full script r xs is before.runs) (open_of script r xs before.runs) adds
 
 turn_leaves : (script : Scripted) (k : ℕ) (r : Recording) (xs : List Processor) (task : Task) (x : Processor) (t : Turned) → IsScript script → AreCarriedOut script k r xs → slice_get script.tasks k ≡ Some task
     → slice_get xs task.p ≡ Some x → IsTurn task.p r x t → Leaves script k t.world (slice_set xs task.p t.processor) t.answer

@@ -1,6 +1,7 @@
 pub mod Judged
 pub mod Lines
 pub mod Started
+pub mod Fullness
 pub mod Orders
 pub mod ByTurns
 pub mod AtLines

@@ -2,7 +2,7 @@
 use Rattle.std.proofs.Common.{◌≡◌, ℕ, zero, suc, ◌+◌, ◌==◌, Bool, true, false, cond, List, [], ◌∷◌, ◌++◌, length, take, refl, ap, sym, ◌∙◌, subst, Option, Some, None, inl, inr, eq-eqb}
 use Rattle.std.specs.Prelude.{slice_get}
 use Rattle.std.proofs.lemmas.Grind.{flat_map-append}
-use Rattle.std.proofs.lemmas.List.{append-nil, length-append}
+use Rattle.std.proofs.lemmas.List.{append-nil}
 use Rattle.pg_event.specs.declared.event.Event.{Event}
 use Rattle.pg_event.specs.declared.event.Event.TheVariants as events
 use Rattle.pg_event.specs.declared.event.Outcome.TheVariants as outcomes
@@ -41,10 +41,9 @@ pub record Carries (p : ℕ) (r : Recording) (x : Processor) (t : Turned) : Type
   pub tasks : tasks_of t.world.events ≡ tasks_of r.events ++ record { p = p; instruction = instruction } ∷ []
   pub place : t.processor.place ≡ x.place + 1
   pub instructions : t.processor.instructions ≡ x.instructions
-  pub count : length t.world.events ≡ length r.events + 1
 
 abbrev pub AddsBy : ℕ → Recording → Processor → Turned → Advance → Type 0
-AddsBy p r x t (Read level) = Stays r x t × (t.world.events ≡ r.events)
+AddsBy p r x t (Read level) = Stays r x t
 AddsBy p r x t (Assisted receipt) = Stays r x t
 AddsBy p r x t (Done receipt) = Carries p r x t
 AddsBy p r x t Ended = slice_get x.instructions x.place ≡ None
@@ -61,7 +60,6 @@ done_adds p r x e i own at same = record {
   tasks = tasks_pushed r.events e ∙ ap (λ o. tasks_of r.events ++ carried (processor_of e) o) same ∙ ap (λ q. tasks_of r.events ++ carried q (Some i)) own;
   place = refl;
   instructions = refl;
-  count = length-append r.events (e ∷ []);
 }
 
 assisted_adds : (p : ℕ) (r : Recording) (x : Processor) (way : Found) (e : Event) → shape e ≡ None → Adds p r x (assisted r x way (receipt_of r.events e))
@@ -80,7 +78,7 @@ access_adds p r x flags la way well at =
       fault = λ code moments. done_adds p r x (events.Access p (flags_of (access_kind flags)) la (outcomes.Fault code) moments) (Access flags la) refl at
           (ap (λ f. Some (Access f la)) same);
       assist = λ way bits word moments. assisted_adds p r x way (events.Assist p bits la word moments) refl;
-      read = λ level way caches. (record { tasks = refl; place = refl; instructions = refl }, refl);
+      read = λ level way caches. record { tasks = refl; place = refl; instructions = refl };
     }) way
 
 turned_adds : (p : ℕ) (r : Recording) (x : Processor) → AreWellFormed r.head p x → (o : Option Instruction) → slice_get x.instructions x.place ≡ o → Adds p r x (turned_by p r x o)

@@ -96,7 +96,6 @@ none_carried script r hs is new = record {
   left = refl;
   lines = ap (λ (r : Recording). tasks_of r.events) is;
   places = seen_at (λ p x. x.place ≡ 0) hs (λ p h at. ap (λ (x : Processor). x.place) (new.each p h at).fresh_is);
-  count = λ one. ap (λ (r : Recording). length r.events) is;
 }
 
 -- ---- after the last

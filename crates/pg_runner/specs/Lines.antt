@@ -3,7 +3,6 @@ use Rattle.std.specs.Prelude.{◌≡◌, ℕ, List, [], ◌∷◌, length, map, 
 use Rattle.std.specs.Prelude.{slice_get}
 use Rattle.std.specs.List.{flat_map}
 use Rattle.pg_event.specs.declared.event.Event.{Event}
-use Rattle.pg_event.specs.declared.version.Version.TheVariants.{One}
 use Rattle.pg_event.specs.Form.{processor_of}
 use Rattle.pg_event.specs.Spelling.{Recorded}
 use Rattle.pg_script.specs.declared.instruction.Instruction.{Instruction}
@@ -17,10 +16,8 @@ use Rattle.pg_home.specs.declared.advance.Advance.TheVariants.{Read, Assisted, D
 use Rattle.pg_home.specs.Turn.{Processor}
 use Rattle.pg_report.specs.declared.report.Verdict.TheVariants.{Yes}
 use Rattle.pg_report.specs.Text.{report_of}
-use Rattle.pg_runner.specs.declared.error.RunError.{RunError}
-use Rattle.pg_runner.specs.declared.error.RunError.TheVariants as errors
 use Rattle.pg_runner.specs.declared.result.RunResult.{RunResult}
-use Rattle.pg_runner.specs.Runs.{FillsRecord, IsRunOfScript, RunsTo, record_of}
+use Rattle.pg_runner.specs.Runs.{IsRunOfScript, RunsTo, record_of}
 
 -- the instruction that an event of a processor carries out; an assist carries none out
 abbrev pub carried : ℕ → Option Instruction → List Task
@@ -72,21 +69,8 @@ pub record IsSingleRun (script : Scripted) (result : RunResult) : Type 0 where
   pub report : result.report ≡ report_of (record_of result.trace)
   pub yes : result.report.verdict ≡ Yes
 
--- such a run so far fills the record
-pub record FillsByLines (script : Scripted) : Type 0 where
-  pub fills : FillsRecord script
-  pub order : fills.runs.turns ≡ turns_by script.tasks fills.runs.answers
-
--- why a run of a script comes to nothing: memory is refused, or the record is full
-abbrev pub StopsRun : Scripted → RunError → Type 0
-StopsRun script errors.Memory = Unit {0}
-StopsRun script errors.Full = FillsByLines script
-StopsRun script errors.Thread = ⊥
-StopsRun script errors.Checkers = ⊥
-
 -- After the first so many lines: these are carried out and no other, each to its end before the
--- next, and each processor is to carry out the first of its instructions that is not among them. In
--- version 1 each event carried a line out
+-- next, and each processor is to carry out the first of its instructions that is not among them
 pub record AreCarriedOut (script : Scripted) (k : ℕ) (r : Recording) (xs : List Processor) : Type 0
   where
     pub runs : RunsTo script r xs
@@ -95,4 +79,3 @@ pub record AreCarriedOut (script : Scripted) (k : ℕ) (r : Recording) (xs : Lis
     pub lines : tasks_of r.events ≡ take k script.tasks
     pub places : (p : ℕ) (x : Processor) → slice_get xs p ≡ Some x →
         x.place ≡ length (instructions_of p (take k script.tasks))
-    pub count : script.head.version ≡ One → length r.events ≡ k

@@ -1,12 +1,11 @@
 -- Runs of guest scripts.
-use Rattle.std.specs.Prelude.{◌≡◌, ◌<◌, ℕ, List, length, map, Some, slice_get, true}
+use Rattle.std.specs.Prelude.{◌≡◌, ℕ, List, length, map, Some, slice_get}
 use Rattle.pg_event.specs.declared.record.Record.{Record}
-use Rattle.pg_event.specs.declared.version.Version.TheVariants.{Two}
 use Rattle.pg_event.specs.Spelling.{Recorded}
 use Rattle.pg_script.specs.Reading.{Scripted}
 use Rattle.pg_script.specs.Tasks.{instructions_of}
 use Rattle.pg_world.specs.declared.receipt.Receipt.{Receipt}
-use Rattle.pg_world.specs.Recording.{Recording, is_full, recorded}
+use Rattle.pg_world.specs.Recording.{Recording, recorded}
 use Rattle.pg_home.specs.declared.advance.Advance.{Advance}
 use Rattle.pg_home.specs.Turn.{Processor, fresh}
 use Rattle.pg_home.specs.CoreRun.{IsCoreRun, unwritten}
@@ -51,16 +50,3 @@ pub record IsRunOfScript (script : Scripted) (r : Recorded) (receipts : List (Li
   pub head : r.head ≡ script.head
   pub receipts_are : map (λ y. y.transcript) ends ≡ receipts
   pub whole : AreReceipts script r receipts
-
--- turns of the script's processors fill the record, and one of these has an instruction left. A
--- script of version 1 has too few instructions for that
-pub record FillsRecord (script : Scripted) : Type 0 where
-  pub version : script.head.version ≡ Two
-  pub end : Recording
-  pub ends : List Processor
-  pub runs : RunsTo script end ends
-  pub full : is_full end ≡ true
-  pub p : ℕ
-  pub x : Processor
-  pub at : slice_get ends p ≡ Some x
-  pub left : x.place < length x.instructions

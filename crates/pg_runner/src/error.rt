@@ -17,10 +17,6 @@ pub enum RunError {
     /// The number of checkers is outside 1 to 64.
     #[error("the number of checkers is outside 1 to 64")]
     Checkers,
-    /// The record is full: an event would be added, and 4,294,967,295 stand. A script of version 1
-    /// never comes to that.
-    #[error("the record is full")]
-    Full,
 }
 
 impl From<AllocError> for RunError {
@@ -32,7 +28,7 @@ impl From<AllocError> for RunError {
 }
 
 impl RunError {
-    /// Its number: 1 to 4, in the order of the variants.
+    /// Its number: 1 to 3, in the order of the variants.
     pub fn number(&self) -> u8
         ensures { result ≡ error_number self.now }
     {
@@ -40,7 +36,6 @@ impl RunError {
             RunError::Memory => 1,
             RunError::Thread => 2,
             RunError::Checkers => 3,
-            RunError::Full => 4,
         }
     }
 
@@ -52,7 +47,6 @@ impl RunError {
             RunError::Memory => "memory",
             RunError::Thread => "thread refused",
             RunError::Checkers => "checkers",
-            RunError::Full => "full",
         }
     }
 }

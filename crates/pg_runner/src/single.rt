@@ -1,11 +1,10 @@
 //! Runs on one thread, the lines of the script in their order.
 
-ghost use Rattle.std.specs.Prelude.{◌≡◌, ◌≢◌, ◌+◌, ◌<◌, ◌⊎◌, length, map, IfOk, IfErr, OnOk, Some};
-ghost use Rattle.std.specs.Prelude.{slice_get};
+ghost use Rattle.std.specs.Prelude.{◌≡◌, ◌+◌, ◌<◌, length, map, IfOk, IfErr, OnOk};
 ghost use Rattle.pg_guest.specs.Held.{seen};
 ghost use Rattle.pg_guest.specs.Runs.{ArePlaced};
 ghost use Rattle.pg_event.specs.Spelling.{IsRecord};
-ghost use Rattle.pg_runner.specs.Lines.{AreCarriedOut, IsSingleRun, StopsRun};
+ghost use Rattle.pg_runner.specs.Lines.{AreCarriedOut, IsSingleRun};
 ghost use Rattle.pg_runner.specs.Runs.{record_of};
 
 use crate::error::RunError;
@@ -21,40 +20,29 @@ use std::alloc::{AllocError, Global};
 /// An instruction takes so many turns at most where no other processor has one between.
 const MOST_TURNS: usize = 9;
 
-/// Why a turn in a record that is not finished was stopped.
-fn stop_error(why: Stop) -> RunError
-    requires { why ≢ Stop.Finished }
-    ensures { (result ≡ RunError.Memory) ⊎ ((result ≡ RunError.Full) × (why ≡ Stop.Full)) }
-{
-    match why {
-        Stop::Memory => RunError::Memory,
-        Stop::Full => RunError::Full,
-        Stop::Finished => unreachable!(),
-    }
-}
-
 /// Carries out the line with this number, counted from 0, after all lines before it.
 fn carry_out(
     script: &Script,
     line: usize,
     world: &mut World,
     processors: &mut [Processor],
-) -> Result<(), RunError>
+) -> Result<(), AllocError>
     requires line { line < length script.now.tasks }
     requires placed { ArePlaced world.old.head processors.old }
     requires before { AreCarriedOut script.now line world.old (map seen processors.old) }
     ensures placed { ArePlaced world.new.head processors.new }
     ensures after { OnOk result
         (AreCarriedOut script.now (line + 1) world.new (map seen processors.new)) }
-    ensures err { IfErr result (StopsRun script.now) }
 {
     let p = script.order()[line];
     for _ in 0..MOST_TURNS {
         match turn(world, processors, p) {
             Advance::Read(_) | Advance::Assisted(_) => {}
             Advance::Done(_) => return Ok(()),
+            Advance::Stopped(Stop::Memory) => return Err(AllocError),
+            Advance::Stopped(Stop::Full) => unreachable!(),
+            Advance::Stopped(Stop::Finished) => unreachable!(),
             Advance::Ended => unreachable!(),
-            Advance::Stopped(why) => return Err(stop_error(why)),
         }
     }
     unreachable!()
@@ -65,12 +53,11 @@ fn carry_out_all(
     script: &Script,
     world: &mut World,
     processors: &mut [Processor],
-) -> Result<(), RunError>
+) -> Result<(), AllocError>
     requires placed { ArePlaced world.old.head processors.old }
     requires before { AreCarriedOut script.now 0 world.old (map seen processors.old) }
-    ensures after { OnOk result
+    ensures { OnOk result
         (AreCarriedOut script.now (length script.now.tasks) world.new (map seen processors.new)) }
-    ensures err { IfErr result (StopsRun script.now) }
 {
     for line in 0..script.order().len() {
         carry_out(script, line, world, processors)?;
@@ -94,12 +81,12 @@ pub fn transcripts_of(
 }
 
 /// Runs a script on the calling thread alone, its lines in their order, each to its end, and has
-/// the record judged from its bytes. It fails where memory is refused, or where a script of version
-/// 2 fills the record; nothing is handed out then.
+/// the record judged from its bytes. It fails where memory is refused alone, and then nothing is
+/// handed out.
 pub fn run_single(alloc: Global, script: &Script) -> Result<RunResult, RunError>
     ensures ok { IfOk result (λ run. IsSingleRun script.now run) }
     ensures formed { IfOk result (λ run. IsRecord (record_of run.trace)) }
-    ensures err { IfErr result (StopsRun script.now) }
+    ensures err { IfErr result (λ e. e ≡ RunError.Memory) }
 {
     let mut world = World::new(alloc, script.header().clone()?);
     let mut guests = processors(alloc, script)?;

@@ -16,12 +16,13 @@ use Rattle.pg_report.specs.Text.{report_of, verdict_of}
 use Rattle.pg_runner.specs.declared.error.RunError.{RunError}
 use Rattle.pg_runner.specs.declared.error.RunError.TheVariants as errors
 use Rattle.pg_runner.specs.declared.result.RunResult.{RunResult}
-use Rattle.pg_runner.specs.Lines.{IsSingleRun, StopsRun}
+use Rattle.pg_runner.specs.Lines.{IsSingleRun}
 use Rattle.pg_runner.specs.Runs.{IsRunOfScript, RunsTo, record_of}
 use Rattle.pg_runner.proofs.Started.{quiet_of, told_of, head_of, count_of, instructions_are}
 use Rattle.pg_runner.proofs.Whole.{all_within, transcripts_seen, whose}
 use Rattle.pg_board.specs.Boards.{IsRunOf, untaken}
-use Rattle.pg_threads.specs.Guests.{HaveToldAll, IsGuestRun, StopsGuest}
+use Rattle.pg_threads.specs.Guests.{HaveToldAll, IsGuestRun}
+use Rattle.pg_threads.specs.Live.{IsWant}
 
 whole_of : (script : Scripted) (r : Recording) (xs : List Processor) → IsScript script → IsRecord (recorded r) → RunsTo script r xs → HaveToldAll xs → IsRunOfScript script (recorded r) (map (λ y. y.transcript) xs)
 whole_of script r xs is record_is runs ended =
@@ -58,8 +59,5 @@ says_yes script r hs trace report run same is =
 pub single_is_guest : (script : Scripted) (result : RunResult) → IsSingleRun script result → IsGuestRun script result
 single_is_guest script result single = record { run = single.run.run; report = single.report; yes = single.yes }
 
-pub stops_as_single : (script : Scripted) (e : RunError) → StopsRun script e → StopsGuest script e
-stops_as_single script errors.Memory stops = stops
-stops_as_single script errors.Full stops = stops.fills
-stops_as_single script errors.Thread stops = tt
-stops_as_single script errors.Checkers stops = stops
+pub stops_as_single : (e : RunError) → e ≡ errors.Memory → IsWant e
+stops_as_single e same = subst IsWant (sym same) tt

@@ -4,10 +4,8 @@ use Rattle.pg_board.specs.Boards.{HasToldAll}
 use Rattle.pg_home.specs.Turn.{Processor}
 use Rattle.pg_report.specs.declared.report.Verdict.TheVariants.{Yes}
 use Rattle.pg_report.specs.Text.{report_of}
-use Rattle.pg_runner.specs.declared.error.RunError.{RunError}
-use Rattle.pg_runner.specs.declared.error.RunError.TheVariants as errors
 use Rattle.pg_runner.specs.declared.result.RunResult.{RunResult}
-use Rattle.pg_runner.specs.Runs.{FillsRecord, IsRunOfScript, record_of}
+use Rattle.pg_runner.specs.Runs.{IsRunOfScript, record_of}
 use Rattle.pg_script.specs.Reading.{Scripted}
 
 -- a run of the script's processors, whose turns came in whatever order, and its report is a yes
@@ -16,13 +14,6 @@ pub record IsGuestRun (script : Scripted) (result : RunResult) : Type 0 where
       (map (λ own. own.items) result.transcripts.items)
   pub report : result.report ≡ report_of (record_of result.trace)
   pub yes : result.report.verdict ≡ Yes
-
--- why such a run comes to nothing: memory or a thread is refused, or the record is full
-abbrev pub StopsGuest : Scripted → RunError → Type 0
-StopsGuest script errors.Memory = Unit {0}
-StopsGuest script errors.Thread = Unit {0}
-StopsGuest script errors.Full = FillsRecord script
-StopsGuest script errors.Checkers = ⊥
 
 -- ---- what ends a run
 

@@ -52,5 +52,4 @@ pub record IsBeginning (first r : Recorded) : Type 0 where
 abbrev pub IsWant : RunError → Type 0
 IsWant errors.Memory = Unit {0}
 IsWant errors.Thread = Unit {0}
-IsWant errors.Full = ⊥
 IsWant errors.Checkers = ⊥

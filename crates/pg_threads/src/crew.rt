@@ -38,7 +38,7 @@ fn outcome(refused: bool, short: bool, live: Result<(), RunError>) -> Met
 {
     match live {
         Err(RunError::Memory) => Met::NoMemory,
-        Err(RunError::Thread | RunError::Checkers | RunError::Full) => {
+        Err(RunError::Thread | RunError::Checkers) => {
             if refused {
                 Met::NoMemory
             } else {

@@ -7,11 +7,10 @@ ghost use Rattle.pg_guest.specs.Held.{seen};
 ghost use Rattle.pg_event.specs.Spelling.{IsRecord};
 ghost use Rattle.pg_runner.specs.Runs.{record_of};
 ghost use Rattle.pg_threads.specs.Live.{IsWant};
-ghost use Rattle.pg_threads.specs.Guests.{IsGuestRun, StopsGuest, HaveToldAll, StayBut};
+ghost use Rattle.pg_threads.specs.Guests.{IsGuestRun, HaveToldAll, StayBut};
 
 use crate::watched::Watched;
 use pg_board::{Board, Finished};
-use pg_event::Version;
 use pg_guest::Advance;
 use pg_home::Stop;
 use pg_pool::Gate;
@@ -42,17 +41,14 @@ fn end_one(board: &mut Board<'_>, script: &Script, p: u16) -> Result<bool, RunEr
     ensures others { StayBut p (map seen board.old.processors) (map seen board.new.processors) }
     ensures ended { IfOk result (λ ended. IsTrue ended →
         HasToldAll p (map seen board.new.processors)) }
-    ensures err { IfErr result (StopsGuest script.now) }
+    ensures err { IfErr result IsWant }
 {
     for _ in 0..enough_turns(script, p) {
         match board.turn(p) {
             Advance::Read(_) | Advance::Assisted(_) | Advance::Done(_) => {}
             Advance::Ended => return Ok(true),
             Advance::Stopped(Stop::Memory) => return Err(RunError::Memory),
-            Advance::Stopped(Stop::Full) => match script.header().version {
-                Version::One => return Ok(false),
-                Version::Two => return Err(RunError::Full),
-            },
+            Advance::Stopped(Stop::Full) => return Ok(false),
             Advance::Stopped(Stop::Finished) => unreachable!(),
         }
     }
@@ -65,7 +61,7 @@ fn end_all(board: &mut Board<'_>, script: &Script) -> Result<bool, RunError>
     ensures script { IsRunOf script.now board.new.world board.new.processors }
     ensures ended { IfOk result (λ ended. IsTrue ended →
         HaveToldAll (map seen board.new.processors)) }
-    ensures err { IfErr result (StopsGuest script.now) }
+    ensures err { IfErr result IsWant }
 {
     let count = script.header().processors.len();
     for p in 0..count {
@@ -117,7 +113,7 @@ fn told_all(board: &mut Board<'_>, script: &Script) -> Result<bool, RunError>
         IsRunOf script.now board.new.world board.new.processors) }
     ensures told { IfOk result (λ told. IsTrue told →
         HaveToldAll (map seen board.new.processors)) }
-    ensures err { IfErr result (StopsGuest script.now) }
+    ensures err { IfErr result IsWant }
 {
     if !board.is_of(script) {
         return Ok(false);
@@ -136,7 +132,7 @@ pub(crate) fn ended<R: Threads + Wait + Sync, H: Gate>(
 ) -> Result<RunResult, RunError>
     ensures ok { IfOk result (λ run. IsGuestRun script.now run) }
     ensures formed { IfOk result (λ run. IsRecord (record_of run.trace)) }
-    ensures err { IfErr result (StopsGuest script.now) }
+    ensures err { IfErr result IsWant }
 {
     match told_all(&mut board, script) {
         Ok(true) => result_of(crew, script, board, watched),
@@ -149,7 +145,7 @@ pub(crate) fn ended<R: Threads + Wait + Sync, H: Gate>(
 fn anew(alloc: Global, script: &Script) -> Result<RunResult, RunError>
     ensures ok { IfOk result (λ run. IsGuestRun script.now run) }
     ensures formed { IfOk result (λ run. IsRecord (record_of run.trace)) }
-    ensures err { IfErr result (StopsGuest script.now) }
+    ensures err { IfErr result IsWant }
 {
     run_single(alloc, script)
 }

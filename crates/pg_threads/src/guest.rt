@@ -4,7 +4,8 @@ ghost use Rattle.std.specs.Prelude.{◌≡◌, ◌⊎◌, ◌↔◌, IfOk, IfErr
 ghost use Rattle.pg_event.specs.Spelling.{IsRecord};
 ghost use Rattle.pg_pool.specs.Rounds.{AreCheckers};
 ghost use Rattle.pg_runner.specs.Runs.{record_of};
-ghost use Rattle.pg_threads.specs.Guests.{IsGuestRun, StopsGuest};
+ghost use Rattle.pg_threads.specs.Guests.{IsGuestRun};
+ghost use Rattle.pg_threads.specs.Live.{IsWant};
 
 use crate::crew::run_processors;
 use crate::ending::ended;
@@ -38,7 +39,7 @@ fn run_seen<'a, R: Threads + Wait + Sync, G: Gate, H: Gate>(
     requires { publisher.word ≡ progress.now }
     ensures ok { IfOk result (λ run. IsGuestRun script.now run) }
     ensures formed { IfOk result (λ run. IsRecord (record_of run.trace)) }
-    ensures err { IfErr result (StopsGuest script.now) }
+    ensures err { IfErr result IsWant }
 {
     let board = Board::new(crew.alloc, script, publisher, progress)?;
     let shared = Mutex::new(board);
@@ -56,7 +57,7 @@ fn run_by<R: Threads + Wait + Sync, G: Gate, H: Gate>(
 ) -> Result<RunResult, RunError>
     ensures ok { IfOk result (λ run. IsGuestRun script.now run) }
     ensures formed { IfOk result (λ run. IsRecord (record_of run.trace)) }
-    ensures err { IfErr result (StopsGuest script.now) }
+    ensures err { IfErr result IsWant }
 {
     let mut watched = nothing_watched(crew.alloc, script)?;
     let (progress, publisher, mut seats) = Progress::open(crew.alloc, 1)?;
@@ -81,8 +82,8 @@ fn run_by<R: Threads + Wait + Sync, G: Gate, H: Gate>(
 /// and its own, and each segment's judging through that of the checkers.
 ///
 /// Fails where the number of checkers is none of 1 to 64, before all else. Else it fails once all
-/// threads that were started have ended, by the lowest number that there is: where memory or a
-/// thread was refused, or where a script of version 2 fills the record.
+/// threads that were started have ended, by the lowest number that there is, where memory or a
+/// thread was refused.
 pub fn run_guest_watched<R: Threads + Wait + Sync, G: Gate, H: Gate>(
     rt: &R,
     alloc: Global,
@@ -94,7 +95,7 @@ pub fn run_guest_watched<R: Threads + Wait + Sync, G: Gate, H: Gate>(
     ensures ok { IfOk result (λ run. IsGuestRun script.now run) }
     ensures formed { IfOk result (λ run. IsRecord (record_of run.trace)) }
     ensures checkers { (result ≡ Err RunError.Checkers) ↔ (¬ AreCheckers checkers) }
-    ensures err { IfErr result (λ e. (e ≡ RunError.Checkers) ⊎ StopsGuest script.now e) }
+    ensures err { IfErr result (λ e. (e ≡ RunError.Checkers) ⊎ IsWant e) }
 {
     if checkers == 0 || checkers > 64 {
         return Err(RunError::Checkers);
@@ -119,7 +120,7 @@ pub fn run_guest<R: Threads + Wait + Sync, G: Gate>(
     ensures ok { IfOk result (λ run. IsGuestRun script.now run) }
     ensures formed { IfOk result (λ run. IsRecord (record_of run.trace)) }
     ensures checkers { (result ≡ Err RunError.Checkers) ↔ (¬ AreCheckers checkers) }
-    ensures err { IfErr result (λ e. (e ≡ RunError.Checkers) ⊎ StopsGuest script.now e) }
+    ensures err { IfErr result (λ e. (e ≡ RunError.Checkers) ⊎ IsWant e) }
 {
     run_guest_watched(rt, alloc, script, checkers, gate, &OpenGate)
 }

@@ -11,11 +11,12 @@ use Rattle.pg_report.specs.Text.{report_of}
 use Rattle.pg_runner.specs.declared.error.RunError.{RunError}
 use Rattle.pg_runner.specs.declared.error.RunError.TheVariants as runs
 use Rattle.pg_runner.specs.declared.result.RunResult.{RunResult}
-use Rattle.pg_runner.specs.Lines.{IsSingleRun, StopsRun}
-use Rattle.pg_threads.specs.Guests.{IsGuestRun as IsThreadsRun, StopsGuest}
+use Rattle.pg_runner.specs.Lines.{IsSingleRun}
+use Rattle.pg_threads.specs.Guests.{IsGuestRun as IsThreadsRun}
+use Rattle.pg_threads.specs.Live.{IsWant}
 use Rattle.pg_tool.specs.declared.guest_error.GuestError.{GuestError}
 use Rattle.pg_tool.specs.declared.guest_error.GuestError.TheVariants.{TooLong, Script, Run, Device}
-use Rattle.pg_tool.specs.Guests.{Gives, HasRunOf, IsGuestRun, IsRunBy, IsResultBy, FillsBy, StopsBy, TakesScript, WritesAnswer, output_text}
+use Rattle.pg_tool.specs.Guests.{Gives, HasRunOf, IsGuestRun, IsRunBy, IsResultBy, StopsBy, TakesScript, WritesAnswer, output_text}
 
 -- ---- by one thread or by many
 
@@ -23,31 +24,23 @@ pub by_one : (single : Bool) (script : Scripted) (result : Result RunResult RunE
 by_one single script (Ok run) is one = subst (λ b. IsResultBy b script run) (sym is) (record { run = one.run; report = one.report; yes = one.yes })
 by_one single script (Err e) is one = tt
 
-one_stops : (single : Bool) (script : Scripted) (e : RunError) → single ≡ true → StopsRun script e → StopsBy single script e
-one_stops single script runs.Memory is stops = tt
-one_stops single script runs.Full is stops = subst (λ b. FillsBy b script) (sym is) stops
-one_stops single script runs.Thread is stops = absurd stops
-one_stops single script runs.Checkers is stops = absurd stops
-
-pub stopped_by_one : (single : Bool) (script : Scripted) (result : Result RunResult RunError) → single ≡ true → IfErr result (StopsRun script) → IfErr result (StopsBy single script)
-stopped_by_one single script (Ok run) is stops = tt
-stopped_by_one single script (Err e) is stops = one_stops single script e is stops
+pub stopped_by_one : (single : Bool) (result : Result RunResult RunError) → IfErr result (λ e. e ≡ runs.Memory) → IfErr result (StopsBy single)
+stopped_by_one single (Ok run) stops = tt
+stopped_by_one single (Err e) stops = subst (StopsBy single) (sym stops) tt
 
 pub by_many : (single : Bool) (script : Scripted) (result : Result RunResult RunError) → single ≡ false → IfOk result (λ run. IsThreadsRun script run) → IfOk result (λ run. IsResultBy single script run)
 by_many single script (Ok run) is many = subst (λ b. IsResultBy b script run) (sym is) (record { run = many.run; report = many.report; yes = many.yes })
 by_many single script (Err e) is many = tt
 
-many_stop : (single : Bool) (script : Scripted) (e : RunError) → single ≡ false → StopsGuest script e → StopsBy single script e
-many_stop single script runs.Memory is stops = tt
-many_stop single script runs.Full is stops = subst (λ b. FillsBy b script) (sym is) stops
-many_stop single script runs.Thread is stops = is
-many_stop single script runs.Checkers is stops = absurd stops
+many_stop : (single : Bool) (e : RunError) → single ≡ false → IsWant e → StopsBy single e
+many_stop single runs.Memory is stops = tt
+many_stop single runs.Thread is stops = is
+many_stop single runs.Checkers is stops = absurd stops
 
-pub stopped_by_many : (single : Bool) (script : Scripted) (result : Result RunResult RunError) → single ≡ false → (result ≡ Err runs.Checkers → ⊥) → IfErr result (λ e. (e ≡ runs.Checkers) ⊎ StopsGuest script e) →
-    IfErr result (StopsBy single script)
-stopped_by_many single script (Ok run) is able stops = tt
-stopped_by_many single script (Err e) is able (inl same) = absurd (able (ap Err same))
-stopped_by_many single script (Err e) is able (inr stops) = many_stop single script e is stops
+pub stopped_by_many : (single : Bool) (result : Result RunResult RunError) → single ≡ false → (result ≡ Err runs.Checkers → ⊥) → IfErr result (λ e. (e ≡ runs.Checkers) ⊎ IsWant e) → IfErr result (StopsBy single)
+stopped_by_many single (Ok run) is able stops = tt
+stopped_by_many single (Err e) is able (inl same) = absurd (able (ap Err same))
+stopped_by_many single (Err e) is able (inr stops) = many_stop single e is stops
 
 -- ---- what the program says
 
@@ -70,7 +63,6 @@ answered single as_bytes input output script r receipts takes lines accepted (Ok
 answered single as_bytes input output script r receipts takes lines accepted (Err Device) wrote =
     inr ((takes.device, wrote.1), takes.takes.0, has_run single takes.bytes (λ r. AddsSome output (output_text as_bytes r)) script r receipts takes.takes.1 lines accepted wrote.0)
 answered single as_bytes input output script r receipts takes lines accepted (Err (Run runs.Memory)) wrote = (wrote.1.0, (takes.device, wrote.1.1))
-answered single as_bytes input output script r receipts takes lines accepted (Err (Run runs.Full)) wrote = absurd (cc)
 answered single as_bytes input output script r receipts takes lines accepted (Err (Run runs.Thread)) wrote = absurd (cc)
 answered single as_bytes input output script r receipts takes lines accepted (Err (Run runs.Checkers)) wrote = absurd (cc)
 answered single as_bytes input output script r receipts takes lines accepted (Err TooLong) wrote = absurd wrote
@@ -86,15 +78,14 @@ run_written single as_bytes input output script r receipts takes lines accepted 
   gives = answered single as_bytes input output script r receipts takes lines accepted written wrote;
 }
 
-stopped : (single as_bytes : Bool) (input output : Change) (script : Scripted) (takes : TakesScript input (Ok script)) → AddsNothing output → Works output → (e : RunError) → StopsBy single script e →
+stopped : (single as_bytes : Bool) (input output : Change) (script : Scripted) (takes : TakesScript input (Ok script)) → AddsNothing output → Works output → (e : RunError) → StopsBy single e →
     Gives single as_bytes takes.bytes (IsAtEnd input.new.bytes) input output (Err (Run e))
 stopped single as_bytes input output script takes nothing works runs.Memory stops = (nothing, (takes.device, works))
-stopped single as_bytes input output script takes nothing works runs.Full stops = (takes.takes.0, (script, takes.takes.1, stops), nothing, (takes.device, works))
 stopped single as_bytes input output script takes nothing works runs.Thread stops = (stops, nothing, (takes.device, works))
 stopped single as_bytes input output script takes nothing works runs.Checkers stops = absurd stops
 
 -- the run came to nothing
-pub run_stops : (single as_bytes : Bool) (input output : Change) (script : Scripted) (e : RunError) → TakesScript input (Ok script) → AddsNothing output → Works output → StopsBy single script e →
+pub run_stops : (single as_bytes : Bool) (input output : Change) (script : Scripted) (e : RunError) → TakesScript input (Ok script) → AddsNothing output → Works output → StopsBy single e →
     IsGuestRun single as_bytes input output (Err (Run e))
 run_stops single as_bytes input output script e takes nothing works stops = record {
   bytes = takes.bytes;

@@ -16,9 +16,9 @@ use Rattle.pg_report.specs.Text.{report_of, report_text}
 use Rattle.pg_runner.specs.declared.error.RunError.{RunError}
 use Rattle.pg_runner.specs.declared.error.RunError.TheVariants as runs
 use Rattle.pg_runner.specs.Errors.{error_number, error_name}
-use Rattle.pg_runner.specs.Lines.{CarriesOutLines, FillsByLines}
+use Rattle.pg_runner.specs.Lines.{CarriesOutLines}
 use Rattle.pg_runner.specs.declared.result.RunResult.{RunResult}
-use Rattle.pg_runner.specs.Runs.{FillsRecord, IsRunOfScript, record_of}
+use Rattle.pg_runner.specs.Runs.{IsRunOfScript, record_of}
 use Rattle.pg_tool.specs.declared.guest_error.GuestError.{GuestError}
 use Rattle.pg_tool.specs.declared.guest_error.GuestError.TheVariants.{TooLong, Script, Run, Device}
 use Rattle.pg_tool.specs.Refusals.{StaysSame, Tells, refusal_text, refusal_line}
@@ -46,7 +46,6 @@ abbrev pub run_error_status : RunError → ℕ
 run_error_status runs.Memory = 3
 run_error_status runs.Thread = 3
 run_error_status runs.Checkers = 64
-run_error_status runs.Full = 2
 
 abbrev pub guest_error_status : GuestError → ℕ
 guest_error_status TooLong = 2
@@ -101,11 +100,6 @@ abbrev pub IsRunBy : Bool → Scripted → Recorded → List (List Receipt) → 
 IsRunBy true = CarriesOutLines
 IsRunBy false = IsRunOfScript
 
--- such a run so far fills the record
-abbrev pub FillsBy : Bool → Scripted → Type 0
-FillsBy true = FillsByLines
-FillsBy false = FillsRecord
-
 -- this is what such a run came to, whose report is a yes
 pub record IsResultBy (single : Bool) (script : Scripted) (result : RunResult) : Type 0 where
   pub run : IsRunBy single script (record_of result.trace)
@@ -113,13 +107,11 @@ pub record IsResultBy (single : Bool) (script : Scripted) (result : RunResult) :
   pub report : result.report ≡ report_of (record_of result.trace)
   pub yes : result.report.verdict ≡ Yes
 
--- why it came to nothing: memory is refused, or a thread where there is one for each processor; or
--- the record is full
-abbrev pub StopsBy : Bool → Scripted → RunError → Type 0
-StopsBy single script runs.Memory = Unit {0}
-StopsBy single script runs.Thread = single ≡ false
-StopsBy single script runs.Checkers = ⊥
-StopsBy single script runs.Full = FillsBy single script
+-- why it came to nothing: memory is refused, or a thread where there is one for each processor
+abbrev pub StopsBy : Bool → RunError → Type 0
+StopsBy single runs.Memory = Unit {0}
+StopsBy single runs.Thread = single ≡ false
+StopsBy single runs.Checkers = ⊥
 
 -- these bytes are a script, and this holds of the record of a run of it, whose report is a yes
 pub record HasRunOf (single : Bool) (bytes : List ℕ) (P : Recorded → Type 0) : Type 0 where
@@ -145,9 +137,6 @@ module _ (single as_bytes : Bool) (bytes : List ℕ) (AtEnd : Type 0) (input out
       (length bytes ≡ most_bytes + 1) × AddsNothing output × NoneFails input output
   Gives (Err (Script e)) =
       AtEnd × IsRefused bytes e × AddsNothing output × NoneFails input output
-  Gives (Err (Run runs.Full)) =
-      AtEnd × ((script : Scripted) × (reading bytes ≡ Ok script) × FillsBy single script)
-      × AddsNothing output × NoneFails input output
   Gives (Err (Run runs.Memory)) = AddsNothing output × NoneFails input output
   Gives (Err (Run runs.Thread)) =
       (single ≡ false) × AddsNothing output × NoneFails input output

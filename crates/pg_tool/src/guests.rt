@@ -75,7 +75,7 @@ fn run_by<T: AllocGlobal + Threads + Wait + Sync>(
     requires { AreCheckers plan.checkers }
     ensures ok { IfOk result (λ run. IsResultBy plan.single script.now run) }
     ensures formed { IfOk result (λ run. IsRecord (record_of run.trace)) }
-    ensures err { IfErr result (StopsBy plan.single script.now) }
+    ensures err { IfErr result (StopsBy plan.single) }
 {
     if plan.single {
         run_single(rt.alloc(), script)

@@ -172,7 +172,6 @@ fn run_error_status(error: RunError) -> u8
     match error {
         RunError::Memory | RunError::Thread => MEMORY,
         RunError::Checkers => USAGE,
-        RunError::Full => REFUSED,
     }
 }
 

@@ -1,7 +1,8 @@
-use Rattle.std.proofs.Common.{◌∙◌, length, map, get_or, ap, sym, subst, arith, ◌<◌, ◌≤◌, inl, inr}
+use Rattle.std.proofs.Common.{◌≡◌, ◌∙◌, length, map, get_or, ap, sym, subst, arith, ◌<◌, ◌≤◌}
 use Rattle.std.proofs.lemmas.List.{length-map}
 use Rattle.pg_guest.specs.Held.{seen}
-use Rattle.pg_runner.specs.Lines.{StopsRun}
+use Rattle.pg_home.specs.declared.advance.Advance.TheVariants.{Stopped}
+use Rattle.pg_home.specs.declared.advance.Stop.TheVariants as stops
 use Rattle.pg_runner.proofs.AtLines.{line_in, within}
 use Rattle.pg_runner.proofs.ByTurns.{Leaves, none_is_near, one_turn_leaves, one_turn_nearer, still_going, still_there}
 use Rattle.pg_runner.proofs.single.carry_out.Goals as goal
@@ -32,26 +33,24 @@ pub unreachable-requires : goal.unreachable-requires
 unreachable-requires c =
     let script = c.args.script.now in
     let line = line_in c.order.result.now script.tasks c.args.line c.order.ensures.order c.requires.line in
+    let why : stops.Full ≡ stops.Memory = subst (Leaves script c.args.line c.turn.new.world (map seen c.turn.new.processors)) (c.in-Stopped-Full.is ∙ ap Stopped c.in-Stopped-Full.field-0-is)
+    (one_turn_leaves script c.args.line c.loop.world (map seen c.loop.processors) line.task _ c.turn.result c.turn.new.world (map seen c.turn.new.processors) c.order.ensures.kept c.loop.invariant.before line.is line.own c.turn.ensures.turned) in
+    absurd (cc)
+
+pub unreachable-requires-in-Stopped-Finished : goal.unreachable-requires-in-Stopped-Finished
+unreachable-requires-in-Stopped-Finished c =
+    let script = c.args.script.now in
+    let line = line_in c.order.result.now script.tasks c.args.line c.order.ensures.order c.requires.line in
+    let why : stops.Finished ≡ stops.Memory = subst (Leaves script c.args.line c.turn.new.world (map seen c.turn.new.processors)) (c.in-Stopped-Finished.is ∙ ap Stopped c.in-Stopped-Finished.field-0-is)
+    (one_turn_leaves script c.args.line c.loop.world (map seen c.loop.processors) line.task _ c.turn.result c.turn.new.world (map seen c.turn.new.processors) c.order.ensures.kept c.loop.invariant.before line.is line.own c.turn.ensures.turned) in
+    absurd (cc)
+
+pub unreachable-requires-in-Ended : goal.unreachable-requires-in-Ended
+unreachable-requires-in-Ended c =
+    let script = c.args.script.now in
+    let line = line_in c.order.result.now script.tasks c.args.line c.order.ensures.order c.requires.line in
     subst (Leaves script c.args.line c.turn.new.world (map seen c.turn.new.processors)) c.in-Ended.is
     (one_turn_leaves script c.args.line c.loop.world (map seen c.loop.processors) line.task _ c.turn.result c.turn.new.world (map seen c.turn.new.processors) c.order.ensures.kept c.loop.invariant.before line.is line.own c.turn.ensures.turned)
-
-pub stop_error-requires : goal.stop_error-requires
-stop_error-requires c =
-    let script = c.args.script.now in
-    let line = line_in c.order.result.now script.tasks c.args.line c.order.ensures.order c.requires.line in
-    (subst (Leaves script c.args.line c.turn.new.world (map seen c.turn.new.processors)) c.in-Stopped.is
-    (one_turn_leaves script c.args.line c.loop.world (map seen c.loop.processors) line.task _ c.turn.result c.turn.new.world (map seen c.turn.new.processors) c.order.ensures.kept c.loop.invariant.before line.is line.own c.turn.ensures.turned)).0
-
-pub returns-in-Stopped-clause-err : goal.returns-in-Stopped-clause-err
-returns-in-Stopped-clause-err c =
-    let script = c.args.script.now in
-    let line = line_in c.order.result.now script.tasks c.args.line c.order.ensures.order c.requires.line in
-    let why = subst (Leaves script c.args.line c.turn.new.world (map seen c.turn.new.processors)) c.in-Stopped.is
-    (one_turn_leaves script c.args.line c.loop.world (map seen c.loop.processors) line.task _ c.turn.result c.turn.new.world (map seen c.turn.new.processors) c.order.ensures.kept c.loop.invariant.before line.is line.own c.turn.ensures.turned) in
-    elim c.stop_error.ensures [
-      | inl memory ↦ subst (StopsRun script) (sym memory) tt
-      | inr full ↦ subst (StopsRun script) (sym full.0) (why.1 full.1)
-    ]
 
 pub loop-preserved : goal.loop-preserved
 loop-preserved c =

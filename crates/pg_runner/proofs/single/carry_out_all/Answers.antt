@@ -5,8 +5,8 @@ use Rattle.pg_script.specs.declared.instruction.Task.{Task}
 use Rattle.pg_runner.specs.Lines.{AreCarriedOut}
 use Rattle.pg_runner.proofs.single.carry_out_all.Goals as goal
 
-pub returns-clause-after : goal.returns-clause-after
-returns-clause-after c =
+pub returns : goal.returns
+returns c =
     let script = c.args.script.now in
     let count = ap length c.order-line-end.ensures.order ∙ length-map script.tasks (λ (t : Task). t.p) in
     let all : c.loop-line.line ≡ length script.tasks = omega (arith, c.loop-line.auto.line-end, c.loop-line-test.false, count) in

@@ -35,7 +35,7 @@ returns-clause-ok c =
     let same : record_of trace ≡ recorded end = ap₂ (λ (h : Head) (es : List Event). let r : Recorded = record { head = h; events = es } in r) head events in
     let is_record : IsRecord (recorded end) = subst (λ (r : Recording). IsRecord (recorded r)) finished c.into_record-trace.ensures.kept.is_record in
     let count = sym (c.carry_out_all.auto.processors ∙ c.deref_mut.ensures.len) in
-    let out = c.in_ok-carry_out_all.ensures.after in record {
+    let out = c.in_ok-carry_out_all.ensures in record {
       run = lines_done script end hs trace _ c.header.ensures.kept is_record out same (c.in_ok-transcripts.ensures ∙ ap (λ (gs : List Held). map (λ (h : Held). h.transcript) gs) (front _ hs _ count));
       report = c.in_ok-report.ensures.ok;
       yes = is_yes script (length script.tasks) end hs trace c.in_ok-report.report out same c.in_ok-report.ensures.ok;

@@ -6,4 +6,4 @@ pub returns-clause-ok : goal.returns-clause-ok
 returns-clause-ok c = IfOk-weaker _ _ _ (single_is_guest c.args.script.now) c.run_single.ensures.ok
 
 pub returns-clause-err : goal.returns-clause-err
-returns-clause-err c = IfErr-weaker _ _ _ (stops_as_single c.args.script.now) c.run_single.ensures.err
+returns-clause-err c = IfErr-weaker _ _ _ stops_as_single c.run_single.ensures.err
