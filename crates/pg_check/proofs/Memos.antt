@@ -1,13 +1,14 @@
 -- What a slot of a memo says of the walk that it names.
-use Rattle.std.proofs.Common.{◌≡◌, ℕ, suc, zero, ◌<◌, List, [], ◌∷◌, length, get_or, set, Option, Some, Ok, subst, arith}
+use Rattle.std.proofs.Common.{◌≡◌, ℕ, suc, zero, ◌<◌, List, [], ◌∷◌, length, get_or, set, Option, Some, Ok, sym, subst, arith}
 use Rattle.pg_event.specs.declared.event.Event.{Event}
 use Rattle.pg_event.specs.declared.event.Want.TheVariants as wants
 use Rattle.pg_event.specs.Heads.{Head}
 use Rattle.pg_chain.specs.declared.history.Past.{Past}
 use Rattle.pg_chain.specs.Standing.{IsPast}
 use Rattle.pg_check.specs.declared.memo.Slot.{Slot}
+use Rattle.pg_check.specs.declared.lasting.Lasting.{Lasting}
 use Rattle.pg_check.specs.Lasting.{IsWalk}
-use Rattle.pg_check.specs.Remembered.{HasWalk, HaveWalks}
+use Rattle.pg_check.specs.Remembered.{HasWalk, HaveWalks, walk_in}
 
 -- what holds of each slot holds of the one at a place
 pub slot_at : (past : Past) (slots : List (Option Slot)) (i : ℕ) (d : Option Slot) → HaveWalks past slots → i < length slots → HasWalk past (get_or slots i d)
@@ -17,14 +18,23 @@ slot_at past (x ∷ xs) (suc i) d all h = slot_at past xs i d all.1 (omega arith
 
 -- a slot says what the walk comes to that it names
 pub walk_of_slot : (past : Past) (s : Slot) (p page : ℕ) (ws : List ℕ) → HasWalk past (Some s) → (s.p ≡ p) × (s.page ≡ page) × (s.moments ≡ ws) →
-    (head : Head) (events : List Event) → IsPast past head events → IsWalk head events p page wants.Leaf ws (Ok s.walk)
+    (head : Head) (events : List Event) → IsPast past head events → IsWalk head events p page wants.Leaf ws (Ok (walk_in s))
 walk_of_slot past s p page ws has same head events h =
-    subst (λ q. IsWalk head events q page wants.Leaf ws (Ok s.walk)) same.0
-    (subst (λ la. IsWalk head events s.p la wants.Leaf ws (Ok s.walk)) same.1
-    (subst (λ vs. IsWalk head events s.p s.page wants.Leaf vs (Ok s.walk)) same.2 (has.1 head events h)))
+    subst (λ q. IsWalk head events q page wants.Leaf ws (Ok (walk_in s))) same.0
+    (subst (λ la. IsWalk head events s.p la wants.Leaf ws (Ok (walk_in s))) same.1
+    (subst (λ vs. IsWalk head events s.p s.page wants.Leaf vs (Ok (walk_in s))) same.2 (has head events h)))
 
 -- a slot may be written at any place
 pub slots_kept : (past : Past) (slots : List (Option Slot)) (i : ℕ) (s : Option Slot) → HaveWalks past slots → HasWalk past s → HaveWalks past (set slots i s)
 slots_kept past [] i s all has = all
 slots_kept past (x ∷ xs) zero s all has = (has, all.1)
 slots_kept past (x ∷ xs) (suc i) s all has = (all.0, slots_kept past xs i s all.1 has)
+
+-- a slot that is made of a walk has it
+pub made_slot : (past : Past) (s : Slot) (p page : ℕ) (ws : List ℕ) (walk : Lasting) → (s.p ≡ p) × (s.page ≡ page) × (s.moments ≡ ws) → walk_in s ≡ walk →
+    ((head : Head) (events : List Event) → IsPast past head events → IsWalk head events p page wants.Leaf ws (Ok walk)) → HasWalk past (Some s)
+made_slot past s p page ws walk same e is = λ head events h.
+    subst (λ q. IsWalk head events q s.page wants.Leaf s.moments (Ok (walk_in s))) (sym same.0)
+    (subst (λ la. IsWalk head events p la wants.Leaf s.moments (Ok (walk_in s))) (sym same.1)
+    (subst (λ vs. IsWalk head events p page wants.Leaf vs (Ok (walk_in s))) (sym same.2)
+    (subst (λ (l : Lasting). IsWalk head events p page wants.Leaf ws (Ok l)) (sym e) (is head events h))))

@@ -35,7 +35,7 @@ fn is_global(past: &Past, p: u16, moment: u32, global_bit: bool) -> bool
 }
 
 /// How long the translation lasts that a walk gives, as far as the event with this number asks.
-fn lasting_chain(past: &Past, p: u16, la: u64, chain: Chain, number: u32) -> Lasting
+pub fn lasting_chain(past: &Past, p: u16, la: u64, chain: Chain, number: u32) -> Lasting
     requires { p < processor_count past.now }
     ensures chain { result.chain ≡ chain }
     ensures asked { IsAsked number result }

@@ -1,26 +1,81 @@
 //! Walks that were made, kept so that they need not be made again.
 
-ghost use Rattle.std.specs.Prelude.{◌≡◌, ◌<◌, true, List, Some, Ok, IfOk, IfSome, IsTrue};
+ghost use Rattle.std.specs.Prelude.{◌≡◌, ◌<◌, List, Ok, IfOk, IfSome, IsTrue};
 ghost use Rattle.pg_event.specs.declared.event.Event.{Event};
 ghost use Rattle.pg_event.specs.declared.event.Want.TheVariants.{Leaf};
 ghost use Rattle.pg_event.specs.Heads.{Head};
 ghost use Rattle.pg_chain.specs.Standing.{IsPast, processor_count};
 ghost use Rattle.pg_check.specs.Lasting.{IsAsked, IsWalk};
-ghost use Rattle.pg_check.specs.Remembered.{HasWalk};
+ghost use Rattle.pg_check.specs.Remembered.{HasWalk, walk_in};
 
-use crate::lasting::{Lasting, lasting_walk};
-use pg_chain::Past;
+use crate::lasting::{Lasting, lasting_chain, lasting_walk};
+use pg_chain::{Chain, Past, Step};
+use pg_entry::{Level, Rights};
 use pg_event::{Moments, Reason, Want};
 use std::marker::Model;
 
 /// A walk that was made: which one, and what it came to. The page is told by its first address: no
-/// walk depends on the offset in it.
+/// walk depends on the offset in it. The walk's parts stand side by side, so that a slot is short.
 #[derive(Clone, Copy, PartialEq, Eq, Debug)]
 pub struct Slot {
-    pub p: u16,
     pub page: u64,
+    pub address: u64,
+    pub value: u64,
     pub moments: Moments,
-    pub walk: Lasting,
+    pub moment: u32,
+    pub dropped: Option<u32>,
+    pub p: u16,
+    pub pcid: u16,
+    pub level: Level,
+    pub rights: Rights,
+    pub tables: bool,
+    pub global: bool,
+    pub asked: bool,
+}
+
+/// What the walk of a slot came to.
+fn walk_in(slot: &Slot) -> Lasting
+    ensures { result ≡ walk_in slot.now }
+{
+    Lasting {
+        chain: Chain {
+            pcid: slot.pcid,
+            tables: slot.tables,
+            end: Step {
+                level: slot.level,
+                address: slot.address,
+                value: slot.value,
+                moment: slot.moment,
+                rights: slot.rights,
+            },
+        },
+        global: slot.global,
+        asked: slot.asked,
+        dropped: slot.dropped,
+    }
+}
+
+/// The slot of a walk.
+fn slot_of(p: u16, page: u64, moments: &Moments, walk: Lasting) -> Slot
+    ensures names { (result.p ≡ p) × (result.page ≡ page) × (result.moments ≡ moments.now) }
+    ensures walk { walk_in result ≡ walk }
+{
+    let end = walk.chain.end;
+    Slot {
+        page,
+        address: end.address,
+        value: end.value,
+        moments: *moments,
+        moment: end.moment,
+        dropped: walk.dropped,
+        p,
+        pcid: walk.chain.pcid,
+        level: end.level,
+        rights: end.rights,
+        tables: walk.chain.tables,
+        global: walk.global,
+        asked: walk.asked,
+    }
 }
 
 /// Walks that were made by a past. Where levels are read long before they are used, most accesses
@@ -44,19 +99,18 @@ impl<'a> Model for Memo<'a> {
 }
 
 /// So many walks are kept at most: more would not stay in a cache of the processor that judges.
-const MOST_SLOTS: usize = 8_192;
+const MOST_SLOTS: usize = 16_384;
 
 /// An odd number whose bits are spread, which spreads those of what it is multiplied by.
 const SPREAD: u64 = 0x9e37_79b9_7f4a_7c15;
 
-/// Whether a walk of an event with this number is worth a slot: one to a leaf that was read before
-/// the event. A walk that ends at its own event may never come again.
-fn may_be_kept(number: u32, moments: &Moments, want: Want) -> bool
+/// Whether a walk is worth a slot: one to a leaf. One that ends otherwise is used at its own event
+/// alone.
+fn may_be_kept(want: Want) -> bool
     ensures { IsTrue result → want ≡ Leaf }
 {
-    let all = moments.as_slice();
     match want {
-        Want::Leaf => all[all.len() - 1] < number,
+        Want::Leaf => true,
         Want::Absent | Want::Reserved | Want::Present => false,
     }
 }
@@ -90,55 +144,114 @@ impl<'a> Memo<'a> {
         self.past
     }
 
-    /// The place of a walk to a page, where there are any.
+    /// The first of the two places of a walk to a page, where there are any.
     fn place_of(&self, p: u16, page: u64, moments: &Moments) -> usize {
         let all = moments.as_slice();
         let last = all[all.len() - 1] as u64;
         let spread = (page >> 12).wrapping_mul(SPREAD) ^ (last << 16 | p as u64);
         // The upper bits depend on all others, and the place is told by the lower ones.
         let mixed = spread.wrapping_mul(SPREAD);
-        let place = (mixed ^ (mixed >> 32)).wrapping_mul(SPREAD) >> 32;
-        place as usize % self.slots.len().max(1)
+        let number = (mixed ^ (mixed >> 32)).wrapping_mul(SPREAD) >> 32;
+        // The same part of the places that this number is of 2 to the power of 32.
+        let place = number.wrapping_mul(self.slots.len() as u64) >> 32;
+        place as usize & !1
     }
 
-    /// What was kept of a walk to a page.
-    fn kept(&self, p: u16, page: u64, moments: &Moments) -> Option<Lasting>
-        ensures asked { IfSome result (λ l. l.asked ≡ true) }
-        ensures walk { (head : Head) (events : List Event) → IsPast self.now head events →
+    /// What a place has of a walk to a page.
+    fn kept_at(&self, place: usize, p: u16, page: u64, moments: &Moments) -> Option<Lasting>
+        ensures { (head : Head) (events : List Event) → IsPast self.now head events →
             IfSome result (λ l. IsWalk head events p page Leaf moments.now (Ok l)) }
     {
-        let slot = (*self.slots.get(self.place_of(p, page, moments))?)?;
-        if is_of(&slot, p, page, moments) {
-            Some(slot.walk)
-        } else {
-            None
+        match self.slots.get(place)? {
+            Some(slot) => if is_of(slot, p, page, moments) {
+                Some(walk_in(slot))
+            } else {
+                None
+            },
+            None => None,
+        }
+    }
+
+    /// What was kept of a walk to a page, and where.
+    fn kept(&self, p: u16, page: u64, moments: &Moments) -> Option<(usize, Lasting)>
+        ensures { (head : Head) (events : List Event) → IsPast self.now head events →
+            IfSome result (λ found. IsWalk head events p page Leaf moments.now (Ok found.1)) }
+    {
+        let first = self.place_of(p, page, moments);
+        match self.kept_at(first, p, page, moments) {
+            Some(walk) => Some((first, walk)),
+            None => match self.kept_at(first | 1, p, page, moments) {
+                Some(walk) => Some((first | 1, walk)),
+                None => None,
+            },
         }
     }
 
     /// Keeps a walk at a place, where there is one.
-    fn keep(&mut self, place: usize, slot: Slot)
-        requires { HasWalk self.old (Some slot) }
+    fn keep(&mut self, place: usize, slot: Option<Slot>)
+        requires { HasWalk self.old slot }
         ensures { self.new ≡ self.old }
     {
         if place < self.slots.len() {
-            self.slots[place] = Some(slot);
+            self.slots[place] = slot;
         }
     }
 
-    /// Keeps what a walk to a page came to, and when its translation had to go.
+    /// Makes room at the first of two places: what it has goes to the other.
+    fn make_way(&mut self, first: usize)
+        ensures { self.new ≡ self.old }
+    {
+        if first < self.slots.len() {
+            let before = self.slots[first];
+            self.keep(first | 1, before);
+        }
+    }
+
+    /// Keeps a walk that was not kept.
     fn remember(&mut self, p: u16, page: u64, moments: &Moments, walk: Lasting)
-        requires asked { walk.asked ≡ true }
-        requires walk { (head : Head) (events : List Event) → IsPast self.old head events →
+        requires { (head : Head) (events : List Event) → IsPast self.old head events →
             IsWalk head events p page Leaf moments.now (Ok walk) }
         ensures { self.new ≡ self.old }
     {
-        let slot = Slot {
-            p,
-            page,
-            moments: *moments,
-            walk,
-        };
-        self.keep(self.place_of(p, page, moments), slot);
+        let first = self.place_of(p, page, moments);
+        self.make_way(first);
+        self.keep_walk(first, p, page, moments, walk);
+    }
+
+    /// Keeps what a walk to a page came to at a place, where there is one.
+    fn keep_walk(&mut self, place: usize, p: u16, page: u64, moments: &Moments, walk: Lasting)
+        requires { (head : Head) (events : List Event) → IsPast self.old head events →
+            IsWalk head events p page Leaf moments.now (Ok walk) }
+        ensures { self.new ≡ self.old }
+    {
+        self.keep(place, Some(slot_of(p, page, moments, walk)));
+    }
+
+    /// A walk that a place has. The first event that comes after its last reading asks when its
+    /// translation had to go.
+    fn asked_walk(
+        &mut self,
+        number: u32,
+        place: usize,
+        p: u16,
+        page: u64,
+        moments: &Moments,
+        walk: Lasting,
+    ) -> Lasting
+        requires processor { p < processor_count self.old }
+        requires walk { (head : Head) (events : List Event) → IsPast self.old head events →
+            IsWalk head events p page Leaf moments.now (Ok walk) }
+        ensures past { self.new ≡ self.old }
+        ensures asked { IsAsked number result }
+        ensures walk { (head : Head) (events : List Event) → IsPast self.old head events →
+            IsWalk head events p page Leaf moments.now (Ok result) }
+    {
+        if walk.asked || number <= walk.chain.end.moment {
+            return walk;
+        }
+        let asked = lasting_chain(self.past, p, page, walk.chain, number);
+        self.keep_walk(place, p, page, moments, asked);
+        asked
     }
 
     /// A walk that was not kept.
@@ -157,10 +270,7 @@ impl<'a> Memo<'a> {
     {
         match lasting_walk(self.past, number, p, page, moments, Want::Leaf) {
             Ok(walk) => {
-                // Only then does the slot serve every event.
-                if walk.asked {
-                    self.remember(p, page, moments, walk);
-                }
+                self.remember(p, page, moments, walk);
                 Ok(walk)
             }
             Err(reason) => Err(reason),
@@ -182,7 +292,7 @@ impl<'a> Memo<'a> {
             IsWalk head events p page Leaf moments.now result }
     {
         match self.kept(p, page, moments) {
-            Some(walk) => Ok(walk),
+            Some((place, walk)) => { Ok(self.asked_walk(number, place, p, page, moments, walk)) }
             None => self.walk_anew(number, p, page, moments),
         }
     }
@@ -204,7 +314,7 @@ impl<'a> Memo<'a> {
         ensures walk { (head : Head) (events : List Event) → IsPast self.old head events →
             IsWalk head events p la want moments.now result }
     {
-        if may_be_kept(number, moments, want) {
+        if may_be_kept(want) {
             self.page_walk(number, p, la - la % 4096, moments)
         } else {
             lasting_walk(self.past, number, p, la, moments, want)

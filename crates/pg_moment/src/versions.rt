@@ -3,12 +3,12 @@ ghost use Rattle.std.specs.Prelude.{OnErr};
 ghost use Rattle.pg_event.specs.declared.event.Event.{Event};
 ghost use Rattle.pg_event.specs.Values.{mem_at};
 ghost use Rattle.std.specs.HashMap.{IsUnchanged};
-ghost use Rattle.pg_timeline.specs.Timelines.{end_of};
+ghost use Rattle.pg_timeline.specs.Timelines.{end_of, IsSpan};
 ghost use Rattle.pg_timeline.specs.Keyed.{stamps_in, IsPushed, AreCut};
 ghost use Rattle.pg_moment.specs.Versions.{next_moment, value_at, IsNoted, IsSame, IsCutAt, Leaves};
 ghost use Rattle.pg_moment.specs.Versions.{StandsFor};
 
-use pg_timeline::{Probes, Timeline};
+use pg_timeline::{Probes, Span, Timeline};
 use std::alloc::{AllocError, Global};
 use std::collections::HashMap;
 use std::marker::Model;
@@ -123,6 +123,24 @@ impl Versions {
         match self.by_address.get(&addr) {
             Some(timeline) => timeline.last_before(moment, probes).unwrap_or(0),
             None => 0,
+        }
+    }
+
+    /// The same, with the moments around this one at which the value is the same. It counts the
+    /// moments that were read.
+    pub fn span_at(&self, moment: u32, addr: u64, probes: &mut Probes) -> Span<u64>
+        ensures value { IsSpan (λ w. value_at self.now w addr) moment result }
+        ensures memory { (events : List Event) → StandsFor self.now events →
+            IsSpan (λ w. mem_at events w addr) moment result }
+        ensures probes { (probes.old ≤ probes.new) × (probes.new ≤ probes.old + 35) }
+    {
+        match self.by_address.get(&addr) {
+            Some(timeline) => timeline.span_at(moment, 0, probes),
+            None => Span {
+                value: 0,
+                from: 0,
+                to: u32::MAX,
+            },
         }
     }
 

@@ -5,14 +5,14 @@ ghost use Rattle.pg_event.specs.Form.{processor_of};
 ghost use Rattle.pg_event.specs.Heads.{Head};
 ghost use Rattle.pg_event.specs.Spelling.{IsHead};
 ghost use Rattle.pg_event.specs.Values.{controlled, control_at};
-ghost use Rattle.pg_timeline.specs.Timelines.{end_of, cut_at};
+ghost use Rattle.pg_timeline.specs.Timelines.{end_of, cut_at, IsSpan};
 ghost use Rattle.pg_state.specs.Controls.{is_change, start_in, cfg_of, version_of, next_moment};
 ghost use Rattle.pg_state.specs.Controls.{processor_count, changes_of, control_in, IsNoted, IsSame};
 ghost use Rattle.pg_state.specs.Controls.{IsCutAt, StandsFor};
 
 use pg_entry::Cfg;
 use pg_event::{Control, Event, Header, Version, controlled, loaded, processor_of};
-use pg_timeline::{Probes, Timeline};
+use pg_timeline::{Probes, Span, Timeline};
 use std::alloc::{AllocError, Global};
 use std::marker::Model;
 
@@ -84,6 +84,14 @@ fn push_at(
     ensures err { OnErr result (by_processor.new.items ≡ by_processor.old.items) }
 {
     by_processor[p as usize].push(moment, control)
+}
+
+/// The registers that the changes of a processor left.
+fn changes_at(by_processor: &Vec<Timeline<Control>>, p: u16) -> &Timeline<Control>
+    requires { p < length by_processor.now.items }
+    ensures { result.now ≡ changes_of by_processor.now.items p }
+{
+    &by_processor[p as usize]
 }
 
 /// Forgets the registers of every processor from a moment on.
@@ -282,5 +290,17 @@ impl Controls {
             Some(control) => control,
             None => self.start(p),
         }
+    }
+
+    /// The same, with the moments around this one at which they are the same.
+    pub fn control_span(&self, p: u16, moment: u32, probes: &mut Probes) -> Span<Control>
+        requires { p < processor_count self.now }
+        ensures value { IsSpan (λ w. control_in self.now p w) moment result }
+        ensures run { (head : Head) (events : List Event) → StandsFor self.now head events →
+            IsSpan (λ w. control_at head events p w) moment result }
+        ensures root { result.value.root < 2 ^ 52 }
+        ensures probes { (probes.old ≤ probes.new) × (probes.new ≤ probes.old + 35) }
+    {
+        changes_at(&self.by_processor, p).span_at(moment, self.start(p), probes)
     }
 }

@@ -5,6 +5,7 @@ use Rattle.std.specs.Prelude.{length, fold, slice_get, Option, Some, None}
 use Rattle.std.specs.List.{filter, list_any}
 use Rattle.std.specs.Option.{option_map, MatchOption}
 use Rattle.pg_timeline.specs.declared.timeline.Stamp.{Stamp}
+use Rattle.pg_timeline.specs.declared.timeline.Span.{Span}
 
 -- one above the last moment, or 0
 abbrev pub end_of : {V : Type 0} → List (Stamp V) → ℕ
@@ -33,6 +34,12 @@ abbrev pub IsLeastFrom : (ℕ → Bool) → ℕ → Option ℕ → Type 0
 IsLeastFrom test from found =
     MatchOption found ((j : ℕ) → from ≤ j → test j ≡ false)
     (λ m. (from ≤ m) × (test m ≡ true) × ((j : ℕ) → from ≤ j → j < m → test j ≡ false))
+
+-- a moment lies in a span, at each moment of which the same is read
+pub record IsSpan {V : Type 0} (read : ℕ → V) (moment : ℕ) (span : Span V) : Type 0 where
+  pub low : span.from ≤ moment
+  pub high : moment ≤ span.to
+  pub same : (w : ℕ) → span.from ≤ w → w ≤ span.to → read w ≡ span.value
 
 -- how many stamps are below a moment
 abbrev pub count_below : {V : Type 0} → ℕ → List (Stamp V) → ℕ

@@ -1,7 +1,8 @@
 ghost use Rattle.std.specs.Prelude.{◌≡◌, ◌+◌, ◌-◌, ◌<◌, ◌≤◌, ◌^◌, ℕ, min, List, [], ◌∷◌, ◌++◌};
 ghost use Rattle.std.specs.Prelude.{length, Some, OnOk, OnErr};
+ghost use Rattle.std.specs.Option.{unwrap_or};
 ghost use Rattle.pg_timeline.specs.Timelines.{end_of, last_before, first_from, cut_at, count_below};
-ghost use Rattle.pg_timeline.specs.Timelines.{IsRising, IsLeastFrom, moment_in, has_moment};
+ghost use Rattle.pg_timeline.specs.Timelines.{IsRising, IsLeastFrom, IsSpan, moment_in, has_moment};
 
 use crate::probes::Probes;
 use smallvec::SmallVec;
@@ -14,6 +15,14 @@ pub struct Stamp<V> {
     /// The number of an event.
     pub moment: u32,
     pub value: V,
+}
+
+/// A value, and the first and the last of moments at which it is the same.
+#[derive(Clone, Copy, PartialEq, Eq, Debug)]
+pub struct Span<V> {
+    pub value: V,
+    pub from: u32,
+    pub to: u32,
 }
 
 /// Values whose moments rise.
@@ -75,6 +84,25 @@ fn count_between<V: Copy>(
     low
 }
 
+/// How many stamps lie below a moment, where these first ones do. The last stamp is looked at first:
+/// most look-ups ask of a moment after it.
+fn count_after<V: Copy>(stamps: &[Stamp<V>], from: usize, moment: u32, probes: &mut Probes) -> usize
+    requires rising { IsRising stamps.now }
+    requires low { from ≤ count_below moment stamps.now }
+    requires some { from < length stamps.now }
+    ensures count { result ≡ count_below moment stamps.now }
+    ensures more { probes.old ≤ probes.new }
+    ensures probes { (n : ℕ) → length stamps.now ≤ from + 2 ^ n →
+        probes.new ≤ probes.old + (n + 1) }
+{
+    let last = stamps.len() - 1;
+    if moment_at(stamps, last, probes) < moment {
+        stamps.len()
+    } else {
+        count_between(stamps, from, last, moment, probes)
+    }
+}
+
 /// So many of the last stamps are looked at first: most look-ups ask of a moment near the end.
 const LAST: usize = 64;
 
@@ -87,14 +115,62 @@ fn count_before<V: Copy>(stamps: &[Stamp<V>], moment: u32, probes: &mut Probes) 
     ensures probes { (probes.old ≤ probes.new) × (probes.new ≤ probes.old + 33) }
 {
     let count = stamps.len();
+    if count == 0 {
+        return 0;
+    }
     if count <= LAST {
-        return count_between(stamps, 0, count, moment, probes);
+        return count_after(stamps, 0, moment, probes);
     }
     let near = count - LAST;
     if moment_at(stamps, near, probes) < moment {
-        count_between(stamps, near + 1, count, moment, probes)
+        count_after(stamps, near + 1, moment, probes)
     } else {
         count_between(stamps, 0, near, moment, probes)
+    }
+}
+
+/// From which moment on so many stamps lie below, or more.
+fn begin_of<V: Copy>(stamps: &[Stamp<V>], count: usize, moment: u32, probes: &mut Probes) -> u32
+    requires rising { IsRising stamps.now }
+    requires count { count ≡ count_below moment stamps.now }
+    requires within { count ≤ length stamps.now }
+    ensures low { result ≤ moment }
+    ensures below { (w : ℕ) → result ≤ w → count ≤ count_below w stamps.now }
+    ensures probes { (probes.old ≤ probes.new) × (probes.new ≤ probes.old + 1) }
+{
+    if count == 0 {
+        0
+    } else {
+        moment_at(stamps, count - 1, probes) + 1
+    }
+}
+
+/// Up to which moment so many stamps lie below, or fewer.
+fn last_of<V: Copy>(stamps: &[Stamp<V>], count: usize, moment: u32, probes: &mut Probes) -> u32
+    requires rising { IsRising stamps.now }
+    requires count { count ≡ count_below moment stamps.now }
+    ensures high { moment ≤ result }
+    ensures above { (w : ℕ) → w ≤ result → count_below w stamps.now ≤ count }
+    ensures probes { (probes.old ≤ probes.new) × (probes.new ≤ probes.old + 1) }
+{
+    if count < stamps.len() {
+        moment_at(stamps, count, probes)
+    } else {
+        u32::MAX
+    }
+}
+
+/// The value of the last of so many stamps, or another where there are none.
+fn value_after<V: Copy>(stamps: &[Stamp<V>], count: usize, start: V) -> V
+    requires rising { IsRising stamps.now }
+    requires within { count ≤ length stamps.now }
+    ensures { (w : ℕ) → count_below w stamps.now ≡ count →
+        unwrap_or (last_before w stamps.now) start ≡ result }
+{
+    if count == 0 {
+        start
+    } else {
+        stamps[count - 1].value
     }
 }
 
@@ -130,6 +206,21 @@ impl<V: Copy + Default> Timeline<V> {
             None
         } else {
             Some(stamps[count - 1].value)
+        }
+    }
+
+    /// The value of the last stamp below a moment, or another where there is none, and the moments
+    /// around it at which it is the same.
+    pub fn span_at(&self, moment: u32, start: V, probes: &mut Probes) -> Span<V>
+        ensures span { IsSpan (λ w. unwrap_or (last_before w self.now) start) moment result }
+        ensures probes { (probes.old ≤ probes.new) × (probes.new ≤ probes.old + 35) }
+    {
+        let stamps = self.stamps.as_slice();
+        let count = count_before(stamps, moment, probes);
+        Span {
+            value: value_after(stamps, count, start),
+            from: begin_of(stamps, count, moment, probes),
+            to: last_of(stamps, count, moment, probes),
         }
     }
 
