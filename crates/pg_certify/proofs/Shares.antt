@@ -1,5 +1,5 @@
 -- What checkers answer of their shares, put together.
-use Rattle.std.proofs.Common.{◌≡◌, ◌≢◌, ℕ, zero, suc, ◌+◌, ◌%◌, ◌<◌, ◌≤◌, ◌⊎◌, Bool, true, false, nat_lt, cond, List, [], ◌∷◌, length, refl, sym, arith, inl, inr, Option, Some, None, Result, Ok, Err, ◌==◌, ◌∙◌, subst}
+use Rattle.std.proofs.Common.{◌≡◌, ◌≢◌, ℕ, zero, suc, ◌+◌, ◌<◌, ◌≤◌, ◌⊎◌, Bool, true, false, nat_lt, cond, List, [], ◌∷◌, length, refl, sym, arith, inl, inr, Option, Some, None, Result, Ok, Err, ◌==◌, ◌∙◌, subst}
 use Rattle.std.specs.Prelude.{IfSome, IfNone, IfOk, slice_get, slice_index_or}
 use Rattle.std.specs.declared.alloc.AllocError.{AllocError}
 use Rattle.std.proofs.Math.Nat.{mod-lt}
@@ -11,7 +11,7 @@ use Rattle.pg_event.specs.Spelling.{Recorded}
 use Rattle.pg_run_of.specs.Converse.{HasMoments}
 use Rattle.pg_search.specs.Law.{CanBeWitnessed}
 use Rattle.pg_certify.specs.Certified.{IsFound, IsDenied, CanBeCertified, NamesMoments}
-use Rattle.pg_certify.specs.Shares.{AreAnswers, IsAnswer, dealt_to, IsDealt, IsDealtBelow, IsLeastDenied, earlier, end_of}
+use Rattle.pg_certify.specs.Shares.{AreAnswers, IsAnswer, dealt_to, IsDealt, IsDealtBelow, IsLeastDenied, earlier}
 use Rattle.pg_certify.proofs.Gathered.{gathered}
 use Rattle.pg_certify.proofs.Founds.{found_can, found_good, all_found}
 

@@ -1,8 +1,8 @@
-use Rattle.std.proofs.Common.{ℕ, List, ◌∙◌, ◌≡◌, false, sym}
+use Rattle.std.proofs.Common.{ℕ, List, ◌∙◌, sym}
 use Rattle.pg_event.specs.declared.event.Event.{Event}
 use Rattle.pg_event.specs.Heads.{Head}
 use Rattle.pg_certify.specs.Certified.{IsFound}
-use Rattle.pg_certify.specs.Shares.{IsDealt, dealt_to}
+use Rattle.pg_certify.specs.Shares.{IsDealt}
 use Rattle.pg_certify.proofs.Founds.{found_at}
 use Rattle.pg_certify.proofs.Shares.{each_found, not_dealt}
 use Rattle.pg_certify.proofs.certifier.first_denied_of.Goals as goal
