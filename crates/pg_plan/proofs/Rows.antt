@@ -7,10 +7,15 @@ use Rattle.clap.specs.Kinds.{Kinds}
 use Rattle.clap.specs.declared.error.kind.ErrorKind.TheVariants.{DisplayHelp, DisplayVersion, InvalidSubcommand, MissingSubcommand, UnknownArgument, ValueValidation, ArgumentConflict}
 use Rattle.clap.proofs.OnLiterals.{clap_on_literals}
 use Rattle.pg_plan.specs.Commands.{AreAsked, Asks, IsAsked, command_line}
-use Rattle.pg_plan.specs.declared.request.Command.TheVariants.{Check, Run, Show}
+use Rattle.pg_plan.specs.declared.request.Command.TheVariants.{Check, Certify, Run, Show}
 
 abbrev Gives : List Text → Kinds → Type 0
 Gives words kinds = fault_of command_line words ≡ kinds
+
+-- the options that were found
+abbrev options : Option (Text × List Row) → List Row
+options None = []
+options (Some found) = found.1
 
 check : Gives (codes "check" ∷ []) []
 unfolding clap_on_literals
@@ -19,6 +24,14 @@ check = refl
 certify : Gives (codes "certify" ∷ codes "--checkers" ∷ codes "2" ∷ []) []
 unfolding clap_on_literals
 certify = refl
+
+certify_bytes : Gives (codes "certify" ∷ codes "--bytes" ∷ []) []
+unfolding clap_on_literals
+certify_bytes = refl
+
+asks_certify : Asks (codes "certify" ∷ codes "--bytes" ∷ []) (record { command = Certify; checkers = 1; single = false; bytes = true; from = 0; to = 4294967295 })
+unfolding clap_on_literals
+asks_certify = (refl, record { rows = options (subcommand_of command_line (codes "certify" ∷ codes "--bytes" ∷ [])); command = refl; checkers = refl; single = refl; bytes = refl; from = refl; to = refl })
 
 certify_single : Gives (codes "certify" ∷ codes "--single" ∷ []) (UnknownArgument ∷ [])
 unfolding clap_on_literals
@@ -83,6 +96,10 @@ check_more : Gives (codes "check" ∷ codes "more" ∷ []) (UnknownArgument ∷ 
 unfolding clap_on_literals
 check_more = refl
 
+check_bytes : Gives (codes "check" ∷ codes "--bytes" ∷ []) (UnknownArgument ∷ [])
+unfolding clap_on_literals
+check_bytes = refl
+
 check_single : Gives (codes "check" ∷ codes "--single" ∷ []) (UnknownArgument ∷ [])
 unfolding clap_on_literals
 check_single = refl
@@ -130,11 +147,6 @@ switch_twice = refl
 
 abbrev run_words : List Text
 run_words = codes "run" ∷ codes "--checkers" ∷ codes "2" ∷ codes "--single" ∷ codes "--bytes" ∷ []
-
--- the options that were found
-abbrev options : Option (Text × List Row) → List Row
-options None = []
-options (Some found) = found.1
 
 abbrev run_options : List Row
 run_options = options (subcommand_of command_line run_words)

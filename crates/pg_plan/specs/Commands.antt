@@ -54,7 +54,9 @@ abbrev pub switch_rule : Text → Rule
 switch_rule name = record (new_rule name) { long = Some name; action = Some SetTrue }
 
 abbrev pub certify_line : App
-certify_line = with_rule (new_app (command_word Certify)) checkers_rule
+certify_line =
+    let line = with_rule (new_app (command_word Certify)) checkers_rule in
+    with_rule line (switch_rule (codes "bytes"))
 
 abbrev pub run_line : App
 run_line =

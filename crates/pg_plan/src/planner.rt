@@ -69,6 +69,8 @@ const BYTES: &str = "bytes";
 
 const BYTES_ABOUT: &str = "Write the record itself";
 
+const FOUND_ABOUT: &str = "Write the record with the moments that were found";
+
 const FROM: &str = "from";
 
 const FROM_ABOUT: &str = "The number of the first event that is written; 0 where left out";
@@ -131,7 +133,8 @@ fn certify_line<'a>(alloc: Global) -> Result<CommandLine<'a>, AllocError>
 {
     CommandLine::new(alloc, CERTIFY)
         .about(CERTIFY_ABOUT)
-        .arg(checkers_option(alloc))
+        .arg(checkers_option(alloc))?
+        .arg(switch(alloc, BYTES, FOUND_ABOUT))
 }
 
 fn run_line<'a>(alloc: Global) -> Result<CommandLine<'a>, AllocError>

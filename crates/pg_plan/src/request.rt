@@ -29,7 +29,7 @@ pub struct Plan {
     pub checkers: u16,
     /// Whether `run` keeps to one thread, and carries out the script's lines in their order.
     pub single: bool,
-    /// Whether `run` writes the record in the place of its report.
+    /// Whether `run` and `certify` write the record in the place of its report.
     pub bytes: bool,
     /// The number of the first event that `show` writes. It is 0 where the words say nothing.
     pub from: u32,

@@ -26,6 +26,8 @@ mod long_run;
 #[cfg(test)]
 mod many_lines;
 #[cfg(test)]
+mod namings;
+#[cfg(test)]
 mod new_headers;
 #[cfg(test)]
 mod pieces;

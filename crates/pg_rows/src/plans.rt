@@ -13,7 +13,7 @@ const BARE: Plan = Plan {
 };
 
 /// Command lines and their plans.
-const PLANNED: [(&[&str], Plan); 17] = [
+const PLANNED: [(&[&str], Plan); 18] = [
     (&["check"], BARE),
     (
         &["certify"],
@@ -27,6 +27,14 @@ const PLANNED: [(&[&str], Plan); 17] = [
         Plan {
             command: Command::Certify,
             checkers: 2,
+            ..BARE
+        },
+    ),
+    (
+        &["certify", "--bytes"],
+        Plan {
+            command: Command::Certify,
+            bytes: true,
             ..BARE
         },
     ),
@@ -149,11 +157,12 @@ fn plans(rt: HostRuntime) -> Result<(), Fail> {
 }
 
 /// Command lines that are refused.
-const FAULTS: [&[&str]; 20] = [
+const FAULTS: [&[&str]; 21] = [
     &[],
     &["judge"],
     &["check", "more"],
     &["check", "--single"],
+    &["explain", "--bytes"],
     &["check", "--version"],
     &["check", "--checkers"],
     &["run-of", "--checkers", "2"],

@@ -79,10 +79,11 @@ fn each_proper_beginning(rt: HostRuntime) -> Result<(), Fail> {
     Ok(())
 }
 
-const READERS: [&[&str]; 6] = [
+const READERS: [&[&str]; 7] = [
     &["check"],
     &["check", "--checkers", "2"],
     &["certify"],
+    &["certify", "--bytes"],
     &["run-of"],
     &["explain"],
     &["upgrade"],

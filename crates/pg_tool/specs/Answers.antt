@@ -1,5 +1,5 @@
 -- What the whole program answers, by its words.
-use Rattle.std.specs.Prelude.{◌≡◌, ◌⊎◌, ℕ, List, string_bytes}
+use Rattle.std.specs.Prelude.{◌≡◌, ◌⊎◌, ℕ, Bool, true, false, List, string_bytes}
 use Rattle.pg_plan.specs.declared.request.Command.{Command}
 use Rattle.pg_plan.specs.declared.request.Command.TheVariants.{Check, Certify, Run, RunOf}
 use Rattle.pg_plan.specs.declared.request.Command.TheVariants.{Explain, Show, Upgrade}
@@ -14,6 +14,7 @@ use Rattle.pg_tool.specs.Certificates.{CertifiesRecord}
 use Rattle.pg_tool.specs.Explanations.{ExplainsRecord}
 use Rattle.pg_tool.specs.Guests.{RunsGuest}
 use Rattle.pg_tool.specs.Lines.{ShowsRecord}
+use Rattle.pg_tool.specs.Naming.{NamesRecord}
 use Rattle.pg_tool.specs.Refusals.{StaysSame, Tells, refusal_line, memory_line}
 use Rattle.pg_tool.specs.Status.{Checks, ShowsRun}
 use Rattle.pg_tool.specs.Streams.{Streams}
@@ -48,10 +49,15 @@ pub record AnswersUsage (words : List (List ℕ)) (s : Streams) (status : ℕ) :
   pub asked_version : AsksVersion words → ¬ IsFault why
   pub gives : GivesUsage why s.output s.errors status
 
+-- whether some run has the record's events; or the record with moments for them
+abbrev pub CertifiesBy : Bool → Streams → ℕ → Type 0
+CertifiesBy false = CertifiesRecord
+CertifiesBy true = NamesRecord
+
 -- what a plan's command does
 abbrev pub DoesCommand : Command → Plan → Streams → ℕ → Type 0
 DoesCommand Check plan s status = Checks plan.checkers s status
-DoesCommand Certify plan s status = CertifiesRecord s status
+DoesCommand Certify plan s status = CertifiesBy plan.bytes s status
 DoesCommand Run plan s status = RunsGuest plan.single plan.bytes s status
 DoesCommand RunOf plan s status = ShowsRun s status
 DoesCommand Explain plan s status = ExplainsRecord s status

@@ -3,7 +3,7 @@ ghost use Rattle.pg_plan.specs.Commands.{AreFrom1To64, texts};
 ghost use Rattle.pg_pool.specs.Rounds.{AreCheckers};
 ghost use Rattle.pg_report.specs.Audits.{IsAudit};
 ghost use Rattle.pg_report.specs.Changes.{drawn, filled};
-ghost use Rattle.pg_tool.specs.Answers.{Answers, Does, GivesText};
+ghost use Rattle.pg_tool.specs.Answers.{Answers, CertifiesBy, Does, GivesText};
 ghost use Rattle.pg_tool.specs.Guests.{guest_error_status, run_error_status};
 ghost use Rattle.pg_tool.specs.Guests.{RunsGuest, TellsGuest};
 ghost use Rattle.pg_tool.specs.Status.{error_status, verdict_status, status_of, run_status};
@@ -17,6 +17,7 @@ use crate::guest_error::GuestError;
 use crate::guest_refusals::tell_guest;
 use crate::guests::run_script;
 use crate::lines::show;
+use crate::naming::name_moments;
 use crate::refusals::{tell, tell_error, tell_memory, tell_text};
 use crate::replayer::write_run;
 use crate::shown::{ReportText, Shown};
@@ -30,11 +31,11 @@ use std::alloc::{AllocGlobal, Global};
 use std::sync::Wait;
 use std::thread::Threads;
 
-const YES: u8 = 0;
+pub(crate) const YES: u8 = 0;
 
-const NO: u8 = 1;
+pub(crate) const NO: u8 = 1;
 
-const REFUSED: u8 = 2;
+pub(crate) const REFUSED: u8 = 2;
 
 const MEMORY: u8 = 3;
 
@@ -237,6 +238,24 @@ fn give_text<O: Sink, E: Sink>(text: &str, output: &mut O, errors: &mut E) -> u8
     }
 }
 
+/// Certifies the record on `input`, and writes its report, or the record with moments.
+fn certify_by<R: Source, O: Sink, E: Sink>(
+    alloc: Global,
+    as_bytes: bool,
+    input: &mut R,
+    output: &mut O,
+    errors: &mut E,
+) -> u8
+    ensures { CertifiesBy as_bytes (streams R.Source O.Sink E.Sink
+        (input.old, output.old, errors.old) (input.new, output.new, errors.new)) result }
+{
+    if as_bytes {
+        name_moments(alloc, input, output, errors)
+    } else {
+        certify(alloc, input, output, errors)
+    }
+}
+
 /// Does what a plan says.
 fn perform<T: AllocGlobal + Threads + Wait + Sync, R: Source, O: Sink, E: Sink>(
     rt: &T,
@@ -251,7 +270,7 @@ fn perform<T: AllocGlobal + Threads + Wait + Sync, R: Source, O: Sink, E: Sink>(
 {
     match plan.command {
         Command::Check => check(rt, plan.checkers, input, output, errors),
-        Command::Certify => certify(rt.alloc(), input, output, errors),
+        Command::Certify => certify_by(rt.alloc(), plan.bytes, input, output, errors),
         Command::Run => run(rt, plan, input, output, errors),
         Command::RunOf => run_of(rt.alloc(), input, output, errors),
         Command::Explain => explain(rt.alloc(), input, output, errors),
