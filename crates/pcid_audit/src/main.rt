@@ -4,10 +4,19 @@
 use pg_codec::Watched;
 use pg_tool::{pcid_audit, tell_memory};
 use std::env;
+use std::fs::{self, File};
 use std::io::{self, Lock, Read, Write};
 use std::process::ExitCode;
 
 const MEMORY: u8 = 3;
+
+/// The file of that name, where it can be opened.
+fn open_file(rt: &HostRuntime, name: &str) -> Option<Watched<File>> {
+    match fs::open(rt, name) {
+        Ok(file) => Some(Watched::new(file)),
+        Err(_) => None,
+    }
+}
 
 fn main(rt: HostRuntime) -> ExitCode {
     let mut input = Watched::new(rt.reader());
@@ -31,5 +40,12 @@ fn main(rt: HostRuntime) -> ExitCode {
             return ExitCode::from(MEMORY);
         }
     }
-    ExitCode::from(pcid_audit(&rt, &words, &mut input, &mut output, &mut errors))
+    ExitCode::from(pcid_audit(
+        &rt,
+        &words,
+        |name: &str| open_file(&rt, name),
+        &mut input,
+        &mut output,
+        &mut errors,
+    ))
 }

@@ -38,6 +38,15 @@ pub struct Plan {
     pub to: u32,
 }
 
+/// What the words of a command line ask for, and of which file.
+#[derive(Clone, Copy, Debug, PartialEq, Eq)]
+pub struct Invocation<'a> {
+    pub plan: Plan,
+    /// The name of the file that is read in the place of standard input, where the words have one
+    /// that is not `-`.
+    pub file: Option<&'a str>,
+}
+
 /// Why the words of a command line give no plan.
 #[derive(Debug, Drop)]
 pub enum Usage {

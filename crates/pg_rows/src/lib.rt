@@ -16,6 +16,8 @@ mod crews;
 #[cfg(test)]
 mod explanations;
 #[cfg(test)]
+mod files;
+#[cfg(test)]
 mod headers;
 #[cfg(test)]
 mod invalidations;

@@ -1,6 +1,6 @@
 //! Records that are written with the moments that were found for them.
 
-use crate::case::{Case, answer, answer_by_bytes, fail_each_write};
+use crate::case::{Case, answer, answer_by_bytes, fail_each_write, no_file};
 use crate::certificates::{FRESH_WALK, ROWS};
 use crate::row::{Row, bytes_of};
 use crate::walks;
@@ -40,7 +40,7 @@ fn expect_named<T: AllocGlobal + Abort + Threads + Wait + Sync>(
     let mut input = Watched::new(bytes.as_slice());
     let mut output = Watched::new(Vec::new(rt.alloc()));
     let mut errors = Watched::new(Vec::new(rt.alloc()));
-    let status = pcid_audit(rt, NAMING, &mut input, &mut output, &mut errors);
+    let status = pcid_audit(rt, NAMING, no_file, &mut input, &mut output, &mut errors);
     assert!(rt; status == 0 && errors.inner.is_empty(), "{}", row.name);
     let checked = Case {
         name: row.name,

@@ -58,8 +58,7 @@ fits_alike (x ∷ xs) (y ∷ ys) same moments fits =
 pub is_named : (r : Recorded) (found : List Event) → AreWellFormed r.head r.events → IsCertified r.head r.events found → IsNaming r Named (record_bytes (with_events r found))
 is_named r found well h =
     let named : Recorded = with_events r found in
-    let formed : AreWellFormed r.head found = well_alike r.head found r.events h.same well in
-    (
+    let formed : AreWellFormed r.head found = well_alike r.head found r.events h.same well in (
       named,
       record { head = refl; same = h.same; accepted = h.good; run = accepted_events_run r.head found formed h.good },
       refl,

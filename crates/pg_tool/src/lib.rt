@@ -3,6 +3,7 @@
 
 mod certificates;
 mod explanations;
+mod files;
 mod guest_error;
 mod guest_refusals;
 mod guests;
@@ -20,7 +21,7 @@ pub use explanations::explain;
 pub use guest_error::GuestError;
 pub use lines::show;
 pub use naming::name_moments;
-pub use pg_plan::{Command, Plan, Usage, plan};
+pub use pg_plan::{Command, Invocation, Plan, Usage, plan};
 pub use program::{check, pcid_audit, run, run_of, upgrade};
 pub use refusals::tell_memory;
 pub use runs::run_text;

@@ -1,8 +1,8 @@
-use Rattle.std.proofs.Common.{⊎_elim, codes, refl, sym, subst, ◌≡◌, None, Some}
+use Rattle.std.proofs.Common.{⊎_elim, codes, refl, sym, ap, subst, ◌≡◌, ◌∙◌, None, Some}
 use Rattle.clap.specs.Walk.{first_of}
 use Rattle.clap.specs.Simple.{app_of, subcommand_rows_of}
 use Rattle.clap.specs.declared.error.kind.ErrorKind.TheVariants.{DisplayHelp, DisplayVersion}
-use Rattle.pg_plan.specs.Commands.{IsFault, texts}
+use Rattle.pg_plan.specs.Commands.{IsFault, file_in, texts}
 use Rattle.pg_plan.specs.declared.request.Usage.{Usage}
 use Rattle.pg_plan.proofs.Parses.{asked_range, gives_text, is_asked, parsed_taken, parsed_rows, plans_of}
 use Rattle.pg_plan.proofs.planner.plan.Goals as goal
@@ -14,7 +14,7 @@ returns-in-Some-clause-asked c =
     let app = app_of c.in-Ok.line in
     let taken = parsed_taken app words c.in-Ok.ensures parsed.ensures.kinds in
     let rows = parsed_rows app words parsed.matches c.in-Ok.ensures parsed.ensures.matches in
-    is_asked words c.in-Some.plan taken (plans_of (Some c.in-Some.plan) (subcommand_rows_of parsed.matches) words rows c.in-Some.ensures)
+    is_asked words c.in-Some.plan _ taken (plans_of (Some c.in-Some.plan) (subcommand_rows_of parsed.matches) words rows c.in-Some.ensures) (c.file_of.ensures ∙ ap file_in rows)
 
 pub returns-in-Some-clause-checkers : goal.returns-in-Some-clause-checkers
 returns-in-Some-clause-checkers c =
@@ -23,7 +23,7 @@ returns-in-Some-clause-checkers c =
 
 pub returns-in-Ok-try_get_matches_from-clause-taken :
     goal.returns-in-Ok-try_get_matches_from-clause-taken
-returns-in-Ok-try_get_matches_from-clause-taken c = λ plan asks.
+returns-in-Ok-try_get_matches_from-clause-taken c = λ plan file asks.
     let parsed = c.in-Ok-try_get_matches_from in
     let words = texts c.args.words.now in
     let rows = parsed_rows (app_of c.in-Ok.line) words parsed.matches c.in-Ok.ensures parsed.ensures.matches in
