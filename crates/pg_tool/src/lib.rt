@@ -23,6 +23,6 @@ pub use lines::show;
 pub use naming::name_moments;
 pub use pg_plan::{Command, Invocation, Plan, Usage, plan};
 pub use program::{check, pcid_audit, run, run_of, upgrade};
-pub use refusals::tell_memory;
+pub use refusals::{tell_memory, tell_text};
 pub use runs::run_text;
 pub use shown::Shown;
