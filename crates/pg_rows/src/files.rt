@@ -17,17 +17,6 @@ use std::thread::Threads;
 /// What the words name.
 const NAME: &str = "the.file";
 
-/// Commands with a file's name, and rows that have what they answer.
-const BY_NAME: [(&[&str], Row); 7] = [
-    (&["check", NAME], FRESH_WALK),
-    (&["check", "--checkers", "2", NAME], FRESH_WALK),
-    (&["check", NAME, "--checkers", "2"], FRESH_WALK),
-    (&["certify", NAME], certificates::FRESH_WALK),
-    (&["run-of", NAME], runs::ROWS[0]),
-    (&["explain", NAME], explanations::STALE_LEAF),
-    (&["show", "--from", "5", "--", NAME], lines::RANGES[0]),
-];
-
 /// The input is that of the one file there is, and standard input is not read.
 fn answer_of_file<'a, T: AllocGlobal + Abort + Threads + Wait + Sync>(rt: &T, case: Case<'a>) {
     let mut input = Watched::new(Pieces {
@@ -56,7 +45,16 @@ fn answer_of_file<'a, T: AllocGlobal + Abort + Threads + Wait + Sync>(rt: &T, ca
 
 #[test]
 fn records_by_their_names(rt: HostRuntime) -> Result<(), Fail> {
-    for (words, row) in &BY_NAME {
+    let rows: [(&[&str], Row); 7] = [
+        (&["check", NAME], FRESH_WALK),
+        (&["check", "--checkers", "2", NAME], FRESH_WALK),
+        (&["check", NAME, "--checkers", "2"], FRESH_WALK),
+        (&["certify", NAME], certificates::FRESH_WALK),
+        (&["run-of", NAME], runs::ROWS[0]),
+        (&["explain", NAME], explanations::STALE_LEAF),
+        (&["show", "--from", "5", "--", NAME], lines::RANGES[0]),
+    ];
+    for (words, row) in &rows {
         let input = bytes_of(rt.alloc(), row.input)?;
         let named = Case {
             words,
