@@ -65,8 +65,8 @@ fn walk_now(
     event: &Event,
 ) -> Result<Now, AllocError>
     requires { processor_of event.now < length history.now.head.processors }
-    ensures walk { IfOk result (λ now. IsWalkNow history.now.head history.now.events number event.now
-        now.walk.items) }
+    ensures walk { IfOk result (λ now. IsWalkNow history.now.head history.now.events number
+        event.now now.walk.items) }
     ensures given { IfOk result (λ now. now.given
         ≡ given_now history.now.head history.now.events number event.now) }
 {

@@ -226,13 +226,13 @@ fn last_of(
     alloc: Global,
     history: &History,
     i: u64,
-    other: Option<Moments>,
+    other: &Option<Moments>,
 ) -> Result<Option<Last>, AllocError>
     requires within { i < length history.now.events }
     requires names { IfSome (slice_get history.now.events i) (λ e. names_moments e ≡ true) }
-    ensures last { IfOk result (λ last. IfNone other
+    ensures last { IfOk result (λ last. IfNone other.now
         (IfSome last (IsLast history.now.head history.now.events i))) }
-    ensures never { IfOk result (λ last. IfNone other
+    ensures never { IfOk result (λ last. IfNone other.now
         (IfNone last (HasNoLast history.now.head history.now.events i))) }
 {
     match other {
@@ -255,7 +255,7 @@ pub fn explain(alloc: Global, history: &History, i: u64) -> Result<Option<Explan
         None => Ok(None),
         Some(Told { walk, finding }) => {
             let other = find_moments(alloc, history, i)?;
-            let last = last_of(alloc, history, i, other)?;
+            let last = last_of(alloc, history, i, &other)?;
             Ok(Some(Explanation {
                 number,
                 walk,
