@@ -12,6 +12,6 @@ pub returns : goal.returns
 returns c =
     let found = found_of c.in_ok-own.own.now in
     let rows : List Row = rows_of found in
-    let found_is = joined (out-ArgMatches c.args.matches.now).subcommand c.in_ok-own.field-0.now rows c.in_ok-own.ensures.rows c.in_ok-own.ensures.name in
+    let found_is = joined (out-ArgMatches c.args.matches.now).subcommand c.in_ok-own.field-0-0.now rows c.in_ok-own.ensures.rows c.in_ok-own.ensures.name in
     c.named_file.ensures ∙ ap named_file (c.get_str.ensures ∙ first_value-rows found (codes "file"))
-    ∙ sym (file_joined (subcommand_rows_of c.args.matches.now) c.in_ok-own.field-0.now rows found_is)
+    ∙ sym (file_joined (subcommand_rows_of c.args.matches.now) c.in_ok-own.field-0-0.now rows found_is)
