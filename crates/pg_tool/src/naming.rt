@@ -14,7 +14,7 @@ use crate::certificates::no_text;
 use crate::program::{NO, REFUSED, YES, error_status};
 use crate::refusals::tell;
 use crate::shown::Naming;
-use pg_certify::{Certified, certify};
+use pg_certify::{Certified, certify, denied_events_have_no_run};
 use pg_check::History;
 use pg_codec::{Sink, Source, put_all, write_record};
 use pg_event::Event;
@@ -55,6 +55,9 @@ fn write_named<R: Source, O: Sink>(
         Ok(history) => history,
         Err(error) => return Err(error),
     };
+    // What a no says of runs, of events that are well formed and not too many.
+    denied_events_have_no_run();
+    let _events = history.events();
     match certify(alloc, &history)? {
         Certified::Yes(found) => write_events(output, &history, &found),
         Certified::No(event) => {

@@ -24,7 +24,7 @@ use crate::replayer::write_run;
 use crate::shown::{ReportText, Shown};
 use crate::upgrader::write_upgrade;
 use pg_codec::{Sink, Source, put_all};
-use pg_plan::{Command, Invocation, Plan, Usage, plan};
+use pg_plan::{Command, Plan, Usage, plan};
 use pg_report::{AuditError, Verdict, audit, audit_one};
 use pg_runner::RunError;
 use pg_script::{ScriptError, ScriptRefusal};
@@ -322,9 +322,9 @@ pub fn pcid_audit<
         (input.old, output.old, errors.old) (input.new, output.new, errors.new)) result }
 {
     match plan(rt.alloc(), words) {
-        Ok(Invocation { plan, file }) => match file {
-            None => perform(rt, plan, input, output, errors),
-            Some(name) => perform_on(rt, plan, name, opener, output, errors),
+        Ok(asked) => match asked.file {
+            None => perform(rt, asked.plan, input, output, errors),
+            Some(name) => perform_on(rt, asked.plan, name, opener, output, errors),
         },
         Err(Usage::Help(text)) => give_text(text.as_str(), output, errors),
         Err(Usage::Version(text)) => give_text(text.as_str(), output, errors),

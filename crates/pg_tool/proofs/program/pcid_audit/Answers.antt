@@ -9,20 +9,20 @@ use Rattle.pg_tool.specs.Streams.{Streams, streams}
 use Rattle.pg_tool.proofs.Asked.{does_asked, does_named, gives_same}
 use Rattle.pg_tool.proofs.program.pcid_audit.Goals as goal
 
-pub returns-in-Ok-None : goal.returns-in-Ok-None
-returns-in-Ok-None g c =
+pub returns-in-None : goal.returns-in-None
+returns-in-None g c =
     let s : Streams = streams g.R.Source g.O.Sink g.E.Sink (c.args.input.now, c.args.output.now, c.args.errors.now) (c.perform.new.input, c.perform.new.output, c.perform.new.errors) in
     let words = texts c.args.words.now in
-    does_asked words (opens g.F.Fn g.S.Source c.args.opener) (c.perform.new.input ≡ c.args.input.now) s c.perform.result c.in-Ok.plan (rw c.in-None.is at c.in-Ok.ensures.asked) c.perform.ensures
+    does_asked words (opens g.F.Fn g.S.Source c.args.opener) (c.perform.new.input ≡ c.args.input.now) s c.perform.result c.in-Ok.asked.plan (rw c.in-None.is at c.in-Ok.ensures.asked) c.perform.ensures
 
-pub returns-in-Ok-Some : goal.returns-in-Ok-Some
-returns-in-Ok-Some g c =
+pub returns-in-Ok : goal.returns-in-Ok
+returns-in-Ok g c =
     let s : Streams = streams g.R.Source g.O.Sink g.E.Sink (c.args.input.now, c.args.output.now, c.args.errors.now) (c.args.input.now, c.perform_on.new.output, c.perform_on.new.errors) in
     let words = texts c.args.words.now in
-    does_named words (opens g.F.Fn g.S.Source c.args.opener) (c.args.input.now ≡ c.args.input.now) s c.perform_on.result c.in-Ok.plan c.in-Some.name.now (rw c.in-Some.is at c.in-Ok.ensures.asked) refl c.perform_on.ensures
+    does_named words (opens g.F.Fn g.S.Source c.args.opener) (c.args.input.now ≡ c.args.input.now) s c.perform_on.result c.in-Ok.asked.plan c.in-Some.name.now (rw c.in-Some.is at c.in-Ok.ensures.asked) refl c.perform_on.ensures
 
-pub returns-in-Err-Memory : goal.returns-in-Err-Memory
-returns-in-Err-Memory g c =
+pub returns : goal.returns
+returns g c =
     let memory = c.in-Err-Memory in
     let said = memory.ensures in
     let is = memory.field-0-is in
