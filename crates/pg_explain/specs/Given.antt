@@ -22,7 +22,8 @@ use Rattle.pg_explain.specs.Findings.{readings_by}
 -- the byte's address in a page, if the rights of the walk allow the access, else a page fault
 abbrev pub leaf_given : Cfg → AccessKind → Rights → ℕ → Outcome
 leaf_given cfg access rights address =
-    if is_allowed cfg rights access then Page address else Fault (fault_code cfg access causes.Denied)
+    if is_allowed cfg rights access then Page address
+    else Fault (fault_code cfg access causes.Denied)
 
 -- what an entry gives at which a walk ends; a table gives nothing
 abbrev pub given_at : Cfg → AccessKind → ℕ → Rights → Kind → Option Outcome

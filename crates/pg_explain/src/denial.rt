@@ -58,12 +58,7 @@ fn walk_of(
 }
 
 /// What an event's processor would read at the event, where it reads anything, and get.
-fn walk_now(
-    alloc: Global,
-    history: &History,
-    number: u32,
-    event: &Event,
-) -> Result<Now, AllocError>
+fn walk_now(alloc: Global, history: &History, number: u32, event: &Event) -> Result<Now, AllocError>
     requires { processor_of event.now < length history.now.head.processors }
     ensures walk { IfOk result (λ now. IsWalkNow history.now.head history.now.events number
         event.now now.walk.items) }

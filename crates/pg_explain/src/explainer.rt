@@ -37,8 +37,8 @@ pub struct Explanation {
     /// The freshest moments that prove the event in the place of its own. Where there are none, no
     /// moments do, and no run of the machine has the events up to this one.
     pub other: Option<Moments>,
-    /// Where there are none, when the event would last have been witnessed, had it come earlier, and
-    /// by which moments.
+    /// Where there are none, when the event would last have been witnessed, had it come earlier,
+    /// and by which moments.
     pub last: Option<Last>,
 }
 

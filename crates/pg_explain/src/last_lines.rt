@@ -41,7 +41,11 @@ fn push_last_seen(text: &mut String, events: &[Event], last: &Last) -> Result<()
 }
 
 /// Appends when an event would last have been witnessed, and what took that away.
-pub(crate) fn push_taken(text: &mut String, events: &[Event], last: Option<Last>) -> Result<(), AllocError>
+pub(crate) fn push_taken(
+    text: &mut String,
+    events: &[Event],
+    last: Option<Last>,
+) -> Result<(), AllocError>
     ensures { OnOk result
         (string_bytes text.new ≡ string_bytes text.old ++ taken_text events.now last) }
 {

@@ -95,8 +95,8 @@ DoesNamed Opens plan name output errors status =
 
 -- All that the program promises of its words, its streams and its status: by a command's words what
 -- that command does of the input or, where they name a file, of that, with the input not read; or
--- that memory was refused before any input was read; by other words that the input was not read, and
--- why there is no plan.
+-- that memory was refused before any input was read; by other words that the input was not read,
+-- and why there is no plan.
 pub record Answers (words : List (List ℕ)) (Opens : Opening) (Unread : Type 0) (s : Streams)
     (status : ℕ) : Type 0 where
   pub asked : (plan : Plan) → Asks words plan None →

@@ -305,8 +305,8 @@ fn perform_on<
 }
 
 /// The whole program, over any streams: the words after its name, what opens a file, what it reads
-/// where the words name none, and what it writes to. It gives the exit status, which is 64 where the
-/// words are no command of it, and 66 where the file can't be opened.
+/// where the words name none, and what it writes to. It gives the exit status, which is 64 where
+/// the words are no command of it, and 66 where the file can't be opened.
 pub fn pcid_audit<
     'a,
     T: AllocGlobal + Threads + Wait + Sync,
