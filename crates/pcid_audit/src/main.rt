@@ -2,20 +2,38 @@
 #![tactic(auto)]
 
 use pg_codec::Watched;
-use pg_tool::{pcid_audit, tell_memory};
+use pg_tool::{pcid_audit, tell_memory, tell_text};
 use std::env;
-use std::io::{self, Lock, Read, Write};
+use std::fs::{self, File};
+use std::io::{self, ErrorKind, Lock, Read, Write};
 use std::process::ExitCode;
 
 const MEMORY: u8 = 3;
+
+const USAGE: u8 = 64;
+
+/// The file of that name, where it can be opened.
+fn open_file(rt: &HostRuntime, name: &str) -> Option<Watched<File>> {
+    match fs::open(rt, name) {
+        Ok(file) => Some(Watched::new(file)),
+        Err(_) => None,
+    }
+}
 
 fn main(rt: HostRuntime) -> ExitCode {
     let mut input = Watched::new(rt.reader());
     let mut output = Watched::new(rt.stdout());
     let mut errors = Watched::new(rt.stderr());
-    let Ok(arguments) = env::args(&rt) else {
-        tell_memory(&mut errors);
-        return ExitCode::from(MEMORY);
+    let arguments = match env::args(&rt) {
+        Ok(arguments) => arguments,
+        Err(error) if error.kind() == ErrorKind::InvalidData => {
+            tell_text(&mut errors, "error: a word is no UTF-8 text\n");
+            return ExitCode::from(USAGE);
+        }
+        Err(_) => {
+            tell_memory(&mut errors);
+            return ExitCode::from(MEMORY);
+        }
     };
     let mut all = Vec::new(rt.alloc());
     for argument in arguments {
@@ -31,5 +49,12 @@ fn main(rt: HostRuntime) -> ExitCode {
             return ExitCode::from(MEMORY);
         }
     }
-    ExitCode::from(pcid_audit(&rt, &words, &mut input, &mut output, &mut errors))
+    ExitCode::from(pcid_audit(
+        &rt,
+        &words,
+        |name: &str| open_file(&rt, name),
+        &mut input,
+        &mut output,
+        &mut errors,
+    ))
 }

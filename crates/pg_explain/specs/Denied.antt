@@ -3,26 +3,26 @@
 --     event: LINE                             the event, as it is shown, without its moments
 --     now: level L [HEX] = HEX KIND, WRITTEN  for each entry that the processor would read at the
 --                                             event, down to the first that is no table
---     last: moment M by W ..; taken by LINE   the last number at which the event would have been
---                                             witnessed, the freshest moments that would have, and
---                                             the event there, behind which it never was
---     last: never                             where there is none
+--     now: would give OUTCOME                 what the access would get by these, by the rights
+--     last: ..                                when it would last have been witnessed (`Lasts`)
 use Rattle.std.specs.Prelude.{◌≡◌, ℕ, if◌then◌else◌, List, [], ◌∷◌, ◌++◌, Option, Some, None}
 use Rattle.std.specs.Prelude.{codes, decimal, slice_get, IfSome, IfNone}
 use Rattle.pg_entry.specs.declared.Level.{Level}
 use Rattle.pg_event.specs.declared.event.Event.{Event}
 use Rattle.pg_event.specs.declared.event.Event.TheVariants.{Write, Access, Assist, MovCr3, Invlpg}
 use Rattle.pg_event.specs.declared.event.Event.TheVariants.{Invpcid, MovCr4Pge}
+use Rattle.pg_event.specs.declared.event.Outcome.{Outcome}
 use Rattle.pg_event.specs.Heads.{Head}
 use Rattle.pg_event.specs.Form.{processor_of}
 use Rattle.pg_event.specs.Wants.{is_table}
-use Rattle.pg_search.specs.declared.last.Last.{Last}
 use Rattle.pg_search.specs.Last.{IsLast, HasNoLast}
 use Rattle.pg_explain.specs.declared.entry.WalkEntry.{WalkEntry}
 use Rattle.pg_explain.specs.declared.denial.Denial.{Denial}
-use Rattle.pg_explain.specs.Line.{access_text, outcome_text, assist_text, event_text, numbers_text}
+use Rattle.pg_explain.specs.Given.{given_now}
+use Rattle.pg_explain.specs.Lasts.{taken_text}
+use Rattle.pg_explain.specs.Line.{access_text, outcome_text, assist_text, event_text}
 use Rattle.pg_explain.specs.Names.{level_number}
-use Rattle.pg_explain.specs.Text.{held_text, writer_text, numbered_text}
+use Rattle.pg_explain.specs.Text.{held_text, writer_text}
 use Rattle.pg_explain.specs.Walk.{IsWalk}
 
 -- these are the entries of a walk at the event
@@ -41,6 +41,7 @@ IsWalkNow head events i (MovCr4Pge p on) walk = walk ≡ []
 pub record IsDenialOf (head : Head) (events : List Event) (i : ℕ) (x : Denial) : Type 0 where
   pub number : x.number ≡ i
   pub walk : IfSome (slice_get events i) (λ e. IsWalkNow head events i e x.walk.items)
+  pub given : IfSome (slice_get events i) (λ e. x.given ≡ given_now head events i e)
   pub last : IfSome x.last (IsLast head events i)
   pub never : IfNone x.last (HasNoLast head events i)
 
@@ -82,22 +83,12 @@ abbrev pub now_walk_text : List WalkEntry → List ℕ
 now_walk_text [] = []
 now_walk_text (x ∷ xs) = now_entry_text x ++ (if is_table x.kind then now_walk_text xs else [])
 
-abbrev pub by_text : List ℕ → List ℕ
-by_text ws = codes " by" ++ numbers_text ws
-
-abbrev pub last_moments_text : Last → List ℕ
-last_moments_text last = codes "last: moment " ++ (decimal last.number ++ by_text last.moments)
-
-abbrev pub last_seen_text : List Event → Last → List ℕ
-last_seen_text events last =
-    last_moments_text last
-    ++ (codes "; taken by " ++ (numbered_text events last.number ++ codes "\n"))
-
-abbrev pub taken_text : List Event → Option Last → List ℕ
-taken_text events None = codes "last: never\n"
-taken_text events (Some last) = last_seen_text events last
+abbrev pub given_text : Option Outcome → List ℕ
+given_text None = []
+given_text (Some outcome) = codes "now: would give " ++ (outcome_text outcome ++ codes "\n")
 
 -- the text of what stands behind an event, where these are the events of its run
 abbrev pub denial_text : List Event → Denial → List ℕ
 denial_text events x =
-    claimed_text events x.number ++ (now_walk_text x.walk.items ++ taken_text events x.last)
+    claimed_text events x.number
+    ++ (now_walk_text x.walk.items ++ (given_text x.given ++ taken_text events x.last))

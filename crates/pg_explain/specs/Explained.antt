@@ -7,6 +7,7 @@ use Rattle.pg_event.specs.declared.event.Event.TheVariants.{Invpcid, MovCr4Pge}
 use Rattle.pg_event.specs.declared.event.Reason.{Reason}
 use Rattle.pg_event.specs.Heads.{Head}
 use Rattle.pg_event.specs.Witness.{failing}
+use Rattle.pg_search.specs.Last.{IsLast, HasNoLast}
 use Rattle.pg_search.specs.Law.{WitnessedBy, AreFreshest, CanBeWitnessed, RunBeginsWith}
 use Rattle.pg_explain.specs.declared.entry.WalkEntry.{WalkEntry}
 use Rattle.pg_explain.specs.declared.explainer.Explanation.{Explanation}
@@ -36,8 +37,8 @@ TellsEvent failing found IsRight told =
     × IsRight x.walk.items)
 
 -- event i is not witnessed, and this is what stands behind it. Other moments that are told are the
--- freshest that prove it. Where none are, no moments prove it, and no run of the machine begins
--- with the events up to it
+-- freshest that prove it. Where none are, no moments prove it, no run of the machine begins with
+-- the events up to it, and it is told when it would last have been witnessed
 pub record IsExplained (head : Head) (events : List Event) (i : ℕ) (x : Explanation) :
     Type 0 where
   pub number : x.number ≡ i
@@ -48,3 +49,5 @@ pub record IsExplained (head : Head) (events : List Event) (i : ℕ) (x : Explan
   pub freshest : IfSome x.other (AreFreshest head events i)
   pub none : IfNone x.other (CanBeWitnessed head events i → ⊥)
   pub final : IfNone x.other (RunBeginsWith head events i → ⊥)
+  pub last : IfNone x.other (IfSome x.last (IsLast head events i))
+  pub never : IfNone x.other (IfNone x.last (HasNoLast head events i))

@@ -1,7 +1,9 @@
 pub mod Line
+pub mod Lasts
 pub mod Names
 pub mod Drops
 pub mod Findings
+pub mod Given
 pub mod Walk
 pub mod Explained
 pub mod Laws

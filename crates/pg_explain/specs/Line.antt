@@ -16,7 +16,7 @@
 --               fault HEX< (BIT ..)>                        the names of the code's set bits
 --     BIT       present, write, user, reserved, fetch       from bit 0 up; others have no name
 use Rattle.std.specs.Prelude.{ℕ, zero, suc, ◌+◌, Bool, false, if◌then◌else◌, ◌==◌}
-use Rattle.std.specs.Prelude.{List, [], ◌∷◌, ◌++◌, codes, decimal}
+use Rattle.std.specs.Prelude.{List, [], ◌∷◌, ◌++◌, Option, Some, None, codes, decimal, slice_get}
 use Rattle.std.specs.Fmt.{digits}
 use Rattle.pg_entry.specs.declared.AccessKind.{AccessKind}
 use Rattle.pg_entry.specs.declared.Op.{Op}
@@ -126,6 +126,14 @@ event_text (MovCr4Pge p on) = codes "pge " ++ switch_text on
 abbrev pub event_line : ℕ → Event → List ℕ
 event_line number e =
     decimal number ++ (codes " cpu " ++ (decimal (processor_of e) ++ (codes " " ++ event_text e)))
+
+-- the line of an event by its number, where there is one
+abbrev pub line_at : ℕ → Option Event → List ℕ
+line_at number None = []
+line_at number (Some e) = event_line number e
+
+abbrev pub numbered_text : List Event → ℕ → List ℕ
+numbered_text events number = line_at number (slice_get events number)
 
 -- the lines of events, of which the first has this number
 abbrev pub lines_from : ℕ → List Event → List ℕ

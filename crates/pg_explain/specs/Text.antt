@@ -6,6 +6,7 @@
 --                                             no table: its word, what it is, and who wrote it
 --     FINDING                                 what stands behind the reason
 --     final: no moments prove this DEED       where none do
+--     last: ..                                then when it would last have been witnessed (`Lasts`)
 --     other moments would: M ..               else the freshest that do
 use Rattle.std.specs.Prelude.{ℕ, Bool, if◌then◌else◌, List, [], ◌∷◌, ◌++◌}
 use Rattle.std.specs.Prelude.{Option, Some, None, codes, decimal, slice_get}
@@ -32,15 +33,10 @@ use Rattle.pg_explain.specs.declared.finding.Misfit.TheVariants as misfits
 use Rattle.pg_explain.specs.declared.finding.Finding.{Finding}
 use Rattle.pg_explain.specs.declared.finding.Finding.TheVariants as findings
 use Rattle.pg_explain.specs.Names.{level_number, rights_text}
-use Rattle.pg_explain.specs.Line.{hex, word_text, numbers_text, kind_text, code_text, event_line}
-
--- the line of an event by its number, where there is one
-abbrev pub line_at : ℕ → Option Event → List ℕ
-line_at number None = []
-line_at number (Some e) = event_line number e
-
-abbrev pub numbered_text : List Event → ℕ → List ℕ
-numbered_text events number = line_at number (slice_get events number)
+use Rattle.pg_search.specs.declared.last.Last.{Last}
+use Rattle.pg_explain.specs.Lasts.{taken_text}
+use Rattle.pg_explain.specs.Line.{hex, word_text, numbers_text, kind_text, code_text}
+pub use Rattle.pg_explain.specs.Line.{line_at, numbered_text}
 
 abbrev pub kind_name : Kind → List ℕ
 kind_name kinds.Absent = codes "absent"
@@ -177,6 +173,11 @@ abbrev pub last_text : List ℕ → Option (List ℕ) → List ℕ
 last_text deed None = codes "final: no moments prove this " ++ (deed ++ codes "\n")
 last_text deed (Some ws) = codes "other moments would:" ++ (numbers_text ws ++ codes "\n")
 
+-- where no moments prove an event, when it would last have been witnessed
+abbrev pub ended_text : List Event → Option (List ℕ) → Option Last → List ℕ
+ended_text events None last = taken_text events last
+ended_text events (Some ws) last = []
+
 abbrev pub head_text : List Event → ℕ → List ℕ
 head_text events number = codes "event: " ++ (numbered_text events number ++ codes "\n")
 
@@ -185,4 +186,5 @@ abbrev pub explanation_text : List Event → Explanation → List ℕ
 explanation_text events x =
     head_text events x.number ++ (walk_text x.walk.items
     ++ (finding_text events x.finding
-    ++ (codes "\n" ++ last_text (deed_name (slice_get events x.number)) x.other)))
+    ++ (codes "\n" ++ (last_text (deed_name (slice_get events x.number)) x.other
+    ++ ended_text events x.other x.last))))

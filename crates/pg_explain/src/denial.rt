@@ -4,11 +4,13 @@ ghost use Rattle.std.specs.Prelude.{◌≡◌, ◌<◌, true, List, ◌∷◌, [
 ghost use Rattle.pg_event.specs.Form.{processor_of};
 ghost use Rattle.pg_search.specs.Law.{names_moments};
 ghost use Rattle.pg_explain.specs.Denied.{IsDenialOf, IsWalkNow};
+ghost use Rattle.pg_explain.specs.Given.{given_now, given_then};
 ghost use Rattle.pg_explain.specs.Walk.{IsWalk};
 
 use crate::entry::{WalkEntry, read_steps, tell};
+use crate::given::given_by;
 use pg_check::History;
-use pg_event::Event;
+use pg_event::{Event, Outcome, access_kind};
 use pg_search::{Last, last_moments};
 use std::alloc::{AllocError, Global};
 
@@ -20,50 +22,66 @@ pub struct Denial {
     /// The entries that its processor would read at the event, from level 4 down. What stands below
     /// an entry that is no table was read as if it were one.
     pub walk: Vec<WalkEntry>,
+    /// What its access would get by these, by the rights alone.
+    pub given: Option<Outcome>,
     /// When the event would last have been witnessed, had it come earlier, and by which moments.
     pub last: Option<Last>,
 }
 
-/// The entries that processor `p` would read for a linear address at an event.
+/// What a processor would read at an event, and get.
+#[derive(Drop)]
+struct Now {
+    walk: Vec<WalkEntry>,
+    given: Option<Outcome>,
+}
+
+/// What processor `p` would read at an event for an access by its flags to a linear address, and
+/// get.
 fn walk_of(
     alloc: Global,
     history: &History,
     p: u16,
+    flags: u8,
     la: u64,
     number: u32,
-) -> Result<Vec<WalkEntry>, AllocError>
+) -> Result<Now, AllocError>
     requires { p < length history.now.head.processors }
-    ensures { IfOk result (λ walk. IsWalk history.now.head history.now.events p la
-        (number ∷ number ∷ number ∷ number ∷ []) walk.items) }
+    ensures walk { IfOk result (λ now. IsWalk history.now.head history.now.events p la
+        (number ∷ number ∷ number ∷ number ∷ []) now.walk.items) }
+    ensures given { IfOk result (λ now. now.given
+        ≡ given_then history.now.head history.now.events p flags la number) }
 {
     let steps = read_steps(alloc, history, p, la, &[number; 4])?;
-    tell(alloc, history, p, &steps)
+    let given = given_by(history.header().cfg, access_kind(flags), la, &steps);
+    let walk = tell(alloc, history, p, &steps)?;
+    Ok(Now { walk, given })
 }
 
-/// The entries that an event's processor would read at the event, where it reads any.
-fn walk_now(
-    alloc: Global,
-    history: &History,
-    number: u32,
-    event: &Event,
-) -> Result<Vec<WalkEntry>, AllocError>
+/// What an event's processor would read at the event, where it reads anything, and get.
+fn walk_now(alloc: Global, history: &History, number: u32, event: &Event) -> Result<Now, AllocError>
     requires { processor_of event.now < length history.now.head.processors }
-    ensures { IfOk result (λ walk. IsWalkNow history.now.head history.now.events number event.now
-        walk.items) }
+    ensures walk { IfOk result (λ now. IsWalkNow history.now.head history.now.events number
+        event.now now.walk.items) }
+    ensures given { IfOk result (λ now. now.given
+        ≡ given_now history.now.head history.now.events number event.now) }
 {
     match *event {
-        Event::Access { p, la, .. } => walk_of(alloc, history, p, la, number),
-        Event::Assist { p, la, .. } => walk_of(alloc, history, p, la, number),
+        Event::Access { p, flags, la, .. } => walk_of(alloc, history, p, flags, la, number),
+        Event::Assist { p, flags, la, .. } => walk_of(alloc, history, p, flags, la, number),
         Event::Write { .. }
         | Event::MovCr3 { .. }
         | Event::Invlpg { .. }
         | Event::Invpcid { .. }
-        | Event::MovCr4Pge { .. } => Ok(Vec::new(alloc)),
+        | Event::MovCr4Pge { .. } => Ok(Now {
+            walk: Vec::new(alloc),
+            given: None,
+        }),
     }
 }
 
 /// What stands behind the event with this number, an access or an assist that no moments witness:
-/// what its processor would read at the event, and when the event would last have been witnessed.
+/// what its processor would read at the event, what that would give, and when the event would last
+/// have been witnessed.
 ///
 /// It takes one pass over the events before. It fails only where memory is refused.
 pub fn deny(alloc: Global, history: &History, number: u64) -> Result<Denial, AllocError>
@@ -73,10 +91,11 @@ pub fn deny(alloc: Global, history: &History, number: u64) -> Result<Denial, All
 {
     let event = &history.events()[number as usize];
     let last = last_moments(alloc, history, number)?;
-    let walk = walk_now(alloc, history, number as u32, event)?;
+    let Now { walk, given } = walk_now(alloc, history, number as u32, event)?;
     Ok(Denial {
         number: number as u32,
         walk,
+        given,
         last,
     })
 }

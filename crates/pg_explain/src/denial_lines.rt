@@ -2,20 +2,19 @@
 
 ghost use Rattle.std.specs.Prelude.{◌≡◌, ◌++◌, IfOk, OnOk, string_bytes, slice_get};
 ghost use Rattle.pg_explain.specs.Denied.{claim_text, claimed_text, now_entry_text, now_walk_text};
-ghost use Rattle.pg_explain.specs.Denied.{claim_line, claim_at, last_moments_text, last_seen_text};
-ghost use Rattle.pg_explain.specs.Denied.{by_text, now_level_text, taken_text, denial_text};
+ghost use Rattle.pg_explain.specs.Denied.{claim_line, claim_at, now_level_text, given_text};
+ghost use Rattle.pg_explain.specs.Denied.{denial_text};
 
 use crate::denial::Denial;
 use crate::entry::WalkEntry;
-use crate::finding_text::push_numbered;
-use crate::line::{push_access, push_assist, push_deed, push_numbers, push_outcome};
+use crate::last_lines::push_taken;
+use crate::line::{push_access, push_assist, push_deed, push_outcome};
 use crate::names::level_number;
 use crate::walk_finding::is_table;
 use crate::walk_text::{push_held, push_writer};
 use pg_chain::Step;
 use pg_entry::Level;
-use pg_event::{Event, Moments, processor_of};
-use pg_search::Last;
+use pg_event::{Event, Outcome, processor_of};
 use std::alloc::{AllocError, Global};
 
 /// Appends what an event did, without the moments that it names.
@@ -119,45 +118,18 @@ fn push_now_walk(text: &mut String, walk: &[WalkEntry]) -> Result<(), AllocError
     Ok(())
 }
 
-/// Appends moments behind a word.
-fn push_by(text: &mut String, moments: &Moments) -> Result<(), AllocError>
+/// Appends what the walk would give.
+fn push_given(text: &mut String, given: Option<Outcome>) -> Result<(), AllocError>
     ensures { OnOk result
-        (string_bytes text.new ≡ string_bytes text.old ++ by_text moments.now) }
+        (string_bytes text.new ≡ string_bytes text.old ++ given_text given) }
 {
-    text.push_str(" by")?;
-    push_numbers(text, moments.as_slice())
-}
-
-/// Appends the last number at which an event would have been witnessed, and its moments there.
-fn push_last_moments(text: &mut String, last: &Last) -> Result<(), AllocError>
-    ensures { OnOk result
-        (string_bytes text.new ≡ string_bytes text.old ++ last_moments_text last.now) }
-{
-    let number = last.number;
-    write!(text, "last: moment {number}")?;
-    push_by(text, &last.moments)?;
-    Ok(())
-}
-
-/// The same with the event that took that away.
-fn push_last_seen(text: &mut String, events: &[Event], last: &Last) -> Result<(), AllocError>
-    ensures { OnOk result
-        (string_bytes text.new ≡ string_bytes text.old ++ last_seen_text events.now last.now) }
-{
-    push_last_moments(text, last)?;
-    text.push_str("; taken by ")?;
-    push_numbered(text, events, last.number)?;
-    text.push_str("\n")
-}
-
-/// Appends when an event would last have been witnessed, and what took that away.
-fn push_taken(text: &mut String, events: &[Event], last: Option<Last>) -> Result<(), AllocError>
-    ensures { OnOk result
-        (string_bytes text.new ≡ string_bytes text.old ++ taken_text events.now last) }
-{
-    match last {
-        None => text.push_str("last: never\n"),
-        Some(last) => push_last_seen(text, events, &last),
+    match given {
+        None => Ok(()),
+        Some(outcome) => {
+            text.push_str("now: would give ")?;
+            push_outcome(text, outcome)?;
+            text.push_str("\n")
+        }
     }
 }
 
@@ -169,6 +141,7 @@ pub fn denial_text(alloc: Global, events: &[Event], denial: &Denial) -> Result<S
     let mut text = String::new(alloc);
     push_claimed(&mut text, events, denial.number)?;
     push_now_walk(&mut text, &denial.walk)?;
+    push_given(&mut text, denial.given)?;
     push_taken(&mut text, events, denial.last)?;
     Ok(text)
 }

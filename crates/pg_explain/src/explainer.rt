@@ -1,10 +1,13 @@
 //! What stands behind a "no", and whether other moments would do.
 
-ghost use Rattle.std.specs.Prelude.{◌≡◌, ◌<◌, ◌≤◌, length, map, IfOk, MatchOption};
+ghost use Rattle.std.specs.Prelude.{◌≡◌, ◌<◌, ◌≤◌, true, length, map, slice_get, IfOk};
+ghost use Rattle.std.specs.Prelude.{IfSome, IfNone, MatchOption};
 ghost use Rattle.pg_event.specs.Form.{processor_of};
 ghost use Rattle.pg_event.specs.Witness.{failing_access, failing_assist};
 ghost use Rattle.pg_event.specs.Witness.{failing_event, Witnessed};
 ghost use Rattle.pg_chain.specs.Walked.{reading_of};
+ghost use Rattle.pg_search.specs.Last.{HasNoLast, IsLast};
+ghost use Rattle.pg_search.specs.Law.{names_moments};
 ghost use Rattle.pg_explain.specs.Explained.{IsWalkOf, TellsEvent, IsExplained};
 ghost use Rattle.pg_explain.specs.Findings.{last_of, first_tag, claim_finding, access_finding};
 ghost use Rattle.pg_explain.specs.Findings.{mark_finding, assist_finding, event_finding};
@@ -18,7 +21,7 @@ use crate::walk_finding::{Asked, tagged, walk_finding};
 use pg_chain::Step;
 use pg_check::History;
 use pg_event::{Claim, Event, Moments, Update, Want, claim_of, update_of, want_of};
-use pg_search::find_moments;
+use pg_search::{Last, find_moments, last_moments};
 use std::alloc::{AllocError, Global};
 
 /// What stands behind a "no".
@@ -34,6 +37,9 @@ pub struct Explanation {
     /// The freshest moments that prove the event in the place of its own. Where there are none, no
     /// moments do, and no run of the machine has the events up to this one.
     pub other: Option<Moments>,
+    /// Where there are none, when the event would last have been witnessed, had it come earlier,
+    /// and by which moments.
+    pub last: Option<Last>,
 }
 
 /// The walk of an event that is not witnessed, and what stands behind the reason.
@@ -215,6 +221,26 @@ fn tell_event(
     }
 }
 
+/// When an event would last have been witnessed, where no moments prove it.
+fn last_of(
+    alloc: Global,
+    history: &History,
+    i: u64,
+    other: &Option<Moments>,
+) -> Result<Option<Last>, AllocError>
+    requires within { i < length history.now.events }
+    requires names { IfSome (slice_get history.now.events i) (λ e. names_moments e ≡ true) }
+    ensures last { IfOk result (λ last. IfNone other.now
+        (IfSome last (IsLast history.now.head history.now.events i))) }
+    ensures never { IfOk result (λ last. IfNone other.now
+        (IfNone last (HasNoLast history.now.head history.now.events i))) }
+{
+    match other {
+        None => last_moments(alloc, history, i),
+        Some(_) => Ok(None),
+    }
+}
+
 /// What stands behind the least reason that fails for an event, or `None` where the event is
 /// witnessed. It takes a few passes over the events. `Err` is for want of memory alone.
 pub fn explain(alloc: Global, history: &History, i: u64) -> Result<Option<Explanation>, AllocError>
@@ -229,11 +255,13 @@ pub fn explain(alloc: Global, history: &History, i: u64) -> Result<Option<Explan
         None => Ok(None),
         Some(Told { walk, finding }) => {
             let other = find_moments(alloc, history, i)?;
+            let last = last_of(alloc, history, i, &other)?;
             Ok(Some(Explanation {
                 number,
                 walk,
                 finding,
                 other,
+                last,
             }))
         }
     }

@@ -10,6 +10,8 @@ mod explainer;
 mod finding;
 mod finding_text;
 mod flag_finding;
+mod given;
+mod last_lines;
 mod laws;
 mod line;
 mod names;

@@ -2,14 +2,16 @@
 
 ghost use Rattle.std.specs.Prelude.{◌≡◌, ◌++◌, IfOk, OnOk, string_bytes, slice_get, codes};
 ghost use Rattle.pg_explain.specs.Line.{numbers_text};
-ghost use Rattle.pg_explain.specs.Text.{deed_name, last_text, head_text};
+ghost use Rattle.pg_explain.specs.Text.{deed_name, ended_text, last_text, head_text};
 ghost use Rattle.pg_explain.specs.Text.{explanation_text};
 
 use crate::explainer::Explanation;
 use crate::finding_text::{push_finding, push_numbered};
+use crate::last_lines::push_taken;
 use crate::line::push_numbers;
 use crate::walk_text::push_walk;
 use pg_event::{Event, Moments};
+use pg_search::Last;
 use std::alloc::{AllocError, Global};
 
 /// What an event is.
@@ -51,6 +53,22 @@ fn push_last(text: &mut String, deed: &str, other: Option<Moments>) -> Result<()
     }
 }
 
+/// Appends when an event would last have been witnessed, where no moments prove it.
+fn push_ended(
+    text: &mut String,
+    events: &[Event],
+    other: Option<Moments>,
+    last: Option<Last>,
+) -> Result<(), AllocError>
+    ensures { OnOk result (string_bytes text.new
+        ≡ string_bytes text.old ++ ended_text events.now other last) }
+{
+    match other {
+        None => push_taken(text, events, last),
+        Some(_) => Ok(()),
+    }
+}
+
 /// Appends the event, as it is shown.
 fn push_head(text: &mut String, events: &[Event], number: u32) -> Result<(), AllocError>
     ensures { OnOk result
@@ -63,7 +81,7 @@ fn push_head(text: &mut String, events: &[Event], number: u32) -> Result<(), All
 
 /// The text of an explanation, where these are the events of its run: the event, the entries that
 /// its moments name down to the first that is no table, what stands behind the reason, and whether
-/// other moments would do. `Err` is for want of memory alone.
+/// other moments would do, or when some last would have. `Err` is for want of memory alone.
 pub fn explanation_text(
     alloc: Global,
     events: &[Event],
@@ -79,5 +97,6 @@ pub fn explanation_text(
     push_finding(&mut text, events, explanation.finding)?;
     text.push_str("\n")?;
     push_last(&mut text, deed_name(events, number), explanation.other)?;
+    push_ended(&mut text, events, explanation.other, explanation.last)?;
     Ok(text)
 }

@@ -17,7 +17,7 @@ use Rattle.clap.specs.Faults.{fault_of, is_simple_and_free}
 use Rattle.clap.proofs.OnLiterals.{clap_on_literals}
 use Rattle.pg_plan.specs.declared.request.Plan.{Plan}
 use Rattle.pg_plan.specs.declared.request.Command.{Command}
-use Rattle.pg_plan.specs.Commands.{AreAsked, AreFrom1To64, Asks, AsksOnly, IsAsked, IsNumberIn, IsPlanOf, command_line, command_word, faults, is_on}
+use Rattle.pg_plan.specs.Commands.{AreAsked, AreFrom1To64, Asks, AsksOnly, file_in, named_file, IsAsked, IsNumberIn, IsPlanOf, command_line, command_word, faults, is_on}
 
 is_plain : is_simple_and_free command_line ≡ true
 unfolding clap_on_literals
@@ -54,13 +54,14 @@ pub plans_of : (planned : Option Plan) (rows : Option (Text × List Row)) (words
 plans_of planned rows words rows_is plans plan = subst (λ (o : Option (Text × List Row)). (planned ≡ Some plan) ↔ IsPlanOf o plan) rows_is (plans plan)
 
 -- the plan of words that are taken
-pub is_asked : (words : List Text) (plan : Plan) → faults words ≡ [] → ((other : Plan) → (Some plan ≡ Some other) ↔ IsPlanOf (subcommand_of command_line words) other) → AsksOnly words plan
-is_asked words plan taken plans = ((taken, (plans plan).0 refl), only)
+pub is_asked : (words : List Text) (plan : Plan) (file : Option Text) → faults words ≡ [] → ((other : Plan) → (Some plan ≡ Some other) ↔ IsPlanOf (subcommand_of command_line words) other)
+    → file ≡ file_in (subcommand_of command_line words) → AsksOnly words plan file
+is_asked words plan file taken plans file_is = ((taken, (plans plan).0 refl, file_is), only)
   where
-    only : (other : Plan) → Asks words other → other ≡ plan
-    only other asks =
+    only : (other : Plan) (named : Option Text) → Asks words other named → (other ≡ plan) × (named ≡ file)
+    only other named asks =
         let same : Some plan ≡ Some other = (plans other).1 asks.1 in
-        cc
+        (cc, asks.2 ∙ sym file_is)
 
 pub asked_range : (o : Option Text) (n : ℕ) → AreAsked o n → AreFrom1To64 n
 asked_range None n is = (omega arith, omega arith)
@@ -164,3 +165,8 @@ pub not_asked : (Asked : Option Text → ℕ → Type 0) (key : Text) (rows : Li
 not_asked Asked key rows none n own is asked =
     let e : None ≡ Some n = (none n).1 (subst (λ r. Asked (first_of key r) n) is asked) in
     cc
+
+-- ---- the file
+
+pub file_joined : (found : Option (Text × List Row)) (name : Text) (rows : List Row) → found ≡ Some (name, rows) → file_in found ≡ named_file (first_of (codes "file") rows)
+file_joined found name rows is = ap file_in is

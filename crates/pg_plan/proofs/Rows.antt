@@ -7,10 +7,16 @@ use Rattle.clap.specs.Kinds.{Kinds}
 use Rattle.clap.specs.declared.error.kind.ErrorKind.TheVariants.{DisplayHelp, DisplayVersion, InvalidSubcommand, MissingSubcommand, UnknownArgument, ValueValidation, ArgumentConflict}
 use Rattle.clap.proofs.OnLiterals.{clap_on_literals}
 use Rattle.pg_plan.specs.Commands.{AreAsked, Asks, IsAsked, command_line}
-use Rattle.pg_plan.specs.declared.request.Command.TheVariants.{Check, Run, Show}
+use Rattle.pg_plan.specs.declared.request.Plan.{Plan}
+use Rattle.pg_plan.specs.declared.request.Command.TheVariants.{Check, Certify, Run, Show}
 
 abbrev Gives : List Text → Kinds → Type 0
 Gives words kinds = fault_of command_line words ≡ kinds
+
+-- the options that were found
+abbrev options : Option (Text × List Row) → List Row
+options None = []
+options (Some found) = found.1
 
 check : Gives (codes "check" ∷ []) []
 unfolding clap_on_literals
@@ -19,6 +25,14 @@ check = refl
 certify : Gives (codes "certify" ∷ codes "--checkers" ∷ codes "2" ∷ []) []
 unfolding clap_on_literals
 certify = refl
+
+certify_bytes : Gives (codes "certify" ∷ codes "--bytes" ∷ []) []
+unfolding clap_on_literals
+certify_bytes = refl
+
+asks_certify : Asks (codes "certify" ∷ codes "--bytes" ∷ []) (record { command = Certify; checkers = 1; single = false; bytes = true; from = 0; to = 4294967295 }) None
+unfolding clap_on_literals
+asks_certify = (refl, record { rows = options (subcommand_of command_line (codes "certify" ∷ codes "--bytes" ∷ [])); command = refl; checkers = refl; single = refl; bytes = refl; from = refl; to = refl }, refl)
 
 certify_single : Gives (codes "certify" ∷ codes "--single" ∷ []) (UnknownArgument ∷ [])
 unfolding clap_on_literals
@@ -79,15 +93,20 @@ unknown_word : Gives (codes "judge" ∷ []) (UnknownArgument ∷ InvalidSubcomma
 unfolding clap_on_literals
 unknown_word = refl
 
-check_more : Gives (codes "check" ∷ codes "more" ∷ []) (UnknownArgument ∷ [])
+two_files : Gives (codes "check" ∷ codes "one" ∷ codes "two" ∷ []) (UnknownArgument ∷ [])
 unfolding clap_on_literals
-check_more = refl
+two_files = refl
+
+check_bytes : Gives (codes "check" ∷ codes "--bytes" ∷ []) (UnknownArgument ∷ [])
+unfolding clap_on_literals
+check_bytes = refl
 
 check_single : Gives (codes "check" ∷ codes "--single" ∷ []) (UnknownArgument ∷ [])
 unfolding clap_on_literals
 check_single = refl
 
-check_twice : Gives (codes "check" ∷ codes "check" ∷ []) (UnknownArgument ∷ [])
+-- the second word is a file's name
+check_twice : Gives (codes "check" ∷ codes "check" ∷ []) []
 unfolding clap_on_literals
 check_twice = refl
 
@@ -114,9 +133,9 @@ checkers_of_run_of : Gives (codes "run-of" ∷ codes "--checkers" ∷ codes "2" 
 unfolding clap_on_literals
 checkers_of_run_of = refl
 
-asks_one : Asks (codes "check" ∷ []) (record { command = Check; checkers = 1; single = false; bytes = false; from = 0; to = 4294967295 })
+asks_one : Asks (codes "check" ∷ []) (record { command = Check; checkers = 1; single = false; bytes = false; from = 0; to = 4294967295 }) None
 unfolding clap_on_literals
-asks_one = (refl, record { rows = []; command = refl; checkers = refl; single = refl; bytes = refl; from = refl; to = refl })
+asks_one = (refl, record { rows = []; command = refl; checkers = refl; single = refl; bytes = refl; from = refl; to = refl }, refl)
 
 -- ---- the switches of `run`
 
@@ -131,11 +150,6 @@ switch_twice = refl
 abbrev run_words : List Text
 run_words = codes "run" ∷ codes "--checkers" ∷ codes "2" ∷ codes "--single" ∷ codes "--bytes" ∷ []
 
--- the options that were found
-abbrev options : Option (Text × List Row) → List Row
-options None = []
-options (Some found) = found.1
-
 abbrev run_options : List Row
 run_options = options (subcommand_of command_line run_words)
 
@@ -143,9 +157,9 @@ two : first_of (codes "checkers") run_options ≡ Some (codes "2")
 unfolding clap_on_literals
 two = refl
 
-asks_run : Asks run_words (record { command = Run; checkers = 2; single = true; bytes = true; from = 0; to = 4294967295 })
+asks_run : Asks run_words (record { command = Run; checkers = 2; single = true; bytes = true; from = 0; to = 4294967295 }) None
 unfolding clap_on_literals
-asks_run = (refl, record { rows = run_options; command = refl; checkers = subst (λ o. AreAsked o 2) (sym two) (((omega arith, (omega arith, tt)), refl, omega arith), (omega arith, omega arith)); single = refl; bytes = refl; from = refl; to = refl })
+asks_run = (refl, record { rows = run_options; command = refl; checkers = subst (λ o. AreAsked o 2) (sym two) (((omega arith, (omega arith, tt)), refl, omega arith), (omega arith, omega arith)); single = refl; bytes = refl; from = refl; to = refl }, refl)
 
 -- ---- the event numbers of `show`
 
@@ -175,6 +189,32 @@ seven : first_of (codes "to") show_options ≡ Some (codes "7")
 unfolding clap_on_literals
 seven = refl
 
-asks_show : Asks show_words (record { command = Show; checkers = 1; single = false; bytes = false; from = 5; to = 7 })
+asks_show : Asks show_words (record { command = Show; checkers = 1; single = false; bytes = false; from = 5; to = 7 }) None
 unfolding clap_on_literals
-asks_show = (refl, record { rows = show_options; command = refl; checkers = refl; single = refl; bytes = refl; from = subst (λ o. IsAsked 0 o 5) (sym five) ((omega arith, (omega arith, tt)), refl, omega arith); to = subst (λ o. IsAsked 4294967295 o 7) (sym seven) ((omega arith, (omega arith, tt)), refl, omega arith) })
+asks_show = (refl, record { rows = show_options; command = refl; checkers = refl; single = refl; bytes = refl; from = subst (λ o. IsAsked 0 o 5) (sym five) ((omega arith, (omega arith, tt)), refl, omega arith); to = subst (λ o. IsAsked 4294967295 o 7) (sym seven) ((omega arith, (omega arith, tt)), refl, omega arith) }, refl)
+
+-- ---- the file
+
+abbrev bare : Plan
+bare = record { command = Check; checkers = 1; single = false; bytes = false; from = 0; to = 4294967295 }
+
+file : Asks (codes "check" ∷ codes "a.record" ∷ []) bare (Some (codes "a.record"))
+unfolding clap_on_literals
+file = (refl, record { rows = options (subcommand_of command_line (codes "check" ∷ codes "a.record" ∷ [])); command = refl; checkers = refl; single = refl; bytes = refl; from = refl; to = refl }, refl)
+
+dash : Asks (codes "check" ∷ codes "-" ∷ []) bare None
+unfolding clap_on_literals
+dash = (refl, record { rows = options (subcommand_of command_line (codes "check" ∷ codes "-" ∷ [])); command = refl; checkers = refl; single = refl; bytes = refl; from = refl; to = refl }, refl)
+
+-- behind `--` each word is a name
+dashes : Asks (codes "check" ∷ codes "--" ∷ codes "--help" ∷ []) bare (Some (codes "--help"))
+unfolding clap_on_literals
+dashes = (refl, record { rows = options (subcommand_of command_line (codes "check" ∷ codes "--" ∷ codes "--help" ∷ [])); command = refl; checkers = refl; single = refl; bytes = refl; from = refl; to = refl }, refl)
+
+file_of_upgrade : Gives (codes "upgrade" ∷ codes "a.record" ∷ []) []
+unfolding clap_on_literals
+file_of_upgrade = refl
+
+options_of_upgrade : Gives (codes "upgrade" ∷ codes "--checkers" ∷ codes "2" ∷ []) (UnknownArgument ∷ [])
+unfolding clap_on_literals
+options_of_upgrade = refl

@@ -1,6 +1,6 @@
 -- What the words of a command line ask for, by what `clap` makes of them.
 use Rattle.std.specs.Prelude.{◌≡◌, ℕ, ◌≤◌, ◌<◌, ◌^◌, Bool, true, false, pos, List, [], ◌∷◌}
-use Rattle.std.specs.Prelude.{Option, Some, None, codes}
+use Rattle.std.specs.Prelude.{Option, Some, None, codes, if◌then◌else◌}
 use Rattle.std.specs.Str.{bytes_eq}
 use Rattle.std.specs.Str.Parse.{IsNumeral, digits_value}
 use Rattle.clap.specs.Faults.{fault_of}
@@ -46,20 +46,34 @@ checkers_rule = record (new_rule (codes "checkers")) {
   parser = Some (parsers.Signed (pos 1) (pos 64));
 }
 
+-- a file's name, behind the options
+abbrev pub file_rule : Rule
+file_rule = record (new_rule (codes "file")) { action = Some Set; value_names = 1 }
+
+abbrev pub with_file : App → App
+with_file line = with_rule line file_rule
+
+-- a command with no option
+abbrev pub plain_line : Text → App
+plain_line name = with_file (new_app name)
+
 abbrev pub check_line : App
-check_line = with_rule (new_app (command_word Check)) checkers_rule
+check_line = with_file (with_rule (new_app (command_word Check)) checkers_rule)
 
 -- `--` and a name
 abbrev pub switch_rule : Text → Rule
 switch_rule name = record (new_rule name) { long = Some name; action = Some SetTrue }
 
 abbrev pub certify_line : App
-certify_line = with_rule (new_app (command_word Certify)) checkers_rule
+certify_line =
+    let line = with_rule (new_app (command_word Certify)) checkers_rule in
+    with_file (with_rule line (switch_rule (codes "bytes")))
 
 abbrev pub run_line : App
 run_line =
     let line = with_rule (new_app (command_word Run)) checkers_rule in
-    with_rule (with_rule line (switch_rule (codes "single"))) (switch_rule (codes "bytes"))
+    let single = with_rule line (switch_rule (codes "single")) in
+    with_file (with_rule single (switch_rule (codes "bytes")))
 
 -- an event number behind `--` and a name
 abbrev pub number_rule : Text → Rule
@@ -73,7 +87,7 @@ number_rule name = record (new_rule name) {
 abbrev pub show_line : App
 show_line =
     let line = with_rule (new_app (command_word Show)) (number_rule (codes "from")) in
-    with_rule line (number_rule (codes "to"))
+    with_file (with_rule line (number_rule (codes "to")))
 
 -- the commands that judge a record
 abbrev pub judging_line : App
@@ -83,16 +97,16 @@ judging_line = with_subcommand (with_subcommand bare_line check_line.top) certif
 abbrev pub running_line : App
 running_line =
     with_subcommand (with_subcommand judging_line run_line.top)
-    (new_app (command_word RunOf)).top
+    (plain_line (command_word RunOf)).top
 
 -- and those that say more of a record
 abbrev pub telling_line : App
 telling_line =
-    with_subcommand (with_subcommand running_line (new_app (command_word Explain)).top)
+    with_subcommand (with_subcommand running_line (plain_line (command_word Explain)).top)
     show_line.top
 
 abbrev pub command_line : App
-command_line = with_subcommand telling_line (new_app (command_word Upgrade)).top
+command_line = with_subcommand telling_line (plain_line (command_word Upgrade)).top
 
 -- the kinds of error that `clap` gives for the words: none where they are taken
 abbrev pub faults : List Text → Kinds
@@ -132,17 +146,31 @@ pub record IsPlanOf (found : Option (Text × List Row)) (plan : Plan) : Type 0 w
   pub from : IsAsked 0 (first_of (codes "from") rows) plan.from
   pub to : IsAsked 4294967295 (first_of (codes "to") rows) plan.to
 
--- the words are taken, and this is their plan
-abbrev pub Asks : List Text → Plan → Type 0
-Asks words plan = (faults words ≡ []) × IsPlanOf (subcommand_of command_line words) plan
+-- the file of a name: none for `-`, which is standard input
+abbrev pub named_file : Option Text → Option Text
+named_file None = None
+named_file (Some name) = if bytes_eq name (codes "-") then None else Some name
 
--- this plan, and no other
-abbrev pub AsksOnly : List Text → Plan → Type 0
-AsksOnly words plan = Asks words plan × ((other : Plan) → Asks words other → other ≡ plan)
+-- the file that a command has
+abbrev pub file_in : Option (Text × List Row) → Option Text
+file_in None = None
+file_in (Some (name, rows)) = named_file (first_of (codes "file") rows)
+
+-- the words are taken, this is their plan, and this the file that they name, where they name one
+abbrev pub Asks : List Text → Plan → Option Text → Type 0
+Asks words plan file =
+    let found = subcommand_of command_line words in
+    (faults words ≡ []) × IsPlanOf found plan × (file ≡ file_in found)
+
+-- this plan of this file, and no other
+abbrev pub AsksOnly : List Text → Plan → Option Text → Type 0
+AsksOnly words plan file =
+    Asks words plan file × ((other : Plan) (named : Option Text) → Asks words other named →
+    (other ≡ plan) × (named ≡ file))
 
 -- the words ask for no command
 abbrev pub AsksNone : List Text → Type 0
-AsksNone words = (plan : Plan) → Asks words plan → ⊥
+AsksNone words = (plan : Plan) (file : Option Text) → Asks words plan file → ⊥
 
 -- the words ask for help, or for the version, alone
 abbrev pub AsksHelp : List Text → Type 0

@@ -5,4 +5,4 @@ mod planner;
 mod request;
 
 pub use planner::plan;
-pub use request::{Command, Plan, Usage};
+pub use request::{Command, Invocation, Plan, Usage};

@@ -1,4 +1,4 @@
-ghost use Rattle.std.specs.Prelude.{◌≡◌, ◌↔◌, ◌⊎◌, ℕ, List, IfOk, IfErr, Some, false};
+ghost use Rattle.std.specs.Prelude.{◌≡◌, ◌↔◌, ◌⊎◌, ℕ, List, Option, IfOk, IfErr, Some, false};
 ghost use Rattle.std.specs.Prelude.{option_map};
 ghost use Rattle.clap.specs.Values.{kind_of};
 ghost use Rattle.clap.specs.Simple.{app_of, subcommand_rows_of};
@@ -7,6 +7,7 @@ ghost use Rattle.clap.specs.Walk.{rule_of};
 ghost use Rattle.clap.specs.declared.builder.command.Command.TheViews.{out-Command as fields_of};
 ghost use Rattle.pg_plan.specs.Commands.{texts, bare_line, check_line, certify_line, run_line};
 ghost use Rattle.pg_plan.specs.Commands.{judging_line, running_line, telling_line, show_line};
+ghost use Rattle.pg_plan.specs.Commands.{file_rule, file_in, named_file, plain_line, with_file};
 ghost use Rattle.pg_plan.specs.Commands.{checkers_rule, number_rule, switch_rule, command_line};
 ghost use Rattle.pg_plan.specs.Commands.{command_word, AreAsked, AreFrom1To64, is_on};
 ghost use Rattle.pg_plan.specs.Commands.{IsAsked, IsNumberIn};
@@ -16,43 +17,41 @@ ghost use Rattle.pg_plan.specs.Commands.{IsHelp, IsVersion, IsFault};
 ghost use Rattle.pg_plan.specs.declared.request.Command.{Command as Asked};
 ghost use Rattle.pg_plan.specs.declared.request.Plan.{Plan as Planned};
 
-use crate::request::{Command, Plan, Usage};
+use crate::request::{Command, Invocation, Plan, Usage};
 use clap::error::ErrorKind;
 use clap::{Arg, ArgAction, ArgMatches, Command as CommandLine, Error, value_parser};
 use std::alloc::{AllocError, Global};
 
 const CHECK: &str = "check";
 
-const CHECK_ABOUT: &str = "Reads a record from standard input, and writes its report";
+const CHECK_ABOUT: &str = "Reads a record, and writes its report";
 
 const CERTIFY: &str = "certify";
 
-const CERTIFY_ABOUT: &str = "Reads a record from standard input, whatever moments it names, and \
-    writes whether any run has its events";
+const CERTIFY_ABOUT: &str = "Reads a record, whatever moments it names, and writes whether any run \
+    has its events";
 
 const RUN: &str = "run";
 
-const RUN_ABOUT: &str = "Reads a guest script from standard input, runs it, and writes the report \
-    of its record";
+const RUN_ABOUT: &str = "Reads a guest script, runs it, and writes the report of its record";
 
 const RUN_OF: &str = "run-of";
 
-const RUN_OF_ABOUT: &str =
-    "Reads a record from standard input, and writes a run that has its events";
+const RUN_OF_ABOUT: &str = "Reads a record, and writes a run that has its events";
 
 const EXPLAIN: &str = "explain";
 
-const EXPLAIN_ABOUT: &str = "Reads a record from standard input, and writes its report and, where \
-    it is no, what stands behind it";
+const EXPLAIN_ABOUT: &str =
+    "Reads a record, and writes its report and, where it is no, what stands behind it";
 
 const SHOW: &str = "show";
 
-const SHOW_ABOUT: &str = "Reads a record from standard input, and writes its events, a line each";
+const SHOW_ABOUT: &str = "Reads a record, and writes its events, a line each";
 
 const UPGRADE: &str = "upgrade";
 
-const UPGRADE_ABOUT: &str = "Reads a version 1 record from standard input, and writes the \
-    version 2 record of the same events";
+const UPGRADE_ABOUT: &str =
+    "Reads a version 1 record, and writes the version 2 record of the same events";
 
 /// The version of the program, and of the records that it reads.
 const VERSION: &str = "0.2.0 (record versions 1 and 2)";
@@ -69,6 +68,8 @@ const BYTES: &str = "bytes";
 
 const BYTES_ABOUT: &str = "Write the record itself";
 
+const FOUND_ABOUT: &str = "Write the record with the moments that were found";
+
 const FROM: &str = "from";
 
 const FROM_ABOUT: &str = "The number of the first event that is written; 0 where left out";
@@ -77,6 +78,10 @@ const TO: &str = "to";
 
 const TO_ABOUT: &str =
     "The number of the last event that is written, which is the record's last where left out";
+
+const FILE: &str = "file";
+
+const FILE_ABOUT: &str = "The file that is read; standard input where it is left out, or is -";
 
 /// What no event has as its number.
 const PAST_EVENTS: u32 = 4_294_967_295;
@@ -106,13 +111,39 @@ fn checkers_option<'a>(alloc: Global) -> Arg<'a>
         .value_parser(value_parser!(u16).range(1..=64))
 }
 
+/// The command with a file's name behind its options.
+fn with_file<'a>(alloc: Global, line: CommandLine<'a>) -> Result<CommandLine<'a>, AllocError>
+    requires { (fields_of line).has_globals ≡ false }
+    ensures line { IfOk result (λ r. app_of r ≡ with_file (app_of line.entry)) }
+    ensures local { IfOk result (λ r. (fields_of r).has_globals ≡ false) }
+{
+    let file = Arg::new(alloc, FILE)
+        .value_name("FILE")
+        .help(FILE_ABOUT)
+        .action(ArgAction::Set);
+    line.arg(file)
+}
+
+/// A command with no option.
+fn plain_line<'a>(
+    alloc: Global,
+    name: &'a str,
+    about: &'a str,
+) -> Result<CommandLine<'a>, AllocError>
+    ensures line { IfOk result (λ line. app_of line ≡ plain_line name.entry.now) }
+    ensures local { IfOk result (λ line. (fields_of line).has_globals ≡ false) }
+{
+    with_file(alloc, CommandLine::new(alloc, name).about(about))
+}
+
 fn check_line<'a>(alloc: Global) -> Result<CommandLine<'a>, AllocError>
     ensures line { IfOk result (λ line. app_of line ≡ check_line) }
     ensures local { IfOk result (λ line. (fields_of line).has_globals ≡ false) }
 {
-    CommandLine::new(alloc, CHECK)
+    let line = CommandLine::new(alloc, CHECK)
         .about(CHECK_ABOUT)
-        .arg(checkers_option(alloc))
+        .arg(checkers_option(alloc))?;
+    with_file(alloc, line)
 }
 
 fn switch<'a>(alloc: Global, name: &'a str, about: &'a str) -> Arg<'a>
@@ -129,20 +160,23 @@ fn certify_line<'a>(alloc: Global) -> Result<CommandLine<'a>, AllocError>
     ensures line { IfOk result (λ line. app_of line ≡ certify_line) }
     ensures local { IfOk result (λ line. (fields_of line).has_globals ≡ false) }
 {
-    CommandLine::new(alloc, CERTIFY)
+    let line = CommandLine::new(alloc, CERTIFY)
         .about(CERTIFY_ABOUT)
-        .arg(checkers_option(alloc))
+        .arg(checkers_option(alloc))?
+        .arg(switch(alloc, BYTES, FOUND_ABOUT))?;
+    with_file(alloc, line)
 }
 
 fn run_line<'a>(alloc: Global) -> Result<CommandLine<'a>, AllocError>
     ensures line { IfOk result (λ line. app_of line ≡ run_line) }
     ensures local { IfOk result (λ line. (fields_of line).has_globals ≡ false) }
 {
-    CommandLine::new(alloc, RUN)
+    let line = CommandLine::new(alloc, RUN)
         .about(RUN_ABOUT)
         .arg(checkers_option(alloc))?
         .arg(switch(alloc, SINGLE, SINGLE_ABOUT))?
-        .arg(switch(alloc, BYTES, BYTES_ABOUT))
+        .arg(switch(alloc, BYTES, BYTES_ABOUT))?;
+    with_file(alloc, line)
 }
 
 /// An event number behind `--` and a name.
@@ -162,10 +196,11 @@ fn show_line<'a>(alloc: Global) -> Result<CommandLine<'a>, AllocError>
     ensures line { IfOk result (λ line. app_of line ≡ show_line) }
     ensures local { IfOk result (λ line. (fields_of line).has_globals ≡ false) }
 {
-    CommandLine::new(alloc, SHOW)
+    let line = CommandLine::new(alloc, SHOW)
         .about(SHOW_ABOUT)
         .arg(number_option(alloc, FROM, "A", FROM_ABOUT))?
-        .arg(number_option(alloc, TO, "B", TO_ABOUT))
+        .arg(number_option(alloc, TO, "B", TO_ABOUT))?;
+    with_file(alloc, line)
 }
 
 /// The commands that judge a record.
@@ -183,7 +218,7 @@ fn running_line<'a>(alloc: Global) -> Result<CommandLine<'a>, AllocError>
 {
     judging_line(alloc)?
         .subcommand(run_line(alloc)?)?
-        .subcommand(CommandLine::new(alloc, RUN_OF).about(RUN_OF_ABOUT))
+        .subcommand(plain_line(alloc, RUN_OF, RUN_OF_ABOUT)?)
 }
 
 /// And those that say more of a record.
@@ -191,14 +226,14 @@ fn telling_line<'a>(alloc: Global) -> Result<CommandLine<'a>, AllocError>
     ensures { IfOk result (λ line. app_of line ≡ telling_line) }
 {
     running_line(alloc)?
-        .subcommand(CommandLine::new(alloc, EXPLAIN).about(EXPLAIN_ABOUT))?
+        .subcommand(plain_line(alloc, EXPLAIN, EXPLAIN_ABOUT)?)?
         .subcommand(show_line(alloc)?)
 }
 
 fn command_line<'a>(alloc: Global) -> Result<CommandLine<'a>, AllocError>
     ensures { IfOk result (λ line. app_of line ≡ command_line) }
 {
-    telling_line(alloc)?.subcommand(CommandLine::new(alloc, UPGRADE).about(UPGRADE_ABOUT))
+    telling_line(alloc)?.subcommand(plain_line(alloc, UPGRADE, UPGRADE_ABOUT)?)
 }
 
 fn usage_of(alloc: Global, error: Error) -> Usage
@@ -302,6 +337,25 @@ fn plan_of(matches: &ArgMatches<'_>) -> Option<Plan>
     })
 }
 
+/// The name of a file, unless it is that of standard input.
+fn named_file<'a>(text: Option<&'a str>) -> Option<&'a str>
+    ensures { option_map (λ s. s.now) result
+        ≡ named_file (option_map (λ s. s.now) text.entry) }
+{
+    match text {
+        Some(name) if name != "-" => Some(name),
+        _ => None,
+    }
+}
+
+/// The name of the file that the matches have.
+fn file_of<'a>(matches: &ArgMatches<'a>) -> Option<&'a str>
+    ensures { option_map (λ s. s.now) result ≡ file_in (subcommand_rows_of matches.now) }
+{
+    let (_, own) = matches.subcommand()?;
+    named_file(own.get_str(FILE))
+}
+
 fn no_number(alloc: Global) -> Usage
     ensures { IsFault result ⊎ (result ≡ Usage.Memory) }
 {
@@ -312,11 +366,12 @@ fn no_number(alloc: Global) -> Usage
 }
 
 /// Reads the words after the program's name.
-pub fn plan<'a>(alloc: Global, words: &'a [&'a str]) -> Result<Plan, Usage>
-    ensures asked { IfOk result (λ plan. AsksOnly (texts words.now) plan) }
-    ensures checkers { IfOk result (λ plan. AreFrom1To64 plan.checkers) }
-    ensures taken { IfErr result (λ why. (plan : Planned) → Asks (texts words.now) plan
-        → why ≡ Usage.Memory) }
+pub fn plan<'a>(alloc: Global, words: &'a [&'a str]) -> Result<Invocation<'a>, Usage>
+    ensures asked { IfOk result (λ asked. AsksOnly (texts words.now) asked.plan
+        (option_map (λ s. s.now) asked.file)) }
+    ensures checkers { IfOk result (λ asked. AreFrom1To64 asked.plan.checkers) }
+    ensures taken { IfErr result (λ why. (plan : Planned) (file : Option (List ℕ)) →
+        Asks (texts words.now) plan file → why ≡ Usage.Memory) }
     ensures help { IfErr result (λ why. AsksHelp (texts words.now) → ¬ IsFault why) }
     ensures help_named { IfErr result (λ why. IsHelp why → NamesHelp (texts words.now)) }
     ensures version { IfErr result (λ why. AsksVersion (texts words.now) → ¬ IsFault why) }
@@ -328,7 +383,10 @@ pub fn plan<'a>(alloc: Global, words: &'a [&'a str]) -> Result<Plan, Usage>
     };
     match line.try_get_matches_from(words) {
         Ok(matches) => match plan_of(&matches) {
-            Some(plan) => Ok(plan),
+            Some(plan) => Ok(Invocation {
+                plan,
+                file: file_of(&matches),
+            }),
             None => Err(no_number(alloc)),
         },
         Err(error) => Err(usage_of(alloc, error)),

@@ -29,13 +29,22 @@ pub struct Plan {
     pub checkers: u16,
     /// Whether `run` keeps to one thread, and carries out the script's lines in their order.
     pub single: bool,
-    /// Whether `run` writes the record in the place of its report.
+    /// Whether `run` and `certify` write the record in the place of its report.
     pub bytes: bool,
     /// The number of the first event that `show` writes. It is 0 where the words say nothing.
     pub from: u32,
     /// The number of the last event that `show` writes. It is 4,294,967,295, which no event has,
     /// where the words say nothing.
     pub to: u32,
+}
+
+/// What the words of a command line ask for, and of which file.
+#[derive(Clone, Copy, Debug, PartialEq, Eq)]
+pub struct Invocation<'a> {
+    pub plan: Plan,
+    /// The name of the file that is read in the place of standard input, where the words have one
+    /// that is not `-`.
+    pub file: Option<&'a str>,
 }
 
 /// Why the words of a command line give no plan.

@@ -1,6 +1,7 @@
 //! Scripts that end early, and of which one byte is bent: each byte to each other value. One thread
 //! and a thread for the processor say the same of each.
 
+use crate::case::no_file;
 use pg_codec::Watched;
 use pg_tool::pcid_audit;
 use std::alloc::{AllocError, AllocGlobal, Global};
@@ -33,7 +34,7 @@ fn run<T: AllocGlobal + Abort + Threads + Wait + Sync>(
     errors: &mut Written,
 ) -> u8 {
     let mut input = Watched::new(text);
-    pcid_audit(rt, words, &mut input, output, errors)
+    pcid_audit(rt, words, no_file, &mut input, output, errors)
 }
 
 /// What `run` comes to, which a thread for the processor and one thread for all have to say alike.

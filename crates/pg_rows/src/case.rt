@@ -29,8 +29,13 @@ pub struct Case<'a> {
 /// What it says where a stream fails.
 pub const DEVICE: &str = "pcid-audit: refused 11 device\n";
 
+/// There are no files.
+pub fn no_file(_name: &str) -> Option<Watched<&'static [u8]>> {
+    None
+}
+
 /// Whether the program ended and wrote as the case says.
-fn is_answered<'a>(case: Case<'a>, status: u8, output: &[u8], line: &[u8]) -> bool {
+pub fn is_answered<'a>(case: Case<'a>, status: u8, output: &[u8], line: &[u8]) -> bool {
     status == case.status && output == case.output && line == case.line.as_bytes()
 }
 
@@ -43,7 +48,7 @@ pub fn answer_on<'a, T: AllocGlobal + Abort + Threads + Wait + Sync, R: Source>(
 ) {
     let mut output = Watched::new(Vec::new(rt.alloc()));
     let mut errors = Watched::new(Vec::new(rt.alloc()));
-    let status = pcid_audit(rt, case.words, input, &mut output, &mut errors);
+    let status = pcid_audit(rt, case.words, no_file, input, &mut output, &mut errors);
     let is_right = is_answered(case, status, &output.inner, &errors.inner);
     assert!(rt; is_right, "{}, {at}: {status}", case.name);
 }
@@ -62,7 +67,14 @@ pub fn answer_by_bytes<'a, T: AllocGlobal + Abort + Threads + Wait + Sync>(
     let mut input = Watched::new(Pieces::new(case.input, 1));
     let mut output = Watched::new(Crumbs::new(rt.alloc(), None)?);
     let mut errors = Watched::new(Crumbs::new(rt.alloc(), None)?);
-    let status = pcid_audit(rt, case.words, &mut input, &mut output, &mut errors);
+    let status = pcid_audit(
+        rt,
+        case.words,
+        no_file,
+        &mut input,
+        &mut output,
+        &mut errors,
+    );
     let is_right = is_answered(case, status, &output.inner.taken, &errors.inner.taken);
     assert!(rt; is_right, "{}: {status}", case.name);
     Ok(())
@@ -117,7 +129,14 @@ fn fail_write<'a, T: AllocGlobal + Abort + Threads + Wait + Sync>(
     let mut input = Watched::new(case.input);
     let mut output = Watched::new(Crumbs::new(rt.alloc(), Some((write, fault)))?);
     let mut errors = Watched::new(Vec::new(rt.alloc()));
-    let status = pcid_audit(rt, case.words, &mut input, &mut output, &mut errors);
+    let status = pcid_audit(
+        rt,
+        case.words,
+        no_file,
+        &mut input,
+        &mut output,
+        &mut errors,
+    );
     let taken = output.inner.taken.as_slice();
     let is_told = status == 2 && errors.inner.as_slice() == DEVICE.as_bytes();
     let is_begun = taken.len() == write && case.output.starts_with(taken);

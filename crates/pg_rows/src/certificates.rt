@@ -2,26 +2,28 @@
 
 use crate::row::Row;
 
-pub const ROWS: [Row; 14] = [
-    Row {
-        name: "certified_fresh_walk",
-        words: &["certify"],
-        input: &[
-            "50475245434f5244010028030110000000011000000000000001",
-            "010000000005000000",
-            "100000100000000000000720000000000000",
-            "100000200000000000000730000000000000",
-            "100000300000000000000740000000000000",
-            "100028400000000000000790000000000000",
-            "11000423510000000000000023910000000000000100000000",
-            "0205000000",
-        ],
-        output: "verdict: yes\n\
-            events: 5\n\
-            segments: 1\n",
-        line: "",
-        status: 0,
-    },
+pub const FRESH_WALK: Row = Row {
+    name: "certified_fresh_walk",
+    words: &["certify"],
+    input: &[
+        "50475245434f5244010028030110000000011000000000000001",
+        "010000000005000000",
+        "100000100000000000000720000000000000",
+        "100000200000000000000730000000000000",
+        "100000300000000000000740000000000000",
+        "100028400000000000000790000000000000",
+        "11000423510000000000000023910000000000000100000000",
+        "0205000000",
+    ],
+    output: "verdict: yes\n\
+        events: 5\n\
+        segments: 1\n",
+    line: "",
+    status: 0,
+};
+
+pub const ROWS: [Row; 18] = [
+    FRESH_WALK,
     Row {
         name: "certified_stale_leaf",
         words: &["certify"],
@@ -88,6 +90,7 @@ pub const ROWS: [Row; 14] = [
             now: level 3 [0x2000] = 0x3007 table, written by event 1\n\
             now: level 2 [0x3000] = 0x4007 table, written by event 2\n\
             now: level 1 [0x4028] = 0x0 absent, written by event 4\n\
+            now: would give fault 0x4 (user)\n\
             last: moment 5 by 4 4 4 4; taken by 5 cpu 0 invlpg 0x5000\n",
         line: "",
         status: 1,
@@ -176,6 +179,7 @@ pub const ROWS: [Row; 14] = [
             now: level 3 [0x2000] = 0x3007 table, written by event 1\n\
             now: level 2 [0x3000] = 0x4007 table, written by event 2\n\
             now: level 1 [0x4028] = 0x9007 leaf, written by event 4\n\
+            now: would give 0x9123\n\
             last: moment 4 by 4 4 4 4; taken by 4 cpu 0 write [0x4028] = 0x9007\n",
         line: "",
         status: 1,
@@ -227,6 +231,7 @@ pub const ROWS: [Row; 14] = [
             now: level 3 [0x2000] = 0x3007 table, written by event 1\n\
             now: level 2 [0x3000] = 0x4007 table, written by event 2\n\
             now: level 1 [0x4028] = 0x0 absent, written by event 4\n\
+            now: would give fault 0x4 (user)\n\
             last: moment 5 by 4 4 4 4; taken by 5 cpu 0 cr3 0x1001\n",
         line: "",
         status: 1,
@@ -277,6 +282,7 @@ pub const ROWS: [Row; 14] = [
             now: level 3 [0x2000] = 0x3027 table, written by event 1\n\
             now: level 2 [0x3000] = 0x4027 table, written by event 2\n\
             now: level 1 [0x4028] = 0x9027 leaf, written by event 3\n\
+            now: would give 0x9123\n\
             last: never\n",
         line: "",
         status: 1,
@@ -304,6 +310,7 @@ pub const ROWS: [Row; 14] = [
             now: level 3 [0x2000] = 0x3007 table, written by event 1\n\
             now: level 2 [0x3000] = 0x4007 table, written by event 2\n\
             now: level 1 [0x4028] = 0x9007 leaf, written by event 3\n\
+            now: would give 0x9123\n\
             last: never\n",
         line: "",
         status: 1,
@@ -332,6 +339,119 @@ pub const ROWS: [Row; 14] = [
             now: level 3 [0x2000] = 0x3007 table, written by event 1\n\
             now: level 2 [0x3000] = 0x4007 table, written by event 2\n\
             now: level 1 [0x4028] = 0x9007 leaf, written by event 3\n\
+            now: would give 0x9123\n\
+            last: never\n",
+        line: "",
+        status: 1,
+    },
+    Row {
+        name: "denied_write_of_a_page_that_is_read_only_now",
+        words: &["certify"],
+        input: &[
+            "50475245434f5244010028030110000000011000000000000001",
+            "010000000007000000",
+            "100000100000000000000720000000000000",
+            "100000200000000000000730000000000000",
+            "100000300000000000000740000000000000",
+            "100028400000000000000790000000000000",
+            "100028400000000000000590000000000000",
+            "13000050000000000000",
+            "11000523510000000000000023910000000000000100000000",
+            "0207000000",
+        ],
+        output: "verdict: no\n\
+            event: 6\n\
+            reason: 14 no moments\n\
+            events: 7\n\
+            segments: 1\n\
+            event: 6 cpu 0 user write 0x5123 -> 0x9123\n\
+            now: level 4 [0x1000] = 0x2007 table, written by event 0\n\
+            now: level 3 [0x2000] = 0x3007 table, written by event 1\n\
+            now: level 2 [0x3000] = 0x4007 table, written by event 2\n\
+            now: level 1 [0x4028] = 0x9005 leaf, written by event 4\n\
+            now: would give fault 0x7 (present write user)\n\
+            last: moment 5 by 4 4 4 4; taken by 5 cpu 0 invlpg 0x5000\n",
+        line: "",
+        status: 1,
+    },
+    Row {
+        name: "denied_answer_by_a_reserved_leaf",
+        words: &["certify"],
+        input: &[
+            "50475245434f5244010028030110000000011000000000000001",
+            "010000000005000000",
+            "100000100000000000000720000000000000",
+            "100000200000000000000730000000000000",
+            "100000300000000000000740000000000000",
+            "100028400000000000000790000000800000",
+            "11000423510000000000000023910000000000000100000000",
+            "0205000000",
+        ],
+        output: "verdict: no\n\
+            event: 4\n\
+            reason: 14 no moments\n\
+            events: 5\n\
+            segments: 1\n\
+            event: 4 cpu 0 user read 0x5123 -> 0x9123\n\
+            now: level 4 [0x1000] = 0x2007 table, written by event 0\n\
+            now: level 3 [0x2000] = 0x3007 table, written by event 1\n\
+            now: level 2 [0x3000] = 0x4007 table, written by event 2\n\
+            now: level 1 [0x4028] = 0x800000009007 reserved, written by event 3\n\
+            now: would give fault 0xd (present user reserved)\n\
+            last: never\n",
+        line: "",
+        status: 1,
+    },
+    Row {
+        name: "denied_answer_by_a_page_of_2_mb",
+        words: &["certify"],
+        input: &[
+            "50475245434f5244010028030110000000011000000000000001",
+            "010000000004000000",
+            "100000100000000000000720000000000000",
+            "100000200000000000000730000000000000",
+            "100000300000000000008700600000000000",
+            "11000423510000000000000023910000000000000100000000",
+            "0204000000",
+        ],
+        output: "verdict: no\n\
+            event: 3\n\
+            reason: 14 no moments\n\
+            events: 4\n\
+            segments: 1\n\
+            event: 3 cpu 0 user read 0x5123 -> 0x9123\n\
+            now: level 4 [0x1000] = 0x2007 table, written by event 0\n\
+            now: level 3 [0x2000] = 0x3007 table, written by event 1\n\
+            now: level 2 [0x3000] = 0x600087 leaf, written by event 2\n\
+            now: would give 0x605123\n\
+            last: never\n",
+        line: "",
+        status: 1,
+    },
+    Row {
+        name: "denied_dirty_assist_of_a_read_only_leaf",
+        words: &["certify"],
+        input: &[
+            "50475245434f524402002803010010000000011000000000000001",
+            "010000000005000000",
+            "10000000100000000000002720000000000000",
+            "10000000200000000000002730000000000000",
+            "10000000300000000000002740000000000000",
+            "10000028400000000000002590000000000000",
+            "16000015235100000000000028400000000000000100000000",
+            "0205000000",
+        ],
+        output: "verdict: no\n\
+            event: 4\n\
+            reason: 14 no moments\n\
+            events: 5\n\
+            segments: 1\n\
+            event: 4 cpu 0 user write 0x5123 assist [0x4028] accessed dirty\n\
+            now: level 4 [0x1000] = 0x2027 table, written by event 0\n\
+            now: level 3 [0x2000] = 0x3027 table, written by event 1\n\
+            now: level 2 [0x3000] = 0x4027 table, written by event 2\n\
+            now: level 1 [0x4028] = 0x9025 leaf, written by event 3\n\
+            now: would give fault 0x7 (present write user)\n\
             last: never\n",
         line: "",
         status: 1,

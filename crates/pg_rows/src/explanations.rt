@@ -41,6 +41,7 @@ level 2: moment 4 pcid 0x1 [0x3000] = 0x4007 table, written by event 2
 level 1: moment 4 pcid 0x1 [0x4028] = 0x9007 leaf, written by event 3
 accessed: bit 5 of [0x1000] = 0x2007 is 0
 final: no moments prove this access
+last: never
 ",
         line: "",
         status: 1,
@@ -108,6 +109,7 @@ level 2: moment 4 pcid 0x1 [0x3000] = 0x4007 table, written by event 2
 level 1: moment 4 pcid 0x1 [0x4028] = 0x9007 leaf, written by event 3
 dropped: translation of level 1 by 5 cpu 0 invlpg 0x5000
 final: no moments prove this access
+last: moment 5 by 4 4 4 4; taken by 5 cpu 0 invlpg 0x5000
 ",
         line: "",
         status: 1,
@@ -396,6 +398,7 @@ level 2: moment 4 pcid 0x1 [0x3000] = 0x4007 table, written by event 2
 level 1: moment 4 pcid 0x1 [0x4028] = 0x9007 leaf, written by event 3
 expected: 0x9123
 final: no moments prove this access
+last: never
 ",
         line: "",
         status: 1,
@@ -427,6 +430,7 @@ level 2: moment 6 pcid 0x1 [0x3000] = 0x4007 table, written by event 2
 level 1: moment 6 pcid 0x1 [0x4028] = 0x9005 leaf, written by event 4
 rights: -u- deny user write
 final: no moments prove this access
+last: moment 5 by 4 4 4 4; taken by 5 cpu 0 invlpg 0x5000
 ",
         line: "",
         status: 1,
@@ -456,6 +460,7 @@ level 2: moment 4 pcid 0x1 [0x3000] = 0x4007 table, written by event 2
 level 1: moment 4 pcid 0x1 [0x4030] = 0x0 absent, never written
 expected: fault 0x14 (user fetch)
 final: no moments prove this access
+last: never
 ",
         line: "",
         status: 1,
@@ -485,6 +490,7 @@ level 2: moment 4 pcid 0x1 [0x3000] = 0x4007 table, written by event 2
 level 1: moment 4 pcid 0x1 [0x4028] = 0x9007 leaf, written by event 3
 rights: wu- allow user write
 final: no moments prove this access
+last: never
 ",
         line: "",
         status: 1,
@@ -518,6 +524,7 @@ level 2: moment 4 pcid 0x1 [0x3000] = 0x4027 table, written by event 2
 level 1: moment 4 pcid 0x1 [0x4028] = 0x9027 leaf, written by event 3
 dirty: bit 6 of [0x4028] = 0x9027 is 0
 final: no moments prove this access
+last: never
 ",
         line: "",
         status: 1,
@@ -576,6 +583,7 @@ level 3: moment 4 pcid 0x1 [0x2000] = 0x3027 table, written by event 1
 level 2: moment 4 pcid 0x1 [0x3000] = 0x4027 table, written by event 2
 assist: dirty wishes leaf, found table
 final: no moments prove this assist
+last: never
 ",
         line: "",
         status: 1,
@@ -605,6 +613,7 @@ level 2: moment 4 pcid 0x1 [0x3000] = 0x4027 table, written by event 2
 level 1: moment 4 pcid 0x1 [0x4028] = 0x9025 leaf, written by event 3
 assist: dirty is denied by rights -u-
 final: no moments prove this assist
+last: never
 ",
         line: "",
         status: 1,
@@ -634,7 +643,8 @@ pub const STALE_LEAF: Row = Row {
         level 2: moment 4 pcid 0x1 [0x3000] = 0x4007 table, written by event 2\n\
         level 1: moment 4 pcid 0x1 [0x4028] = 0x9007 leaf, written by event 3\n\
         dropped: translation of level 1 by 5 cpu 0 invlpg 0x5000\n\
-        final: no moments prove this access\n",
+        final: no moments prove this access\n\
+        last: moment 5 by 4 4 4 4; taken by 5 cpu 0 invlpg 0x5000\n",
     line: "",
     status: 1,
 };

@@ -16,6 +16,8 @@ mod crews;
 #[cfg(test)]
 mod explanations;
 #[cfg(test)]
+mod files;
+#[cfg(test)]
 mod headers;
 #[cfg(test)]
 mod invalidations;
@@ -25,6 +27,8 @@ mod lines;
 mod long_run;
 #[cfg(test)]
 mod many_lines;
+#[cfg(test)]
+mod namings;
 #[cfg(test)]
 mod new_headers;
 #[cfg(test)]

@@ -1,4 +1,4 @@
-use pg_plan::{Command, Plan, Usage, plan};
+use pg_plan::{Command, Invocation, Plan, Usage, plan};
 use std::alloc::Global;
 use std::test::Fail;
 
@@ -13,7 +13,7 @@ const BARE: Plan = Plan {
 };
 
 /// Command lines and their plans.
-const PLANNED: [(&[&str], Plan); 17] = [
+const PLANNED: [(&[&str], Plan); 18] = [
     (&["check"], BARE),
     (
         &["certify"],
@@ -27,6 +27,14 @@ const PLANNED: [(&[&str], Plan); 17] = [
         Plan {
             command: Command::Certify,
             checkers: 2,
+            ..BARE
+        },
+    ),
+    (
+        &["certify", "--bytes"],
+        Plan {
+            command: Command::Certify,
+            bytes: true,
             ..BARE
         },
     ),
@@ -142,26 +150,52 @@ const PLANNED: [(&[&str], Plan); 17] = [
 
 #[test]
 fn plans(rt: HostRuntime) -> Result<(), Fail> {
-    for (words, wanted) in PLANNED {
+    for (words, plan_of_words) in PLANNED {
+        let wanted = Invocation {
+            plan: plan_of_words,
+            file: None,
+        };
+        assert_eq!(rt; plan(rt.alloc(), words).ok(), Some(wanted), "{words:?}");
+    }
+    Ok(())
+}
+
+/// Command lines with a file's name, and that name.
+const NAMED: [(&[&str], Option<&str>); 8] = [
+    (&["check", "a.record"], Some("a.record")),
+    (&["check", "--", "--checkers"], Some("--checkers")),
+    (&["check", "-"], None),
+    (&["check", "--", "-"], None),
+    (&["check", ""], Some("")),
+    (&["check", "check"], Some("check")),
+    (&["check", "more"], Some("more")),
+    (&["check", "/tmp/\u{e9}.record"], Some("/tmp/\u{e9}.record")),
+];
+
+#[test]
+fn names_of_files(rt: HostRuntime) -> Result<(), Fail> {
+    for (words, file) in NAMED {
+        let wanted = Invocation { plan: BARE, file };
         assert_eq!(rt; plan(rt.alloc(), words).ok(), Some(wanted), "{words:?}");
     }
     Ok(())
 }
 
 /// Command lines that are refused.
-const FAULTS: [&[&str]; 20] = [
+const FAULTS: [&[&str]; 21] = [
     &[],
     &["judge"],
-    &["check", "more"],
+    &["check", "one", "two"],
     &["check", "--single"],
+    &["explain", "--bytes"],
     &["check", "--version"],
     &["check", "--checkers"],
     &["run-of", "--checkers", "2"],
     &["run", "--single", "--single"],
-    &["run", "more"],
+    &["run", "one", "two"],
     &["show", "--from"],
     &["show", "--to", "1", "--to", "2"],
-    &["show", "5"],
+    &["show", "5", "6"],
     &["explain", "--from", "2"],
     &["check", "--checkers", "0"],
     &["check", "--checkers", "65"],

@@ -79,10 +79,11 @@ fn each_proper_beginning(rt: HostRuntime) -> Result<(), Fail> {
     Ok(())
 }
 
-const READERS: [&[&str]; 6] = [
+const READERS: [&[&str]; 7] = [
     &["check"],
     &["check", "--checkers", "2"],
     &["certify"],
+    &["certify", "--bytes"],
     &["run-of"],
     &["explain"],
     &["upgrade"],
@@ -142,7 +143,7 @@ fn each_write_of_a_text(rt: HostRuntime) -> Result<(), Fail> {
 }
 
 /// The fresh walk as a record of version 2.
-const UPGRADED: [&str; 4] = [
+pub const UPGRADED: [&str; 4] = [
     "50475245434f52440200280301001000000001100000000000000101000000000500000010000000",
     "10000000000000072000000000000010000000200000000000000730000000000000100000003000",
     "00000000000740000000000000100000284000000000000007900000000000001100000423510000",

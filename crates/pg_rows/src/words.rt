@@ -1,5 +1,6 @@
 //! Words that are no command of the program, and help.
 
+use crate::case::no_file;
 use pg_codec::Watched;
 use pg_tool::pcid_audit;
 use std::alloc::AllocGlobal;
@@ -21,7 +22,7 @@ const FAULTS: [&[&str]; 13] = [
     &["run", "--checkers", "65"],
     &["show", "--from", "+1"],
     &["show", "--to", "4294967296"],
-    &["show", "3"],
+    &["show", "3", "4"],
     &["explain", "--from", "3"],
 ];
 
@@ -38,7 +39,7 @@ fn expect<'a, T: AllocGlobal + Abort + Threads + Wait + Sync>(
     let mut input = Watched::new([].as_slice());
     let mut output = Watched::new(Vec::new(rt.alloc()));
     let mut errors = Watched::new(Vec::new(rt.alloc()));
-    let ended = pcid_audit(rt, words, &mut input, &mut output, &mut errors);
+    let ended = pcid_audit(rt, words, no_file, &mut input, &mut output, &mut errors);
     let is_told = output.inner.is_empty() != is_text && errors.inner.is_empty() == is_text;
     assert!(rt; ended == status && is_told, "{words:?}");
 }

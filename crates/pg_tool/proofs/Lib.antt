@@ -5,3 +5,4 @@ pub mod Upgraded
 pub mod Asked
 pub mod GivenTexts
 pub mod Bad
+pub mod Named

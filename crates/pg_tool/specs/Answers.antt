@@ -1,5 +1,9 @@
 -- What the whole program answers, by its words.
-use Rattle.std.specs.Prelude.{◌≡◌, ◌⊎◌, ℕ, List, string_bytes}
+use Rattle.std.specs.Prelude.{◌≡◌, ◌⊎◌, ℕ, Bool, true, false, List, Option, Some, None}
+use Rattle.std.specs.Prelude.{string_bytes}
+use Rattle.std.specs.Borrow.{Bor}
+use Rattle.std.specs.Fn.{FnReturnsAt, Shared}
+use Rattle.pg_codec.specs.declared.stream.Source as sources
 use Rattle.pg_plan.specs.declared.request.Command.{Command}
 use Rattle.pg_plan.specs.declared.request.Command.TheVariants.{Check, Certify, Run, RunOf}
 use Rattle.pg_plan.specs.declared.request.Command.TheVariants.{Explain, Show, Upgrade}
@@ -9,12 +13,13 @@ use Rattle.pg_plan.specs.declared.request.Usage.TheVariants.{Help, Version, Faul
 use Rattle.pg_plan.specs.Commands.{Asks, AsksNone, AsksHelp, AsksVersion, NamesHelp}
 use Rattle.pg_plan.specs.Commands.{NamesVersion, IsFault, IsHelp, IsVersion}
 use Rattle.pg_report.specs.declared.error.AuditError.TheVariants.{Device}
-use Rattle.pg_report.specs.Changes.{Change, Fails, Works, Adds, AddsSome}
+use Rattle.pg_report.specs.Changes.{Change, Fails, Works, Adds, AddsSome, drawn}
 use Rattle.pg_tool.specs.Certificates.{CertifiesRecord}
 use Rattle.pg_tool.specs.Explanations.{ExplainsRecord}
 use Rattle.pg_tool.specs.Guests.{RunsGuest}
 use Rattle.pg_tool.specs.Lines.{ShowsRecord}
-use Rattle.pg_tool.specs.Refusals.{StaysSame, Tells, refusal_line, memory_line}
+use Rattle.pg_tool.specs.Naming.{NamesRecord}
+use Rattle.pg_tool.specs.Refusals.{StaysSame, Tells, refusal_line, memory_line, unopened_line}
 use Rattle.pg_tool.specs.Status.{Checks, ShowsRun}
 use Rattle.pg_tool.specs.Streams.{Streams}
 use Rattle.pg_tool.specs.Upgrades.{Upgrades}
@@ -48,10 +53,15 @@ pub record AnswersUsage (words : List (List ℕ)) (s : Streams) (status : ℕ) :
   pub asked_version : AsksVersion words → ¬ IsFault why
   pub gives : GivesUsage why s.output s.errors status
 
+-- whether some run has the record's events; or the record with moments for them
+abbrev pub CertifiesBy : Bool → Streams → ℕ → Type 0
+CertifiesBy false = CertifiesRecord
+CertifiesBy true = NamesRecord
+
 -- what a plan's command does
 abbrev pub DoesCommand : Command → Plan → Streams → ℕ → Type 0
 DoesCommand Check plan s status = Checks plan.checkers s status
-DoesCommand Certify plan s status = CertifiesRecord s status
+DoesCommand Certify plan s status = CertifiesBy plan.bytes s status
 DoesCommand Run plan s status = RunsGuest plan.single plan.bytes s status
 DoesCommand RunOf plan s status = ShowsRun s status
 DoesCommand Explain plan s status = ExplainsRecord s status
@@ -65,12 +75,33 @@ Does plan = DoesCommand plan.command plan
 abbrev pub RefusesMemory : Type 0 → Streams → ℕ → Type 0
 RefusesMemory Unread s status = Unread × GivesUsage Memory s.output s.errors status
 
+-- what opening the file of a name may give: a source that is left changed so, or none
+abbrev pub Opening : Type 1
+Opening = List ℕ → Option Change → Type 0
+
+abbrev pub opens : {F S : Type 0} → Shared F (Bor (List ℕ) × Unit {0}) (Option S) →
+    sources.Ghosts S → F → Opening
+opens {F} {S} call source opener name None = FnReturnsAt call opener name None
+opens {F} {S} call source opener name (Some file) =
+    (old : S) × (new : S) × FnReturnsAt call opener name (Some old) × (file ≡ drawn source old new)
+
+-- What a plan's command does of the file of a name, which is read in the place of the input; or it
+-- could not be opened, which is told by its line, and nothing was written.
+abbrev pub DoesNamed : Opening → Plan → List ℕ → Change → Change → ℕ → Type 0
+DoesNamed Opens plan name output errors status =
+    ((file : Change) × Opens name (Some file)
+    × Does plan (record { input = file; output = output; errors = errors }) status)
+    ⊎ (Opens name None × StaysSame output × Tells errors (unopened_line name) × (status ≡ 66))
+
 -- All that the program promises of its words, its streams and its status: by a command's words what
--- that command does, or that memory was refused before any input was read; by other words that the
--- input was not read, and why there is no plan.
-pub record Answers (words : List (List ℕ)) (Unread : Type 0) (s : Streams) (status : ℕ) :
-    Type 0 where
-  pub asked : (plan : Plan) → Asks words plan →
+-- that command does of the input or, where they name a file, of that, with the input not read; or
+-- that memory was refused before any input was read; by other words that the input was not read,
+-- and why there is no plan.
+pub record Answers (words : List (List ℕ)) (Opens : Opening) (Unread : Type 0) (s : Streams)
+    (status : ℕ) : Type 0 where
+  pub asked : (plan : Plan) → Asks words plan None →
       Does plan s status ⊎ RefusesMemory Unread s status
+  pub named : (plan : Plan) (name : List ℕ) → Asks words plan (Some name) →
+      (Unread × DoesNamed Opens plan name s.output s.errors status) ⊎ RefusesMemory Unread s status
   pub unread : AsksNone words → Unread
   pub usage : AsksNone words → AnswersUsage words s status

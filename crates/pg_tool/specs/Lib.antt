@@ -9,4 +9,5 @@ pub mod Lines
 pub mod Texts
 pub mod Explanations
 pub mod Certificates
+pub mod Naming
 pub mod Answers

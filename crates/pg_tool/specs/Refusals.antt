@@ -39,6 +39,10 @@ refusal_line error =
 abbrev pub memory_line : List ℕ
 memory_line = refusal_text 1 (codes "memory") ++ codes "\n"
 
+-- `pcid-audit: can't open a.record`
+abbrev pub unopened_line : List ℕ → List ℕ
+unopened_line name = codes "pcid-audit: can't open" ++ (codes " " ++ (name ++ codes "\n"))
+
 -- the stream is as it was
 abbrev pub StaysSame : Change → Type 0
 StaysSame c = AddsNothing c × Works c

@@ -62,7 +62,7 @@ fn no_report(alloc: Global, history: &History, event: u64) -> Result<String, All
 }
 
 /// The report of a no, and what stands behind it.
-fn no_text(alloc: Global, history: &History, event: u64) -> Result<String, AllocError>
+pub(crate) fn no_text(alloc: Global, history: &History, event: u64) -> Result<String, AllocError>
     requires within { event < length history.now.events }
     requires names { IfSome (slice_get history.now.events event) (λ e. names_moments e ≡ true) }
     ensures { IfOk result (λ t. IsDenialText history.now event (string_bytes t)) }

@@ -15,7 +15,7 @@ use pg_report::AuditError;
 const TOO_LONG: u8 = 11;
 
 /// A refusal's name, which ends its line.
-fn put_name<W: Sink>(errors: &mut W, name: &str) -> Result<(), Failed>
+pub(crate) fn put_name<W: Sink>(errors: &mut W, name: &str) -> Result<(), Failed>
     ensures { Puts W.Sink (codes " " ++ (name.now ++ codes "\n")) errors.old errors.new result }
 {
     put_all(errors, b" ")?;

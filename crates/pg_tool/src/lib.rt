@@ -3,10 +3,12 @@
 
 mod certificates;
 mod explanations;
+mod files;
 mod guest_error;
 mod guest_refusals;
 mod guests;
 mod lines;
+mod naming;
 mod program;
 mod refusals;
 mod replayer;
@@ -18,8 +20,9 @@ pub use certificates::certify;
 pub use explanations::explain;
 pub use guest_error::GuestError;
 pub use lines::show;
-pub use pg_plan::{Command, Plan, Usage, plan};
+pub use naming::name_moments;
+pub use pg_plan::{Command, Invocation, Plan, Usage, plan};
 pub use program::{check, pcid_audit, run, run_of, upgrade};
-pub use refusals::tell_memory;
+pub use refusals::{tell_memory, tell_text};
 pub use runs::run_text;
 pub use shown::Shown;

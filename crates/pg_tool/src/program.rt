@@ -3,7 +3,7 @@ ghost use Rattle.pg_plan.specs.Commands.{AreFrom1To64, texts};
 ghost use Rattle.pg_pool.specs.Rounds.{AreCheckers};
 ghost use Rattle.pg_report.specs.Audits.{IsAudit};
 ghost use Rattle.pg_report.specs.Changes.{drawn, filled};
-ghost use Rattle.pg_tool.specs.Answers.{Answers, Does, GivesText};
+ghost use Rattle.pg_tool.specs.Answers.{Answers, CertifiesBy, Does, DoesNamed, GivesText, opens};
 ghost use Rattle.pg_tool.specs.Guests.{guest_error_status, run_error_status};
 ghost use Rattle.pg_tool.specs.Guests.{RunsGuest, TellsGuest};
 ghost use Rattle.pg_tool.specs.Status.{error_status, verdict_status, status_of, run_status};
@@ -13,10 +13,12 @@ ghost use Rattle.pg_tool.specs.Upgrades.{IsReportText, report_in, TellsReport, U
 
 use crate::certificates::certify;
 use crate::explanations::explain;
+use crate::files::tell_unopened;
 use crate::guest_error::GuestError;
 use crate::guest_refusals::tell_guest;
 use crate::guests::run_script;
 use crate::lines::show;
+use crate::naming::name_moments;
 use crate::refusals::{tell, tell_error, tell_memory, tell_text};
 use crate::replayer::write_run;
 use crate::shown::{ReportText, Shown};
@@ -30,15 +32,17 @@ use std::alloc::{AllocGlobal, Global};
 use std::sync::Wait;
 use std::thread::Threads;
 
-const YES: u8 = 0;
+pub(crate) const YES: u8 = 0;
 
-const NO: u8 = 1;
+pub(crate) const NO: u8 = 1;
 
-const REFUSED: u8 = 2;
+pub(crate) const REFUSED: u8 = 2;
 
 const MEMORY: u8 = 3;
 
 const USAGE: u8 = 64;
+
+const UNOPENED: u8 = 66;
 
 pub(crate) fn error_status(error: AuditError) -> u8
     ensures { result ≡ error_status error }
@@ -236,6 +240,24 @@ fn give_text<O: Sink, E: Sink>(text: &str, output: &mut O, errors: &mut E) -> u8
     }
 }
 
+/// Certifies the record on `input`, and writes its report, or the record with moments.
+fn certify_by<R: Source, O: Sink, E: Sink>(
+    alloc: Global,
+    as_bytes: bool,
+    input: &mut R,
+    output: &mut O,
+    errors: &mut E,
+) -> u8
+    ensures { CertifiesBy as_bytes (streams R.Source O.Sink E.Sink
+        (input.old, output.old, errors.old) (input.new, output.new, errors.new)) result }
+{
+    if as_bytes {
+        name_moments(alloc, input, output, errors)
+    } else {
+        certify(alloc, input, output, errors)
+    }
+}
+
 /// Does what a plan says.
 fn perform<T: AllocGlobal + Threads + Wait + Sync, R: Source, O: Sink, E: Sink>(
     rt: &T,
@@ -250,7 +272,7 @@ fn perform<T: AllocGlobal + Threads + Wait + Sync, R: Source, O: Sink, E: Sink>(
 {
     match plan.command {
         Command::Check => check(rt, plan.checkers, input, output, errors),
-        Command::Certify => certify(rt.alloc(), input, output, errors),
+        Command::Certify => certify_by(rt.alloc(), plan.bytes, input, output, errors),
         Command::Run => run(rt, plan, input, output, errors),
         Command::RunOf => run_of(rt.alloc(), input, output, errors),
         Command::Explain => explain(rt.alloc(), input, output, errors),
@@ -259,20 +281,50 @@ fn perform<T: AllocGlobal + Threads + Wait + Sync, R: Source, O: Sink, E: Sink>(
     }
 }
 
-/// The whole program, over any streams: the words after its name, what it reads, and what it writes
-/// to. It gives the exit status, which is 64 where the words are no command of it.
-pub fn pcid_audit<'a, T: AllocGlobal + Threads + Wait + Sync, R: Source, O: Sink, E: Sink>(
-    rt: &T,
-    words: &'a [&'a str],
-    input: &mut R,
-    output: &mut O,
-    errors: &mut E,
-) -> u8
-    ensures { Answers (texts words.now) (input.new ≡ input.old) (streams R.Source O.Sink E.Sink
+/// Does what a plan says with the file of that name in the place of the input.
+fn perform_on<
+    T: AllocGlobal + Threads + Wait + Sync,
+    F: Fn(&str) -> Option<S>,
+    S: Source + Drop,
+    O: Sink,
+    E: Sink,
+>(rt: &T, plan: Plan, name: &str, opener: F, output: &mut O, errors: &mut E) -> u8
+    requires checkers { AreFrom1To64 plan.checkers }
+    requires opener { F.IsAlwaysCallable opener }
+    ensures { DoesNamed (opens F.Fn S.Source opener) plan name.now
+        (filled O.Sink output.old output.new) (filled E.Sink errors.old errors.new) result }
+{
+    match opener(name) {
+        Some(mut file) => perform(rt, plan, &mut file, output, errors),
+        None => {
+            tell_unopened(errors, name);
+            UNOPENED
+        }
+    }
+}
+
+/// The whole program, over any streams: the words after its name, what opens a file, what it reads
+/// where the words name none, and what it writes to. It gives the exit status, which is 64 where
+/// the words are no command of it, and 66 where the file can't be opened.
+pub fn pcid_audit<
+    'a,
+    T: AllocGlobal + Threads + Wait + Sync,
+    F: Fn(&str) -> Option<S>,
+    S: Source + Drop,
+    R: Source,
+    O: Sink,
+    E: Sink,
+>(rt: &T, words: &'a [&'a str], opener: F, input: &mut R, output: &mut O, errors: &mut E) -> u8
+    requires { F.IsAlwaysCallable opener }
+    ensures { Answers (texts words.now) (opens F.Fn S.Source opener) (input.new ≡ input.old)
+        (streams R.Source O.Sink E.Sink
         (input.old, output.old, errors.old) (input.new, output.new, errors.new)) result }
 {
     match plan(rt.alloc(), words) {
-        Ok(plan) => perform(rt, plan, input, output, errors),
+        Ok(asked) => match asked.file {
+            None => perform(rt, asked.plan, input, output, errors),
+            Some(name) => perform_on(rt, asked.plan, name, opener, output, errors),
+        },
         Err(Usage::Help(text)) => give_text(text.as_str(), output, errors),
         Err(Usage::Version(text)) => give_text(text.as_str(), output, errors),
         Err(Usage::Fault(text)) => {

@@ -37,6 +37,15 @@ pub struct CertificateText {
     pub text: String,
 }
 
+/// What came of moments for a record's events.
+#[derive(Drop)]
+pub enum Naming {
+    /// The record with moments that were found.
+    Named,
+    /// There are none: the report of the no, and what stands behind it.
+    Denied(String),
+}
+
 /// Writes what is told of a record, and gives its verdict.
 pub(crate) fn give<O: Sink>(output: &mut O, told: ToldText) -> Result<Verdict, AuditError>
     ensures text { WritesText (filled O.Sink output.old output.new)

@@ -32,8 +32,15 @@ find_moments-requires-clause-names c =
     let told = rw c.in-Some.is at c.in_ok-tell_event.ensures in
     rw at (failing_names c.args.history.now.head c.args.history.now.events c.args.i c.index-events-i.result _ told.0)
 
-pub returns-in_ok-other-in-Some : goal.returns-in_ok-other-in-Some
-returns-in_ok-other-in-Some c =
+pub last_of-requires-clause-names : goal.last_of-requires-clause-names
+last_of-requires-clause-names c =
+    let at : slice_get c.args.history.now.events c.args.i ≡ Some c.index-events-i.result =
+    slice_get_read _ _ _ _ refl c.requires (rw c.events.ensures.events at c.index-events-i.is) in
+    let told = rw c.in-Some.is at c.in_ok-tell_event.ensures in
+    rw at (failing_names c.args.history.now.head c.args.history.now.events c.args.i c.index-events-i.result _ told.0)
+
+pub returns-in_ok-last-in-Some : goal.returns-in_ok-last-in-Some
+returns-in_ok-last-in-Some c =
     let at : slice_get c.args.history.now.events c.args.i ≡ Some c.index-events-i.result =
     slice_get_read _ _ _ _ refl c.requires (rw c.events.ensures.events at c.index-events-i.is) in
     let told = rw c.in-Some.is at c.in_ok-tell_event.ensures in
@@ -47,4 +54,6 @@ returns-in_ok-other-in-Some c =
       freshest = found.freshest;
       none = found.none;
       final = found.run;
+      last = c.in_ok-last-in-Some.ensures.last;
+      never = c.in_ok-last-in-Some.ensures.never;
     }

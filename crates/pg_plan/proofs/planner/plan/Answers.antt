@@ -1,10 +1,11 @@
-use Rattle.std.proofs.Common.{⊎_elim, codes, refl, sym, subst, ◌≡◌, None, Some}
+use Rattle.std.proofs.Common.{⊎_elim, codes, refl, sym, ap, subst, ◌≡◌, ◌∙◌, [], ◌∷◌, None, Some}
+use Rattle.clap.specs.Kinds.{Kinds}
 use Rattle.clap.specs.Walk.{first_of}
 use Rattle.clap.specs.Simple.{app_of, subcommand_rows_of}
 use Rattle.clap.specs.declared.error.kind.ErrorKind.TheVariants.{DisplayHelp, DisplayVersion}
-use Rattle.pg_plan.specs.Commands.{IsFault, texts}
+use Rattle.pg_plan.specs.Commands.{IsFault, file_in, texts}
 use Rattle.pg_plan.specs.declared.request.Usage.{Usage}
-use Rattle.pg_plan.proofs.Parses.{asked_range, gives_text, is_asked, parsed_taken, parsed_rows, plans_of}
+use Rattle.pg_plan.proofs.Parses.{asked_range, fails_by_memory, text_named, gives_text, is_asked, parsed_taken, parsed_rows, plans_of}
 use Rattle.pg_plan.proofs.planner.plan.Goals as goal
 
 pub returns-in-Some-clause-asked : goal.returns-in-Some-clause-asked
@@ -14,7 +15,7 @@ returns-in-Some-clause-asked c =
     let app = app_of c.in-Ok.line in
     let taken = parsed_taken app words c.in-Ok.ensures parsed.ensures.kinds in
     let rows = parsed_rows app words parsed.matches c.in-Ok.ensures parsed.ensures.matches in
-    is_asked words c.in-Some.plan taken (plans_of (Some c.in-Some.plan) (subcommand_rows_of parsed.matches) words rows c.in-Some.ensures)
+    is_asked words c.in-Some.plan _ taken (plans_of (Some c.in-Some.plan) (subcommand_rows_of parsed.matches) words rows c.in-Some.ensures) (c.file_of.ensures ∙ ap file_in rows)
 
 pub returns-in-Some-clause-checkers : goal.returns-in-Some-clause-checkers
 returns-in-Some-clause-checkers c =
@@ -23,7 +24,7 @@ returns-in-Some-clause-checkers c =
 
 pub returns-in-Ok-try_get_matches_from-clause-taken :
     goal.returns-in-Ok-try_get_matches_from-clause-taken
-returns-in-Ok-try_get_matches_from-clause-taken c = λ plan asks.
+returns-in-Ok-try_get_matches_from-clause-taken c = λ plan file asks.
     let parsed = c.in-Ok-try_get_matches_from in
     let words = texts c.args.words.now in
     let rows = parsed_rows (app_of c.in-Ok.line) words parsed.matches c.in-Ok.ensures parsed.ensures.matches in
@@ -43,3 +44,36 @@ returns-clause-version c = λ asks.
     let kind = gives_text DisplayVersion (app_of c.in-Ok.line) (texts c.args.words.now) failed.error c.in-Ok.ensures failed.ensures.kinds asks in
     let P : Usage → Type 0 = λ why. ¬ IsFault why in
     ⊎_elim (λ e. subst P (sym (c.usage_of.ensures.memory e)) (λ f. f)) (λ e. c.usage_of.ensures.version e) kind
+
+pub returns-in-Ok-try_get_matches_from-clause-help :
+    goal.returns-in-Ok-try_get_matches_from-clause-help
+returns-in-Ok-try_get_matches_from-clause-help c = λ asks.
+    let parsed = c.in-Ok-try_get_matches_from in
+    let none : Kinds = [] in
+    let some : Kinds = DisplayHelp ∷ [] in
+    let both : none ≡ some = sym (parsed_taken (app_of c.in-Ok.line) (texts c.args.words.now) c.in-Ok.ensures parsed.ensures.kinds) ∙ asks in
+    absurd cc
+
+pub returns-in-Ok-try_get_matches_from-clause-version :
+    goal.returns-in-Ok-try_get_matches_from-clause-version
+returns-in-Ok-try_get_matches_from-clause-version c = λ asks.
+    let parsed = c.in-Ok-try_get_matches_from in
+    let none : Kinds = [] in
+    let some : Kinds = DisplayVersion ∷ [] in
+    let both : none ≡ some = sym (parsed_taken (app_of c.in-Ok.line) (texts c.args.words.now) c.in-Ok.ensures parsed.ensures.kinds) ∙ asks in
+    absurd cc
+
+pub returns-clause-taken : goal.returns-clause-taken
+returns-clause-taken c = λ plan file asks.
+    let failed = c.in-Err-try_get_matches_from in
+    c.usage_of.ensures.memory (fails_by_memory (app_of c.in-Ok.line) (texts c.args.words.now) failed.error c.in-Ok.ensures failed.ensures.kinds asks.0)
+
+pub returns-clause-help_named : goal.returns-clause-help_named
+returns-clause-help_named c = λ is.
+    let failed = c.in-Err-try_get_matches_from in
+    text_named DisplayHelp (app_of c.in-Ok.line) (texts c.args.words.now) failed.error c.in-Ok.ensures failed.ensures.kinds (c.usage_of.ensures.help_named is) (λ e. cc)
+
+pub returns-clause-version_named : goal.returns-clause-version_named
+returns-clause-version_named c = λ is.
+    let failed = c.in-Err-try_get_matches_from in
+    text_named DisplayVersion (app_of c.in-Ok.line) (texts c.args.words.now) failed.error c.in-Ok.ensures failed.ensures.kinds (c.usage_of.ensures.version_named is) (λ e. cc)

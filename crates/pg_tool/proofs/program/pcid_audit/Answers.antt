@@ -1,26 +1,28 @@
-use Rattle.std.proofs.Common.{refl, sym, subst, inl, inr, ◌∙◌}
+use Rattle.std.proofs.Common.{◌≡◌, Some, None, refl, sym, subst, inl, inr, ◌∙◌}
 use Rattle.std.proofs.KnownBytes.{Keeps-refl}
-use Rattle.pg_plan.specs.declared.request.Plan.{Plan}
+use Rattle.pg_plan.specs.Commands.{texts}
 use Rattle.pg_plan.specs.declared.request.Usage.TheVariants.{Fault, Memory}
 use Rattle.pg_report.specs.Changes.{filled}
-use Rattle.pg_tool.specs.Answers.{Does, GivesUsage}
+use Rattle.pg_tool.specs.Answers.{GivesUsage, opens}
 use Rattle.pg_tool.specs.Refusals.{Tells}
 use Rattle.pg_tool.specs.Streams.{Streams, streams}
-use Rattle.pg_tool.proofs.Asked.{gives_same}
+use Rattle.pg_tool.proofs.Asked.{does_asked, does_named, gives_same}
 use Rattle.pg_tool.proofs.program.pcid_audit.Goals as goal
+
+pub returns-in-None : goal.returns-in-None
+returns-in-None g c =
+    let s : Streams = streams g.R.Source g.O.Sink g.E.Sink (c.args.input.now, c.args.output.now, c.args.errors.now) (c.perform.new.input, c.perform.new.output, c.perform.new.errors) in
+    let words = texts c.args.words.now in
+    does_asked words (opens g.F.Fn g.S.Source c.args.opener) (c.perform.new.input ≡ c.args.input.now) s c.perform.result c.in-Ok.asked.plan (rw c.in-None.is at c.in-Ok.ensures.asked) c.perform.ensures
 
 pub returns-in-Ok : goal.returns-in-Ok
 returns-in-Ok g c =
-    let s : Streams = streams g.R.Source g.O.Sink g.E.Sink (c.args.input.now, c.args.output.now, c.args.errors.now) (c.perform.new.input, c.perform.new.output, c.perform.new.errors) in
-    let planned = c.in-Ok.ensures.asked in
-    record {
-      asked = λ plan asks. inl (subst (λ (p : Plan). Does p s c.perform.result) (sym (planned.1 plan asks)) c.perform.ensures);
-      unread = λ none. absurd (none c.in-Ok.plan planned.0);
-      usage = λ none. absurd (none c.in-Ok.plan planned.0);
-    }
+    let s : Streams = streams g.R.Source g.O.Sink g.E.Sink (c.args.input.now, c.args.output.now, c.args.errors.now) (c.args.input.now, c.perform_on.new.output, c.perform_on.new.errors) in
+    let words = texts c.args.words.now in
+    does_named words (opens g.F.Fn g.S.Source c.args.opener) (c.args.input.now ≡ c.args.input.now) s c.perform_on.result c.in-Ok.asked.plan c.in-Some.name.now (rw c.in-Some.is at c.in-Ok.ensures.asked) refl c.perform_on.ensures
 
-pub returns-in-Err-Memory : goal.returns-in-Err-Memory
-returns-in-Err-Memory g c =
+pub returns : goal.returns
+returns g c =
     let memory = c.in-Err-Memory in
     let said = memory.ensures in
     let is = memory.field-0-is in
@@ -29,6 +31,7 @@ returns-in-Err-Memory g c =
     let told : GivesUsage Memory output errors 3 = ((Keeps-refl output.old.bytes, refl), c.tell_memory.ensures, refl) in
     record {
       asked = λ plan asks. inr (refl, told);
+      named = λ plan name asks. inr (refl, told);
       unread = λ none. refl;
       usage = λ none. record {
         why = memory.field-0;
@@ -48,7 +51,8 @@ returns-in-Err-Fault g c =
     let output = filled g.O.Sink c.args.output.now c.args.output.now in
     let errors = filled g.E.Sink c.args.errors.now c.tell_text.new.errors in
     record {
-      asked = λ plan asks. let bad = sym is ∙ said.taken plan asks in absurd cc;
+      asked = λ plan asks. let bad = sym is ∙ said.taken plan None asks in absurd cc;
+      named = λ plan name asks. let bad = sym is ∙ said.taken plan (Some name) asks in absurd cc;
       unread = λ none. refl;
       usage = λ none. record {
         why = fault.field-0;

@@ -1,0 +1,24 @@
+-- When an event would last have been witnessed, had it come earlier, a line:
+--
+--     last: moment M by W ..; taken by LINE   the number, the freshest moments that would have, and
+--                                             the event there, behind which it never was
+--     last: never                             where there is none
+use Rattle.std.specs.Prelude.{ℕ, List, ◌++◌, Option, Some, None, codes, decimal}
+use Rattle.pg_event.specs.declared.event.Event.{Event}
+use Rattle.pg_search.specs.declared.last.Last.{Last}
+use Rattle.pg_explain.specs.Line.{numbered_text, numbers_text}
+
+abbrev pub by_text : List ℕ → List ℕ
+by_text ws = codes " by" ++ numbers_text ws
+
+abbrev pub last_moments_text : Last → List ℕ
+last_moments_text last = codes "last: moment " ++ (decimal last.number ++ by_text last.moments)
+
+abbrev pub last_seen_text : List Event → Last → List ℕ
+last_seen_text events last =
+    last_moments_text last
+    ++ (codes "; taken by " ++ (numbered_text events last.number ++ codes "\n"))
+
+abbrev pub taken_text : List Event → Option Last → List ℕ
+taken_text events None = codes "last: never\n"
+taken_text events (Some last) = last_seen_text events last

@@ -1,0 +1,135 @@
+//! Records and scripts that are read from files by their names.
+
+use crate::case::{Case, answer, is_answered};
+use crate::pieces::Pieces;
+use crate::row::{Row, bytes_of};
+use crate::walks::FRESH_WALK;
+use crate::{certificates, explanations, lines, runs};
+use pg_codec::Watched;
+use pg_tool::pcid_audit;
+use std::alloc::AllocGlobal;
+use std::io::ErrorKind;
+use std::process::Abort;
+use std::sync::Wait;
+use std::test::Fail;
+use std::thread::Threads;
+
+/// What the words name.
+const NAME: &str = "the.file";
+
+/// The input is that of the one file there is, and standard input is not read.
+fn answer_of_file<'a, T: AllocGlobal + Abort + Threads + Wait + Sync>(rt: &T, case: Case<'a>) {
+    let mut input = Watched::new(Pieces {
+        left: &[],
+        most: 1,
+        reads: 0,
+        failing: Some((0, ErrorKind::Interrupted)),
+    });
+    let mut output = Watched::new(Vec::new(rt.alloc()));
+    let mut errors = Watched::new(Vec::new(rt.alloc()));
+    let opener = |name: &str| {
+        if name == NAME {
+            Some(Watched::new(case.input))
+        } else {
+            None
+        }
+    };
+    let status = pcid_audit(rt, case.words, opener, &mut input, &mut output, &mut errors);
+    let is_right = is_answered(case, status, &output.inner, &errors.inner);
+    assert!(rt;
+        is_right && input.inner.reads == 0,
+        "{}: {status}",
+        case.name
+    );
+}
+
+#[test]
+fn records_by_their_names(rt: HostRuntime) -> Result<(), Fail> {
+    let rows: [(&[&str], Row); 7] = [
+        (&["check", NAME], FRESH_WALK),
+        (&["check", "--checkers", "2", NAME], FRESH_WALK),
+        (&["check", NAME, "--checkers", "2"], FRESH_WALK),
+        (&["certify", NAME], certificates::FRESH_WALK),
+        (&["run-of", NAME], runs::ROWS[0]),
+        (&["explain", NAME], explanations::STALE_LEAF),
+        (&["show", "--from", "5", "--", NAME], lines::RANGES[0]),
+    ];
+    for (words, row) in &rows {
+        let input = bytes_of(rt.alloc(), row.input)?;
+        let named = Case {
+            words,
+            ..row.case(&input)
+        };
+        answer_of_file(&rt, named);
+    }
+    Ok(())
+}
+
+#[test]
+fn an_upgrade_by_its_name(rt: HostRuntime) -> Result<(), Fail> {
+    let input = bytes_of(rt.alloc(), FRESH_WALK.input)?;
+    let output = bytes_of(rt.alloc(), &crate::streams::UPGRADED)?;
+    let upgraded = Case {
+        name: "upgrade_by_name",
+        words: &["upgrade", NAME],
+        input: &input,
+        output: &output,
+        line: "verdict: no\nevent: 4\nreason: 11 accessed\nevents: 5\nsegments: 1\n",
+        status: 1,
+    };
+    answer_of_file(&rt, upgraded);
+    Ok(())
+}
+
+#[test]
+fn a_script_by_its_name(rt: HostRuntime) -> Result<(), Fail> {
+    let ran = Case {
+        name: "run_by_name",
+        words: &["run", "--single", NAME],
+        input: b"pcid-guest 1\nmachine 40 wp nxe\nsegment 2\ncpu 0x1001 1\n0 invlpg 0x5000\n",
+        output: b"verdict: yes\nevents: 1\nsegments: 1\n",
+        line: "",
+        status: 0,
+    };
+    answer_of_file(&rt, ran);
+    Ok(())
+}
+
+/// Every command with the name of a file that is not there.
+const UNOPENED: [&[&str]; 7] = [
+    &["check", "other"],
+    &["certify", "--bytes", "other"],
+    &["run", "other"],
+    &["run-of", "other"],
+    &["explain", "other"],
+    &["show", "other"],
+    &["upgrade", "other"],
+];
+
+#[test]
+fn files_that_can_not_be_opened(rt: HostRuntime) -> Result<(), Fail> {
+    for words in UNOPENED {
+        let unopened = Case {
+            name: "file_that_can_not_be_opened",
+            words,
+            input: &[],
+            output: &[],
+            line: "pcid-audit: can't open other\n",
+            status: 66,
+        };
+        answer_of_file(&rt, unopened);
+    }
+    Ok(())
+}
+
+/// The name `-` is that of standard input.
+#[test]
+fn standard_input_by_its_name(rt: HostRuntime) -> Result<(), Fail> {
+    let input = bytes_of(rt.alloc(), FRESH_WALK.input)?;
+    let given = Case {
+        words: &["check", "-"],
+        ..FRESH_WALK.case(&input)
+    };
+    answer(&rt, given);
+    Ok(())
+}

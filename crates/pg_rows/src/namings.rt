@@ -1,0 +1,84 @@
+//! Records that are written with the moments that were found for them.
+
+use crate::case::{Case, answer, answer_by_bytes, fail_each_write, no_file};
+use crate::certificates::{FRESH_WALK, ROWS};
+use crate::row::{Row, bytes_of};
+use crate::walks;
+use pg_codec::Watched;
+use pg_tool::pcid_audit;
+use std::alloc::AllocGlobal;
+use std::process::Abort;
+use std::sync::Wait;
+use std::test::Fail;
+use std::thread::Threads;
+
+const NAMING: &[&str] = &["certify", "--bytes"];
+
+/// A no is told on standard error, and nothing is written.
+fn expect_denied<T: AllocGlobal + Abort + Threads + Wait + Sync>(
+    rt: &T,
+    row: &Row,
+) -> Result<(), Fail> {
+    let input = bytes_of(rt.alloc(), row.input)?;
+    let denied = Case {
+        name: row.name,
+        words: NAMING,
+        input: &input,
+        output: &[],
+        line: row.output,
+        status: 1,
+    };
+    answer_by_bytes(rt, denied)
+}
+
+/// Of a yes the record is written, and `check` says yes to it.
+fn expect_named<T: AllocGlobal + Abort + Threads + Wait + Sync>(
+    rt: &T,
+    row: &Row,
+) -> Result<(), Fail> {
+    let bytes = bytes_of(rt.alloc(), row.input)?;
+    let mut input = Watched::new(bytes.as_slice());
+    let mut output = Watched::new(Vec::new(rt.alloc()));
+    let mut errors = Watched::new(Vec::new(rt.alloc()));
+    let status = pcid_audit(rt, NAMING, no_file, &mut input, &mut output, &mut errors);
+    assert!(rt; status == 0 && errors.inner.is_empty(), "{}", row.name);
+    let checked = Case {
+        name: row.name,
+        words: &["check"],
+        input: &output.inner,
+        output: row.output.as_bytes(),
+        line: "",
+        status: 0,
+    };
+    answer(rt, checked);
+    Ok(())
+}
+
+#[test]
+fn records_with_moments_that_were_found(rt: HostRuntime) -> Result<(), Fail> {
+    for row in &ROWS {
+        if row.status == 0 {
+            expect_named(&rt, row)?;
+        } else {
+            expect_denied(&rt, row)?;
+        }
+    }
+    Ok(())
+}
+
+/// The fresh walk whose moments nobody named gets those of the walk at its event.
+#[test]
+fn the_fresh_walk_with_its_moments(rt: HostRuntime) -> Result<(), Fail> {
+    let input = bytes_of(rt.alloc(), FRESH_WALK.input)?;
+    let output = bytes_of(rt.alloc(), walks::FRESH_WALK.input)?;
+    let named = Case {
+        name: "fresh_walk_named",
+        words: NAMING,
+        input: &input,
+        output: &output,
+        line: "",
+        status: 0,
+    };
+    answer_by_bytes(&rt, named)?;
+    fail_each_write(&rt, named)
+}
