@@ -4,6 +4,7 @@ pub mod Drops
 pub mod Findings
 pub mod Walk
 pub mod Explained
+pub mod Filters
 pub mod Laws
 pub mod Text
 pub mod Denied

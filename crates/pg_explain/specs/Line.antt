@@ -126,9 +126,3 @@ event_text (MovCr4Pge p on) = codes "pge " ++ switch_text on
 abbrev pub event_line : ℕ → Event → List ℕ
 event_line number e =
     decimal number ++ (codes " cpu " ++ (decimal (processor_of e) ++ (codes " " ++ event_text e)))
-
--- the lines of events, of which the first has this number
-abbrev pub lines_from : ℕ → List Event → List ℕ
-lines_from number [] = []
-lines_from number (e ∷ events) =
-    event_line number e ++ (codes "\n" ++ lines_from (number + 1) events)

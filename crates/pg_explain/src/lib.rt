@@ -7,6 +7,7 @@ mod dropped;
 mod end_finding;
 mod entry;
 mod explainer;
+mod filter;
 mod finding;
 mod finding_text;
 mod flag_finding;
@@ -21,11 +22,11 @@ pub use denial::{Denial, deny};
 pub use denial_lines::denial_text;
 pub use entry::WalkEntry;
 pub use explainer::{Explanation, explain};
+pub use filter::{Filter, pages_show_their_drops, shown_text};
 pub use finding::{Finding, Limit, Misfit, Tagged, Wish};
 pub use laws::{
     findings_stand_behind_reasons, others_leave_the_word, unwritten_words_stay,
     writers_leave_the_word,
 };
-pub use line::show_text;
 pub use names::{level_number, rights_text};
 pub use text::explanation_text;
