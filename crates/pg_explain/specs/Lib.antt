@@ -8,3 +8,5 @@ pub mod Filters
 pub mod Laws
 pub mod Text
 pub mod Denied
+pub mod Bads
+pub mod Tallies

@@ -1,6 +1,7 @@
 //! Events as lines for a person, and what stands behind a "no".
 #![tactic(auto)]
 
+mod bad_events;
 mod denial;
 mod denial_lines;
 mod dropped;
@@ -14,10 +15,13 @@ mod flag_finding;
 mod laws;
 mod line;
 mod names;
+mod tallier;
+mod tally_lines;
 mod text;
 mod walk_finding;
 mod walk_text;
 
+pub use bad_events::{Bad, bads, bads_are_exact, explanations_text, push_explanation};
 pub use denial::{Denial, deny};
 pub use denial_lines::denial_text;
 pub use entry::WalkEntry;
@@ -29,4 +33,6 @@ pub use laws::{
     writers_leave_the_word,
 };
 pub use names::{level_number, rights_text};
+pub use tallier::{Tally, counts_add_up, tallies};
+pub use tally_lines::tally_text;
 pub use text::explanation_text;
