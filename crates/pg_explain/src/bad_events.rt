@@ -1,6 +1,7 @@
 //! The events of a run that their moments do not prove.
 
-ghost use Rattle.std.specs.Prelude.{◌≡◌, ◌<◌, ◌++◌, length, codes, IfOk, OnOk, string_bytes};
+ghost use Rattle.std.specs.Prelude.{◌≡◌, ◌<◌, ◌++◌, length, take, codes, IfOk, OnOk};
+ghost use Rattle.std.specs.Prelude.{string_bytes};
 ghost use Rattle.std.specs.List.{AllByRecursion};
 ghost use Rattle.pg_event.specs.Witness.{Witnessed};
 ghost use Rattle.pg_explain.specs.declared.explainer.Explanation.{Explanation};
@@ -95,12 +96,8 @@ pub fn push_explanation(
 }
 
 /// The texts of explanations of bad events, one of each in their order, with an empty line behind
-/// each. `Err` is for want of memory alone.
-pub fn explanations_text(
-    alloc: Global,
-    history: &History,
-    bads: &[Bad],
-) -> Result<String, AllocError>
+/// each.
+fn explain_each(alloc: Global, history: &History, bads: &[Bad]) -> Result<String, AllocError>
     requires { AllByRecursion (IsBad history.now.head history.now.events) bads.now }
     ensures { IfOk result (λ t. AreExplained history.now.head history.now.events bads.now
         (string_bytes t)) }
@@ -111,6 +108,21 @@ pub fn explanations_text(
         text.push_str("\n")?;
     }
     Ok(text)
+}
+
+/// The texts of explanations of so many of a history's bad events at most, one of each in their
+/// order, with an empty line behind each. `Err` is for want of memory alone.
+pub fn explanations_text(
+    alloc: Global,
+    history: &History,
+    bads: &[Bad],
+    most: usize,
+) -> Result<String, AllocError>
+    requires { bads.now ≡ bads history.now.head history.now.events }
+    ensures { IfOk result (λ t. AreExplained history.now.head history.now.events
+        (take most bads.now) (string_bytes t)) }
+{
+    explain_each(alloc, history, &bads[..most.min(bads.len())])
 }
 
 /// The bad events are just those for which a reason fails.
