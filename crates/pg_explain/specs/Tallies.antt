@@ -1,7 +1,7 @@
 -- What the bad events of a run have in common, reason by reason, and its text: a line for each
 -- reason, in the order of their numbers.
 --
---     reason NUMBER NAME: count COUNT, first EVENT, cpus PROCESSOR .., pages HEX ..
+--     NUMBER NAME: COUNT, first EVENT, cpus PROCESSOR .., pages HEX ..
 --
 -- Processors and pages ascend, each once. Of the processors as many are named as fit 60 columns of
 -- the line, and of the pages as many as fit 100, with how many more there are: ` and COUNT more`.
@@ -116,8 +116,8 @@ with_list line columns style ns = line ++ listed_text (columns - length line) st
 
 abbrev pub head_of : ℕ → List ℕ → Tally → List ℕ
 head_of number name t =
-    codes "reason " ++ (decimal number ++ (codes " " ++ (name ++ (codes ": count "
-    ++ (decimal t.count ++ (codes ", first " ++ (decimal t.first ++ codes ", cpus")))))))
+    decimal number ++ (codes " " ++ (name ++ (codes ": " ++ (decimal t.count
+    ++ (codes ", first " ++ (decimal t.first ++ codes ", cpus"))))))
 
 abbrev pub with_processors : ℕ → List ℕ → Tally → List ℕ
 with_processors number name t =

@@ -130,7 +130,7 @@ fn head_of(alloc: Global, number: u8, name: &str, tally: &Tally) -> Result<Strin
 {
     let count = tally.count;
     let first = tally.first;
-    format!(in alloc; "reason {number} {name}: count {count}, first {first}, cpus")
+    format!(in alloc; "{number} {name}: {count}, first {first}, cpus")
 }
 
 /// The line of a tally, whose reason has this number and this name. `Err` is for want of memory

@@ -9,3 +9,5 @@ mod machine;
 mod runs;
 #[cfg(test)]
 mod searches;
+#[cfg(test)]
+mod summaries;
