@@ -3,5 +3,5 @@ pub mod Firsts
 pub mod Writers
 pub mod Reasons
 pub mod Filters
-pub mod Bads
-pub mod Tallies
+pub mod Judged
+pub mod Counts

@@ -115,14 +115,14 @@ fn explain_each(alloc: Global, history: &History, bads: &[Bad]) -> Result<String
 pub fn explanations_text(
     alloc: Global,
     history: &History,
-    bads: &[Bad],
+    found: &[Bad],
     most: usize,
 ) -> Result<String, AllocError>
-    requires { bads.now ≡ bads history.now.head history.now.events }
+    requires { found.now ≡ bads history.now.head history.now.events }
     ensures { IfOk result (λ t. AreExplained history.now.head history.now.events
-        (take most bads.now) (string_bytes t)) }
+        (take most found.now) (string_bytes t)) }
 {
-    explain_each(alloc, history, &bads[..most.min(bads.len())])
+    explain_each(alloc, history, &found[..most.min(found.len())])
 }
 
 /// The bad events are just those for which a reason fails.

@@ -1,4 +1,4 @@
-use Rattle.pg_explain.proofs.Tallies.{add_up}
+use Rattle.pg_explain.proofs.Counts.{add_up}
 use Rattle.pg_explain.proofs.tallier.counts_add_up.Goals as goal
 
 pub returns : goal.returns

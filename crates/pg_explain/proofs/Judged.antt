@@ -3,7 +3,7 @@ use Rattle.std.proofs.Common.{◌≡◌, ℕ, zero, suc, ◌+◌, ◌<◌, ◌�
 use Rattle.std.specs.Prelude.{slice_get, option_and_then}
 use Rattle.std.specs.List.{AllByRecursion, Contains}
 use Rattle.std.proofs.lemmas.Bool.{cases_lt}
-use Rattle.std.proofs.lemmas.List.{drop_more}
+use Rattle.std.proofs.lemmas.List.{drop_more, take_more}
 use Rattle.std.proofs.lemmas.List.Elements.{All-from_recursion, All-contains, Contains-append_left, Contains-append_right}
 use Rattle.std.proofs.lemmas.Option.{slice_get-get_or, slice_get_past, slice_get_within}
 use Rattle.pg_event.specs.declared.event.Event.{Event}
@@ -35,6 +35,19 @@ bads_next head events i d o l f =
     let is : failing_event head events i e ≡ o = ap (option_and_then (failing_event head events i)) (sym at) ∙ f in
     ap (bads_from head events i) (drop_more events i d l)
     ∙ ap (λ (x : Option Reason). with_bad i e x (bads_from head events (i + 1) (drop (i + 1) events))) is
+
+-- the next event, where a reason fails for it, and where none does
+pub judged_bad : (head : Head) (events : List Event) (i : ℕ) (e : Event) (reason : Reason) (before : List Bad) → i < length events → e ≡ get_or events i e → failing head events i ≡ Some reason →
+    before ++ bads_from head events i (drop i events) ≡ bads head events → (before ++ bad_of i e reason ∷ []) ++ bads_from head events (i + 1) (drop (i + 1) events) ≡ bads head events
+judged_bad head events i e reason before l is f so =
+    let rest = bads_from head events (i + 1) (drop (i + 1) events) in
+    append_assoc before (bad_of i e reason ∷ []) rest
+    ∙ (ap (λ (x : Event). before ++ bad_of i x reason ∷ rest) is
+    ∙ (ap (λ (xs : List Bad). before ++ xs) (sym (bads_next head events i e (Some reason) l f)) ∙ so))
+
+pub judged_good : (head : Head) (events : List Event) (i : ℕ) (e : Event) (before : List Bad) → i < length events → failing head events i ≡ None →
+    before ++ bads_from head events i (drop i events) ≡ bads head events → before ++ bads_from head events (i + 1) (drop (i + 1) events) ≡ bads head events
+judged_good head events i e before l f so = ap (λ (xs : List Bad). before ++ xs) (sym (bads_next head events i e None l f)) ∙ so
 
 -- ---- each of them is bad
 
@@ -69,7 +82,7 @@ bad_within head events i reason f = by_place (slice_get events i) refl f
 
 here : (head : Head) (events : List Event) (i : ℕ) (e : Event) (o : Option Reason) (others : List Bad) (reason : Reason) → o ≡ Some reason → (x : Bad) × Contains (with_bad i e o others) x × (x.number ≡ i) × (x.reason ≡ reason)
 here head events i e None others reason is = absurd cc
-here head events i e (Some r) others reason is = (bad_of i e r, (0, (omega arith, refl)), refl, cc)
+here head events i e (Some r) others reason is = (bad_of i e r, (0, omega arith, refl), refl, cc)
 
 later : (n : ℕ) (e : Event) (o : Option Reason) (others : List Bad) (x : Bad) → Contains others x → Contains (with_bad n e o others) x
 later n e None others x c = c
@@ -110,7 +123,7 @@ bads_exact head events i reason = (
 -- ---- explanations
 
 -- one more is explained
-pub explained_more : (head : Head) (events : List Event) (bs : List Bad) (b : Bad) (text : List ℕ) (x : Explanation) → AreExplained head events bs text → IsExplained head events b.number x →
+explained_more : (head : Head) (events : List Event) (bs : List Bad) (b : Bad) (text : List ℕ) (x : Explanation) → AreExplained head events bs text → IsExplained head events b.number x →
     AreExplained head events (bs ++ b ∷ []) (text ++ (explanation_text events x ++ codes "\n"))
 explained_more head events [] b text x are is = (x, [], is, refl, ap (λ t. t ++ (explanation_text events x ++ codes "\n")) are)
 explained_more head events (c ∷ cs) b text x are is =
@@ -121,3 +134,13 @@ explained_more head events (c ∷ cs) b text x are is =
       explained_more head events cs b are.1 x are.3 is,
       ap (λ t. t ++ more) are.4 ∙ append_assoc (explanation_text events are.0) (codes "\n" ++ are.1) more,
     )
+
+-- a text with one more explanation, of the next bad event
+pub explained_at : (head : Head) (events : List Event) (bs : List Bad) (i : ℕ) (d : Bad) (text : List ℕ) (x : Explanation) (new : List ℕ) → i < length bs → AreExplained head events (take i bs) text →
+    IsExplained head events (get_or bs i d).number x → new ≡ (text ++ explanation_text events x) ++ codes "\n" → AreExplained head events (take (i + 1) bs) new
+explained_at head events bs i d text x new l are is wrote =
+    let told = explanation_text events x in
+    let more : AreExplained head events (take i bs ++ get_or bs i d ∷ []) (text ++ (told ++ codes "\n")) = explained_more head events (take i bs) (get_or bs i d) text x are is in
+    let same : text ++ (told ++ codes "\n") ≡ new = sym (append_assoc text told (codes "\n")) ∙ sym wrote in
+    subst (λ (t : List ℕ). AreExplained head events (take (i + 1) bs) t) same
+    (subst (λ (xs : List Bad). AreExplained head events xs (text ++ (told ++ codes "\n"))) (sym (take_more bs i d l)) more)
