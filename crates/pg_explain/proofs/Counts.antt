@@ -7,7 +7,7 @@ use Rattle.pg_event.specs.declared.event.Reason.{Reason}
 use Rattle.pg_event.specs.declared.event.Reason.TheVariants.{Order, Entry, Context, StructureDropped, TranslationDropped, ForeignPcid, NotAtEvent, Rights, Answer, Code, Accessed, Dirty, Assist}
 use Rattle.pg_explain.specs.declared.bad_events.Bad.{Bad}
 use Rattle.pg_explain.specs.declared.tallier.Tally.{Tally}
-use Rattle.pg_explain.specs.Tallies.{place, reasons, has_reason, having, is_met, IsTally, AreTalliesOf, CountsAddUp}
+use Rattle.pg_explain.specs.Tallies.{place, reasons, has_reason, having, is_met, IsTally, CountsAddUp}
 
 -- how many have a reason
 abbrev count_of : List Bad → Reason → ℕ

@@ -5,7 +5,7 @@
 --
 -- Processors and pages ascend, each once. Of the processors as many are named as fit 60 columns of
 -- the line, and of the pages as many as fit 100, with how many more there are: ` and COUNT more`.
-use Rattle.std.specs.Prelude.{◌≡◌, ℕ, suc, ◌+◌, ◌-◌, Bool, not, ◌==◌, nat_le, if◌then◌else◌}
+use Rattle.std.specs.Prelude.{◌≡◌, ℕ, ◌+◌, ◌-◌, Bool, not, ◌==◌, nat_le, if◌then◌else◌}
 use Rattle.std.specs.Prelude.{List, [], ◌∷◌, ◌++◌, length, map, Some, option_map, slice_get}
 use Rattle.std.specs.Prelude.{codes, decimal}
 use Rattle.std.specs.List.{AllByRecursion, Contains, filter, sum_by}

@@ -1,4 +1,4 @@
-use Rattle.std.proofs.Common.{◌≡◌, ◌+◌, ◌++◌, ◌<◌, [], ◌∷◌, List, get_or, length, ap, arith, subst}
+use Rattle.std.proofs.Common.{◌≡◌, ◌<◌, List, get_or, length, subst}
 use Rattle.pg_event.specs.declared.event.Event.{Event}
 use Rattle.pg_event.specs.Heads.{Head}
 use Rattle.pg_explain.proofs.Judged.{judged_bad, judged_good}

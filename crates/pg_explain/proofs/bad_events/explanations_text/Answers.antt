@@ -1,9 +1,9 @@
-use Rattle.std.proofs.Common.{◌≡◌, List, sym, subst}
+use Rattle.std.proofs.Common.{List, sym, subst}
 use Rattle.std.specs.List.{AllByRecursion}
 use Rattle.pg_event.specs.declared.event.Event.{Event}
 use Rattle.pg_event.specs.Heads.{Head}
 use Rattle.pg_explain.specs.declared.bad_events.Bad.{Bad}
-use Rattle.pg_explain.specs.Bads.{IsBad, bads}
+use Rattle.pg_explain.specs.Bads.{IsBad}
 use Rattle.pg_explain.proofs.Judged.{all_are_bad, first_are_bad}
 use Rattle.pg_explain.proofs.bad_events.explanations_text.Goals as goal
 

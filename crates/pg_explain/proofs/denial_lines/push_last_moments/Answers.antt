@@ -1,4 +1,4 @@
-use Rattle.std.proofs.Common.{◌≡◌, ◌++◌, codes, decimal, string_bytes, append_assoc, ap, ◌∙◌}
+use Rattle.std.proofs.Common.{◌++◌, codes, decimal, string_bytes, append_assoc, ap, ◌∙◌}
 use Rattle.pg_explain.specs.Denied.{by_text}
 use Rattle.pg_explain.proofs.denial_lines.push_last_moments.Goals as goal
 

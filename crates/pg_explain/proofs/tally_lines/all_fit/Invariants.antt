@@ -1,4 +1,4 @@
-use Rattle.std.proofs.Common.{◌≡◌, ◌+◌, ◌≤◌, length, drop}
+use Rattle.std.proofs.Common.{◌≡◌, ◌+◌, length, drop}
 use Rattle.pg_explain.specs.Tallies.{items_text}
 use Rattle.pg_explain.proofs.tally_lines.all_fit.Given as goal
 
