@@ -2,3 +2,6 @@ pub mod Lines
 pub mod Firsts
 pub mod Writers
 pub mod Reasons
+pub mod Filters
+pub mod Judged
+pub mod Counts

@@ -6,6 +6,9 @@ pub mod Findings
 pub mod Given
 pub mod Walk
 pub mod Explained
+pub mod Filters
 pub mod Laws
 pub mod Text
 pub mod Denied
+pub mod Bads
+pub mod Tallies

@@ -134,9 +134,3 @@ line_at number (Some e) = event_line number e
 
 abbrev pub numbered_text : List Event → ℕ → List ℕ
 numbered_text events number = line_at number (slice_get events number)
-
--- the lines of events, of which the first has this number
-abbrev pub lines_from : ℕ → List Event → List ℕ
-lines_from number [] = []
-lines_from number (e ∷ events) =
-    event_line number e ++ (codes "\n" ++ lines_from (number + 1) events)

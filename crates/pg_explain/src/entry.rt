@@ -81,7 +81,7 @@ pub(crate) fn read_steps(
 }
 
 /// Whether an event writes the word at a physical address.
-fn writes(address: u64, event: &Event) -> bool
+pub(crate) fn writes(address: u64, event: &Event) -> bool
     ensures { result ≡ writes address event.now }
 {
     match *event {

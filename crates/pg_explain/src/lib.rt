@@ -1,12 +1,14 @@
 //! Events as lines for a person, and what stands behind a "no".
 #![tactic(auto)]
 
+mod bad_events;
 mod denial;
 mod denial_lines;
 mod dropped;
 mod end_finding;
 mod entry;
 mod explainer;
+mod filter;
 mod finding;
 mod finding_text;
 mod flag_finding;
@@ -15,19 +17,24 @@ mod last_lines;
 mod laws;
 mod line;
 mod names;
+mod tallier;
+mod tally_lines;
 mod text;
 mod walk_finding;
 mod walk_text;
 
+pub use bad_events::{Bad, bads, bads_are_exact, explanations_text, push_explanation};
 pub use denial::{Denial, deny};
 pub use denial_lines::denial_text;
 pub use entry::WalkEntry;
 pub use explainer::{Explanation, explain};
+pub use filter::{Filter, pages_show_their_drops, shown_text};
 pub use finding::{Finding, Limit, Misfit, Tagged, Wish};
 pub use laws::{
     findings_stand_behind_reasons, others_leave_the_word, unwritten_words_stay,
     writers_leave_the_word,
 };
-pub use line::show_text;
 pub use names::{level_number, rights_text};
+pub use tallier::{Tally, counts_add_up, tallies};
+pub use tally_lines::tally_text;
 pub use text::explanation_text;

@@ -1,16 +1,15 @@
-ghost use Rattle.std.specs.Prelude.{◌≡◌, ◌+◌, ◌<◌, ◌≤◌, ◌^◌, ◌++◌};
-ghost use Rattle.std.specs.Prelude.{length, IfOk, OnOk, string_bytes};
+ghost use Rattle.std.specs.Prelude.{◌≡◌, ◌++◌, OnOk, string_bytes};
 ghost use Rattle.pg_event.specs.Form.{access_kind};
 ghost use Rattle.pg_explain.specs.Line.{mode_name, op_name, kind_text, access_text, bit_name};
 ghost use Rattle.pg_explain.specs.Line.{bit_names, opening, in_brackets, code_text, outcome_text};
 ghost use Rattle.pg_explain.specs.Line.{word_text, numbers_text, moments_text};
 ghost use Rattle.pg_explain.specs.Line.{set_text, assist_text};
 ghost use Rattle.pg_explain.specs.Line.{switch_text, event_text};
-ghost use Rattle.pg_explain.specs.Line.{event_line, lines_from};
+ghost use Rattle.pg_explain.specs.Line.{event_line};
 
 use pg_entry::{AccessKind, Op, has_bit};
 use pg_event::{Event, Moments, Outcome, access_kind, processor_of, says_dirty};
-use std::alloc::{AllocError, Global};
+use std::alloc::AllocError;
 
 fn mode_name(kind: AccessKind) -> &'static str
     ensures { result.now ≡ mode_name kind }
@@ -218,18 +217,4 @@ pub(crate) fn push_event(text: &mut String, number: u64, event: &Event) -> Resul
     let p = processor_of(event);
     write!(text, "{number} cpu {p} ")?;
     push_deed(text, event)
-}
-
-/// The lines of events in their order, of which the first has this number. `Err` is for want of
-/// memory alone.
-pub fn show_text(alloc: Global, first: u64, events: &[Event]) -> Result<String, AllocError>
-    requires { first + length events.now < 2 ^ 64 }
-    ensures { IfOk result (λ t. string_bytes t ≡ lines_from first events.now) }
-{
-    let mut text = String::new(alloc);
-    for (i, event) in events.iter().enumerate() {
-        push_event(&mut text, first + i as u64, event)?;
-        text.push_str("\n")?;
-    }
-    Ok(text)
 }

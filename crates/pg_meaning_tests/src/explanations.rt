@@ -4,7 +4,7 @@ ghost use Rattle.pg_event.specs.Spelling.{IsHead};
 use pg_check::History;
 use pg_entry::{Cfg, CfgFlags};
 use pg_event::{Event, Header, Moments, Outcome, Version, well_formed};
-use pg_explain::{Explanation, explain, explanation_text, show_text};
+use pg_explain::{Explanation, Filter, explain, explanation_text, shown_text};
 use std::alloc::{AllocError, Global};
 use std::test::Fail;
 
@@ -56,6 +56,15 @@ fn four(a: u32, b: u32, c: u32, d: u32) -> Result<Moments, Fail> {
         None => Err(Fail::from("too many moments")),
     }
 }
+
+/// Nothing is asked of the events that are shown.
+const EACH: Filter = Filter {
+    from: 0,
+    to: 4_294_967_295,
+    cpu: None,
+    page: None,
+    word: None,
+};
 
 const READ: u8 = 4;
 
@@ -511,18 +520,101 @@ fn events_are_shown_a_line_each(rt: HostRuntime) -> Result<(), Fail> {
         },
         Event::MovCr4Pge { p: 0, on: false },
     ];
-    let text = show_text(rt.alloc(), 13, &events)?;
-    let expected = "13 cpu 0 write [0x7008] = 0x74b000000000b61f
-14 cpu 2 user fetch 0x40200f38 -> 0x1034f38 moments 44 44 44 85
-15 cpu 1 user write 0x5000 -> fault 0x7 (present write user) moments 9 9 9 9
-16 cpu 1 super-ac read 0x0 -> fault 0x0 moments 9
-17 cpu 2 invlpg 0x40001f00
-18 cpu 0 invpcid 0 0xa 0x5000
-19 cpu 0 cr3 0x1002
-20 cpu 0 pge off
+    let text = shown_text(rt.alloc(), EACH, &events)?;
+    let expected = "0 cpu 0 write [0x7008] = 0x74b000000000b61f
+1 cpu 2 user fetch 0x40200f38 -> 0x1034f38 moments 44 44 44 85
+2 cpu 1 user write 0x5000 -> fault 0x7 (present write user) moments 9 9 9 9
+3 cpu 1 super-ac read 0x0 -> fault 0x0 moments 9
+4 cpu 2 invlpg 0x40001f00
+5 cpu 0 invpcid 0 0xa 0x5000
+6 cpu 0 cr3 0x1002
+7 cpu 0 pge off
 ";
     if text.as_str() != expected {
         return Err(Fail::from("other lines"));
     }
     Ok(())
+}
+
+/// Events of three processors, of which the last names no address in the page of 0x5000.
+fn of_three_processors(alloc: Global) -> Result<Vec<Event>, Fail> {
+    let events = [
+        Event::Write {
+            p: 2,
+            addr: 0x4028,
+            value: 0x9007,
+        },
+        Event::MovCr3 {
+            p: 0,
+            operand: 0x1002,
+        },
+        Event::MovCr3 {
+            p: 2,
+            operand: 0x1002,
+        },
+        Event::Access {
+            p: 0,
+            flags: READ,
+            la: 0x5ff8,
+            outcome: Outcome::Fault(4),
+            moments: four(3, 3, 3, 3)?,
+        },
+        Event::Invlpg { p: 1, la: 0x5000 },
+        Event::Invlpg { p: 1, la: 0x6000 },
+        Event::Invpcid {
+            p: 2,
+            kind: 2,
+            pcid: 0,
+            la: 0,
+        },
+        Event::MovCr4Pge { p: 1, on: false },
+        Event::MovCr4Pge { p: 2, on: false },
+        Event::Assist {
+            p: 0,
+            flags: READ,
+            la: 0x6000,
+            word: 0x4028,
+            moments: four(9, 9, 9, 9)?,
+        },
+    ];
+    Ok(events.to_vec(alloc)?)
+}
+
+/// Fails where other lines are shown.
+fn shows(alloc: Global, filter: Filter, expected: &str) -> Result<(), Fail> {
+    let events = of_three_processors(alloc)?;
+    let text = shown_text(alloc, filter, &events)?;
+    if text.as_str() != expected {
+        return Err(Fail::from("other lines"));
+    }
+    Ok(())
+}
+
+#[test]
+fn events_of_a_page_a_word_and_a_processor_are_shown(rt: HostRuntime) -> Result<(), Fail> {
+    let page = Filter {
+        page: Some(0x5123),
+        ..EACH
+    };
+    let of_page = "1 cpu 0 cr3 0x1002
+3 cpu 0 user read 0x5ff8 -> fault 0x4 (user) moments 3 3 3 3
+4 cpu 1 invlpg 0x5000
+6 cpu 2 invpcid 2 0x0 0x0
+7 cpu 1 pge off
+";
+    shows(rt.alloc(), page, of_page)?;
+    let word = Filter {
+        word: Some(0x4028),
+        ..EACH
+    };
+    let of_word = "0 cpu 2 write [0x4028] = 0x9007
+9 cpu 0 user read 0x6000 assist [0x4028] accessed moments 9 9 9 9
+";
+    shows(rt.alloc(), word, of_word)?;
+    let both = Filter {
+        cpu: Some(1),
+        from: 5,
+        ..page
+    };
+    shows(rt.alloc(), both, "7 cpu 1 pge off\n")
 }

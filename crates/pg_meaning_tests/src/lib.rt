@@ -11,3 +11,5 @@ mod machine;
 mod runs;
 #[cfg(test)]
 mod searches;
+#[cfg(test)]
+mod summaries;

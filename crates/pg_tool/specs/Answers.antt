@@ -17,7 +17,7 @@ use Rattle.pg_report.specs.Changes.{Change, Fails, Works, Adds, AddsSome, drawn}
 use Rattle.pg_tool.specs.Certificates.{CertifiesRecord}
 use Rattle.pg_tool.specs.Explanations.{ExplainsRecord}
 use Rattle.pg_tool.specs.Guests.{RunsGuest}
-use Rattle.pg_tool.specs.Lines.{ShowsRecord}
+use Rattle.pg_tool.specs.Lines.{ShowsRecord, filter_of}
 use Rattle.pg_tool.specs.Naming.{NamesRecord}
 use Rattle.pg_tool.specs.Refusals.{StaysSame, Tells, refusal_line, memory_line, unopened_line}
 use Rattle.pg_tool.specs.Status.{Checks, ShowsRun}
@@ -65,7 +65,7 @@ DoesCommand Certify plan s status = CertifiesBy plan.bytes s status
 DoesCommand Run plan s status = RunsGuest plan.single plan.bytes s status
 DoesCommand RunOf plan s status = ShowsRun s status
 DoesCommand Explain plan s status = ExplainsRecord s status
-DoesCommand Show plan s status = ShowsRecord plan.from plan.to s status
+DoesCommand Show plan s status = ShowsRecord (filter_of plan) s status
 DoesCommand Upgrade plan s status = Upgrades s status
 
 abbrev pub Does : Plan → Streams → ℕ → Type 0

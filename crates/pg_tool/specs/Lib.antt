@@ -8,6 +8,7 @@ pub mod Guests
 pub mod Lines
 pub mod Texts
 pub mod Explanations
+pub mod Summaries
 pub mod Certificates
 pub mod Naming
 pub mod Answers

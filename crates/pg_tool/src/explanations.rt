@@ -1,10 +1,6 @@
 //! A record's report, and what stands behind a no.
 
-ghost use Rattle.std.specs.Prelude.{◌≡◌, ◌<◌, ◌++◌, length, IfOk, OnOk, string_bytes};
-ghost use Rattle.pg_event.specs.Witness.{Witnessed};
-ghost use Rattle.pg_explain.specs.declared.explainer.Explanation.{Explanation};
-ghost use Rattle.pg_explain.specs.Explained.{IsExplained};
-ghost use Rattle.pg_explain.specs.Text.{explanation_text};
+ghost use Rattle.std.specs.Prelude.{IfOk, string_bytes};
 ghost use Rattle.pg_report.specs.Changes.{drawn, filled};
 ghost use Rattle.pg_tool.specs.Explanations.{IsExplanationOf, ExplainsRecord};
 ghost use Rattle.pg_tool.specs.Streams.{streams};
@@ -15,34 +11,9 @@ use crate::refusals::tell_error;
 use crate::shown::{ToldText, give};
 use pg_check::History;
 use pg_codec::{Sink, Source};
-use pg_explain::explanation_text;
+use pg_explain::push_explanation;
 use pg_report::{AuditError, Verdict, read_record, report_of};
 use std::alloc::{AllocError, Global};
-
-/// Appends what stands behind the reason of an event that is not witnessed.
-fn push_explanation(
-    alloc: Global,
-    text: &mut String,
-    history: &History,
-    number: u64,
-) -> Result<(), AllocError>
-    requires within { number < length history.now.events }
-    requires bad { ¬ Witnessed history.now.head history.now.events number }
-    ensures { OnOk result ((x : Explanation)
-        × IsExplained history.now.head history.now.events number x
-        × (string_bytes text.new
-        ≡ string_bytes text.old ++ explanation_text history.now.events x)) }
-{
-    let events = history.events();
-    match pg_explain::explain(alloc, history, number)? {
-        Some(explanation) => {
-            let told = explanation_text(alloc, events, &explanation)?;
-            text.push_str(told.as_str())?;
-            Ok(())
-        }
-        None => unreachable!(),
-    }
-}
 
 /// The report of a history, and where it is no what stands behind it.
 fn explained(alloc: Global, history: &History) -> Result<ToldText, AllocError>

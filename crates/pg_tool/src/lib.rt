@@ -14,6 +14,7 @@ mod refusals;
 mod replayer;
 mod runs;
 mod shown;
+mod summaries;
 mod upgrader;
 
 pub use certificates::certify;
@@ -26,3 +27,4 @@ pub use program::{check, pcid_audit, run, run_of, upgrade};
 pub use refusals::{tell_memory, tell_text};
 pub use runs::run_text;
 pub use shown::Shown;
+pub use summaries::{check_all, explain_all};

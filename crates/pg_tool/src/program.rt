@@ -17,7 +17,7 @@ use crate::files::tell_unopened;
 use crate::guest_error::GuestError;
 use crate::guest_refusals::tell_guest;
 use crate::guests::run_script;
-use crate::lines::show;
+use crate::lines::{filter_of, show};
 use crate::naming::name_moments;
 use crate::refusals::{tell, tell_error, tell_memory, tell_text};
 use crate::replayer::write_run;
@@ -276,7 +276,7 @@ fn perform<T: AllocGlobal + Threads + Wait + Sync, R: Source, O: Sink, E: Sink>(
         Command::Run => run(rt, plan, input, output, errors),
         Command::RunOf => run_of(rt.alloc(), input, output, errors),
         Command::Explain => explain(rt.alloc(), input, output, errors),
-        Command::Show => show(rt.alloc(), plan.from, plan.to, input, output, errors),
+        Command::Show => show(rt.alloc(), filter_of(plan), input, output, errors),
         Command::Upgrade => upgrade(rt.alloc(), input, output, errors),
     }
 }

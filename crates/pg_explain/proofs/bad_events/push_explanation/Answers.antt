@@ -4,7 +4,7 @@ use Rattle.pg_event.specs.declared.event.Event.{Event}
 use Rattle.pg_event.specs.Witness.{Witnessed}
 use Rattle.pg_explain.specs.Explained.{IsExplained}
 use Rattle.pg_explain.specs.Text.{explanation_text}
-use Rattle.pg_tool.proofs.explanations.push_explanation.Goals as goal
+use Rattle.pg_explain.proofs.bad_events.push_explanation.Goals as goal
 
 pub returns : goal.returns
 returns c =
