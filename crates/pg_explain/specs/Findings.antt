@@ -6,6 +6,8 @@ use Rattle.std.specs.Prelude.{slice_get, option_and_then}
 use Rattle.std.specs.Option.{option_or}
 use Rattle.pg_entry.specs.declared.Cfg.{Cfg}
 use Rattle.pg_entry.specs.declared.AccessKind.{AccessKind}
+use Rattle.pg_entry.specs.declared.Op.{Op}
+use Rattle.pg_entry.specs.declared.Op.TheVariants as ops
 use Rattle.pg_entry.specs.declared.Level.{Level}
 use Rattle.pg_entry.specs.declared.Level.TheVariants.{Four}
 use Rattle.pg_entry.specs.declared.Rights.{Rights}
@@ -40,6 +42,8 @@ use Rattle.pg_explain.specs.declared.finding.Limit.TheVariants as limits
 use Rattle.pg_explain.specs.declared.finding.Wish.{Wish}
 use Rattle.pg_explain.specs.declared.finding.Wish.TheVariants as wishes
 use Rattle.pg_explain.specs.declared.finding.Misfit.TheVariants as misfits
+use Rattle.pg_explain.specs.declared.finding.Prevention.{Prevention}
+use Rattle.pg_explain.specs.declared.finding.Prevention.TheVariants.{Smap, Smep}
 use Rattle.pg_explain.specs.declared.finding.Finding.{Finding}
 use Rattle.pg_explain.specs.declared.finding.Finding.TheVariants as findings
 use Rattle.pg_explain.specs.declared.walk_finding.Asked.{Asked}
@@ -54,7 +58,7 @@ reason_of (findings.StructureDropped level at) = reasons.StructureDropped
 reason_of (findings.TranslationDropped level at) = reasons.TranslationDropped
 reason_of (findings.ForeignPcid read current) = reasons.ForeignPcid
 reason_of (findings.NotAtEvent moment address value kind) = reasons.NotAtEvent
-reason_of (findings.Rights rights access allowed) = reasons.Rights
+reason_of (findings.Rights rights access allowed prevention) = reasons.Rights
 reason_of (findings.Answer expected) = reasons.Answer
 reason_of (findings.Code expected) = reasons.Code
 reason_of (findings.Accessed level address value) = reasons.Accessed
@@ -150,12 +154,23 @@ walk_finding head events a first ws rs =
 
 -- ---- the end of an access
 
+-- the prevention without which rights would allow an access that they deny (Intel SDM, vol. 3,
+-- 4.6): of data SMAP, which EFLAGS.AC lifts; of a supervisor's fetch SMEP, unless XD denies it too
+abbrev pub prevention_of : Cfg → Rights → AccessKind → Op → Option Prevention
+prevention_of cfg rights access ops.Read =
+    if is_allowed cfg rights (record access { ac = true }) then Some Smap else None
+prevention_of cfg rights access ops.Write =
+    if is_allowed cfg rights (record access { ac = true }) then Some Smap else None
+prevention_of cfg rights access ops.Fetch =
+    if access.user || rights.xd then None else Some Smep
+
 abbrev pub leaf_finding : Cfg → AccessKind → Rights → ℕ → Outcome → Option Finding
 leaf_finding cfg access rights address (Page page) =
-    if not (is_allowed cfg rights access) then Some (findings.Rights rights access false) else
+    if not (is_allowed cfg rights access)
+    then Some (findings.Rights rights access false (prevention_of cfg rights access access.op)) else
     if page == address then None else Some (findings.Answer address)
 leaf_finding cfg access rights address (Fault code) =
-    if is_allowed cfg rights access then Some (findings.Rights rights access true) else
+    if is_allowed cfg rights access then Some (findings.Rights rights access true None) else
     let expected = fault_code cfg access causes.Denied in
     if code == expected then None else Some (findings.Code expected)
 

@@ -30,6 +30,8 @@ use Rattle.pg_explain.specs.declared.finding.Wish.{Wish}
 use Rattle.pg_explain.specs.declared.finding.Wish.TheVariants as wishes
 use Rattle.pg_explain.specs.declared.finding.Misfit.{Misfit}
 use Rattle.pg_explain.specs.declared.finding.Misfit.TheVariants as misfits
+use Rattle.pg_explain.specs.declared.finding.Prevention.{Prevention}
+use Rattle.pg_explain.specs.declared.finding.Prevention.TheVariants.{Smap, Smep}
 use Rattle.pg_explain.specs.declared.finding.Finding.{Finding}
 use Rattle.pg_explain.specs.declared.finding.Finding.TheVariants as findings
 use Rattle.pg_explain.specs.Names.{level_number, rights_text}
@@ -116,9 +118,16 @@ now_text moment address value kind =
 abbrev pub verb : Bool → List ℕ
 verb is_allowed = if is_allowed then codes " allow " else codes " deny "
 
-abbrev pub right_text : Rights → AccessKind → Bool → List ℕ
-right_text rights access is_allowed =
-    codes "rights: " ++ (rights_text rights ++ (verb is_allowed ++ kind_text access))
+-- what alone denies the access, if something of these does
+abbrev pub by_text : Option Prevention → List ℕ
+by_text None = []
+by_text (Some Smap) = codes " by SMAP"
+by_text (Some Smep) = codes " by SMEP"
+
+abbrev pub right_text : Rights → AccessKind → Bool → Option Prevention → List ℕ
+right_text rights access is_allowed prevention =
+    codes "rights: " ++ (rights_text rights
+    ++ (verb is_allowed ++ (kind_text access ++ by_text prevention)))
 
 -- a flag of a word that is 0
 abbrev pub flag_text : List ℕ → ℕ → ℕ → List ℕ
@@ -146,8 +155,8 @@ finding_text events (findings.TranslationDropped level at) =
 finding_text events (findings.ForeignPcid read current) = tags_text read current
 finding_text events (findings.NotAtEvent moment address value kind) =
     now_text moment address value kind
-finding_text events (findings.Rights rights access is_allowed) =
-    right_text rights access is_allowed
+finding_text events (findings.Rights rights access is_allowed prevention) =
+    right_text rights access is_allowed prevention
 finding_text events (findings.Answer expected) = codes "expected: " ++ hex expected
 finding_text events (findings.Code expected) = codes "expected: " ++ code_text expected
 finding_text events (findings.Accessed level address value) =

@@ -6,15 +6,40 @@ ghost use Rattle.pg_entry.specs.Kinds.{kind_of, IsPageShift};
 ghost use Rattle.pg_event.specs.Values.{mem_at, control_at};
 ghost use Rattle.pg_chain.specs.Walked.{reading_of};
 ghost use Rattle.pg_explain.specs.Findings.{leaf_finding, held_finding, fault_finding};
+ghost use Rattle.pg_explain.specs.Findings.{prevention_of};
 ghost use Rattle.pg_explain.specs.Findings.{translation_drop, foreign_finding, end_finding};
 
 use crate::dropped::{CacheKey, first_drop};
-use crate::finding::{Finding, Tagged, Wish};
+use crate::finding::{Finding, Prevention, Tagged, Wish};
 use crate::walk_finding::tagged;
 use pg_chain::{Step, kind_at};
 use pg_check::History;
-use pg_entry::{Cause, Cfg, Entry, Kind, Rights, allowed, classify, error_code, page_offset};
+use pg_entry::{
+    AccessKind, Cause, Cfg, Entry, Kind, Op, Rights, allowed, classify, error_code, page_offset,
+};
 use pg_event::{Claim, Outcome, Want, translation_key, want_of};
+
+/// The prevention without which rights would allow an access that they deny.
+fn prevention_of(cfg: Cfg, rights: Rights, access: AccessKind) -> Option<Prevention>
+    ensures { result ≡ prevention_of cfg rights access access.op }
+{
+    match access.op {
+        Op::Read | Op::Write => {
+            if allowed(cfg, rights, AccessKind { ac: true, ..access }) {
+                Some(Prevention::Smap)
+            } else {
+                None
+            }
+        }
+        Op::Fetch => {
+            if access.user || rights.xd {
+                None
+            } else {
+                Some(Prevention::Smep)
+            }
+        }
+    }
+}
 
 /// What stands behind the reasons by the rights, the answer and the code, where a leaf gives an
 /// address.
@@ -30,6 +55,7 @@ fn leaf_finding(cfg: Cfg, claim: &Claim, rights: Rights, address: u64) -> Option
                     rights,
                     access,
                     is_allowed: false,
+                    prevention: prevention_of(cfg, rights, access),
                 })
             } else if page == address {
                 None
@@ -44,6 +70,7 @@ fn leaf_finding(cfg: Cfg, claim: &Claim, rights: Rights, address: u64) -> Option
                     rights,
                     access,
                     is_allowed: true,
+                    prevention: None,
                 })
             } else if code == expected {
                 None

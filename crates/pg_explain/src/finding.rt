@@ -42,6 +42,15 @@ pub enum Misfit {
     Rights(Rights),
 }
 
+/// What keeps supervisor mode from pages of user mode, as CR4 sets it (Intel SDM, vol. 3, 4.6).
+#[derive(Clone, Copy, PartialEq, Eq)]
+pub enum Prevention {
+    /// SMAP: no data is read or written, unless EFLAGS.AC is set.
+    Smap,
+    /// SMEP: nothing is fetched.
+    Smep,
+}
+
 /// What stands behind the least reason that fails for an event.
 #[derive(Clone, Copy, PartialEq, Eq)]
 pub enum Finding {
@@ -94,6 +103,8 @@ pub enum Finding {
         rights: Rights,
         access: AccessKind,
         is_allowed: bool,
+        /// What alone denies the access, if one of these does.
+        prevention: Option<Prevention>,
     },
     /// The answer would have to be this physical address.
     Answer {

@@ -5,9 +5,9 @@ ghost use Rattle.pg_explain.specs.Line.{hex, word_text, code_text};
 ghost use Rattle.pg_explain.specs.Text.{numbered_text, limit_text};
 ghost use Rattle.pg_explain.specs.Text.{order_text, want_name, wish_name, wish_text, tag_text};
 ghost use Rattle.pg_explain.specs.Text.{tags_text, drop_text, now_text, verb, right_text};
-ghost use Rattle.pg_explain.specs.Text.{flag_text, misfit_text, finding_text};
+ghost use Rattle.pg_explain.specs.Text.{by_text, flag_text, misfit_text, finding_text};
 
-use crate::finding::{Finding, Limit, Misfit, Tagged, Wish};
+use crate::finding::{Finding, Limit, Misfit, Prevention, Tagged, Wish};
 use crate::line::{push_code, push_event, push_kind, push_word};
 use crate::names::{level_number, rights_text};
 use crate::walk_text::{kind_name, push_held};
@@ -134,19 +134,31 @@ fn verb(is_allowed: bool) -> &'static str
     if is_allowed { " allow " } else { " deny " }
 }
 
+fn by_text(prevention: Option<Prevention>) -> &'static str
+    ensures { result.now ≡ by_text prevention }
+{
+    match prevention {
+        None => "",
+        Some(Prevention::Smap) => " by SMAP",
+        Some(Prevention::Smep) => " by SMEP",
+    }
+}
+
 fn push_right(
     text: &mut String,
     rights: Rights,
     access: AccessKind,
     is_allowed: bool,
+    prevention: Option<Prevention>,
 ) -> Result<(), AllocError>
-    ensures { OnOk result
-        (string_bytes text.new ≡ string_bytes text.old ++ right_text rights access is_allowed) }
+    ensures { OnOk result (string_bytes text.new
+        ≡ string_bytes text.old ++ right_text rights access is_allowed prevention) }
 {
     text.push_str("rights: ")?;
     text.push_str(rights_text(rights))?;
     text.push_str(verb(is_allowed))?;
-    push_kind(text, access)
+    push_kind(text, access)?;
+    text.push_str(by_text(prevention))
 }
 
 fn push_flag(text: &mut String, name: &str, address: u64, value: u64) -> Result<(), AllocError>
@@ -248,7 +260,8 @@ pub(crate) fn push_finding(
             rights,
             access,
             is_allowed,
-        } => push_right(text, rights, access, is_allowed),
+            prevention,
+        } => push_right(text, rights, access, is_allowed, prevention),
         Finding::Answer { expected } => push_expected(text, expected),
         Finding::Code { expected } => push_expected_code(text, expected),
         Finding::Accessed { address, value, .. } => {

@@ -29,7 +29,7 @@ pub use denial_lines::denial_text;
 pub use entry::WalkEntry;
 pub use explainer::{Explanation, explain};
 pub use filter::{Filter, pages_show_their_drops, shown_text};
-pub use finding::{Finding, Limit, Misfit, Tagged, Wish};
+pub use finding::{Finding, Limit, Misfit, Prevention, Tagged, Wish};
 pub use laws::{
     findings_stand_behind_reasons, others_leave_the_word, unwritten_words_stay,
     writers_leave_the_word,

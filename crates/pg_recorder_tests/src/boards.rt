@@ -1,4 +1,6 @@
+use crate::processors::{TWO, read_of};
 use pg_board::Board;
+use pg_event::Outcome;
 use pg_guest::Advance;
 use pg_progress::{Counts, Progress};
 use pg_script::Script;
@@ -64,5 +66,29 @@ fn counts_after_the_last_turn(rt: HostRuntime) -> Result<(), Fail> {
     };
     assert_eq!(rt; progress.read(&mut seat), counts);
     assert_eq!(rt; finished.world.len(), 10);
+    Ok(())
+}
+
+/// The last answer of these turns, where there are such processors.
+fn last_turn(board: &mut Board<'_>, turns: &[u16]) -> Option<Advance> {
+    let mut last = None;
+    for p in turns {
+        if *p as usize >= board.count() {
+            return None;
+        }
+        last = Some(board.turn(*p));
+    }
+    last
+}
+
+#[test]
+fn ten_turns_of_two_processors(rt: HostRuntime) -> Result<(), Fail> {
+    let script = Script::read(rt.alloc(), TWO)?;
+    let (progress, publisher, _seats) = Progress::open(rt.alloc(), 0)?;
+    let mut board = Board::new(rt.alloc(), &script, publisher, &progress)?;
+    let last = last_turn(&mut board, &[0, 0, 0, 0, 0, 0, 0, 1, 0, 0]);
+    let answered = read_of(5, Outcome::Page(0xa123), [4, 4, 4, 5])?;
+    assert!(rt; last == Some(Advance::Done(answered)));
+    assert!(rt; board.finish().world.len() == 6);
     Ok(())
 }

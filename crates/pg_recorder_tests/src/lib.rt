@@ -16,4 +16,6 @@ mod single_runs;
 #[cfg(test)]
 mod threads;
 #[cfg(test)]
+mod witnessed;
+#[cfg(test)]
 mod worlds;

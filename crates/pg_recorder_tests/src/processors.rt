@@ -11,7 +11,7 @@ use std::test::Fail;
 
 /// The tables and the page of 0x5123 written, and read by processor 0, while processor 1 writes
 /// another page.
-const TWO: &[u8] = b"pcid-guest 1
+pub(crate) const TWO: &[u8] = b"pcid-guest 1
 machine 40 wp nxe
 segment 16
 cpu 0x1001 1
@@ -48,7 +48,11 @@ fn moments(at: [u32; 4]) -> Result<Moments, &'static str> {
 }
 
 /// The receipt of a user read of 0x5123.
-fn read_of(moment: u32, outcome: Outcome, at: [u32; 4]) -> Result<Receipt, &'static str> {
+pub(crate) fn read_of(
+    moment: u32,
+    outcome: Outcome,
+    at: [u32; 4],
+) -> Result<Receipt, &'static str> {
     read_at(0x5123, moment, outcome, at)
 }
 

@@ -372,7 +372,7 @@ other moments would: 1 1
 ];
 
 /// Answers and codes that the entries do not give.
-pub const ANSWERS: [Row; 4] = [
+pub const ANSWERS: [Row; 6] = [
     Row {
         name: "bit_flipped_in_an_answer",
         words: &["explain"],
@@ -491,6 +491,66 @@ level 1: moment 4 pcid 0x1 [0x4028] = 0x9007 leaf, written by event 3
 rights: wu- allow user write
 final: no moments prove this access
 last: never
+",
+        line: "",
+        status: 1,
+    },
+    Row {
+        name: "supervisor_read_of_a_user_page_with_smap",
+        words: &["explain"],
+        input: &[
+            "50475245434f52440100280b0110000000011000000000000001",
+            "010000000005000000",
+            "100000100000000000000720000000000000",
+            "100000200000000000000730000000000000",
+            "100000300000000000000740000000000000",
+            "100028400000000000000790000000000000",
+            "1100002351000000000000002391000000000000040400000004000000",
+            "0400000004000000",
+            "0205000000",
+        ],
+        output: "verdict: no
+event: 4
+reason: 8 rights
+events: 5
+segments: 1
+event: 4 cpu 0 super read 0x5123 -> 0x9123 moments 4 4 4 4
+level 4: moment 4 pcid 0x1 [0x1000] = 0x2007 table, written by event 0
+level 3: moment 4 pcid 0x1 [0x2000] = 0x3007 table, written by event 1
+level 2: moment 4 pcid 0x1 [0x3000] = 0x4007 table, written by event 2
+level 1: moment 4 pcid 0x1 [0x4028] = 0x9007 leaf, written by event 3
+rights: wu- deny super read by SMAP
+final: no moments prove this access
+",
+        line: "",
+        status: 1,
+    },
+    Row {
+        name: "supervisor_fetch_of_a_user_page_with_smep",
+        words: &["explain"],
+        input: &[
+            "50475245434f5244010028070110000000011000000000000001",
+            "010000000005000000",
+            "100000100000000000000720000000000000",
+            "100000200000000000000730000000000000",
+            "100000300000000000000740000000000000",
+            "100028400000000000000790000000000000",
+            "1100022351000000000000002391000000000000040400000004000000",
+            "0400000004000000",
+            "0205000000",
+        ],
+        output: "verdict: no
+event: 4
+reason: 8 rights
+events: 5
+segments: 1
+event: 4 cpu 0 super fetch 0x5123 -> 0x9123 moments 4 4 4 4
+level 4: moment 4 pcid 0x1 [0x1000] = 0x2007 table, written by event 0
+level 3: moment 4 pcid 0x1 [0x2000] = 0x3007 table, written by event 1
+level 2: moment 4 pcid 0x1 [0x3000] = 0x4007 table, written by event 2
+level 1: moment 4 pcid 0x1 [0x4028] = 0x9007 leaf, written by event 3
+rights: wu- deny super fetch by SMEP
+final: no moments prove this access
 ",
         line: "",
         status: 1,
