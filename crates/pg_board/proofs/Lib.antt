@@ -1,2 +1,3 @@
+mod GoesOn
 mod Untaken
 mod OfScripts

@@ -1,4 +1,4 @@
-ghost use Rattle.std.specs.Prelude.{◌≡◌, ◌<◌, ◌∷◌, [], length, map, None, IfOk, IfSome};
+ghost use Rattle.std.specs.Prelude.{◌≡◌, ◌≢◌, ◌<◌, ◌∷◌, [], length, map, None, IfOk, IfSome};
 ghost use Rattle.std.specs.Prelude.{Decides, IsNone, OnErr, ◌↔◌, true, false};
 ghost use Rattle.pg_guest.specs.Held.{seen};
 ghost use Rattle.pg_guest.specs.Runs.{AreNew};
@@ -16,6 +16,7 @@ ghost use Rattle.pg_board.specs.Boards.{stored_after};
 use crate::finished::Finished;
 use pg_event::{Event, Header};
 use pg_guest::{Advance, Processor, processors};
+use pg_home::Stop;
 use pg_progress::{Counts, Progress, Publisher};
 use pg_runner::turn;
 use pg_script::{Script, same_instructions};
@@ -114,13 +115,15 @@ impl<'a> Board<'a> {
         self.world.header()
     }
 
-    /// One turn of processor `p`, after which the counts of the record are stored.
+    /// One turn of processor `p`, after which the counts of the record are stored. It is never stopped
+    /// because the record is finished.
     pub fn turn(&mut self, p: u16) -> Advance
         requires { p < length self.old.processors }
         ensures turn { IsCoreRun self.old.world (map seen self.old.processors)
             (p ∷ []) (result ∷ []) self.new.world (map seen self.new.processors) }
         ensures count { length self.new.processors ≡ length self.old.processors }
         ensures ended { result ≡ Advance.Ended → HasToldAll p (map seen self.new.processors) }
+        ensures going { result ≢ Advance.Stopped Stop.Finished }
         ensures script { (script : Scripted) →
             IsRunOf script self.old.world self.old.processors →
             IsRunOf script self.new.world self.new.processors }

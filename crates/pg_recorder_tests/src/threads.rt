@@ -1,10 +1,16 @@
+ghost use Rattle.pg_event.specs.Spelling.{IsRecord};
+ghost use Rattle.pg_runner.specs.Runs.{record_of};
+
 use pg_codec::{Watched, write_record};
-use pg_event::{Event, Moments, Outcome};
+use pg_event::{Event, Moments, Outcome, Record};
 use pg_pool::{Gate, OpenGate};
-use pg_report::Verdict;
-use pg_runner::RunError;
+use pg_report::{Report, Verdict};
+use pg_runner::{RunError, RunResult};
 use pg_script::Script;
 use pg_threads::{run_guest, run_guest_watched};
+use pg_world::Receipt;
+use std::alloc::AllocGlobal;
+use std::process::Abort;
 use std::sync::atomic::{AtomicU64, Ordering};
 use std::test::Fail;
 use std::thread;
@@ -85,6 +91,45 @@ fn fault_of_one() -> Event {
     }
 }
 
+fn expect_report<T: Abort>(rt: &T, report: Report, events: u64, segments: u64) {
+    assert_eq!(rt; report.verdict, Verdict::Yes);
+    assert_eq!(rt; report.events, events);
+    assert_eq!(rt; report.segments, segments);
+}
+
+/// Its fault is the first event, and the record has as many bytes as these ten events spell.
+fn expect_fault_first<T: AllocGlobal + Abort>(rt: &T, trace: &Record) -> Result<(), Fail>
+    requires { IsRecord (record_of trace.now) }
+{
+    let first = trace.events.first().ok_or("no event")?;
+    assert_eq!(rt; *first, fault_of_one());
+    let mut sink = Watched::new(Vec::new(rt.alloc()));
+    assert!(rt; write_record(&mut sink, &trace.header, &trace.events).is_ok());
+    assert_eq!(rt; sink.inner.len(), 273);
+    Ok(())
+}
+
+/// Nine receipts of processor 0, and the fault's of processor 1.
+fn expect_receipts<T: Abort>(rt: &T, transcripts: &[Vec<Receipt>]) -> Result<(), Fail> {
+    assert_eq!(rt; transcripts.len(), 2);
+    let own = transcripts.first().ok_or("no transcript")?;
+    assert_eq!(rt; own.len(), 9);
+    let other = transcripts.last().ok_or("no transcript")?;
+    assert_eq!(rt; other.len(), 1);
+    let receipt = other.first().ok_or("no receipt")?;
+    assert_eq!(rt; receipt.moment, 0);
+    assert_eq!(rt; receipt.event, fault_of_one());
+    Ok(())
+}
+
+fn expect_other_first<T: AllocGlobal + Abort>(rt: &T, run: &RunResult) -> Result<(), Fail>
+    requires { IsRecord (record_of run.now.trace) }
+{
+    expect_report(rt, run.report, 10, 1);
+    expect_fault_first(rt, &run.trace)?;
+    expect_receipts(rt, &run.transcripts)
+}
+
 #[test]
 fn both_run_at_the_same_time(rt: HostRuntime) -> Result<(), Fail> {
     let script = Script::read(rt.alloc(), SCRIPT)?;
@@ -95,23 +140,7 @@ fn both_run_at_the_same_time(rt: HostRuntime) -> Result<(), Fail> {
     };
     let run = run_guest(&rt, rt.alloc(), &script, 2, &gate)?;
     assert_eq!(rt; gate.failed.load(Ordering::SeqCst), 0);
-    assert_eq!(rt; run.report.verdict, Verdict::Yes);
-    assert_eq!(rt; run.report.events, 10);
-    assert_eq!(rt; run.report.segments, 1);
-    let first = run.trace.events.first().ok_or("no event")?;
-    assert_eq!(rt; *first, fault_of_one());
-    assert_eq!(rt; run.transcripts.len(), 2);
-    let own = run.transcripts.first().ok_or("no transcript")?;
-    assert_eq!(rt; own.len(), 9);
-    let other = run.transcripts.last().ok_or("no transcript")?;
-    assert_eq!(rt; other.len(), 1);
-    let receipt = other.first().ok_or("no receipt")?;
-    assert_eq!(rt; receipt.moment, 0);
-    assert_eq!(rt; receipt.event, fault_of_one());
-    let mut sink = Watched::new(Vec::new(rt.alloc()));
-    assert!(rt; write_record(&mut sink, &run.trace.header, &run.trace.events).is_ok());
-    assert_eq!(rt; sink.inner.len(), 273);
-    Ok(())
+    expect_other_first(&rt, &run)
 }
 
 #[test]
@@ -123,8 +152,7 @@ fn numbers_of_checkers(rt: HostRuntime) -> Result<(), Fail> {
     }
     for checkers in [1, 64] {
         let run = run_guest(&rt, rt.alloc(), &script, checkers, &OpenGate)?;
-        assert_eq!(rt; run.report.verdict, Verdict::Yes);
-        assert_eq!(rt; run.report.events, 10);
+        expect_report(&rt, run.report, 10, 1);
     }
     Ok(())
 }
@@ -190,8 +218,6 @@ fn judged_while_a_processor_runs(rt: HostRuntime) -> Result<(), Fail> {
     let tells = Tells { judged: &judged };
     let run = run_guest_watched(&rt, rt.alloc(), &script, 1, &gate, &tells)?;
     assert_eq!(rt; gate.failed.load(Ordering::SeqCst), 0);
-    assert_eq!(rt; run.report.verdict, Verdict::Yes);
-    assert_eq!(rt; run.report.events, 9);
-    assert_eq!(rt; run.report.segments, 5);
+    expect_report(&rt, run.report, 9, 5);
     Ok(())
 }

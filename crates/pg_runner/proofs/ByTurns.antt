@@ -114,7 +114,7 @@ finishes false false going_on is = cc
 finishes true true going_on is = cc
 finishes false true going_on is = cc
 
-not_finished : (r : Recording) (due : Advance) (why : Stop) → r.finished ≡ false → MayStop r due why → why ≢ stops.Finished
+pub not_finished : (r : Recording) (due : Advance) (why : Stop) → r.finished ≡ false → MayStop r due why → why ≢ stops.Finished
 not_finished r due why going_on (inl memory) same = let contrary : stops.Memory ≡ stops.Finished = sym memory ∙ same in absurd (cc)
 not_finished r (Read level) why going_on (inr refused) same = finishes false r.finished going_on (refused ∙ ap Some same)
 not_finished r (Assisted receipt) why going_on (inr refused) same = finishes (is_full r) r.finished going_on (refused ∙ ap Some same)

@@ -1,7 +1,10 @@
 -- What is judged while processors run.
-use Rattle.std.specs.Prelude.{◌≡◌, ◌%◌, List, ◌++◌, drop, length}
+use Rattle.std.specs.Prelude.{◌≡◌, ◌⊎◌, ◌+◌, ◌%◌, ◌^◌, ◌<◌, ◌≤◌, List, ◌++◌, drop, length}
+use Rattle.std.specs.Prelude.{Option, Some, None}
 use Rattle.pg_check.specs.Judging.{Findings, IsJudged}
+use Rattle.pg_check.specs.Kept.{AreWellFormed}
 use Rattle.pg_event.specs.declared.event.Event.{Event}
+use Rattle.pg_event.specs.Heads.{Head}
 use Rattle.pg_event.specs.Spelling.{Recorded}
 use Rattle.pg_runner.specs.declared.error.RunError.{RunError}
 use Rattle.pg_runner.specs.declared.error.RunError.TheVariants as errors
@@ -10,6 +13,35 @@ use Rattle.pg_runner.specs.declared.error.RunError.TheVariants as errors
 pub record IsWatched (f : Findings) (events : List Event) : Type 0 where
   pub judged : IsJudged f f.head events
   pub whole : length events % f.head.segment ≡ 0
+
+-- what was judged, unless a round was refused, and the events that were
+pub record Watch : Type 0 where
+  pub judged : Option Findings
+  pub events : List Event
+
+-- the events that were judged, and these behind them; where a record can't have so many, these are
+-- left out
+abbrev pub AreTakenIn : List Event → List Event → List Event → Type 0
+AreTakenIn more old new =
+    ((length old + length more < 2 ^ 32) × (new ≡ old ++ more))
+    ⊎ ((2 ^ 32 ≤ length old + length more) × (new ≡ old))
+
+-- so a round leaves it: nothing changes where a round before was refused
+abbrev pub IsTakenBy : List Event → Option Findings → Watch → Watch → Type 0
+IsTakenBy more None old new = new ≡ old
+IsTakenBy more (Some f) old new = AreTakenIn more old.events new.events
+
+abbrev pub IsTakenIn : List Event → Watch → Watch → Type 0
+IsTakenIn more old new = IsTakenBy more old.judged old new
+
+-- these are the settings of what was judged
+abbrev pub IsHeadOf : Watch → Head → Type 0
+IsHeadOf w head = (f : Findings) × (w.judged ≡ Some f) × (head ≡ f.head)
+
+-- these events are well formed, and are whole segments
+pub record AreSegments (head : Head) (events : List Event) : Type 0 where
+  pub well : AreWellFormed head events
+  pub whole : length events % head.segment ≡ 0
 
 -- a record begins with these settings and events
 pub record IsBeginning (first r : Recorded) : Type 0 where

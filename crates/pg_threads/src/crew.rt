@@ -17,9 +17,10 @@ use std::thread;
 use std::thread::Threads;
 
 /// What threads met that were started and joined.
+#[derive(Clone, Copy)]
 enum Met {
-    /// What was judged while they ran.
-    Nothing(Watched),
+    /// They ended, and each round beside them was judged.
+    Nothing,
     /// One of them was refused memory.
     NoMemory,
     /// One of them was refused.
@@ -28,7 +29,7 @@ enum Met {
 
 /// What the processors' threads and the rounds beside them met, by the lowest number of what
 /// occurred: `refused` where memory was in a processor's thread, `short` where such a thread was.
-fn outcome(refused: bool, short: bool, live: Result<Watched, RunError>) -> Met
+fn outcome(refused: bool, short: bool, live: Result<(), RunError>) -> Met
     requires { IfErr live IsWant }
     ensures memory { (result ≡ Met.NoMemory) ↔
         ((refused ≡ true) ⊎ (live ≡ Err RunError.Memory)) }
@@ -44,13 +45,13 @@ fn outcome(refused: bool, short: bool, live: Result<Watched, RunError>) -> Met
                 Met::NoThread
             }
         }
-        Ok(watched) => {
+        Ok(()) => {
             if refused {
                 Met::NoMemory
             } else if short {
                 Met::NoThread
             } else {
-                Met::Nothing(watched)
+                Met::Nothing
             }
         }
     }
@@ -72,7 +73,7 @@ fn run_all<R: Threads + Wait + Sync, G: Gate, H: Gate>(
     script: &Script,
     gate: &G,
     lookout: &mut Lookout<'_>,
-    watched: Watched,
+    watched: &mut Watched,
 ) -> Met {
     let rt = crew.rt;
     let ended = AtomicU64::new(0);
@@ -106,8 +107,8 @@ fn run_all<R: Threads + Wait + Sync, G: Gate, H: Gate>(
     })
 }
 
-/// Runs all processors of a script, each that has instructions in a thread of its own, and gives
-/// what was judged while they ran. It answers once all threads have ended, and by want of memory
+/// Runs all processors of a script, each that has instructions in a thread of its own, and judges
+/// what they seal. It answers once all threads have ended, and by want of memory
 /// where there was that as well as a refused thread.
 pub(crate) fn run_processors<R: Threads + Wait + Sync, G: Gate, H: Gate>(
     crew: &Crew<'_, R, H>,
@@ -115,12 +116,12 @@ pub(crate) fn run_processors<R: Threads + Wait + Sync, G: Gate, H: Gate>(
     script: &Script,
     gate: &G,
     lookout: &mut Lookout<'_>,
-    watched: Watched,
-) -> Result<Watched, RunError>
+    watched: &mut Watched,
+) -> Result<(), RunError>
     ensures { IfErr result IsWant }
 {
     match run_all(crew, shared, script, gate, lookout, watched) {
-        Met::Nothing(watched) => Ok(watched),
+        Met::Nothing => Ok(()),
         Met::NoMemory => Err(RunError::Memory),
         Met::NoThread => Err(RunError::Thread),
     }

@@ -53,7 +53,7 @@ fn end_one(board: &mut Board<'_>, script: &Script, p: u16) -> Result<bool, RunEr
                 Version::One => return Ok(false),
                 Version::Two => return Err(RunError::Full),
             },
-            Advance::Stopped(Stop::Finished) => return Ok(false),
+            Advance::Stopped(Stop::Finished) => unreachable!(),
         }
     }
     Ok(false)
@@ -83,7 +83,7 @@ fn result_of<R: Threads + Wait + Sync, H: Gate>(
     crew: &Crew<'_, R, H>,
     script: &Script,
     board: Board<'_>,
-    watched: Watched,
+    watched: &mut Watched,
 ) -> Result<RunResult, RunError>
     requires script { IsRunOf script.now board.world board.processors }
     requires ended { HaveToldAll (map seen board.processors) }
@@ -132,7 +132,7 @@ pub(crate) fn ended<R: Threads + Wait + Sync, H: Gate>(
     crew: &Crew<'_, R, H>,
     script: &Script,
     mut board: Board<'_>,
-    watched: Watched,
+    watched: &mut Watched,
 ) -> Result<RunResult, RunError>
     ensures ok { IfOk result (λ run. IsGuestRun script.now run) }
     ensures formed { IfOk result (λ run. IsRecord (record_of run.trace)) }

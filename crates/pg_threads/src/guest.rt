@@ -33,7 +33,7 @@ fn run_seen<'a, R: Threads + Wait + Sync, G: Gate, H: Gate>(
     progress: &'a Progress,
     publisher: Publisher,
     lookout: &mut Lookout<'a>,
-    watched: Watched,
+    watched: &mut Watched,
 ) -> Result<RunResult, RunError>
     requires { publisher.word ≡ progress.now }
     ensures ok { IfOk result (λ run. IsGuestRun script.now run) }
@@ -43,7 +43,7 @@ fn run_seen<'a, R: Threads + Wait + Sync, G: Gate, H: Gate>(
     let board = Board::new(crew.alloc, script, publisher, progress)?;
     let shared = Mutex::new(board);
     match run_processors(crew, &shared, script, gate, lookout, watched) {
-        Ok(watched) => ended(crew, script, shared.into_inner(), watched),
+        Ok(()) => ended(crew, script, shared.into_inner(), watched),
         Err(e) => Err(e),
     }
 }
@@ -58,7 +58,7 @@ fn run_by<R: Threads + Wait + Sync, G: Gate, H: Gate>(
     ensures formed { IfOk result (λ run. IsRecord (record_of run.trace)) }
     ensures err { IfErr result (StopsGuest script.now) }
 {
-    let watched = nothing_watched(crew.alloc, script)?;
+    let mut watched = nothing_watched(crew.alloc, script)?;
     let (progress, publisher, mut seats) = Progress::open(crew.alloc, 1)?;
     let Some(seat) = seats.pop() else {
         unreachable!()
@@ -71,7 +71,7 @@ fn run_by<R: Threads + Wait + Sync, G: Gate, H: Gate>(
         &progress,
         publisher,
         &mut lookout,
-        watched,
+        &mut watched,
     )
 }
 

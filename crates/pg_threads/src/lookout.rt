@@ -39,11 +39,14 @@ impl<'a> Lookout<'a> {
 fn judge_round<R: Threads + Wait + Sync, H: Gate>(
     crew: &Crew<'_, R, H>,
     shared: &Mutex<Board<'_>>,
-    watched: Watched,
-) -> Result<Watched, RunError>
+    watched: &mut Watched,
+) -> Result<(), RunError>
     ensures { IfErr result IsWant }
 {
-    let events = take_segments(crew.rt, crew.alloc, shared, watched.header())?;
+    let Some(header) = watched.header() else {
+        return Ok(());
+    };
+    let events = take_segments(crew.rt, crew.alloc, shared, header)?;
     watched.more(crew, &events)
 }
 
@@ -55,23 +58,22 @@ pub(crate) fn watch<R: Threads + Wait + Sync, H: Gate>(
     lookout: &mut Lookout<'_>,
     ended: &AtomicU64,
     started: u64,
-    mut watched: Watched,
-) -> Result<Watched, RunError>
+    watched: &mut Watched,
+) -> Result<(), RunError>
     ensures { IfErr result IsWant }
 {
     let backoff = Backoff::new();
     let mut taken = 0;
     for _ in crew.rt.forever() {
         if ended.load(Ordering::SeqCst) >= started {
-            return Ok(watched);
+            return Ok(());
         }
         let segments = lookout.look().segments;
         if segments > taken {
             taken = segments;
-            watched = match judge_round(crew, shared, watched) {
-                Ok(watched) => watched,
-                Err(e) => return Err(e),
-            };
+            if let Err(e) = judge_round(crew, shared, watched) {
+                return Err(e);
+            }
             backoff.reset();
         } else {
             backoff.snooze();

@@ -1,5 +1,7 @@
 //! A processor's thread.
 
+ghost use Rattle.std.specs.Prelude.{◌≢◌};
+
 use pg_board::Board;
 use pg_guest::Advance;
 use pg_home::Stop;
@@ -18,8 +20,11 @@ pub(crate) enum Left {
     Over,
 }
 
-/// One turn, in one hold of the lock.
-fn locked_turn<R: Wait>(rt: &R, shared: &Mutex<Board<'_>>, p: u16) -> Advance {
+/// One turn, in one hold of the lock. What else it leaves is told by nothing but the board's type,
+/// since whoever takes the lock next may change it.
+fn locked_turn<R: Wait>(rt: &R, shared: &Mutex<Board<'_>>, p: u16) -> Advance
+    ensures { result ≢ Advance.Stopped Stop.Finished }
+{
     let mut board = shared.lock(rt);
     if p as usize >= board.count() {
         return Advance::Ended;
@@ -35,7 +40,8 @@ fn carry_out<R: Wait>(rt: &R, shared: &Mutex<Board<'_>>, p: u16) -> Left {
             Advance::Done(_) => return Left::Done,
             Advance::Ended => return Left::Over,
             Advance::Stopped(Stop::Memory) => return Left::Refused,
-            Advance::Stopped(Stop::Full | Stop::Finished) => return Left::Over,
+            Advance::Stopped(Stop::Full) => return Left::Over,
+            Advance::Stopped(Stop::Finished) => unreachable!(),
         }
     }
     unreachable!()

@@ -2,7 +2,7 @@
 
 ghost use Rattle.std.specs.Prelude.{◌≡◌, ◌%◌, length, IfOk};
 ghost use Rattle.pg_check.specs.Kept.{AreWellFormed};
-ghost use Rattle.pg_event.specs.Spelling.{IsHead};
+ghost use Rattle.pg_threads.specs.Live.{AreSegments};
 
 use pg_board::Board;
 use pg_event::{Event, Header};
@@ -42,8 +42,7 @@ pub(crate) fn take_segments<R: Wait>(
     shared: &Mutex<Board<'_>>,
     header: &Header,
 ) -> Result<Vec<Event>, AllocError>
-    ensures well { IfOk result (λ events. AreWellFormed header.now events.items) }
-    ensures whole { IfOk result (λ events. length events.items % header.now.segment ≡ 0) }
+    ensures { IfOk result (λ events. AreSegments header.now events.items) }
 {
     let mut board = shared.lock(rt);
     take_from(alloc, &mut board, header)

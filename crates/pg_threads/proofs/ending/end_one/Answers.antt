@@ -39,14 +39,6 @@ returns-in-Two-clause-others c =
     stay_on c.args.p (map seen c.args.board.now.processors) (map seen c.loop.board.processors) (map seen c.turn.new.self.processors) c.loop.invariant.others
     (others_stay c.loop.board.world c.turn.new.self.world (map seen c.loop.board.processors) (map seen c.turn.new.self.processors) c.args.p c.turn.result c.turn.ensures.turn)
 
-pub returns-in-Stopped-Finished-clause-script : goal.returns-in-Stopped-Finished-clause-script
-returns-in-Stopped-Finished-clause-script c = c.turn.ensures.script c.args.script.now c.loop.invariant.script
-
-pub returns-in-Stopped-Finished-clause-others : goal.returns-in-Stopped-Finished-clause-others
-returns-in-Stopped-Finished-clause-others c =
-    stay_on c.args.p (map seen c.args.board.now.processors) (map seen c.loop.board.processors) (map seen c.turn.new.self.processors) c.loop.invariant.others
-    (others_stay c.loop.board.world c.turn.new.self.world (map seen c.loop.board.processors) (map seen c.turn.new.self.processors) c.args.p c.turn.result c.turn.ensures.turn)
-
 pub returns-in-Two-clause-err : goal.returns-in-Two-clause-err
 returns-in-Two-clause-err c =
     let hs = c.loop.board.processors in

@@ -5,7 +5,8 @@ use Rattle.pg_home.specs.CoreRun.{IsCoreRun}
 use Rattle.pg_progress.specs.Seats.{Seated}
 use Rattle.pg_runner.proofs.Whole.{front}
 use Rattle.pg_board.specs.Boards.{Desk, HasToldAll, IsBoard, IsRunOf}
-use Rattle.pg_board.proofs.OfScripts.{turned_board, ended_told, script_kept}
+use Rattle.pg_board.proofs.GoesOn.{goes_on}
+use Rattle.pg_board.proofs.OfScripts.{board_open, turned_board, ended_told, script_kept}
 use Rattle.pg_board.proofs.board.Board.turn.Goals as goal
 
 pub turn-answer-requires-clause-placed : goal.turn-answer-requires-clause-placed
@@ -42,3 +43,11 @@ returns-clause-script c = λ script was.
     subst (λ (hs : List Held). IsCoreRun c.self.inside.world (map seen hs) (c.args.p ∷ []) (c.turn-answer.result ∷ []) end (map seen ys)) c.deref_mut.ensures.value c.turn-answer.ensures.turned in
     let here : IsRunOf script c.self.inside.world c.self.inside.processors.items = subst (λ (d : Desk). IsRunOf script d.world d.processors) (sym c.self.view_is) was in
     subst (λ (hs : List Held). IsRunOf script end hs) (sym (front _ ys _ count)) (script_kept c.self.inside.world end c.self.inside.processors.items ys c.args.p c.turn-answer.result run c.turn-answer.ensures.placed script here)
+
+pub returns-clause-going : goal.returns-clause-going
+returns-clause-going c =
+    let ys = c.turn-answer.new.processors in
+    let end = c.turn-answer.new.world in
+    let run : IsCoreRun c.self.inside.world (map seen c.self.inside.processors.items) (c.args.p ∷ []) (c.turn-answer.result ∷ []) end (map seen ys) =
+    subst (λ (hs : List Held). IsCoreRun c.self.inside.world (map seen hs) (c.args.p ∷ []) (c.turn-answer.result ∷ []) end (map seen ys)) c.deref_mut.ensures.value c.turn-answer.ensures.turned in
+    goes_on c.self.inside.world end (map seen c.self.inside.processors.items) (map seen ys) c.args.p c.turn-answer.result (board_open _ _ c.self.invariant.0) run
