@@ -45,6 +45,11 @@ def need(*tools):
             raise Stop(f"{tool} is missing: Debian has it in the package {PACKAGES[tool]}")
 
 
+def last_lines(said):
+    """The last lines of what a system said, as bytes."""
+    return said.decode(errors="replace").splitlines()[-12:]
+
+
 def command(*words):
     done = subprocess.run(words, capture_output=True, text=True)
     if done.returncode != 0:
@@ -92,14 +97,28 @@ def settings_of(seed=1, seeds=1, events=2000, processors=1, version=1, without=(
     return seed, seeds, events, processors, version, left_out, ways, script
 
 
-def add_run_options(words, events=2000):
+def script(text):
+    """The number of a script, 0 for a random run."""
+    number = int(text)
+    if number not in range(5):
+        raise ValueError
+    return number
+
+
+def scripts(text):
+    """The numbers of scripts, by commas."""
+    return [script(word) for word in text.split(",")]
+
+
+def add_run_options(words, events=2000, script_type=script):
     """What each program says of a run."""
     words.add_argument("--seed", type=int, default=1, metavar="N")
     words.add_argument("--events", type=int, default=events, metavar="N")
     words.add_argument("--processors", type=int, default=1, choices=range(1, 9), metavar="N")
     words.add_argument("--version", type=int, default=1, choices=(1, 2))
-    words.add_argument("--script", type=int, default=0, choices=range(5), metavar="N",
-                       help="a short sequence, 1 to 4, in place of a random run")
+    words.add_argument("--script", type=script_type, default="0", metavar="N",
+                       help="a short sequence, 1 to 4, in place of a random run" +
+                            ("; several, by commas" if script_type is scripts else ""))
     words.add_argument("--without", default="", metavar="KINDS",
                        help="leave these out, by commas: " + " ".join(KINDS))
 

@@ -17,3 +17,5 @@ pub mod Rows
 pub mod Further
 pub mod Counts
 pub mod Numbers
+pub mod Assists
+pub mod Few

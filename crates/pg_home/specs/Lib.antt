@@ -5,3 +5,4 @@ pub mod Home
 pub mod Laws
 pub mod Transcripts
 pub mod Progress
+pub mod Assists

@@ -1,5 +1,6 @@
 //! Laws of the turns of processors. Each function does nothing: its contract is the law.
 
+ghost use Rattle.pg_home.specs.Assists.{AssistsAreFew, EventsAreFew};
 ghost use Rattle.pg_home.specs.Laws.{FreshAreAtHome, TurnsKeepHome, OthersStayAtHome};
 ghost use Rattle.pg_home.specs.Laws.{TurnsKeepQuiet, CoreRunsKeepQuiet, CoreRunsAreAccepted};
 ghost use Rattle.pg_home.specs.Laws.{CoreRunsGoOn};
@@ -104,6 +105,17 @@ pub fn turns_come_nearer()
 /// In version 1 no turn records an assist.
 pub fn none_assist_in_version_one()
     ensures { NoneAssistInVersionOne }
+{}
+
+/// In every core run of a new record there are two assists at most for each table write, whatever
+/// processors it begins with.
+pub fn assists_are_few()
+    ensures { AssistsAreFew }
+{}
+
+/// So there are three events at most for each instruction.
+pub fn events_are_few()
+    ensures { EventsAreFew }
 {}
 
 /// In version 1 five turns of a processor carry its instruction out, unless one of its own is

@@ -1,7 +1,7 @@
 ghost use Rattle.pg_event.specs.Spelling.{IsRecord};
 ghost use Rattle.pg_runner.specs.Runs.{record_of};
 
-use pg_codec::{Watched, write_record};
+use pg_codec::{Failed, Sink, Watched, write_record};
 use pg_event::{Event, Moments, Outcome, Record};
 use pg_pool::{Gate, OpenGate};
 use pg_report::{Report, Verdict};
@@ -97,6 +97,13 @@ fn expect_report<T: Abort>(rt: &T, report: Report, events: u64, segments: u64) {
     assert_eq!(rt; report.segments, segments);
 }
 
+/// Writes a record.
+fn write_trace<O: Sink>(output: &mut O, trace: &Record) -> Result<(), Failed>
+    requires { IsRecord (record_of trace.now) }
+{
+    write_record(output, &trace.header, &trace.events)
+}
+
 /// Its fault is the first event, and the record has as many bytes as these ten events spell.
 fn expect_fault_first<T: AllocGlobal + Abort>(rt: &T, trace: &Record) -> Result<(), Fail>
     requires { IsRecord (record_of trace.now) }
@@ -104,7 +111,7 @@ fn expect_fault_first<T: AllocGlobal + Abort>(rt: &T, trace: &Record) -> Result<
     let first = trace.events.first().ok_or("no event")?;
     assert_eq!(rt; *first, fault_of_one());
     let mut sink = Watched::new(Vec::new(rt.alloc()));
-    assert!(rt; write_record(&mut sink, &trace.header, &trace.events).is_ok());
+    assert!(rt; write_trace(&mut sink, trace).is_ok());
     assert_eq!(rt; sink.inner.len(), 273);
     Ok(())
 }

@@ -13,3 +13,6 @@ mod Complete
 mod Picks
 mod Answered
 mod Lasts
+mod Thinned
+mod ThinnedWitness
+mod ThinnedFresh

@@ -6,3 +6,4 @@ pub mod Exact
 pub mod Held
 pub mod Swept
 pub mod Last
+pub mod Thinned

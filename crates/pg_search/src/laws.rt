@@ -3,6 +3,8 @@
 ghost use Rattle.pg_search.specs.Law.{UnwitnessedEventsHaveNoRun, FoundMomentsWitness};
 ghost use Rattle.pg_search.specs.Law.{NoneFoundNoneWitness};
 ghost use Rattle.pg_search.specs.Exact.{StandingIsExact, MadeIsExact};
+ghost use Rattle.pg_search.specs.Thinned.{WitnessedAmongChanges, FreshestAmongChanges};
+ghost use Rattle.pg_search.specs.Thinned.{LastAmongChanges, NumbersPutBack};
 
 /// Where no moments witness an event, no run of the machine begins with the events up to it.
 pub fn unwitnessed_events_have_no_run()
@@ -27,4 +29,25 @@ pub fn standing_is_exact()
 /// At each moment the sweep has exactly the translations that some moments make.
 pub fn made_is_exact()
     ensures { MadeIsExact }
+{}
+
+/// Moments that witness an event are told by the events that change something: an access that got
+/// its answer can be left out of what is kept of the past.
+pub fn witnessed_among_changes()
+    ensures { WitnessedAmongChanges }
+{}
+
+/// The freshest moments that witness an event are told by the events that change something.
+pub fn freshest_among_changes()
+    ensures { FreshestAmongChanges }
+{}
+
+/// When an event would last have been witnessed is told by the events that change something.
+pub fn last_among_changes()
+    ensures { LastAmongChanges }
+{}
+
+/// A moment among the events that change something is put back by their numbers.
+pub fn numbers_put_back()
+    ensures { NumbersPutBack }
 {}

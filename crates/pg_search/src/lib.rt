@@ -15,6 +15,7 @@ mod sweeper;
 pub use finder::{find_moments, names_moments};
 pub use last::{Last, last_moments};
 pub use laws::{
-    found_moments_witness, made_is_exact, none_found_none_witness, standing_is_exact,
-    unwitnessed_events_have_no_run,
+    found_moments_witness, freshest_among_changes, last_among_changes, made_is_exact,
+    none_found_none_witness, numbers_put_back, standing_is_exact, unwitnessed_events_have_no_run,
+    witnessed_among_changes,
 };

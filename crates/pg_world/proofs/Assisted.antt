@@ -34,12 +34,12 @@ use Rattle.pg_world.specs.Walks.{address_of, word_now, lacks_dirty, lacks_flags,
 -- ---- the entry with its flags set
 
 -- a bit that is not set beside is as it was
-bit_stays : (e more k : ℕ) → more / 2 ^ k % 2 ≡ 0 → has_bit (bit_or e more) k ≡ has_bit e k
+pub bit_stays : (e more k : ℕ) → more / 2 ^ k % 2 ≡ 0 → has_bit (bit_or e more) k ≡ has_bit e k
 bit_stays e more k none =
     let same : bit_or e more / 2 ^ k % 2 ≡ e / 2 ^ k % 2 = omega (arith, bit_at_or e more k, none) in
     ap (λ n. nat_eq n 1) same
 
-bit_comes : (e more k : ℕ) → more / 2 ^ k % 2 ≡ 1 → has_bit (bit_or e more) k ≡ true
+pub bit_comes : (e more k : ℕ) → more / 2 ^ k % 2 ≡ 1 → has_bit (bit_or e more) k ≡ true
 bit_comes e more k one =
     let set : bit_or e more / 2 ^ k % 2 ≡ 1 = omega (arith, bit_at_or e more k, one, mod_below (e / 2 ^ k) 2 (omega arith)) in
     ap (λ n. nat_eq n 1) set
@@ -55,7 +55,7 @@ marked_above : (with_dirty : Bool) (e k : ℕ) → 7 ≤ k → marked with_dirty
 marked_above true e k high = above_stays e 96 k (lit< tt) high
 marked_above false e k high = above_stays e 32 k (lit< tt) high
 
-marked_bit : (with_dirty : Bool) (e k : ℕ) → 96 / 2 ^ k % 2 ≡ 0 → 32 / 2 ^ k % 2 ≡ 0 → has_bit (marked with_dirty e) k ≡ has_bit e k
+pub marked_bit : (with_dirty : Bool) (e k : ℕ) → 96 / 2 ^ k % 2 ≡ 0 → 32 / 2 ^ k % 2 ≡ 0 → has_bit (marked with_dirty e) k ≡ has_bit e k
 marked_bit true e k both one = bit_stays e 96 k both
 marked_bit false e k both one = bit_stays e 32 k one
 
@@ -111,7 +111,7 @@ rights_stay rights with_dirty e = λ i. record {
   xd = rights.xd || marked_high with_dirty e 63 (omega arith) i;
 }
 
-accessed_comes : (with_dirty : Bool) (e : ℕ) → accessed (marked with_dirty e) ≡ true
+pub accessed_comes : (with_dirty : Bool) (e : ℕ) → accessed (marked with_dirty e) ≡ true
 accessed_comes true e = bit_comes e 96 5 refl
 accessed_comes false e = bit_comes e 32 5 refl
 
