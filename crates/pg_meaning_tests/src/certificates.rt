@@ -80,13 +80,12 @@ fn turn(history: &mut History) -> Result<(), Fail> {
     read(history, 0, 0x6fff, 0xafff)
 }
 
-/// So many turns of eight events after five writes.
-fn turns(alloc: Global, count: u32) -> Result<History, Fail> {
-    let mut history = mapped(alloc)?;
+/// So many turns more.
+fn turns(history: &mut History, count: u32) -> Result<(), Fail> {
     for _ in 0..count {
-        turn(&mut history)?;
+        turn(history)?;
     }
-    Ok(history)
+    Ok(())
 }
 
 /// A read of a page that no walk gives.
@@ -114,34 +113,41 @@ fn wanted<R: Threads + Wait + Sync>(
 
 #[test]
 fn checkers_certify_what_one_does(rt: HostRuntime) -> Result<(), Fail> {
-    let history = turns(rt.alloc(), 600)?;
+    let mut history = mapped(rt.alloc())?;
     wanted(&rt, rt.alloc(), &history, None)?;
-    wanted(&rt, rt.alloc(), &mapped(rt.alloc())?, None)
+    turns(&mut history, 600)?;
+    wanted(&rt, rt.alloc(), &history, None)
 }
 
 /// The events 2,405, 3,206 and 4,007 are denied, which each of several checkers may have.
+fn thrice_denied(history: &mut History) -> Result<(), Fail> {
+    turns(history, 300)?;
+    deny(history)?;
+    turns(history, 100)?;
+    deny(history)?;
+    turns(history, 100)?;
+    deny(history)
+}
+
 #[test]
 fn the_least_event_that_any_checker_denies_is_told(rt: HostRuntime) -> Result<(), Fail> {
-    let mut history = turns(rt.alloc(), 300)?;
-    deny(&mut history)?;
-    for _ in 0..2u32 {
-        for _ in 0..100u32 {
-            turn(&mut history)?;
-        }
-        deny(&mut history)?;
-    }
+    let mut history = mapped(rt.alloc())?;
+    thrice_denied(&mut history)?;
     wanted(&rt, rt.alloc(), &history, Some(2_405))
 }
 
-/// Of two checkers the first has page 0x5000 of processor 1, and the second page 0x6000: the first
-/// denies event 2,806, and the second event 1,205.
+/// Of two checkers the first has page 0x5000 of processor 1, and the second page 0x6000: the second
+/// denies event 1,205, and the first event 2,806.
+fn denied_by_each(history: &mut History) -> Result<(), Fail> {
+    turns(history, 150)?;
+    read(history, 1, 0x6123, 0xb123)?;
+    turns(history, 200)?;
+    deny(history)
+}
+
 #[test]
 fn a_later_event_of_an_earlier_checker_is_not_told(rt: HostRuntime) -> Result<(), Fail> {
-    let mut history = turns(rt.alloc(), 150)?;
-    read(&mut history, 1, 0x6123, 0xb123)?;
-    for _ in 0..200u32 {
-        turn(&mut history)?;
-    }
-    deny(&mut history)?;
+    let mut history = mapped(rt.alloc())?;
+    denied_by_each(&mut history)?;
     wanted(&rt, rt.alloc(), &history, Some(1_205))
 }
