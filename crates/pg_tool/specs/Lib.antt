@@ -8,7 +8,6 @@ pub mod Guests
 pub mod Lines
 pub mod Texts
 pub mod Explanations
-pub mod Summaries
 pub mod Certificates
 pub mod Naming
 pub mod Answers

@@ -14,7 +14,6 @@ mod refusals;
 mod replayer;
 mod runs;
 mod shown;
-mod summaries;
 mod upgrader;
 
 pub use certificates::certify;
@@ -27,4 +26,3 @@ pub use program::{check, pcid_audit, run, run_of, upgrade};
 pub use refusals::{tell_memory, tell_text};
 pub use runs::run_text;
 pub use shown::Shown;
-pub use summaries::{check_all, explain_all};
