@@ -270,6 +270,7 @@ level 2: moment 4 pcid 0x1 [0x3000] = 0x4007 table, written by event 2
 level 1: moment 4 pcid 0x1 [0x4028] = 0x9007 leaf, written by event 3
 dropped: translation of level 1 by 5 cpu 0 invlpg 0x5000
 final: no moments prove this access
+last: moment 5 by 4 4 4 4; taken by 5 cpu 0 invlpg 0x5000
 ",
     )
 }
@@ -336,6 +337,7 @@ level 2: moment 6 pcid 0x1 [0x3000] = 0x4007 table, written by event 2
 level 1: moment 6 pcid 0x1 [0x4028] = 0x9005 leaf, written by event 4
 rights: -u- deny user write
 final: no moments prove this access
+last: moment 5 by 4 4 4 4; taken by 5 cpu 0 invlpg 0x5000
 ",
     )
 }
@@ -355,6 +357,7 @@ level 2: moment 4 pcid 0x1 [0x3000] = 0x4007 table, written by event 2
 level 1: moment 4 pcid 0x1 [0x4028] = 0x9007 leaf, written by event 3
 expected: 0x9123
 final: no moments prove this access
+last: never
 ",
     )
 }
@@ -375,6 +378,7 @@ level 2: moment 4 pcid 0x1 [0x3000] = 0x4007 table, written by event 2
 level 1: moment 4 pcid 0x1 [0x4030] = 0x0 absent, never written
 expected: fault 0x14 (user fetch)
 final: no moments prove this access
+last: never
 ",
     )
 }
@@ -393,6 +397,7 @@ level 2: moment 4 pcid 0x1 [0x3000] = 0x4007 table, written by event 2
 level 1: moment 4 pcid 0x1 [0x4028] = 0x9007 leaf, written by event 3
 accessed: bit 5 of [0x1000] = 0x2007 is 0
 final: no moments prove this access
+last: never
 ",
     )
 }
@@ -412,6 +417,7 @@ level 2: moment 4 pcid 0x1 [0x3000] = 0x4027 table, written by event 2
 level 1: moment 4 pcid 0x1 [0x4028] = 0x9027 leaf, written by event 3
 dirty: bit 6 of [0x4028] = 0x9027 is 0
 final: no moments prove this access
+last: never
 ",
     )
 }
@@ -440,6 +446,7 @@ level 2: moment 4 pcid 0x1 [0x3000] = 0x4027 table, written by event 2
 level 1: moment 4 pcid 0x1 [0x4028] = 0x9027 leaf, written by event 3
 assist: the word read last is [0x4028]
 final: no moments prove this assist
+last: never
 ",
     )
 }
@@ -471,6 +478,7 @@ level 2: moment 5 pcid 0x1 [0x3000] = 0x4027 table, written by event 2
 level 1: moment 5 pcid 0x1 [0x4028] = 0x9067 leaf, written by event 4
 expected: 0x9123
 final: no moments prove this access
+last: never
 ",
     )
 }
