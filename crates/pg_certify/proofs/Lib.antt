@@ -1,4 +1,3 @@
 mod Gathered
 mod Founds
 mod Meaning
-mod Shares

@@ -1,23 +1,19 @@
 //! Events judged one by one, each by moments that are guessed or, where guesses fail, searched.
 
-ghost use Rattle.std.specs.Prelude.{◌≡◌, ◌<◌, ◌^◌, true, length, Some, slice_get};
+ghost use Rattle.std.specs.Prelude.{◌≡◌, ◌<◌, ◌^◌, true, false, length, MatchOption};
 ghost use Rattle.std.specs.Prelude.{IfOk, IfSome, IfNone};
 ghost use Rattle.std.specs.List.{AllByRecursion};
 ghost use Rattle.pg_event.specs.Form.{processor_of};
 ghost use Rattle.pg_event.specs.Spelling.{AreMoments};
-ghost use Rattle.pg_search.specs.Law.{names_moments, CanBeWitnessed};
+ghost use Rattle.pg_search.specs.Law.{names_moments, with_moments, CanBeWitnessed};
 ghost use Rattle.pg_certify.specs.Certified.{IsFound, IsDenied, NamesMoments, Certifies};
 ghost use Rattle.pg_certify.specs.Certified.{CanBeCertified, IsEvent};
-ghost use Rattle.pg_certify.specs.Shares.{IsDealt, IsLeastDenied};
 
-use crate::case::{Asks, Case, case_of, with_moments};
-use crate::guesses::{Guesses, Part, Scope, key_of, space_of};
-use crate::recent::{Recent, Step};
-use crate::share::Share;
+use crate::guesses::{Guesses, Part, Scope, key_of};
+use crate::recent::Recent;
 use crate::walk::{Walk, first_moments, walk_by};
 use pg_check::{History, Memo, failing};
-use pg_entry::{Entry, has_bit, table_of};
-use pg_event::{Event, Moments, Outcome, Reason};
+use pg_event::{Event, Moments, Outcome, uses_last, want_of};
 use pg_search::find_moments;
 use std::alloc::{AllocError, Global};
 use std::marker::Model;
@@ -53,6 +49,45 @@ impl<'a> Model for Certifier<'a> {
     ghost invariant = { λ c. IsPast c.memo c.history.now.head c.history.now.events };
 }
 
+/// The event with these moments in place of its own, if it names some.
+fn with_moments(event: &Event, chosen: Moments) -> Event
+    ensures { result ≡ with_moments chosen event.now }
+{
+    match *event {
+        Event::Access {
+            p,
+            flags,
+            la,
+            outcome,
+            ..
+        } => Event::Access {
+            p,
+            flags,
+            la,
+            outcome,
+            moments: chosen,
+        },
+        Event::Assist {
+            p,
+            flags,
+            la,
+            word,
+            ..
+        } => Event::Assist {
+            p,
+            flags,
+            la,
+            word,
+            moments: chosen,
+        },
+        Event::Write { .. }
+        | Event::MovCr3 { .. }
+        | Event::Invlpg { .. }
+        | Event::Invpcid { .. }
+        | Event::MovCr4Pge { .. } => *event,
+    }
+}
+
 /// The numbers of a list of moments are within their field.
 fn numbers_fit(numbers: &[u32])
     ensures { AllByRecursion (λ w. w < 2 ^ 32) numbers.now }
@@ -67,10 +102,11 @@ fn moments_fit(moments: Moments)
     numbers_fit(moments.as_slice());
 }
 
-/// The pages other than one of 4 KBytes of the own PCID that may serve an access: large ones, and
-/// global ones of each size.
-fn rare_pages_of(p: u16, pcid: u16, la: u64) -> [u64; 5] {
+/// What moments may have been found for that serve an access to a page: the page by each size,
+/// under the own PCID, and if it is global.
+fn pages_of(p: u16, pcid: u16, la: u64) -> [u64; 6] {
     [
+        key_of(p, Scope::Page(pcid), Part::Of4K, la),
         key_of(p, Scope::Page(pcid), Part::Of2M, la),
         key_of(p, Scope::Page(pcid), Part::Of1G, la),
         key_of(p, Scope::GlobalPage, Part::Of4K, la),
@@ -79,42 +115,92 @@ fn rare_pages_of(p: u16, pcid: u16, la: u64) -> [u64; 5] {
     ]
 }
 
-/// So many changes of a word are looked at for walks before them.
+/// So many changes of a word are looked at.
 const MOST_CHANGES: usize = 16;
 
-/// So many changes of an entry of level 1 are looked at, which is quicker.
-const MOST_LEAVES: usize = 512;
+/// A number that tells a PCID of a processor, and is no address of a word.
+fn space_of(p: u16, pcid: u16) -> u64 {
+    (p as u64) << 32 | (pcid as u64) << 8 | 1
+}
 
-fn last_of(moments: &Moments) -> u32 {
-    let all = moments.as_slice();
-    all[all.len() - 1]
+/// The moments that an event names, if it names some.
+fn moments_of(event: &Event) -> Option<Moments> {
+    match *event {
+        Event::Access { moments, .. } | Event::Assist { moments, .. } => Some(moments),
+        Event::Write { .. }
+        | Event::MovCr3 { .. }
+        | Event::Invlpg { .. }
+        | Event::Invpcid { .. }
+        | Event::MovCr4Pge { .. } => None,
+    }
+}
+
+/// What an event asks of its processor for an address: a page, the word that an assist names, or
+/// another entry.
+#[derive(Clone, Copy)]
+enum Asks {
+    Page,
+    Word(u64),
+    Entry,
+}
+
+/// An event that names moments: its number, its processor and PCID, the address, and what it asks.
+#[derive(Clone, Copy)]
+struct Case {
+    i: u32,
+    p: u16,
+    pcid: u16,
+    la: u64,
+    asks: Asks,
+}
+
+/// What an access asks.
+fn asks_of(outcome: Outcome) -> Asks {
+    if uses_last(want_of(outcome)) {
+        Asks::Page
+    } else {
+        Asks::Entry
+    }
+}
+
+/// What an event asks, if it names moments.
+fn case_of(history: &History, i: u32, event: &Event) -> Option<Case>
+    requires processor { processor_of event.now < length history.now.head.processors }
+    ensures number { IfSome result (λ case. case.i ≡ i) }
+    ensures processor { IfSome result (λ case. case.p < length history.now.head.processors) }
+    ensures names { MatchOption result (names_moments event.now ≡ false)
+        (λ case. names_moments event.now ≡ true) }
+{
+    let (p, la, asks) = match *event {
+        Event::Access { p, la, outcome, .. } => (p, la, asks_of(outcome)),
+        Event::Assist { p, la, word, .. } => (p, la, Asks::Word(word)),
+        Event::Write { .. }
+        | Event::MovCr3 { .. }
+        | Event::Invlpg { .. }
+        | Event::Invpcid { .. }
+        | Event::MovCr4Pge { .. } => return None,
+    };
+    let pcid = history.control_at(p, i).pcid;
+    Some(Case {
+        i,
+        p,
+        pcid,
+        la,
+        asks,
+    })
 }
 
 impl<'a> Certifier<'a> {
-    /// One that is to find moments for so many events of a run.
-    fn new(alloc: Global, history: &'a History, count: usize) -> Certifier<'a>
+    fn new(alloc: Global, history: &'a History) -> Certifier<'a>
         ensures { result ≡ history.now }
     {
+        let count = history.len() as usize;
         Certifier {
             alloc,
             history,
             memo: history.stretch().memo(count),
-            guesses: Guesses::new(alloc, count),
-            changes: Recent::new(alloc, count),
-        }
-    }
-
-    /// The event with these moments, if they witness it, or the least reason that fails.
-    fn prove(&mut self, event: &Event, i: u32, moments: Moments) -> Result<Event, Reason>
-        requires { IsEvent self.old.head self.old.events i event.now }
-        ensures same { self.new ≡ self.old }
-        ensures found { IfOk result (IsFound self.old.head self.old.events i) }
-    {
-        moments_fit(moments);
-        let guessed = with_moments(event, moments);
-        match failing(&mut self.memo, i, &guessed) {
-            None => Ok(guessed),
-            Some(reason) => Err(reason),
+            guesses: Guesses::new(alloc),
+            changes: Recent::new(alloc),
         }
     }
 
@@ -124,54 +210,28 @@ impl<'a> Certifier<'a> {
         ensures same { self.new ≡ self.old }
         ensures found { IfSome result (IsFound self.old.head self.old.events i) }
     {
-        match self.prove(event, i, moments) {
-            Ok(found) => Some(found),
-            Err(_) => None,
+        moments_fit(moments);
+        let guessed = with_moments(event, moments);
+        match failing(&mut self.memo, i, &guessed) {
+            None => Some(guessed),
+            Some(_) => None,
         }
     }
 
-    /// The event with these moments, if the last is not too early and they witness it.
-    fn judge_since(&mut self, event: &Event, i: u32, moments: Moments, since: u32) -> Option<Event>
+    /// The event with moments that were found for a key, if they witness it.
+    fn judge_kept(&mut self, event: &Event, i: u32, key: u64) -> Option<Event>
         requires { IsEvent self.old.head self.old.events i event.now }
         ensures same { self.new ≡ self.old }
         ensures found { IfSome result (IsFound self.old.head self.old.events i) }
     {
-        if last_of(&moments) < since {
-            None
-        } else {
-            self.judge(event, i, moments)
-        }
-    }
-
-    /// The event with moments that were found for a page, if they witness it.
-    fn judge_kept(&mut self, event: &Event, i: u32, key: u64, since: u32) -> Option<Event>
-        requires { IsEvent self.old.head self.old.events i event.now }
-        ensures same { self.new ≡ self.old }
-        ensures found { IfSome result (IsFound self.old.head self.old.events i) }
-    {
-        let lists = self.guesses.page(key)?;
-        if let Some(found) = self.judge_since(event, i, lists.newer, since) {
+        let lists = self.guesses.of(key)?;
+        if let Some(found) = self.judge(event, i, lists.newer) {
             return Some(found);
         }
         match lists.older {
-            Some(moments) => self.judge_since(event, i, moments, since),
+            Some(moments) => self.judge(event, i, moments),
             None => None,
         }
-    }
-
-    /// The access to a large or a global page with moments that were found for that, if these
-    /// witness it.
-    fn guess_rare(&mut self, event: &Event, case: Case) -> Option<Event>
-        requires { IsEvent self.old.head self.old.events case.i event.now }
-        ensures same { self.new ≡ self.old }
-        ensures found { IfSome result (IsFound self.old.head self.old.events case.i) }
-    {
-        for key in rare_pages_of(case.p, case.pcid, case.la) {
-            if let Some(found) = self.judge_kept(event, case.i, key, 0) {
-                return Some(found);
-            }
-        }
-        None
     }
 
     /// The access to a page with moments that were found for that, if they witness it.
@@ -180,16 +240,12 @@ impl<'a> Certifier<'a> {
         ensures same { self.new ≡ self.old }
         ensures found { IfSome result (IsFound self.old.head self.old.events case.i) }
     {
-        let key = key_of(case.p, Scope::Page(case.pcid), Part::Of4K, case.la);
-        let since = self.guesses.since(case.p, case.pcid);
-        if let Some(found) = self.judge_kept(event, case.i, key, since) {
-            return Some(found);
+        for key in pages_of(case.p, case.pcid, case.la) {
+            if let Some(found) = self.judge_kept(event, case.i, key) {
+                return Some(found);
+            }
         }
-        if self.guesses.has_rare() {
-            self.guess_rare(event, case)
-        } else {
-            None
-        }
+        None
     }
 
     /// The assist with the moments of a walk as far as it reads a word, if they witness it.
@@ -209,15 +265,6 @@ impl<'a> Certifier<'a> {
         None
     }
 
-    /// Keeps the moments of a walk by which an event was found.
-    fn note_walk(&mut self, case: Case, walk: &Walk)
-        ensures { self.new ≡ self.old }
-    {
-        let is_page = matches!(case.asks, Asks::Page);
-        self.guesses
-            .note(case.i, case.p, case.pcid, case.la, walk, is_page);
-    }
-
     /// The event with the moments of a walk that reads its first entries at these moments, and what
     /// comes below at one moment, if they witness it.
     fn guess_walk(&mut self, event: &Event, case: Case, front: &[u32], moment: u32) -> Option<Event>
@@ -227,14 +274,33 @@ impl<'a> Certifier<'a> {
         ensures found { IfSome result (IsFound self.old.head self.old.events case.i) }
     {
         let walk = walk_by(self.history, case.p, case.la, front, moment);
-        let found = match case.asks {
+        match case.asks {
             Asks::Page | Asks::Entry => self.judge(event, case.i, walk.moments),
             Asks::Word(word) => self.judge_word(event, case.i, word, &walk),
-        };
-        if found.is_some() {
-            self.note_walk(case, &walk);
         }
-        found
+    }
+
+    /// Keeps the moments that were found for an event, if some were.
+    fn note(&mut self, case: Case, found: &Option<Event>)
+        requires { case.p < length self.old.head.processors }
+        ensures { self.new ≡ self.old }
+    {
+        let Some(event) = found else {
+            return;
+        };
+        let Some(moments) = moments_of(event) else {
+            return;
+        };
+        let Case {
+            i,
+            p,
+            pcid,
+            la,
+            asks,
+        } = case;
+        let walk = walk_by(self.history, p, la, moments.as_slice(), i);
+        self.guesses
+            .note(p, pcid, la, &walk, matches!(asks, Asks::Page));
     }
 
     /// The event by the tables of the walk that was found last with the same upper bits of the
@@ -246,7 +312,7 @@ impl<'a> Certifier<'a> {
         ensures found { IfSome result (IsFound self.old.head self.old.events case.i) }
     {
         let key = key_of(case.p, Scope::Tables(case.pcid), part, case.la);
-        let near = self.guesses.tables(key)?;
+        let near = self.guesses.of(key)?.newer;
         let tables = first_moments(&near, count);
         match self.guess_walk(event, case, tables.as_slice(), case.i) {
             Some(found) => Some(found),
@@ -284,85 +350,15 @@ impl<'a> Certifier<'a> {
         self.guess_walk(event, case, &tables[..count.min(3)], case.i)
     }
 
-    /// A moment up to one at which the processor had the PCID: that one, or the one at which it
-    /// left the PCID by this step.
-    fn own_moment(&self, case: Case, moment: u32, left: Option<Step>) -> Option<u32>
-        requires { case.p < length self.now.head.processors }
-    {
-        if self.history.control_at(case.p, moment).pcid == case.pcid {
-            return Some(moment);
-        }
-        match left {
-            Some(step) => Some(step.event),
-            None => None,
-        }
-    }
-
     /// The latest moment up to one at which the processor had the PCID, as far as it is kept.
     fn latest_under(&self, case: Case, moment: u32) -> Option<u32>
         requires { case.p < length self.now.head.processors }
     {
-        let last = self.changes.last(space_of(case.p, case.pcid));
-        self.own_moment(case, moment, self.changes.back_to(last, moment))
-    }
-
-    /// Whether a word of level 1 may have given the answer at a moment.
-    fn may_answer(&self, case: Case, word: u64, moment: u32) -> bool {
-        match case.answer {
-            Some(address) => {
-                let entry = Entry(self.history.value_at(moment, word));
-                let frame = table_of(self.history.header().cfg.m, entry);
-                frame.wrapping_add(case.la % 4096) == address
-            }
-            None => true,
+        if self.history.control_at(case.p, moment).pcid == case.pcid {
+            Some(moment)
+        } else {
+            self.changes.last_to(space_of(case.p, case.pcid), moment)
         }
-    }
-
-    /// The event by the walk at a moment, if that witnesses it, or the least reason that fails.
-    fn prove_at(&mut self, event: &Event, case: Case, moment: u32) -> Result<Event, Reason>
-        requires event { IsEvent self.old.head self.old.events case.i event.now }
-        requires processor { case.p < length self.old.head.processors }
-        ensures same { self.new ≡ self.old }
-        ensures found { IfOk result (IsFound self.old.head self.old.events case.i) }
-    {
-        let walk = walk_by(self.history, case.p, case.la, &[], moment);
-        match self.prove(event, case.i, walk.moments) {
-            Ok(found) => {
-                self.note_walk(case, &walk);
-                Ok(found)
-            }
-            Err(reason) => Err(reason),
-        }
-    }
-
-    /// The access by walks under the own PCID before the last changes of the entry that level 1 has
-    /// now, the newest first, up to one whose translation was dropped.
-    fn guess_leaf(&mut self, event: &Event, case: Case, word: u64) -> Option<Event>
-        requires event { IsEvent self.old.head self.old.events case.i event.now }
-        requires processor { case.p < length self.old.head.processors }
-        ensures same { self.new ≡ self.old }
-        ensures found { IfSome result (IsFound self.old.head self.old.events case.i) }
-    {
-        let since = self.guesses.since(case.p, case.pcid);
-        let mut left = self.changes.last(space_of(case.p, case.pcid));
-        let mut next = self.changes.last(word);
-        for _ in 0..MOST_LEAVES {
-            let step = next?;
-            left = self.changes.back_to(left, step.event);
-            let moment = self.own_moment(case, step.event, left)?;
-            if moment < since {
-                return None;
-            }
-            if self.may_answer(case, word, moment) {
-                match self.prove_at(event, case, moment) {
-                    Ok(found) => return Some(found),
-                    Err(Reason::TranslationDropped) => return None,
-                    Err(_) => {}
-                }
-            }
-            next = self.changes.before(step);
-        }
-        None
     }
 
     /// The event by walks before a change of a word, under the own PCID or, as global pages may be
@@ -396,11 +392,11 @@ impl<'a> Certifier<'a> {
     {
         let mut next = self.changes.last(word);
         for _ in 0..MOST_CHANGES {
-            let step = next?;
-            if let Some(found) = self.guess_change(event, case, step.event, count) {
+            let change = next?;
+            if let Some(found) = self.guess_change(event, case, change, count) {
                 return Some(found);
             }
-            next = self.changes.before(step);
+            next = self.changes.before(change);
         }
         None
     }
@@ -414,11 +410,6 @@ impl<'a> Certifier<'a> {
     {
         let walk = walk_by(self.history, case.p, case.la, &[], case.i);
         let depth = walk.moments.len();
-        if depth == 4 && matches!(case.asks, Asks::Page) {
-            if let Some(found) = self.guess_leaf(event, case, walk.words[3]) {
-                return Some(found);
-            }
-        }
         for place in 1..depth + 1 {
             let word = walk.words[depth - place];
             if let Some(found) = self.guess_changes(event, case, word, depth - 1) {
@@ -444,27 +435,6 @@ impl<'a> Certifier<'a> {
         }
     }
 
-    /// The event with moments that witness it, by a search of all that there are, or `None` where
-    /// none do.
-    fn search(&mut self, event: &Event, case: Case) -> Result<Option<Event>, AllocError>
-        requires event { IsEvent self.old.head self.old.events case.i event.now }
-        requires names { names_moments event.now ≡ true }
-        requires processor { case.p < length self.old.head.processors }
-        ensures same { self.new ≡ self.old }
-        ensures found { IfOk result
-            (λ r. IfSome r (IsFound self.old.head self.old.events case.i)) }
-        ensures none { IfOk result
-            (λ r. IfNone r (CanBeWitnessed self.old.head self.old.events case.i → ⊥)) }
-    {
-        let Some(moments) = find_moments(self.alloc, self.history, case.i as u64)? else {
-            return Ok(None);
-        };
-        moments_fit(moments);
-        let walk = walk_by(self.history, case.p, case.la, moments.as_slice(), case.i);
-        self.note_walk(case, &walk);
-        Ok(Some(with_moments(event, moments)))
-    }
-
     /// The event with moments of a walk that is made anew, or of a search of all, or `None` where
     /// no moments witness it.
     fn find_new(&mut self, event: &Event, case: Case) -> Result<Option<Event>, AllocError>
@@ -479,7 +449,7 @@ impl<'a> Certifier<'a> {
     {
         match self.guess_new(event, case) {
             Some(found) => Ok(Some(found)),
-            None => self.search(event, case),
+            None => search(self.alloc, self.history, case.i as u64, event),
         }
     }
 
@@ -499,7 +469,9 @@ impl<'a> Certifier<'a> {
                 return Ok(Some(found));
             }
         }
-        self.find_new(event, case)
+        let found = self.find_new(event, case)?;
+        self.note(case, &found);
+        Ok(found)
     }
 
     /// Takes note of an event that changes a word of table memory, or may change a PCID.
@@ -507,64 +479,16 @@ impl<'a> Certifier<'a> {
         requires { processor_of event.now < length self.old.head.processors }
         ensures { self.new ≡ self.old }
     {
-        match *event {
-            Event::Write { addr, .. } => self.changes.note(i, addr),
-            Event::Assist { word, .. } => self.changes.note(i, word),
-            Event::MovCr3 { p, .. } => {
-                let space = space_of(p, self.history.control_at(p, i).pcid);
-                self.changes.note(i, space);
-            }
+        let key = match *event {
+            Event::Write { addr, .. } => Some(addr),
+            Event::Assist { word, .. } => Some(word),
+            Event::MovCr3 { p, .. } => Some(space_of(p, self.history.control_at(p, i).pcid)),
             Event::Access { .. }
             | Event::Invlpg { .. }
             | Event::Invpcid { .. }
-            | Event::MovCr4Pge { .. } => {}
-        }
-    }
-
-    /// Takes note of an event that drops translations (Intel SDM, vol. 3, 4.10.4.1).
-    fn note_drop(&mut self, i: u32, event: &Event)
-        requires { processor_of event.now < length self.old.head.processors }
-        ensures { self.new ≡ self.old }
-    {
-        match *event {
-            Event::Invlpg { p, la }
-            | Event::Access {
-                p,
-                la,
-                outcome: Outcome::Fault(_),
-                ..
-            } => {
-                let pcid = self.history.control_at(p, i).pcid;
-                self.guesses.forget(p, pcid, la);
-            }
-            Event::MovCr3 { p, operand } => {
-                if !has_bit(operand, 63) {
-                    self.guesses.flush(i, p, (operand % 4096) as u16);
-                }
-            }
-            Event::Invpcid { p, kind, pcid, la } => match kind {
-                0 => self.guesses.forget(p, pcid, la),
-                1 => self.guesses.flush(i, p, pcid),
-                _ => self.guesses.flush_all(i, p),
-            },
-            Event::MovCr4Pge { p, .. } => self.guesses.flush_all(i, p),
-            Event::Write { .. }
-            | Event::Assist { .. }
-            | Event::Access {
-                outcome: Outcome::Page(_),
-                ..
-            } => {}
-        }
-    }
-
-    /// Takes note of the event with this number, for guesses at those that come after it.
-    fn see(&mut self, i: u64)
-        requires { i < length self.old.events }
-        ensures { self.new ≡ self.old }
-    {
-        let event = &self.history.events()[i as usize];
-        self.note_change(i as u32, event);
-        self.note_drop(i as u32, event);
+            | Event::MovCr4Pge { .. } => None,
+        };
+        self.changes.note(i, key);
     }
 
     /// The event with this number with moments that witness it, which is itself where it names
@@ -579,6 +503,7 @@ impl<'a> Certifier<'a> {
             (λ r. IfNone r (CanBeWitnessed self.old.head self.old.events i → ⊥)) }
     {
         let event = &self.history.events()[i as usize];
+        self.note_change(i as u32, event);
         match case_of(self.history, i as u32, event) {
             Some(case) => self.find_case(event, case),
             None => Ok(Some(*event)),
@@ -586,36 +511,28 @@ impl<'a> Certifier<'a> {
     }
 }
 
-/// The event with this number.
-fn event_at(history: &History, i: u64) -> &Event
-    requires { i < length history.now.events }
-    ensures { slice_get history.now.events i ≡ Some result.now }
-{
-    &history.events()[i as usize]
-}
-
-/// Of the events of a share, the least that no moments witness, or `None` where some moments
-/// witness each.
-pub(crate) fn first_denied_of(
+/// The event with moments that witness it, by a search of all that there are, or `None` where none
+/// do.
+fn search(
     alloc: Global,
     history: &History,
-    share: Share,
-) -> Result<Option<u64>, AllocError>
-    ensures { IfOk result (IsLeastDenied
-        (IsDealt share.checkers history.now.events share.number)
-        history.now.head history.now.events) }
+    i: u64,
+    event: &Event,
+) -> Result<Option<Event>, AllocError>
+    requires event { IsEvent history.now.head history.now.events i event.now }
+    requires names { names_moments event.now ≡ true }
+    ensures found { IfOk result
+        (λ r. IfSome r (IsFound history.now.head history.now.events i)) }
+    ensures none { IfOk result
+        (λ r. IfNone r (CanBeWitnessed history.now.head history.now.events i → ⊥)) }
 {
-    let mut certifier = Certifier::new(alloc, history, share.size_of(history.len()));
-    for i in 0..history.len() {
-        if share.has(event_at(history, i)) {
-            match certifier.find(i)? {
-                Some(_) => {}
-                None => return Ok(Some(i)),
-            }
+    match find_moments(alloc, history, i)? {
+        Some(moments) => {
+            moments_fit(moments);
+            Ok(Some(with_moments(event, moments)))
         }
-        certifier.see(i);
+        None => Ok(None),
     }
-    Ok(None)
 }
 
 /// The least event that no moments witness, or `None` where some moments make the run's events an
@@ -628,7 +545,14 @@ pub fn first_denied(alloc: Global, history: &History) -> Result<Option<u64>, All
     ensures certified { IfOk result
         (λ r. IfNone r (CanBeCertified history.now.head history.now.events)) }
 {
-    first_denied_of(alloc, history, Share::new(0, 1))
+    let mut certifier = Certifier::new(alloc, history);
+    for i in 0..history.len() {
+        match certifier.find(i)? {
+            Some(_) => {}
+            None => return Ok(Some(i)),
+        }
+    }
+    Ok(None)
 }
 
 /// Moments for all events of a run, or the least event that no moments witness: `first_denied`
@@ -638,7 +562,7 @@ pub fn first_denied(alloc: Global, history: &History) -> Result<Option<u64>, All
 pub fn certify(alloc: Global, history: &History) -> Result<Certified, AllocError>
     ensures { IfOk result (Certifies history.now.head history.now.events) }
 {
-    let mut certifier = Certifier::new(alloc, history, history.len() as usize);
+    let mut certifier = Certifier::new(alloc, history);
     let mut found = Vec::new(alloc);
     for i in 0..history.len() {
         match certifier.find(i)? {
@@ -647,7 +571,6 @@ pub fn certify(alloc: Global, history: &History) -> Result<Certified, AllocError
             }
             None => return Ok(Certified::No(i)),
         }
-        certifier.see(i);
     }
     Ok(Certified::Yes(found))
 }

@@ -1,10 +1,10 @@
 //! Moments that were found, kept to guess from. Nothing is claimed of a guess: it is judged before
 //! it is taken, so that a wrong one costs time alone.
 
-use crate::places::Places;
 use crate::walk::Walk;
 use pg_event::{Moments, bits_from};
 use std::alloc::Global;
+use std::collections::HashMap;
 
 /// For whom moments serve.
 #[derive(Clone, Copy)]
@@ -24,20 +24,16 @@ pub(crate) struct Lists {
     pub older: Option<Moments>,
 }
 
-/// The moments that were found for pages, and for tables, and since when those of a processor and
-/// PCID may serve. The tables have a fixed size, so that some are lost to others.
+/// The moments that were found for pages, and for tables. Where memory is refused, some are not
+/// kept.
 #[derive(Drop)]
 pub(crate) struct Guesses {
-    pages: Places<Lists>,
-    tables: Places<Moments>,
-    flushes: Places<u32>,
-    /// Whether any page was large or global.
-    has_rare: bool,
+    lists: HashMap<u64, Lists>,
 }
 
 /// A part of the linear address space, told by the upper bits of an address: a page by its size, or
 /// what lies below an entry of level 2, 3 or 4.
-#[derive(Clone, Copy, PartialEq, Eq)]
+#[derive(Clone, Copy)]
 pub(crate) enum Part {
     /// Bits 47:12.
     Of4K,
@@ -65,16 +61,6 @@ pub(crate) fn key_of(p: u16, scope: Scope, part: Part, la: u64) -> u64 {
     (p as u64) << 52 | scope << 38 | part << 36 | number
 }
 
-/// A key that tells a PCID of a processor, and is no address of a word.
-pub(crate) fn space_of(p: u16, pcid: u16) -> u64 {
-    (p as u64) << 32 | (pcid as u64) << 8 | 1
-}
-
-/// A key that tells all PCIDs of a processor.
-fn spaces_of(p: u16) -> u64 {
-    (p as u64) << 32 | 2
-}
-
 /// The page that a walk by so many moments comes to.
 fn page_by(count: usize) -> Part {
     match count {
@@ -86,75 +72,23 @@ fn page_by(count: usize) -> Part {
 }
 
 impl Guesses {
-    /// No moments yet, of a run of so many events.
-    pub(crate) fn new(alloc: Global, count: usize) -> Guesses {
-        let (pages, tables) = if count < 1 << 14 {
-            (1 << 10, 1 << 8)
-        } else if count < 1 << 19 {
-            (1 << 15, 1 << 12)
-        } else {
-            (1 << 17, 1 << 13)
-        };
-        let nothing = Lists {
-            newer: Moments::first(0),
-            older: None,
-        };
+    pub(crate) fn new(alloc: Global) -> Guesses {
         Guesses {
-            pages: Places::new(alloc, pages, nothing),
-            tables: Places::new(alloc, tables, Moments::first(0)),
-            flushes: Places::new(alloc, tables, 0),
-            has_rare: false,
+            lists: HashMap::new(alloc),
         }
     }
 
-    /// The moments that were found for a page.
-    pub(crate) fn page(&self, key: u64) -> Option<Lists> {
-        self.pages.of(key)
-    }
-
-    /// The moments that were found last for tables.
-    pub(crate) fn tables(&self, key: u64) -> Option<Moments> {
-        self.tables.of(key)
-    }
-
-    /// Whether any page was large or global.
-    pub(crate) fn has_rare(&self) -> bool {
-        self.has_rare
-    }
-
-    /// The first moment since which a translation of a processor and PCID may have been made that
-    /// is not global, as far as that is known.
-    pub(crate) fn since(&self, p: u16, pcid: u16) -> u32 {
-        let own = self.flushes.of(space_of(p, pcid)).unwrap_or(0);
-        let all = self.flushes.of(spaces_of(p)).unwrap_or(0);
-        own.max(all)
-    }
-
-    /// Takes note that an event dropped what a processor had for a PCID.
-    pub(crate) fn flush(&mut self, event: u32, p: u16, pcid: u16) {
-        self.flushes
-            .put(space_of(p, pcid), event, event.saturating_add(1));
-    }
-
-    /// Takes note that an event dropped what a processor had for any PCID.
-    pub(crate) fn flush_all(&mut self, event: u32, p: u16) {
-        self.flushes
-            .put(spaces_of(p), event, event.saturating_add(1));
-    }
-
-    /// Forgets what was found for a page of 4 KBytes.
-    pub(crate) fn forget(&mut self, p: u16, pcid: u16, la: u64) {
-        self.pages
-            .forget(key_of(p, Scope::Page(pcid), Part::Of4K, la));
-        if self.has_rare {
-            self.pages
-                .forget(key_of(p, Scope::GlobalPage, Part::Of4K, la));
+    /// The moments that were found for a key.
+    pub(crate) fn of(&self, key: u64) -> Option<Lists> {
+        match self.lists.get(&key) {
+            Some(lists) => Some(*lists),
+            None => None,
         }
     }
 
-    /// Keeps moments that were found for a page.
-    fn keep(&mut self, event: u32, key: u64, moments: Moments) {
-        let older = match self.page(key) {
+    /// Keeps moments that were found for a key.
+    fn keep(&mut self, key: u64, moments: Moments) {
+        let older = match self.of(key) {
             Some(lists) => Some(lists.newer),
             None => None,
         };
@@ -162,32 +96,22 @@ impl Guesses {
             newer: moments,
             older,
         };
-        self.pages.put(key, event, lists);
+        let _refused = self.lists.insert(key, lists).is_err();
     }
 
     /// Keeps the moments of a walk that witness an event under a PCID, for the tables that it comes
     /// by and, if a page serves the event, for that page.
-    pub(crate) fn note(
-        &mut self,
-        event: u32,
-        p: u16,
-        pcid: u16,
-        la: u64,
-        walk: &Walk,
-        is_page: bool,
-    ) {
+    pub(crate) fn note(&mut self, p: u16, pcid: u16, la: u64, walk: &Walk, is_page: bool) {
         let moments = walk.moments;
         for part in [Part::Of2M, Part::Of1G, Part::Of512G] {
-            let key = key_of(p, Scope::Tables(pcid), part, la);
-            self.tables.put(key, event, moments);
+            self.keep(key_of(p, Scope::Tables(pcid), part, la), moments);
         }
         if is_page {
             let part = page_by(moments.len());
-            self.keep(event, key_of(p, Scope::Page(pcid), part, la), moments);
+            self.keep(key_of(p, Scope::Page(pcid), part, la), moments);
             if walk.is_global {
-                self.keep(event, key_of(p, Scope::GlobalPage, part, la), moments);
+                self.keep(key_of(p, Scope::GlobalPage, part, la), moments);
             }
-            self.has_rare = self.has_rare || walk.is_global || part != Part::Of4K;
         }
     }
 }

@@ -2,8 +2,6 @@
 #![tactic(auto)]
 
 #[cfg(test)]
-mod certificates;
-#[cfg(test)]
 mod explanations;
 #[cfg(test)]
 mod machine;

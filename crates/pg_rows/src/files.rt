@@ -2,9 +2,8 @@
 
 use crate::case::{Case, answer, is_answered};
 use crate::pieces::Pieces;
-use crate::row::{Row, bytes_of};
+use crate::row::bytes_of;
 use crate::walks::FRESH_WALK;
-use crate::{certificates, explanations, lines, runs};
 use pg_codec::Watched;
 use pg_tool::pcid_audit;
 use std::alloc::AllocGlobal;
@@ -44,24 +43,13 @@ fn answer_of_file<'a, T: AllocGlobal + Abort + Threads + Wait + Sync>(rt: &T, ca
 }
 
 #[test]
-fn records_by_their_names(rt: HostRuntime) -> Result<(), Fail> {
-    let rows: [(&[&str], Row); 7] = [
-        (&["check", NAME], FRESH_WALK),
-        (&["check", "--checkers", "2", NAME], FRESH_WALK),
-        (&["check", NAME, "--checkers", "2"], FRESH_WALK),
-        (&["certify", NAME], certificates::FRESH_WALK),
-        (&["run-of", NAME], runs::ROWS[0]),
-        (&["explain", NAME], explanations::STALE_LEAF),
-        (&["show", "--from", "5", "--", NAME], lines::RANGES[0]),
-    ];
-    for (words, row) in &rows {
-        let input = bytes_of(rt.alloc(), row.input)?;
-        let named = Case {
-            words,
-            ..row.case(&input)
-        };
-        answer_of_file(&rt, named);
-    }
+fn a_record_by_its_name(rt: HostRuntime) -> Result<(), Fail> {
+    let input = bytes_of(rt.alloc(), FRESH_WALK.input)?;
+    let named = Case {
+        words: &["check", NAME],
+        ..FRESH_WALK.case(&input)
+    };
+    answer_of_file(&rt, named);
     Ok(())
 }
 
