@@ -521,6 +521,7 @@ level 2: moment 4 pcid 0x1 [0x3000] = 0x4007 table, written by event 2
 level 1: moment 4 pcid 0x1 [0x4028] = 0x9007 leaf, written by event 3
 rights: wu- deny super read by SMAP
 final: no moments prove this access
+last: never
 ",
         line: "",
         status: 1,
@@ -551,6 +552,7 @@ level 2: moment 4 pcid 0x1 [0x3000] = 0x4007 table, written by event 2
 level 1: moment 4 pcid 0x1 [0x4028] = 0x9007 leaf, written by event 3
 rights: wu- deny super fetch by SMEP
 final: no moments prove this access
+last: never
 ",
         line: "",
         status: 1,
