@@ -11,6 +11,7 @@ ghost use Rattle.pg_event.specs.Invalidation.{structure_key, translation_key};
 ghost use Rattle.pg_event.specs.Invalidation.{must_drop_structure, must_drop_translation};
 ghost use Rattle.pg_event.specs.Witness.{survives};
 ghost use Rattle.pg_entry.specs.Kinds.{IsPageShift};
+ghost use Rattle.pg_timeline.specs.Timelines.{IsSpan};
 ghost use Rattle.pg_inval.specs.Drops.{may_drop, IsTableLevel};
 ghost use Rattle.pg_inval.specs.Lists.{IsFirstDrop};
 ghost use Rattle.pg_chain.specs.Standing.{IsPast, IsNext, processor_count, changes_nothing};
@@ -20,7 +21,7 @@ use pg_event::{Control, Event, Header, Outcome, Version, processor_of, says_dirt
 use pg_inval::Drops;
 use pg_moment::Versions;
 use pg_state::Controls;
-use pg_timeline::Probes;
+use pg_timeline::{Probes, Span};
 use std::alloc::{AllocError, Global};
 
 /// What a run did up to some event, as far as it was noted. A moment is the number of an event, and
@@ -168,6 +169,24 @@ impl Past {
         ensures root { result.root < 2 ^ 52 }
     {
         self.controls.control_at(p, moment)
+    }
+
+    /// The same value, with the moments around this one at which it is the same.
+    pub fn value_span(&self, moment: u32, addr: u64) -> Span<u64>
+        ensures { (head : Head) (events : List Event) → IsPast self.now head events →
+            IsSpan (λ w. mem_at events w addr) moment result }
+    {
+        self.versions.span_at(moment, addr, &mut Probes::new())
+    }
+
+    /// The control registers, with the moments around this one at which they are the same.
+    pub fn control_span(&self, p: u16, moment: u32) -> Span<Control>
+        requires { p < processor_count self.now }
+        ensures run { (head : Head) (events : List Event) → IsPast self.now head events →
+            IsSpan (λ w. control_at head events p w) moment result }
+        ensures root { result.value.root < 2 ^ 52 }
+    {
+        self.controls.control_span(p, moment, &mut Probes::new())
     }
 
     /// Whether the paging-structure-cache entry that level 4, 3 or 2 gives for a linear address

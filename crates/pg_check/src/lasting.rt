@@ -7,7 +7,7 @@ ghost use Rattle.pg_event.specs.Values.{control_at};
 ghost use Rattle.pg_chain.specs.Standing.{IsPast, processor_count};
 ghost use Rattle.pg_check.specs.Lasting.{IsLasting, IsAsked, IsWalk};
 
-use pg_chain::{Chain, Past, chain, kind_at};
+use pg_chain::{Chain, Reader, chain_by, kind_at};
 use pg_entry::Kind;
 use pg_event::{Moments, Reason, Want};
 
@@ -26,33 +26,37 @@ pub struct Lasting {
 
 /// Whether a translation that a leaf gives is global: the leaf's bit 8 is set, and CR4.PGE was when
 /// it was read.
-fn is_global(past: &Past, p: u16, moment: u32, global_bit: bool) -> bool
-    requires { p < processor_count past.now }
-    ensures { (head : Head) (events : List Event) → IsPast past.now head events →
+fn is_global(reader: &mut Reader<'_>, p: u16, moment: u32, global_bit: bool) -> bool
+    requires { p < processor_count reader.old }
+    ensures past { reader.new ≡ reader.old }
+    ensures global { (head : Head) (events : List Event) → IsPast reader.old head events →
         result ≡ (global_bit && (control_at head events p moment).pge) }
 {
-    global_bit && past.control_at(p, moment).pge
+    global_bit && reader.control_at(p, moment).pge
 }
 
 /// How long the translation lasts that a walk gives, as far as the event with this number asks.
-pub fn lasting_chain(past: &Past, p: u16, la: u64, chain: Chain, number: u32) -> Lasting
-    requires { p < processor_count past.now }
+pub fn lasting_chain(reader: &mut Reader<'_>, p: u16, la: u64, chain: Chain, number: u32) -> Lasting
+    requires { p < processor_count reader.old }
+    ensures past { reader.new ≡ reader.old }
     ensures chain { result.chain ≡ chain }
     ensures asked { IsAsked number result }
-    ensures lasting { (head : Head) (events : List Event) → IsPast past.now head events →
+    ensures lasting { (head : Head) (events : List Event) → IsPast reader.old head events →
         IsLasting head events p la result }
 {
     let end = chain.end;
-    match kind_at(past.cfg(), end) {
+    match kind_at(reader.cfg(), end) {
         Kind::Leaf {
             shift,
             global_bit,
             ..
         } => {
-            let global = is_global(past, p, end.moment, global_bit);
+            let global = is_global(reader, p, end.moment, global_bit);
             let asked = end.moment < number;
             let dropped = if asked {
-                past.first_drop_of_translation(p, chain.pcid, shift, la, global, end.moment)
+                reader
+                    .past()
+                    .first_drop_of_translation(p, chain.pcid, shift, la, global, end.moment)
             } else {
                 None
             };
@@ -75,20 +79,21 @@ pub fn lasting_chain(past: &Past, p: u16, la: u64, chain: Chain, number: u32) ->
 /// The walk of an access by its moments, and how long its translation lasts, or the least of the
 /// reasons `Entry`, `Context` and `StructureDropped`.
 pub fn lasting_walk(
-    past: &Past,
+    reader: &mut Reader<'_>,
     number: u32,
     p: u16,
     la: u64,
     moments: &Moments,
     want: Want,
 ) -> Result<Lasting, Reason>
-    requires { p < processor_count past.now }
+    requires { p < processor_count reader.old }
+    ensures past { reader.new ≡ reader.old }
     ensures asked { IfOk result (IsAsked number) }
-    ensures walk { (head : Head) (events : List Event) → IsPast past.now head events →
+    ensures walk { (head : Head) (events : List Event) → IsPast reader.old head events →
         IsWalk head events p la want moments.now result }
 {
-    match chain(past, p, la, moments, want) {
-        Ok(chain) => Ok(lasting_chain(past, p, la, chain, number)),
+    match chain_by(reader, p, la, moments, want) {
+        Ok(chain) => Ok(lasting_chain(reader, p, la, chain, number)),
         Err(reason) => Err(reason),
     }
 }

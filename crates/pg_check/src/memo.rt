@@ -4,14 +4,15 @@ ghost use Rattle.std.specs.Prelude.{◌≡◌, ◌<◌, List, Ok, IfOk, IfSome, 
 ghost use Rattle.pg_event.specs.declared.event.Event.{Event};
 ghost use Rattle.pg_event.specs.declared.event.Want.TheVariants.{Leaf};
 ghost use Rattle.pg_event.specs.Heads.{Head};
+ghost use Rattle.pg_event.specs.Values.{control_at};
 ghost use Rattle.pg_chain.specs.Standing.{IsPast, processor_count};
 ghost use Rattle.pg_check.specs.Lasting.{IsAsked, IsWalk};
 ghost use Rattle.pg_check.specs.Remembered.{HasWalk, walk_in};
 
 use crate::lasting::{Lasting, lasting_chain, lasting_walk};
-use pg_chain::{Chain, Past, Step};
+use pg_chain::{Chain, Past, Reader, Step};
 use pg_entry::{Level, Rights};
-use pg_event::{Moments, Reason, Want};
+use pg_event::{Control, Moments, Reason, Want};
 use std::marker::Model;
 
 /// A walk that was made: which one, and what it came to. The page is told by its first address: no
@@ -82,7 +83,7 @@ fn slot_of(p: u16, page: u64, moments: &Moments, walk: Lasting) -> Slot
 /// have a walk that another had before. A slot that is needed for another walk is taken.
 #[derive(Debug, Drop)]
 pub struct Memo<'a> {
-    past: &'a Past,
+    reader: Reader<'a>,
     slots: Vec<Option<Slot>>,
 }
 
@@ -93,9 +94,9 @@ impl<'a> Model for Memo<'a> {
 
     ghost use Rattle.pg_check.specs.Remembered.{HaveWalks};
 
-    ghost view = { λ memo. memo.past.now };
+    ghost view = { λ memo. memo.reader };
 
-    ghost invariant = { λ memo. HaveWalks memo.past.now memo.slots.items };
+    ghost invariant = { λ memo. HaveWalks memo.reader memo.slots.items };
 }
 
 /// So many walks are kept at most: more would not stay in a cache of the processor that judges.
@@ -134,14 +135,27 @@ impl<'a> Memo<'a> {
             Ok(slots) => slots,
             Err(_) => Vec::new(past.alloc),
         };
-        Memo { past, slots }
+        Memo {
+            reader: Reader::new(past, walks),
+            slots,
+        }
     }
 
     /// What the run did.
     pub(crate) fn past(&self) -> &Past
         ensures { result.now ≡ self.now }
     {
-        self.past
+        self.reader.past()
+    }
+
+    /// The control registers of a processor just before the event with this number.
+    pub(crate) fn control_at(&mut self, p: u16, moment: u32) -> Control
+        requires { p < processor_count self.old }
+        ensures past { self.new ≡ self.old }
+        ensures run { (head : Head) (events : List Event) → IsPast self.old head events →
+            result ≡ control_at head events p moment }
+    {
+        self.reader.control_at(p, moment)
     }
 
     /// The first of the two places of a walk to a page, where there are any.
@@ -249,7 +263,7 @@ impl<'a> Memo<'a> {
         if walk.asked || number <= walk.chain.end.moment {
             return walk;
         }
-        let asked = lasting_chain(self.past, p, page, walk.chain, number);
+        let asked = lasting_chain(&mut self.reader, p, page, walk.chain, number);
         self.keep_walk(place, p, page, moments, asked);
         asked
     }
@@ -268,7 +282,7 @@ impl<'a> Memo<'a> {
         ensures walk { (head : Head) (events : List Event) → IsPast self.old head events →
             IsWalk head events p page Leaf moments.now result }
     {
-        match lasting_walk(self.past, number, p, page, moments, Want::Leaf) {
+        match lasting_walk(&mut self.reader, number, p, page, moments, Want::Leaf) {
             Ok(walk) => {
                 self.remember(p, page, moments, walk);
                 Ok(walk)
@@ -317,7 +331,7 @@ impl<'a> Memo<'a> {
         if may_be_kept(want) {
             self.page_walk(number, p, la - la % 4096, moments)
         } else {
-            lasting_walk(self.past, number, p, la, moments, want)
+            lasting_walk(&mut self.reader, number, p, la, moments, want)
         }
     }
 }

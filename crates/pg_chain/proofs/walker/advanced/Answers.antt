@@ -10,8 +10,8 @@ use Rattle.pg_chain.specs.declared.steps.Chain.{Chain}
 use Rattle.pg_chain.specs.Walked.{entry_read, ended}
 use Rattle.pg_chain.proofs.walker.advanced.Goals as goal
 
-pub returns : goal.returns
-returns c = λ head events h.
+pub returns-clause-chain : goal.returns-clause-chain
+returns-clause-chain c = λ head events h.
     let chain : Chain = c.args.chain in
     let rights : Rights = chain.end.rights in
     let parent : ℕ → Parent = λ t. record { table = t; rights = rights } in
@@ -20,6 +20,6 @@ returns c = λ head events h.
     c.table_of.ensures.table ∙ ap (λ (x : Cfg). table_of x.m chain.end.value) (c.cfg.ensures.run head events h) in
     ap (λ (b : Bool). let d : Chain = record { pcid = chain.pcid; tables = b; end = c.read.result } in d) c.has_accessed.ensures
     ∙ ap (ended chain.pcid (chain.tables && accessed chain.end.value))
-    (c.read.ensures head events h
+    (c.read.ensures.reading head events h
     ∙ ap (λ (l : Level). entry_read look c.args.la l (parent c.table_of.result) c.args.moment) c.below.ensures
     ∙ ap (λ t. entry_read look c.args.la (below chain.end.level) (parent t) c.args.moment) table)

@@ -4,6 +4,8 @@ use Rattle.pg_entry.specs.declared.Kind.{Kind}
 use Rattle.pg_entry.specs.Kinds.{kind_of}
 use Rattle.pg_check.specs.declared.lasting.Lasting.{Lasting}
 use Rattle.pg_check.specs.Lasting.{LastsTo}
+use Rattle.pg_chain.specs.declared.history.Past.{Past}
+use Rattle.pg_chain.specs.Standing.{IsPast}
 use Rattle.pg_check.proofs.Lastings.{nothing_lasts}
 use Rattle.pg_check.proofs.lasting.lasting_chain.Goals as goal
 
@@ -13,11 +15,15 @@ returns-then-asked-clause-lasting c = λ head events h.
     let kind : c.kind_at.result ≡ kind_of head.cfg chain.end.level chain.end.value =
     c.kind_at.ensures.kind ∙ ap (λ (x : Cfg). kind_of x chain.end.level chain.end.value) (c.cfg.ensures.run head events h) in
     subst (λ (k : Kind). LastsTo head events c.args.p c.args.la (record { chain = chain; global = c.is_global-global.result; asked = nat_lt chain.end.moment c.args.number; dropped = c.first_drop_of_translation-dropped.result }) k)
-    (sym c.in-Leaf.is ∙ kind)
-    (c.is_global-global.ensures head events h, λ asked. c.first_drop_of_translation-dropped.ensures head events h)
+    (sym c.in-Leaf.is ∙ kind) (
+      c.is_global-global.ensures.global head events h,
+      λ asked.
+          c.first_drop_of_translation-dropped.ensures head events (subst (λ (x : Past). IsPast x head events) (sym (c.past.ensures ∙ c.is_global-global.ensures.past)) h),
+    )
 
 pub returns-in-Table : goal.returns-in-Table
 returns-in-Table c = record {
+  past = refl;
   chain = refl;
   asked = inr refl;
   lasting = λ head events h.

@@ -12,5 +12,5 @@ keep-requires c =
     let count : c.len.result ≡ length memo.slots.items = search rules in
     let within : c.args.first < length memo.slots.items = omega (arith, count, c.if-first-len.true) in
     subst (λ (x : Past). HasWalk x before) c.self.view_is
-    (subst (λ (s : Option Slot). HasWalk memo.past.now s) (sym c.index-before.ensures)
-    (slot_at memo.past.now memo.slots.items c.args.first before c.self.invariant within))
+    (subst (λ (s : Option Slot). HasWalk memo.reader s) (sym c.index-before.ensures)
+    (slot_at memo.reader memo.slots.items c.args.first before c.self.invariant within))

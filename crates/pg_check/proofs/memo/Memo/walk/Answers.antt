@@ -1,5 +1,7 @@
 use Rattle.std.proofs.Common.{refl, sym, subst}
 use Rattle.pg_event.specs.declared.event.Want.{Want}
+use Rattle.pg_chain.specs.declared.history.Past.{Past}
+use Rattle.pg_chain.specs.Standing.{IsPast}
 use Rattle.pg_event.specs.declared.event.Want.TheVariants as wants
 use Rattle.pg_check.specs.Lasting.{IsWalk}
 use Rattle.pg_check.proofs.Pages.{walk_of_page}
@@ -10,3 +12,7 @@ returns-then-may_be_kept-clause-walk c = λ head events h.
     let ws = c.args.moments.now in
     subst (λ (w : Want). IsWalk head events c.args.p c.args.la w ws c.page_walk.result) (sym (c.if-may_be_kept.ensures refl))
     (walk_of_page head events c.args.p c.args.la wants.Leaf ws c.page_walk.result (c.page_walk.ensures.walk head events h))
+
+pub returns-else-may_be_kept-clause-walk : goal.returns-else-may_be_kept-clause-walk
+returns-else-may_be_kept-clause-walk c = λ head events h.
+    c.lasting_walk.ensures.walk head events (subst (λ (x : Past). IsPast x head events) (sym c.self.view_is) h)

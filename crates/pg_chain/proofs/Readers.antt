@@ -1,0 +1,41 @@
+-- What a reader keeps says what it reads.
+use Rattle.std.proofs.Common.{◌≡◌, ℕ, suc, zero, ◌<◌, ◌≤◌, ◌^◌, List, [], ◌∷◌, length, get_or, set, Option, Some, None, IfSome, ap, sym, subst, ◌∙◌, arith}
+use Rattle.std.specs.List.{AllByRecursion}
+use Rattle.pg_event.specs.declared.event.Event.{Event}
+use Rattle.pg_event.specs.declared.control.Control.{Control}
+use Rattle.pg_event.specs.Heads.{Head}
+use Rattle.pg_event.specs.Values.{mem_at, control_at}
+use Rattle.pg_chain.specs.declared.history.Past.{Past}
+use Rattle.pg_chain.specs.declared.reader.Word.{Word}
+use Rattle.pg_chain.specs.declared.reader.Spell.{Spell}
+use Rattle.pg_chain.specs.Standing.{IsPast}
+use Rattle.pg_chain.specs.Known.{IsWord, IsSpell}
+
+pub all_at : {T : Type 0} (P : T → Type 0) (xs : List T) (i : ℕ) (d : T) → AllByRecursion P xs → i < length xs → P (get_or xs i d)
+all_at P [] i d all h = absurd (omega arith)
+all_at P (x ∷ xs) zero d all h = all.0
+all_at P (x ∷ xs) (suc i) d all h = all_at P xs i d all.1 (omega arith)
+
+pub all_set : {T : Type 0} (P : T → Type 0) (xs : List T) (i : ℕ) (x : T) → AllByRecursion P xs → P x → AllByRecursion P (set xs i x)
+all_set P [] i x all has = all
+all_set P (y ∷ ys) zero x all has = (has, all.1)
+all_set P (y ∷ ys) (suc i) x all has = (all.0, all_set P ys i x all.1 has)
+
+pub word_read : (past : Past) (word : Word) (o : Option ℕ) (moment address : ℕ) → IsWord past word → word.address ≡ address →
+    IfSome o (λ v. (word.span.from ≤ moment) × (moment ≤ word.span.to) × (v ≡ word.span.value)) →
+    (head : Head) (events : List Event) → IsPast past head events → IfSome o (λ v. v ≡ mem_at events moment address)
+word_read past word None moment address is same h head events stands = tt
+word_read past word (Some v) moment address is same h head events stands =
+    h.2 ∙ sym (is head events stands moment h.0 h.1) ∙ ap (mem_at events moment) same
+
+pub spell_read : (past : Past) (spell : Spell) (o : Option Control) (moment p : ℕ) → IsSpell past spell → spell.p ≡ p →
+    IfSome o (λ c. (spell.span.from ≤ moment) × (moment ≤ spell.span.to) × (c ≡ spell.span.value)) →
+    (head : Head) (events : List Event) → IsPast past head events → IfSome o (λ c. c ≡ control_at head events p moment)
+spell_read past spell None moment p is same h head events stands = tt
+spell_read past spell (Some c) moment p is same h head events stands =
+    h.2 ∙ sym (is.same head events stands moment h.0 h.1) ∙ ap (λ q. control_at head events q moment) same
+
+pub spell_low : (past : Past) (spell : Spell) (o : Option Control) (moment : ℕ) → IsSpell past spell →
+    IfSome o (λ c. (spell.span.from ≤ moment) × (moment ≤ spell.span.to) × (c ≡ spell.span.value)) → IfSome o (λ c. c.root < 2 ^ 52)
+spell_low past spell None moment is h = tt
+spell_low past spell (Some c) moment is h = subst (λ (x : Control). x.root < 2 ^ 52) (sym h.2) is.root

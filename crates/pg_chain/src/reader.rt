@@ -1,0 +1,212 @@
+//! A past whose answers are kept, as long as they stand.
+
+ghost use Rattle.std.specs.Prelude.{◌≡◌, ◌<◌, ◌≤◌, ◌^◌, List, IfSome};
+ghost use Rattle.pg_event.specs.declared.event.Event.{Event};
+ghost use Rattle.pg_event.specs.Heads.{Head};
+ghost use Rattle.pg_event.specs.Values.{mem_at, control_at};
+ghost use Rattle.pg_chain.specs.Standing.{IsPast, processor_count};
+ghost use Rattle.pg_chain.specs.Known.{IsWord, IsSpell};
+
+use crate::history::Past;
+use pg_entry::Cfg;
+use pg_event::Control;
+use pg_timeline::Span;
+use std::marker::Model;
+
+/// A word of memory, with its value at some moments.
+#[derive(Clone, Copy, PartialEq, Eq, Debug)]
+pub struct Word {
+    /// Its physical byte address.
+    pub address: u64,
+    pub span: Span<u64>,
+}
+
+/// A processor, with its control registers at some moments.
+#[derive(Clone, Copy, PartialEq, Eq, Debug)]
+pub struct Spell {
+    pub p: u16,
+    pub span: Span<Control>,
+}
+
+/// A past, with words and control registers that were looked up in it. Walks read the same tables
+/// again and again, most of them at moments between which nothing was written there.
+#[derive(Debug, Drop)]
+pub struct Reader<'a> {
+    past: &'a Past,
+    words: Vec<Option<Word>>,
+    spells: Vec<Option<Spell>>,
+}
+
+impl<'a> Model for Reader<'a> {
+    ghost use Rattle.pg_chain.specs.declared.history.Past.{Past};
+    ghost use Rattle.pg_chain.specs.Known.{AreKnown};
+
+    ghost Value = { Past };
+
+    ghost view = { λ r. r.past.now };
+
+    ghost invariant = { λ r. AreKnown r.past.now r.words.items r.spells.items };
+}
+
+/// So many words are kept at most.
+const MOST_WORDS: usize = 2_048;
+
+/// An odd number whose bits are spread, which spreads those of what it is multiplied by.
+const SPREAD: u64 = 0x9e37_79b9_7f4a_7c15;
+
+/// The value of a span at a moment that lies in it.
+fn value_in<V: Copy>(span: &Span<V>, moment: u32) -> Option<V>
+    ensures { IfSome result (λ v. (span.now.from ≤ moment) × (moment ≤ span.now.to)
+        × (v ≡ span.now.value)) }
+{
+    if span.from <= moment && moment <= span.to {
+        Some(span.value)
+    } else {
+        None
+    }
+}
+
+impl<'a> Reader<'a> {
+    /// Nothing was looked up. There is room for so many words, up to a limit; where memory is
+    /// refused, each is looked up anew.
+    pub fn new(past: &'a Past, words: usize) -> Reader<'a>
+        ensures { result ≡ past.now }
+    {
+        let spells = if words == 0 {
+            0
+        } else {
+            past.controls.processors()
+        };
+        Reader {
+            past,
+            words: match Vec::from_elem(past.alloc, None, words.min(MOST_WORDS)) {
+                Ok(words) => words,
+                Err(_) => Vec::new(past.alloc),
+            },
+            spells: match Vec::from_elem(past.alloc, None, spells) {
+                Ok(spells) => spells,
+                Err(_) => Vec::new(past.alloc),
+            },
+        }
+    }
+
+    /// What the run did.
+    pub fn past(&self) -> &Past
+        ensures { result.now ≡ self.now }
+    {
+        self.past
+    }
+
+    /// The settings of the run.
+    pub fn cfg(&self) -> Cfg
+        ensures run { (head : Head) (events : List Event) → IsPast self.now head events →
+            result ≡ head.cfg }
+        ensures within { (36 ≤ result.m) × (result.m ≤ 52) }
+    {
+        self.past.cfg()
+    }
+
+    /// The place of a word, where there are any.
+    fn place_of(&self, address: u64) -> usize {
+        let number = (address >> 3).wrapping_mul(SPREAD) >> 32;
+        // The same part of the places that this number is of 2 to the power of 32.
+        (number.wrapping_mul(self.words.len() as u64) >> 32) as usize
+    }
+
+    /// The value of a word at a moment, where a place has it.
+    fn known_value(&self, place: usize, moment: u32, address: u64) -> Option<u64>
+        ensures { (head : Head) (events : List Event) → IsPast self.now head events →
+            IfSome result (λ v. v ≡ mem_at events moment address) }
+    {
+        match self.words.get(place)? {
+            Some(word) => if word.address == address {
+                value_in(&word.span, moment)
+            } else {
+                None
+            },
+            None => None,
+        }
+    }
+
+    /// Keeps a word at a place, where there is one.
+    fn keep_word(&mut self, place: usize, word: Word)
+        requires { IsWord self.old word }
+        ensures { self.new ≡ self.old }
+    {
+        if place < self.words.len() {
+            self.words[place] = Some(word);
+        }
+    }
+
+    /// The value at a physical address just before the event with this number.
+    pub fn value_at(&mut self, moment: u32, address: u64) -> u64
+        ensures past { self.new ≡ self.old }
+        ensures value { (head : Head) (events : List Event) → IsPast self.old head events →
+            result ≡ mem_at events moment address }
+    {
+        let place = self.place_of(address);
+        match self.known_value(place, moment, address) {
+            Some(value) => value,
+            None => {
+                let span = self.past.value_span(moment, address);
+                self.keep_word(place, Word { address, span });
+                span.value
+            }
+        }
+    }
+
+    /// The control registers of a processor at a moment, where they are kept.
+    fn known_control(&self, p: u16, moment: u32) -> Option<Control>
+        ensures run { (head : Head) (events : List Event) → IsPast self.now head events →
+            IfSome result (λ c. c ≡ control_at head events p moment) }
+        ensures root { IfSome result (λ c. c.root < 2 ^ 52) }
+    {
+        match self.spells.get(p as usize)? {
+            Some(spell) => if spell.p == p {
+                value_in(&spell.span, moment)
+            } else {
+                None
+            },
+            None => None,
+        }
+    }
+
+    /// Whether a place has no control registers, or earlier ones than those up to a moment.
+    fn is_behind(&self, place: usize, to: u32) -> bool {
+        match self.spells.get(place) {
+            Some(Some(spell)) => spell.span.to < to,
+            Some(None) => true,
+            None => false,
+        }
+    }
+
+    /// Keeps the control registers of a processor, where there is a place for it. Earlier ones than
+    /// it has are not kept: look-ups go on to later and later events.
+    fn keep_spell(&mut self, spell: Spell)
+        requires { IsSpell self.old spell }
+        ensures { self.new ≡ self.old }
+    {
+        let place = spell.p as usize;
+        if place < self.spells.len() && self.is_behind(place, spell.span.to) {
+            self.spells[place] = Some(spell);
+        }
+    }
+
+    /// The control registers of a processor just before the event with this number.
+    pub fn control_at(&mut self, p: u16, moment: u32) -> Control
+        requires { p < processor_count self.old }
+        ensures past { self.new ≡ self.old }
+        ensures run { (head : Head) (events : List Event) → IsPast self.old head events →
+            result ≡ control_at head events p moment }
+        ensures root { result.root < 2 ^ 52 }
+    {
+        match self.known_control(p, moment) {
+            Some(control) => control,
+            None => {
+                let span = self.past.control_span(p, moment);
+                self.keep_spell(Spell { p, span });
+                span.value
+            }
+        }
+    }
+}
