@@ -172,21 +172,23 @@ impl Past {
     }
 
     /// The same value, with the moments around this one at which it is the same.
-    pub fn value_span(&self, moment: u32, addr: u64) -> Span<u64>
-        ensures { (head : Head) (events : List Event) → IsPast self.now head events →
+    pub fn value_span(&self, moment: u32, addr: u64, probes: &mut Probes) -> Span<u64>
+        ensures run { (head : Head) (events : List Event) → IsPast self.now head events →
             IsSpan (λ w. mem_at events w addr) moment result }
+        ensures probes { (probes.old ≤ probes.new) × (probes.new ≤ probes.old + 35) }
     {
-        self.versions.span_at(moment, addr, &mut Probes::new())
+        self.versions.span_at(moment, addr, probes)
     }
 
     /// The control registers, with the moments around this one at which they are the same.
-    pub fn control_span(&self, p: u16, moment: u32) -> Span<Control>
+    pub fn control_span(&self, p: u16, moment: u32, probes: &mut Probes) -> Span<Control>
         requires { p < processor_count self.now }
         ensures run { (head : Head) (events : List Event) → IsPast self.now head events →
             IsSpan (λ w. control_at head events p w) moment result }
         ensures root { result.value.root < 2 ^ 52 }
+        ensures probes { (probes.old ≤ probes.new) × (probes.new ≤ probes.old + 35) }
     {
-        self.controls.control_span(p, moment, &mut Probes::new())
+        self.controls.control_span(p, moment, probes)
     }
 
     /// Whether the paging-structure-cache entry that level 4, 3 or 2 gives for a linear address
@@ -218,16 +220,17 @@ impl Past {
         la: u64,
         global: bool,
         from: u32,
+        probes: &mut Probes,
     ) -> Option<u32>
         requires { IsPageShift shift }
-        ensures { let key = translation_key pcid shift global la in
+        ensures run { let key = translation_key pcid shift global la in
             (head : Head) (events : List Event) → IsPast self.now head events →
             IsFirstDrop
             (λ a b. not (survives head events p (λ c e. must_drop_translation c e key) a b))
             from (2 ^ 32 - 1) result }
+        ensures probes { (probes.old ≤ probes.new) × (probes.new ≤ probes.old + 102) }
     {
-        let mut probes = Probes::new();
         self.drops
-            .first_drop_of_translation(p, pcid, shift, la, global, from, u32::MAX, &mut probes)
+            .first_drop_of_translation(p, pcid, shift, la, global, from, u32::MAX, probes)
     }
 }

@@ -1,16 +1,20 @@
 //! A past whose answers are kept, as long as they stand.
 
-ghost use Rattle.std.specs.Prelude.{◌≡◌, ◌<◌, ◌≤◌, ◌^◌, List, IfSome};
+ghost use Rattle.std.specs.Prelude.{◌≡◌, ◌-◌, ◌<◌, ◌≤◌, ◌^◌, List, IfSome, not};
 ghost use Rattle.pg_event.specs.declared.event.Event.{Event};
 ghost use Rattle.pg_event.specs.Heads.{Head};
 ghost use Rattle.pg_event.specs.Values.{mem_at, control_at};
+ghost use Rattle.pg_event.specs.Invalidation.{translation_key, must_drop_translation};
+ghost use Rattle.pg_event.specs.Witness.{survives};
+ghost use Rattle.pg_entry.specs.Kinds.{IsPageShift};
+ghost use Rattle.pg_inval.specs.Lists.{IsFirstDrop};
 ghost use Rattle.pg_chain.specs.Standing.{IsPast, processor_count};
 ghost use Rattle.pg_chain.specs.Known.{IsWord, IsSpell};
 
 use crate::history::Past;
 use pg_entry::Cfg;
 use pg_event::Control;
-use pg_timeline::Span;
+use pg_timeline::{Probes, Span};
 use std::marker::Model;
 
 /// A word of memory, with its value at some moments.
@@ -35,6 +39,7 @@ pub struct Reader<'a> {
     past: &'a Past,
     words: Vec<Option<Word>>,
     spells: Vec<Option<Spell>>,
+    probes: Probes,
 }
 
 impl<'a> Model for Reader<'a> {
@@ -87,6 +92,7 @@ impl<'a> Reader<'a> {
                 Ok(spells) => spells,
                 Err(_) => Vec::new(past.alloc),
             },
+            probes: Probes::new(),
         }
     }
 
@@ -95,6 +101,11 @@ impl<'a> Reader<'a> {
         ensures { result.now ≡ self.now }
     {
         self.past
+    }
+
+    /// How many moments its look-ups in the past have read: none where a value was kept.
+    pub fn probes(&self) -> u64 {
+        self.probes.count()
     }
 
     /// The settings of the run.
@@ -148,7 +159,7 @@ impl<'a> Reader<'a> {
         match self.known_value(place, moment, address) {
             Some(value) => value,
             None => {
-                let span = self.past.value_span(moment, address);
+                let span = self.past.value_span(moment, address, &mut self.probes);
                 self.keep_word(place, Word { address, span });
                 span.value
             }
@@ -203,10 +214,34 @@ impl<'a> Reader<'a> {
         match self.known_control(p, moment) {
             Some(control) => control,
             None => {
-                let span = self.past.control_span(p, moment);
+                let span = self.past.control_span(p, moment, &mut self.probes);
                 self.keep_spell(Spell { p, span });
                 span.value
             }
         }
+    }
+
+    /// The first event from this moment on at which a processor had to drop the translation of a
+    /// linear address by a page of 2 to the power of `shift` bytes (12, 21 or 30) under a PCID.
+    pub fn first_drop_of_translation(
+        &mut self,
+        p: u16,
+        pcid: u16,
+        shift: u8,
+        la: u64,
+        global: bool,
+        from: u32,
+    ) -> Option<u32>
+        requires { IsPageShift shift }
+        ensures past { self.new ≡ self.old }
+        ensures run { let key = translation_key pcid shift global la in
+            (head : Head) (events : List Event) → IsPast self.old head events →
+            IsFirstDrop
+            (λ a b. not (survives head events p (λ c e. must_drop_translation c e key) a b))
+            from (2 ^ 32 - 1) result }
+    {
+        let probes = &mut self.probes;
+        self.past
+            .first_drop_of_translation(p, pcid, shift, la, global, from, probes)
     }
 }

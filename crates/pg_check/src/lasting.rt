@@ -54,9 +54,7 @@ pub fn lasting_chain(reader: &mut Reader<'_>, p: u16, la: u64, chain: Chain, num
             let global = is_global(reader, p, end.moment, global_bit);
             let asked = end.moment < number;
             let dropped = if asked {
-                reader
-                    .past()
-                    .first_drop_of_translation(p, chain.pcid, shift, la, global, end.moment)
+                reader.first_drop_of_translation(p, chain.pcid, shift, la, global, end.moment)
             } else {
                 None
             };

@@ -148,6 +148,11 @@ impl<'a> Memo<'a> {
         self.reader.past()
     }
 
+    /// How many moments its look-ups in the past have read: none for a walk that it kept.
+    pub fn probes(&self) -> u64 {
+        self.reader.probes()
+    }
+
     /// The control registers of a processor just before the event with this number.
     pub(crate) fn control_at(&mut self, p: u16, moment: u32) -> Control
         requires { p < processor_count self.old }

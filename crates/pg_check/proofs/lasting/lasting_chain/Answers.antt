@@ -18,7 +18,7 @@ returns-then-asked-clause-lasting c = λ head events h.
     (sym c.in-Leaf.is ∙ kind) (
       c.is_global-global.ensures.global head events h,
       λ asked.
-          c.first_drop_of_translation-dropped.ensures head events (subst (λ (x : Past). IsPast x head events) (sym (c.past.ensures ∙ c.is_global-global.ensures.past)) h),
+          c.first_drop_of_translation-dropped.ensures.run head events (subst (λ (x : Past). IsPast x head events) (sym c.is_global-global.ensures.past) h),
     )
 
 pub returns-in-Table : goal.returns-in-Table

@@ -7,7 +7,7 @@ pub keep_spell-requires : goal.keep_spell-requires
 keep_spell-requires c = record {
   root = c.control_span-span.ensures.root;
   same = λ head events h w low high.
-      (c.control_span-span.ensures.run head events (subst (λ (x : Past). IsPast x head events) (sym c.self.view_is) h)).same w low high;
+      (c.control_span-span.ensures.run head events h).same w low high;
 }
 
 pub returns-in-None-clause-run : goal.returns-in-None-clause-run

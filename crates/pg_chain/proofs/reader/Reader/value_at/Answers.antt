@@ -5,9 +5,9 @@ use Rattle.pg_chain.proofs.reader.Reader.value_at.Goals as goal
 
 pub keep_word-requires : goal.keep_word-requires
 keep_word-requires c = λ head events h w low high.
-    (c.value_span-span.ensures head events (subst (λ (x : Past). IsPast x head events) (sym c.self.view_is) h)).same w low high
+    (c.value_span-span.ensures.run head events h).same w low high
 
 pub returns-in-None-clause-value : goal.returns-in-None-clause-value
 returns-in-None-clause-value c = λ head events h.
-    let span = c.value_span-span.ensures head events (subst (λ (x : Past). IsPast x head events) (sym c.self.view_is) h) in
+    let span = c.value_span-span.ensures.run head events (subst (λ (x : Past). IsPast x head events) (sym c.self.view_is) h) in
     sym (span.same c.args.moment span.low span.high)
