@@ -1,8 +1,9 @@
 //! pcid-audit: the program over the standard streams.
 #![tactic(auto)]
 
+use pg_answers::{tell_memory, tell_text};
 use pg_codec::Watched;
-use pg_tool::{pcid_audit, tell_memory, tell_text};
+use pg_tool::pcid_audit;
 use std::env;
 use std::fs::{self, File};
 use std::io::{self, ErrorKind, Lock, Read, Write};

@@ -14,15 +14,15 @@ use Rattle.pg_plan.specs.Commands.{Asks, AsksNone, AsksHelp, AsksVersion, NamesH
 use Rattle.pg_plan.specs.Commands.{NamesVersion, IsFault, IsHelp, IsVersion}
 use Rattle.pg_report.specs.declared.error.AuditError.TheVariants.{Device}
 use Rattle.pg_report.specs.Changes.{Change, Fails, Works, Adds, AddsSome, drawn}
-use Rattle.pg_tool.specs.Certificates.{CertifiesRecord}
-use Rattle.pg_tool.specs.Explanations.{ExplainsRecord}
+use Rattle.pg_answers.specs.Certificates.{CertifiesRecord}
+use Rattle.pg_answers.specs.Explanations.{ExplainsRecord}
 use Rattle.pg_tool.specs.Guests.{RunsGuest}
-use Rattle.pg_tool.specs.Lines.{ShowsRecord, filter_of}
-use Rattle.pg_tool.specs.Naming.{NamesRecord}
-use Rattle.pg_tool.specs.Refusals.{StaysSame, Tells, refusal_line, memory_line, unopened_line}
-use Rattle.pg_tool.specs.Status.{Checks, ShowsRun}
-use Rattle.pg_tool.specs.Streams.{Streams}
-use Rattle.pg_tool.specs.Upgrades.{Upgrades}
+use Rattle.pg_answers.specs.Lines.{ShowsRecord, filter_of}
+use Rattle.pg_answers.specs.Naming.{NamesRecord}
+use Rattle.pg_answers.specs.Refusals.{StaysSame, Tells, refusal_line, memory_line, unopened_line}
+use Rattle.pg_answers.specs.Status.{Checks, ShowsRun}
+use Rattle.pg_answers.specs.Streams.{Streams}
+use Rattle.pg_answers.specs.Upgrades.{Upgrades}
 
 -- 0 where the text was written, and 2 where the output failed
 abbrev pub GivesText : List ℕ → Change → Change → ℕ → Type 0

@@ -1,13 +1,2 @@
-pub mod Runs
-pub mod Replay
-pub mod Streams
-pub mod Refusals
-pub mod Status
-pub mod Upgrades
 pub mod Guests
-pub mod Lines
-pub mod Texts
-pub mod Explanations
-pub mod Certificates
-pub mod Naming
 pub mod Answers

@@ -3,7 +3,7 @@
 ghost use Rattle.std.specs.Prelude.{◌≡◌};
 ghost use Rattle.pg_codec.specs.Writing.{Puts};
 ghost use Rattle.pg_report.specs.Changes.{filled};
-ghost use Rattle.pg_tool.specs.Refusals.{Tells, unopened_line};
+ghost use Rattle.pg_answers.specs.Refusals.{Tells, unopened_line};
 
 use crate::guest_refusals::put_name;
 use pg_codec::{Failed, Sink, put_all};

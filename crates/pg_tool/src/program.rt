@@ -1,174 +1,32 @@
-ghost use Rattle.std.specs.Prelude.{◌≡◌, IfOk};
+//! The program by its words: which command they ask for, and what it reads.
+
+ghost use Rattle.std.specs.Prelude.{◌≡◌};
 ghost use Rattle.pg_plan.specs.Commands.{AreFrom1To64, texts};
 ghost use Rattle.pg_pool.specs.Rounds.{AreCheckers};
-ghost use Rattle.pg_report.specs.Audits.{IsAudit};
-ghost use Rattle.pg_report.specs.Changes.{drawn, filled};
+ghost use Rattle.pg_report.specs.Changes.{filled};
 ghost use Rattle.pg_tool.specs.Answers.{Answers, CertifiesBy, Does, DoesNamed, GivesText, opens};
 ghost use Rattle.pg_tool.specs.Guests.{guest_error_status, run_error_status};
 ghost use Rattle.pg_tool.specs.Guests.{RunsGuest, TellsGuest};
-ghost use Rattle.pg_tool.specs.Status.{error_status, verdict_status, status_of, run_status};
-ghost use Rattle.pg_tool.specs.Status.{Checks, IsAbleBy, ShowsRun};
-ghost use Rattle.pg_tool.specs.Streams.{streams};
-ghost use Rattle.pg_tool.specs.Upgrades.{IsReportText, report_in, TellsReport, Upgrades};
+ghost use Rattle.pg_answers.specs.Streams.{streams};
 
-use crate::certificates::certify;
-use crate::explanations::explain;
 use crate::files::tell_unopened;
 use crate::guest_error::GuestError;
 use crate::guest_refusals::tell_guest;
 use crate::guests::run_script;
-use crate::lines::{filter_of, show};
-use crate::naming::name_moments;
-use crate::refusals::{tell, tell_error, tell_memory, tell_text};
-use crate::replayer::write_run;
-use crate::shown::{ReportText, Shown};
-use crate::upgrader::write_upgrade;
+use pg_answers::{
+    MEMORY, REFUSED, USAGE, YES, certify, check, explain, filter_of, name_moments, run_of, show,
+    tell, tell_memory, tell_text, upgrade,
+};
 use pg_codec::{Sink, Source, put_all};
 use pg_plan::{Command, Plan, Usage, plan};
-use pg_report::{AuditError, Verdict, audit, audit_one};
+use pg_report::AuditError;
 use pg_runner::RunError;
 use pg_script::{ScriptError, ScriptRefusal};
 use std::alloc::{AllocGlobal, Global};
 use std::sync::Wait;
 use std::thread::Threads;
 
-pub(crate) const YES: u8 = 0;
-
-pub(crate) const NO: u8 = 1;
-
-pub(crate) const REFUSED: u8 = 2;
-
-const MEMORY: u8 = 3;
-
-const USAGE: u8 = 64;
-
 const UNOPENED: u8 = 66;
-
-pub(crate) fn error_status(error: AuditError) -> u8
-    ensures { result ≡ error_status error }
-{
-    match error {
-        AuditError::Refused(_) | AuditError::Device => REFUSED,
-        AuditError::Memory | AuditError::Thread => MEMORY,
-        AuditError::Checkers => USAGE,
-    }
-}
-
-fn verdict_status(verdict: Verdict) -> u8
-    ensures { result ≡ verdict_status verdict }
-{
-    match verdict {
-        Verdict::Yes => YES,
-        Verdict::No { .. } => NO,
-    }
-}
-
-pub(crate) fn status_of(answer: Result<Verdict, AuditError>) -> u8
-    ensures { result ≡ status_of answer }
-{
-    match answer {
-        Ok(verdict) => verdict_status(verdict),
-        Err(error) => error_status(error),
-    }
-}
-
-fn run_status(answer: Result<Shown, AuditError>) -> u8
-    ensures { result ≡ run_status answer }
-{
-    match answer {
-        Ok(Shown::Run) => YES,
-        Ok(Shown::Report) => NO,
-        Err(error) => error_status(error),
-    }
-}
-
-/// The audit by so many checkers: by one, on the calling thread.
-fn audit_by<T: AllocGlobal + Threads + Wait + Sync, R: Source, O: Sink>(
-    rt: &T,
-    checkers: u16,
-    input: &mut R,
-    output: &mut O,
-) -> Result<Verdict, AuditError>
-    requires { AreCheckers checkers }
-    ensures audit { IsAudit
-        (drawn R.Source input.old input.new) (filled O.Sink output.old output.new) result }
-    ensures able { IsAbleBy checkers result }
-{
-    if checkers == 1 {
-        audit_one(rt.alloc(), input, output)
-    } else {
-        audit(rt, rt.alloc(), input, output, checkers as u32)
-    }
-}
-
-/// Audits the record on `input` by so many checkers, and writes its report to `output`, or one line
-/// to `errors` that says why there is none. It gives the exit status: 0 yes, 1 no, 2 refused, 3
-/// memory or a thread. One checker is the calling thread.
-pub fn check<T: AllocGlobal + Threads + Wait + Sync, R: Source, O: Sink, E: Sink>(
-    rt: &T,
-    checkers: u16,
-    input: &mut R,
-    output: &mut O,
-    errors: &mut E,
-) -> u8
-    requires { AreCheckers checkers }
-    ensures { Checks checkers (streams R.Source O.Sink E.Sink
-        (input.old, output.old, errors.old) (input.new, output.new, errors.new)) result }
-{
-    let answer = audit_by(rt, checkers, input, output);
-    tell_error(errors, &answer);
-    status_of(answer)
-}
-
-/// Writes a run of the manual's machine that has the events of the record on `input`, one step a
-/// line, after a machine took each of them; where the record is not accepted, its report. It gives
-/// the exit status: 0 a run, 1 no, 2 refused, 3 memory.
-pub fn run_of<R: Source, O: Sink, E: Sink>(
-    alloc: Global,
-    input: &mut R,
-    output: &mut O,
-    errors: &mut E,
-) -> u8
-    ensures { ShowsRun (streams R.Source O.Sink E.Sink
-        (input.old, output.old, errors.old) (input.new, output.new, errors.new)) result }
-{
-    let answer = write_run(alloc, input, output);
-    tell_error(errors, &answer);
-    run_status(answer)
-}
-
-/// Tells the report of an upgraded record, or why there is none, and gives the exit status.
-fn tell_upgrade<E: Sink>(errors: &mut E, answer: &Result<ReportText, AuditError>) -> u8
-    requires { IfOk answer.now IsReportText }
-    ensures { TellsReport (filled E.Sink errors.old errors.new) (report_in answer.now) result }
-{
-    match answer {
-        Ok(told) => match put_all(errors, told.text.as_bytes()) {
-            Ok(()) => verdict_status(told.report.verdict),
-            Err(_) => REFUSED,
-        },
-        Err(error) => {
-            tell(errors, *error);
-            error_status(*error)
-        }
-    }
-}
-
-/// Writes the version 2 record of the same events as the version 1 record on `input`, and its
-/// report to `errors`. It gives the exit status, which is that report's: 0 yes, 1 no; or 2 refused,
-/// 3 memory.
-pub fn upgrade<R: Source, O: Sink, E: Sink>(
-    alloc: Global,
-    input: &mut R,
-    output: &mut O,
-    errors: &mut E,
-) -> u8
-    ensures { Upgrades (streams R.Source O.Sink E.Sink
-        (input.old, output.old, errors.old) (input.new, output.new, errors.new)) result }
-{
-    let answer = write_upgrade(alloc, input, output);
-    tell_upgrade(errors, &answer)
-}
 
 fn run_error_status(error: RunError) -> u8
     ensures { result ≡ run_error_status error }

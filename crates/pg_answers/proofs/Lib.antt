@@ -1,0 +1,6 @@
+pub mod WrittenRuns
+pub mod Rows
+pub mod Upgraded
+pub mod GivenTexts
+pub mod Bad
+pub mod Named

@@ -1,0 +1,120 @@
+-- What is written for a record of which a run is asked, and what an error leaves.
+use Rattle.std.proofs.Common.{◌≡◌, ℕ, List, Option, Some, None, Ok, Err, IfSome, subst, inl, inr}
+use Rattle.std.specs.Prelude.{Result, ◌⊎◌}
+use Rattle.pg_event.specs.declared.event.Reason.{Reason}
+use Rattle.pg_event.specs.declared.version.Version.TheVariants.{Two}
+use Rattle.pg_event.specs.Witness.{first_bad}
+use Rattle.pg_event.specs.Spelling.{Recorded}
+use Rattle.pg_machine.specs.declared.step.Step.{Step}
+use Rattle.pg_run_of.specs.declared.build.BuildError.TheVariants.{NotAccepted}
+use Rattle.pg_run_of.specs.Build.{BuildsRun, IsNotAccepted}
+use Rattle.pg_report.specs.declared.report.Report.{Report}
+use Rattle.pg_report.specs.declared.error.AuditError.{AuditError}
+use Rattle.pg_report.specs.declared.error.AuditError.TheVariants as errors
+use Rattle.pg_report.specs.Changes.{Change, Works, AddsSome, AddsNothing}
+use Rattle.pg_report.specs.Intake.{ReadsRecord, TellsDevice}
+use Rattle.pg_report.specs.Text.{report_of, report_text}
+use Rattle.pg_report.specs.Audits.{WritesText, SpellsOne, TellsFailures}
+use Rattle.pg_report.proofs.Verdicts.{one, none}
+use Rattle.pg_answers.specs.declared.shown.Shown.{Shown}
+use Rattle.pg_answers.specs.declared.shown.Shown.TheVariants as shown
+use Rattle.pg_answers.specs.Runs.{run_text}
+use Rattle.pg_answers.specs.Status.{GivesRun, HasRunText, HasReportText, HasSomeText, HasWrittenRun, IsRunOf, WritesRun}
+
+-- ---- what is written of a record
+
+module _ (r : Recorded) (output : Change) where
+  steps_left : (steps : List Step) → BuildsRun r.head r.events steps → (e : AuditError) → WritesText output (run_text steps) {A = Unit {0}} (Err e) → WritesRun r output (Err e)
+  steps_left steps builds (errors.Refused d) wrote = wrote
+  steps_left steps builds errors.Device wrote = inl (steps, builds, wrote)
+  steps_left steps builds errors.Memory wrote = wrote
+  steps_left steps builds errors.Thread wrote = wrote
+  steps_left steps builds errors.Checkers wrote = wrote
+
+  -- where the writer failed on the text of a run
+  pub steps_fail : (steps given : List Step) → BuildsRun r.head r.events steps → given ≡ steps → (e : AuditError) → WritesText output (run_text given) {A = Unit {0}} (Err e) → WritesRun r output (Err e)
+  steps_fail steps given builds is e wrote = steps_left steps builds e (subst (λ (x : List Step). WritesText output (run_text x) {A = Unit {0}} (Err e)) is wrote)
+
+  pub is_bad : (event : ℕ) (reason : Reason) → IsNotAccepted r.head r.events (NotAccepted event reason) → first_bad r.head r.events ≡ None → ⊥
+  is_bad event reason some none = cc
+
+  report_left : (first_bad r.head r.events ≡ None → ⊥) → (e : AuditError) → WritesText output (report_text (report_of r)) {A = Unit {0}} (Err e) → WritesRun r output (Err e)
+  report_left bad (errors.Refused d) wrote = wrote
+  report_left bad errors.Device wrote = inr (bad, wrote)
+  report_left bad errors.Memory wrote = wrote
+  report_left bad errors.Thread wrote = wrote
+  report_left bad errors.Checkers wrote = wrote
+
+  -- where it failed on a report
+  pub report_fails : (report : Report) → (first_bad r.head r.events ≡ None → ⊥) → report ≡ report_of r → (e : AuditError) → WritesText output (report_text report) {A = Unit {0}} (Err e) → WritesRun r output (Err e)
+  report_fails report bad is e wrote = report_left bad e (subst (λ (x : Report). WritesText output (report_text x) {A = Unit {0}} (Err e)) is wrote)
+
+module _ (input output : Change) where
+  -- ---- an error of reading, with the writer left alone
+
+  reading_gives : (left : Option (List ℕ)) (e : AuditError) → IfSome left (λ bytes. ReadsRecord Two bytes (Err e)) → TellsDevice {A = Recorded} input (Err e) → AddsNothing output → Works output
+      → IfSome left (λ bytes. GivesRun bytes input output (Err e))
+  reading_gives None e reads read kept worked = tt
+  reading_gives (Some bytes) (errors.Refused d) reads read kept worked = (reads, none bytes d reads, kept)
+  reading_gives (Some bytes) errors.Device reads read kept worked = inl ((read, worked), kept)
+  reading_gives (Some bytes) errors.Memory reads read kept worked = kept
+  reading_gives (Some bytes) errors.Thread reads read kept worked = absurd reads
+  reading_gives (Some bytes) errors.Checkers reads read kept worked = absurd reads
+
+  pub reading_fails : (e : AuditError) → IfSome input.old.bytes (λ bytes. ReadsRecord Two bytes (Err e)) → TellsDevice {A = Recorded} input (Err e) → AddsNothing output → Works output → IsRunOf input output (Err e)
+  reading_fails e reads read kept worked = record { gives = reading_gives input.old.bytes e reads read kept worked; written = nothing e read; failures = tells e read }
+    where
+      nothing : (e : AuditError) → TellsDevice {A = Recorded} input (Err e) → HasWrittenRun input output (Err e)
+      nothing (errors.Refused d) read = kept
+      nothing errors.Device read = inl ((read, worked), kept)
+      nothing errors.Memory read = kept
+      nothing errors.Thread read = kept
+      nothing errors.Checkers read = kept
+
+      tells : (e : AuditError) → TellsDevice {A = Recorded} input (Err e) → TellsFailures {A = Shown} input output (Err e)
+      tells (errors.Refused d) read = (read, worked)
+      tells errors.Device read = inl (read, worked)
+      tells errors.Memory read = (read, worked)
+      tells errors.Thread read = (read, worked)
+      tells errors.Checkers read = (read, worked)
+
+  -- ---- a record that was read
+
+  module _ (r : Recorded) (reads : IfSome input.old.bytes (λ bytes. ReadsRecord Two bytes (Ok r))) (read : TellsDevice {A = Recorded} input (Ok r)) where
+    pub run_told : (told : Result Shown AuditError) → WritesRun r output told → TellsDevice output told → IsRunOf input output told
+    run_told told wrote left = record { gives = gives input.old.bytes told reads wrote left; written = some told wrote left; failures = tells told wrote left }
+      where
+        fails : (bytes : List ℕ) → SpellsOne bytes r → WritesRun r output (Err errors.Device) → HasRunText bytes (AddsSome output) ⊎ HasReportText bytes (AddsSome output)
+        fails bytes spells (inl text) = inl (r, spells, text.0, text.1, text.2)
+        fails bytes spells (inr text) = inr (r, spells, text.0, text.1)
+
+        gives : (left : Option (List ℕ)) (told : Result Shown AuditError) → IfSome left (λ bytes. ReadsRecord Two bytes (Ok r)) → WritesRun r output told → TellsDevice output told → IfSome left (λ bytes. GivesRun bytes input output told)
+        gives None told reads wrote left = tt
+        gives (Some bytes) (Ok shown.Run) reads wrote left = (r, one bytes r reads.0, wrote.0, wrote.1, wrote.2)
+        gives (Some bytes) (Ok shown.Report) reads wrote left = (r, one bytes r reads.0, wrote.0, wrote.1)
+        gives (Some bytes) (Err (errors.Refused d)) reads wrote left = absurd wrote
+        gives (Some bytes) (Err errors.Device) reads wrote left = inr ((read, left), fails bytes (one bytes r reads.0) wrote)
+        gives (Some bytes) (Err errors.Memory) reads wrote left = wrote
+        gives (Some bytes) (Err errors.Thread) reads wrote left = absurd wrote
+        gives (Some bytes) (Err errors.Checkers) reads wrote left = absurd wrote
+
+        text : WritesRun r output (Err errors.Device) → HasSomeText (AddsSome output)
+        text (inl its) = inl (its.0, its.2)
+        text (inr its) = inr (report_of r, its.1)
+
+        some : (told : Result Shown AuditError) → WritesRun r output told → TellsDevice output told → HasWrittenRun input output told
+        some (Ok shown.Run) wrote left = (wrote.0, wrote.2)
+        some (Ok shown.Report) wrote left = (report_of r, wrote.1)
+        some (Err (errors.Refused d)) wrote left = absurd wrote
+        some (Err errors.Device) wrote left = inr ((read, left), text wrote)
+        some (Err errors.Memory) wrote left = wrote
+        some (Err errors.Thread) wrote left = absurd wrote
+        some (Err errors.Checkers) wrote left = absurd wrote
+
+        tells : (told : Result Shown AuditError) → WritesRun r output told → TellsDevice output told → TellsFailures {A = Shown} input output told
+        tells (Ok x) wrote left = (read, left)
+        tells (Err (errors.Refused d)) wrote left = absurd wrote
+        tells (Err errors.Device) wrote left = inr (read, left)
+        tells (Err errors.Memory) wrote left = (read, left)
+        tells (Err errors.Thread) wrote left = absurd wrote
+        tells (Err errors.Checkers) wrote left = absurd wrote

@@ -1,0 +1,11 @@
+pub mod Runs
+pub mod Replay
+pub mod Streams
+pub mod Refusals
+pub mod Status
+pub mod Upgrades
+pub mod Lines
+pub mod Texts
+pub mod Explanations
+pub mod Certificates
+pub mod Naming

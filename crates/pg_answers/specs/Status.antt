@@ -1,0 +1,136 @@
+-- Exit statuses, and what they say.
+use Rattle.std.specs.Prelude.{◌≡◌, ◌≢◌, ℕ, List, Some, None, Result, Ok, Err, ◌⊎◌, IfSome}
+use Rattle.pg_event.specs.Witness.{first_bad}
+use Rattle.pg_event.specs.Spelling.{Recorded}
+use Rattle.pg_event.specs.Reading.{refusal}
+use Rattle.pg_machine.specs.declared.step.Step.{Step}
+use Rattle.pg_run_of.specs.Build.{BuildsRun}
+use Rattle.pg_report.specs.declared.report.Verdict.{Verdict}
+use Rattle.pg_report.specs.declared.report.Verdict.TheVariants.{Yes, No}
+use Rattle.pg_report.specs.declared.error.AuditError.{AuditError}
+use Rattle.pg_report.specs.declared.error.AuditError.TheVariants.{Refused, Device, Memory}
+use Rattle.pg_report.specs.declared.error.AuditError.TheVariants.{Thread, Checkers}
+use Rattle.pg_report.specs.declared.report.Report.{Report}
+use Rattle.pg_report.specs.Text.{report_of, report_text}
+use Rattle.pg_report.specs.Changes.{Change, Adds, AddsSome, AddsNothing}
+use Rattle.pg_report.specs.Audits.{SpellsOne, SpellsNone, ReaderFails, WriterFails}
+use Rattle.pg_report.specs.Audits.{TellsFailures, IsAudit}
+use Rattle.pg_answers.specs.declared.shown.Shown.{Shown}
+use Rattle.pg_answers.specs.declared.shown.Shown.TheVariants as shown
+use Rattle.pg_answers.specs.Runs.{run_text}
+use Rattle.pg_answers.specs.Refusals.{TellsError}
+use Rattle.pg_answers.specs.Streams.{Streams}
+
+-- 0 yes, 1 no, 2 refused input or a failed device, 3 want of memory or of a thread, 64 a number of
+-- checkers that can't be
+abbrev pub error_status : AuditError → ℕ
+error_status (Refused e) = 2
+error_status Device = 2
+error_status Memory = 3
+error_status Thread = 3
+error_status Checkers = 64
+
+abbrev pub verdict_status : Verdict → ℕ
+verdict_status Yes = 0
+verdict_status (No event reason) = 1
+
+abbrev pub status_of : Result Verdict AuditError → ℕ
+status_of (Ok verdict) = verdict_status verdict
+status_of (Err e) = error_status e
+
+-- so many checkers can be had, and one wants no thread
+abbrev pub IsAbleBy : ℕ → Result Verdict AuditError → Type 0
+IsAbleBy checkers answer = (answer ≢ Err Checkers) × (checkers ≡ 1 → answer ≢ Err Thread)
+
+-- The status is that of an audit of what the reader had left by so many checkers, and the line on
+-- standard error is that of the same answer.
+abbrev pub Checks : ℕ → Streams → ℕ → Type 0
+Checks checkers s status =
+    (answer : Result Verdict AuditError) × (status ≡ status_of answer)
+    × IsAudit s.input s.output answer × IsAbleBy checkers answer × TellsError s.errors answer
+
+-- the bytes spell one record, these steps are its planned run, and this holds of their text
+abbrev pub HasRunText : List ℕ → (List ℕ → Type 0) → Type 0
+HasRunText bytes P =
+    (r : Recorded) × SpellsOne bytes r × (steps : List Step) × BuildsRun r.head r.events steps
+    × P (run_text steps)
+
+-- the bytes spell one record, which is not accepted, and this holds of its report's text
+abbrev pub HasReportText : List ℕ → (List ℕ → Type 0) → Type 0
+HasReportText bytes P =
+    (r : Recorded) × SpellsOne bytes r × (first_bad r.head r.events ≡ None → ⊥)
+    × P (report_text (report_of r))
+
+-- Asked for a run of the record that these bytes spell, the program answers so, and leaves the
+-- writer so: there is one, and its text was written and nothing else; the record is not accepted,
+-- and its report was; or the bytes spell none, and nothing was written; nor was it for want of
+-- memory, nor where the reader failed; where the writer failed a beginning of that text was.
+abbrev pub GivesRun : List ℕ → Change → Change → Result Shown AuditError → Type 0
+GivesRun bytes input output (Ok shown.Run) = HasRunText bytes (Adds output)
+GivesRun bytes input output (Ok shown.Report) = HasReportText bytes (Adds output)
+GivesRun bytes input output (Err (Refused e)) =
+    (refusal bytes ≡ Some e) × SpellsNone bytes × AddsNothing output
+GivesRun bytes input output (Err Memory) = AddsNothing output
+GivesRun bytes input output (Err Thread) = ⊥
+GivesRun bytes input output (Err Checkers) = ⊥
+GivesRun bytes input output (Err Device) =
+    (ReaderFails input output × AddsNothing output)
+    ⊎ (WriterFails input output
+    × (HasRunText bytes (AddsSome output) ⊎ HasReportText bytes (AddsSome output)))
+
+-- the text of some run, or of a report
+abbrev pub HasSomeText : (List ℕ → Type 0) → Type 0
+HasSomeText P =
+    ((steps : List Step) × P (run_text steps)) ⊎ ((report : Report) × P (report_text report))
+
+-- what was written, whatever the reader tells
+abbrev pub HasWrittenRun : Change → Change → Result Shown AuditError → Type 0
+HasWrittenRun input output (Ok shown.Run) =
+    (steps : List Step) × Adds output (run_text steps)
+HasWrittenRun input output (Ok shown.Report) =
+    (report : Report) × Adds output (report_text report)
+HasWrittenRun input output (Err (Refused e)) = AddsNothing output
+HasWrittenRun input output (Err Memory) = AddsNothing output
+HasWrittenRun input output (Err Thread) = AddsNothing output
+HasWrittenRun input output (Err Checkers) = AddsNothing output
+HasWrittenRun input output (Err Device) =
+    (ReaderFails input output × AddsNothing output)
+    ⊎ (WriterFails input output × HasSomeText (AddsSome output))
+
+-- the steps of the record's planned run, whose text this holds of
+abbrev pub HasStepsText : Recorded → (List ℕ → Type 0) → Type 0
+HasStepsText r P = (steps : List Step) × BuildsRun r.head r.events steps × P (run_text steps)
+
+-- the record is not accepted, and this holds of its report's text
+abbrev pub HasNoText : Recorded → (List ℕ → Type 0) → Type 0
+HasNoText r P = (first_bad r.head r.events ≡ None → ⊥) × P (report_text (report_of r))
+
+-- what was written of a record: the text of its planned run, or of its report where it is not
+-- accepted; a beginning of that text where the writer failed, and nothing where memory was refused
+abbrev pub WritesRun : Recorded → Change → Result Shown AuditError → Type 0
+WritesRun r output (Ok shown.Run) = HasStepsText r (Adds output)
+WritesRun r output (Ok shown.Report) = HasNoText r (Adds output)
+WritesRun r output (Err (Refused e)) = ⊥
+WritesRun r output (Err Memory) = AddsNothing output
+WritesRun r output (Err Thread) = ⊥
+WritesRun r output (Err Checkers) = ⊥
+WritesRun r output (Err Device) =
+    HasStepsText r (AddsSome output) ⊎ HasNoText r (AddsSome output)
+
+-- all that `run-of` promises of its answer and its streams
+pub record IsRunOf (input output : Change) (result : Result Shown AuditError) : Type 0 where
+  pub gives : IfSome input.old.bytes (λ bytes. GivesRun bytes input output result)
+  pub written : HasWrittenRun input output result
+  pub failures : TellsFailures input output result
+
+-- 0 a run, 1 the report of a record that is not accepted
+abbrev pub run_status : Result Shown AuditError → ℕ
+run_status (Ok shown.Run) = 0
+run_status (Ok shown.Report) = 1
+run_status (Err e) = error_status e
+
+-- The status is that of such an answer, and the line on standard error is its line.
+abbrev pub ShowsRun : Streams → ℕ → Type 0
+ShowsRun s status =
+    (answer : Result Shown AuditError) × (status ≡ run_status answer)
+    × IsRunOf s.input s.output answer × TellsError s.errors answer

@@ -1,0 +1,160 @@
+//! Whether some run of the machine has a record's events, whatever moments they name.
+
+ghost use Rattle.std.specs.Prelude.{◌≡◌, ◌<◌, true, length, IfOk, IfSome, slice_get};
+ghost use Rattle.std.specs.Prelude.{string_bytes};
+ghost use Rattle.pg_search.specs.Law.{names_moments};
+ghost use Rattle.pg_report.specs.Audits.{WritesText};
+ghost use Rattle.pg_report.specs.Changes.{drawn, filled};
+ghost use Rattle.pg_report.specs.Intake.{TellsDevice};
+ghost use Rattle.pg_event.specs.Spelling.{segment_count};
+ghost use Rattle.pg_report.specs.Text.{report_text, counts_text};
+ghost use Rattle.pg_answers.specs.Certificates.{CertifiesRecord, IsCertificateOf, IsDenialText};
+ghost use Rattle.pg_answers.specs.Certificates.{certificate_status, certified_report};
+ghost use Rattle.pg_answers.specs.Certificates.{denied_head, denied_report};
+ghost use Rattle.pg_answers.specs.Streams.{streams};
+ghost use Rattle.pg_answers.specs.Texts.{IsTextGiven};
+
+use crate::refusals::tell_error;
+use crate::shown::CertificateText;
+use crate::statuses::error_status;
+use pg_certify::{certified_events_run, denied_events_have_no_run, first_denied};
+use pg_check::History;
+use pg_codec::{Sink, Source};
+use pg_explain::{denial_text, deny};
+use pg_report::{AuditError, Report, Verdict, read_record, write_text};
+use std::alloc::{AllocError, Global};
+
+/// The report of a yes.
+fn yes_text(alloc: Global, history: &History) -> Result<String, AllocError>
+    ensures { IfOk result (λ t. string_bytes t ≡ report_text (certified_report history.now)) }
+{
+    let report = Report {
+        verdict: Verdict::Yes,
+        events: history.len(),
+        segments: history.segments(),
+    };
+    report.text(alloc)
+}
+
+fn no_head(alloc: Global, event: u64) -> Result<String, AllocError>
+    ensures { IfOk result (λ t. string_bytes t ≡ denied_head event) }
+{
+    format!(in alloc; "verdict: no\nevent: {event}\nreason: 14 no moments\n")
+}
+
+fn counts_of(alloc: Global, history: &History) -> Result<String, AllocError>
+    ensures { IfOk result (λ t. string_bytes t
+        ≡ counts_text (length history.now.events) (segment_count history.now)) }
+{
+    let events = history.len();
+    let segments = history.segments();
+    format!(in alloc; "events: {events}\nsegments: {segments}\n")
+}
+
+/// The report of a no.
+fn no_report(alloc: Global, history: &History, event: u64) -> Result<String, AllocError>
+    ensures { IfOk result (λ t. string_bytes t ≡ denied_report history.now event) }
+{
+    let mut text = no_head(alloc, event)?;
+    let counts = counts_of(alloc, history)?;
+    text.push_str(counts.as_str())?;
+    Ok(text)
+}
+
+/// The report of a no, and what stands behind it.
+pub(crate) fn no_text(alloc: Global, history: &History, event: u64) -> Result<String, AllocError>
+    requires within { event < length history.now.events }
+    requires names { IfSome (slice_get history.now.events event) (λ e. names_moments e ≡ true) }
+    ensures { IfOk result (λ t. IsDenialText history.now event (string_bytes t)) }
+{
+    let mut text = no_report(alloc, history, event)?;
+    let denial = deny(alloc, history, event)?;
+    let told = denial_text(alloc, history.events(), &denial)?;
+    text.push_str(told.as_str())?;
+    Ok(text)
+}
+
+/// What certifying a record comes to, with its text.
+fn certificate_of(alloc: Global, history: &History) -> Result<CertificateText, AllocError>
+    ensures { IfOk result (λ told. IsCertificateOf history.now told.denied
+        (string_bytes told.text)) }
+{
+    // What a yes and a no say of runs, of events that are well formed and not too many.
+    certified_events_run();
+    denied_events_have_no_run();
+    let _events = history.events();
+    match first_denied(alloc, history)? {
+        None => {
+            let text = yes_text(alloc, history)?;
+            Ok(CertificateText { denied: None, text })
+        }
+        Some(event) => {
+            let text = no_text(alloc, history, event)?;
+            Ok(CertificateText {
+                denied: Some(event),
+                text,
+            })
+        }
+    }
+}
+
+/// Writes what is told of a record, and gives the event of a no.
+fn give_certificate<O: Sink>(
+    output: &mut O,
+    told: CertificateText,
+) -> Result<Option<u64>, AuditError>
+    ensures text { WritesText (filled O.Sink output.old output.new)
+        (string_bytes told.text) result }
+    ensures device { TellsDevice (filled O.Sink output.old output.new) result }
+    ensures denied { IfOk result (λ denied. denied ≡ told.denied) }
+{
+    match write_text(output, told.text.as_str()) {
+        Ok(()) => Ok(told.denied),
+        Err(error) => Err(error),
+    }
+}
+
+/// Reads a record, and writes whether it can be certified. Nothing is written before that is known.
+fn write_certificate<R: Source, O: Sink>(
+    alloc: Global,
+    input: &mut R,
+    output: &mut O,
+) -> Result<Option<u64>, AuditError>
+    ensures { IsTextGiven IsCertificateOf
+        (drawn R.Source input.old input.new) (filled O.Sink output.old output.new) result }
+{
+    let history = match read_record(alloc, input) {
+        Ok(history) => history,
+        Err(error) => return Err(error),
+    };
+    let told = certificate_of(alloc, &history)?;
+    give_certificate(output, told)
+}
+
+fn certificate_status(answer: Result<Option<u64>, AuditError>) -> u8
+    ensures { result ≡ certificate_status answer }
+{
+    match answer {
+        Ok(None) => 0,
+        Ok(Some(_)) => 1,
+        Err(error) => error_status(error),
+    }
+}
+
+/// Writes whether some run of the machine has the events of the record on `input`, whatever moments
+/// they name: a report, and behind a no what stands behind it: the least event that no moments
+/// witness, what its processor would have read then, and when the event would last have been
+/// witnessed. It gives the exit status: 0 yes, 1 no, 2 refused, 3 memory.
+pub fn certify<R: Source, O: Sink, E: Sink>(
+    alloc: Global,
+    input: &mut R,
+    output: &mut O,
+    errors: &mut E,
+) -> u8
+    ensures { CertifiesRecord (streams R.Source O.Sink E.Sink
+        (input.old, output.old, errors.old) (input.new, output.new, errors.new)) result }
+{
+    let answer = write_certificate(alloc, input, output);
+    tell_error(errors, &answer);
+    certificate_status(answer)
+}

@@ -1,0 +1,79 @@
+//! A record's events, a line each.
+
+ghost use Rattle.std.specs.Prelude.{◌≡◌, IfOk, string_bytes};
+ghost use Rattle.pg_report.specs.Changes.{drawn, filled};
+ghost use Rattle.pg_answers.specs.Lines.{AreLinesOf, ShowsRecord, filter_of};
+ghost use Rattle.pg_answers.specs.Streams.{streams};
+ghost use Rattle.pg_answers.specs.Texts.{IsTextGiven};
+
+use crate::refusals::tell_error;
+use crate::shown::{ToldText, give};
+use crate::statuses::status_of;
+use pg_check::History;
+use pg_codec::{Sink, Source};
+use pg_explain::{Filter, shown_text};
+use pg_plan::Plan;
+use pg_report::{AuditError, Verdict, read_record, report_of};
+use std::alloc::{AllocError, Global};
+
+/// What a plan asks of the events that are shown.
+pub fn filter_of(plan: Plan) -> Filter
+    ensures { result ≡ filter_of plan }
+{
+    Filter {
+        from: plan.from,
+        to: plan.to,
+        cpu: None,
+        page: None,
+        word: None,
+    }
+}
+
+/// The lines of the events of a history that a filter lets through.
+fn shown(alloc: Global, history: &History, filter: Filter) -> Result<ToldText, AllocError>
+    ensures { IfOk result (λ told. AreLinesOf filter history.now told.verdict
+        (string_bytes told.text)) }
+{
+    let text = shown_text(alloc, filter, history.events())?;
+    Ok(ToldText {
+        verdict: report_of(history).verdict,
+        text,
+    })
+}
+
+/// Reads a record, and writes the lines of the events that are asked for. Nothing is written before
+/// they are ready.
+fn write_lines<R: Source, O: Sink>(
+    alloc: Global,
+    filter: Filter,
+    input: &mut R,
+    output: &mut O,
+) -> Result<Verdict, AuditError>
+    ensures { IsTextGiven (AreLinesOf filter)
+        (drawn R.Source input.old input.new) (filled O.Sink output.old output.new) result }
+{
+    let history = match read_record(alloc, input) {
+        Ok(history) => history,
+        Err(error) => return Err(error),
+    };
+    let told = shown(alloc, &history, filter)?;
+    give(output, told)
+}
+
+/// Writes the events of the record on `input` that a filter lets through, a line each, which may be
+/// none. It gives the exit status, which is the record's by `check`: 0 yes, 1 no, 2 refused, 3
+/// memory.
+pub fn show<R: Source, O: Sink, E: Sink>(
+    alloc: Global,
+    filter: Filter,
+    input: &mut R,
+    output: &mut O,
+    errors: &mut E,
+) -> u8
+    ensures { ShowsRecord filter (streams R.Source O.Sink E.Sink
+        (input.old, output.old, errors.old) (input.new, output.new, errors.new)) result }
+{
+    let answer = write_lines(alloc, filter, input, output);
+    tell_error(errors, &answer);
+    status_of(answer)
+}

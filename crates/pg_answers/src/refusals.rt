@@ -1,0 +1,104 @@
+//! Refusal lines on standard error. Whether they could be written changes no status.
+
+ghost use Rattle.std.specs.Prelude.{◌++◌, codes, decimal};
+ghost use Rattle.pg_codec.specs.Writing.{Puts};
+ghost use Rattle.pg_report.specs.Changes.{filled};
+ghost use Rattle.pg_answers.specs.Refusals.{refusal_text, place_text, refusal_line, memory_line};
+ghost use Rattle.pg_answers.specs.Refusals.{Tells, TellsError};
+
+use itoa::Buffer;
+use pg_codec::{Failed, Sink, put_all};
+use pg_event::Refusal;
+use pg_report::{AuditError, rule_number};
+
+/// Writes a number behind what stands before it.
+pub fn put_number<W: Sink>(errors: &mut W, before: &[u8], number: u64) -> Result<(), Failed>
+    ensures { Puts W.Sink (before.now ++ decimal number) errors.old errors.new result }
+{
+    let mut buffer = Buffer::new();
+    put_all(errors, before)?;
+    put_all(errors, buffer.format(number).as_bytes())
+}
+
+fn put_refusal<W: Sink>(errors: &mut W, number: u8, name: &str) -> Result<(), Failed>
+    ensures { Puts W.Sink (refusal_text number name.now) errors.old errors.new result }
+{
+    put_number(errors, b"pcid-audit: refused ", number as u64)?;
+    put_all(errors, b" ")?;
+    put_all(errors, name.as_bytes())
+}
+
+/// Where a malformed event is, and which rule it breaks.
+fn put_place<W: Sink>(errors: &mut W, error: AuditError) -> Result<(), Failed>
+    ensures { Puts W.Sink (place_text error) errors.old errors.new result }
+{
+    match error {
+        AuditError::Refused(Refusal::Malformed { event, rule }) => {
+            put_number(errors, b" event ", event)?;
+            put_number(errors, b" rule ", rule_number(rule) as u64)
+        }
+        AuditError::Refused(
+            Refusal::Magic
+            | Refusal::Version
+            | Refusal::HeaderField
+            | Refusal::SegmentNumber
+            | Refusal::SegmentCount
+            | Refusal::Tag
+            | Refusal::Truncated
+            | Refusal::Total
+            | Refusal::Trailing,
+        )
+        | AuditError::Device
+        | AuditError::Memory
+        | AuditError::Thread
+        | AuditError::Checkers => Ok(()),
+    }
+}
+
+/// The line that says why there is no answer.
+pub fn put_error<W: Sink>(errors: &mut W, error: AuditError) -> Result<(), Failed>
+    ensures { Puts W.Sink (refusal_line error) errors.old errors.new result }
+{
+    put_refusal(errors, error.number(), error.name())?;
+    put_place(errors, error)?;
+    put_all(errors, b"\n")
+}
+
+/// The line of a refusal with nothing behind its name.
+pub fn put_line<W: Sink>(errors: &mut W, number: u8, name: &str) -> Result<(), Failed>
+    ensures { Puts W.Sink (refusal_text number name.now ++ codes "\n")
+        errors.old errors.new result }
+{
+    put_refusal(errors, number, name)?;
+    put_all(errors, b"\n")
+}
+
+/// Writes the line that says why there is no answer.
+pub fn tell<W: Sink>(errors: &mut W, error: AuditError)
+    ensures { Tells (filled W.Sink errors.old errors.new) (refusal_line error) }
+{
+    let _ = put_error(errors, error);
+}
+
+/// Writes a text that says what is wrong.
+pub fn tell_text<W: Sink>(errors: &mut W, text: &str)
+    ensures { Tells (filled W.Sink errors.old errors.new) text.now }
+{
+    let _ = put_all(errors, text.as_bytes());
+}
+
+/// Writes that line where there is an error, and else nothing.
+pub fn tell_error<W: Sink, T>(errors: &mut W, answer: &Result<T, AuditError>)
+    ensures { TellsError (filled W.Sink errors.old errors.new) answer.now }
+{
+    if let Err(error) = answer {
+        tell(errors, *error);
+    }
+}
+
+/// Writes the line for want of memory before any input was read.
+pub fn tell_memory<W: Sink>(errors: &mut W)
+    ensures { Tells (filled W.Sink errors.old errors.new) memory_line }
+{
+    let _ = put_line(errors, 1, "memory");
+}

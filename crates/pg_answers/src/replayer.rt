@@ -1,0 +1,125 @@
+//! The run of a record, taken by a machine and written.
+
+ghost use Rattle.std.specs.Prelude.{◌≡◌, IfOk};
+ghost use Rattle.pg_event.specs.Spelling.{IsHead};
+ghost use Rattle.pg_machine.specs.Machine.{IsRun};
+ghost use Rattle.pg_machine.specs.Listed.{state_of};
+ghost use Rattle.pg_report.specs.Changes.{drawn, filled};
+ghost use Rattle.pg_report.specs.Audits.{WritesText};
+ghost use Rattle.pg_report.specs.Intake.{TellsDevice};
+ghost use Rattle.pg_answers.specs.Replay.{end_of_run};
+ghost use Rattle.pg_answers.specs.Runs.{run_text};
+ghost use Rattle.pg_answers.specs.Status.{IsRunOf, ShowsRun, WritesRun};
+ghost use Rattle.pg_answers.specs.Streams.{streams};
+
+use crate::refusals::tell_error;
+use crate::runs::run_text;
+use crate::shown::Shown;
+use crate::statuses::run_status;
+use pg_check::History;
+use pg_codec::{Sink, Source};
+use pg_event::Header;
+use pg_machine::{Machine, Step, Stuck};
+use pg_report::{AuditError, read_record, report_of, write_report, write_text};
+use pg_run_of::BuildError;
+use std::alloc::{AllocError, Global};
+
+/// A machine that has taken the steps of a run, one after another. It takes each of them, unless
+/// memory runs out.
+fn replay(alloc: Global, header: &Header, steps: &[Step]) -> Result<Machine, AllocError>
+    requires head { IsHead header.now }
+    requires run { IsRun header.now steps.now }
+    ensures { IfOk result (λ machine. state_of machine ≡ end_of_run header.now steps.now) }
+{
+    let mut machine = Machine::start(alloc, header)?;
+    for step in steps {
+        match machine.step(step) {
+            Ok(()) => {}
+            Err(Stuck::Memory) => return Err(AllocError),
+            Err(_) => unreachable!(),
+        }
+    }
+    Ok(machine)
+}
+
+/// Writes the text of a run. Nothing is written where memory is refused, and a beginning of the
+/// text where the writer fails.
+fn write_steps<O: Sink>(alloc: Global, output: &mut O, steps: &[Step]) -> Result<(), AuditError>
+    ensures text { WritesText (filled O.Sink output.old output.new) (run_text steps.now) result }
+    ensures device { TellsDevice (filled O.Sink output.old output.new) result }
+{
+    let text = run_text(alloc, steps)?;
+    write_text(output, text.as_str())
+}
+
+/// Has a machine take the steps of a run, and writes the run's text, as `write_steps`.
+fn write_replayed<O: Sink>(
+    alloc: Global,
+    header: &Header,
+    output: &mut O,
+    steps: &[Step],
+) -> Result<(), AuditError>
+    requires head { IsHead header.now }
+    requires run { IsRun header.now steps.now }
+    ensures text { WritesText (filled O.Sink output.old output.new) (run_text steps.now) result }
+    ensures device { TellsDevice (filled O.Sink output.old output.new) result }
+{
+    let _machine = replay(alloc, header, steps)?;
+    write_steps(alloc, output, steps)
+}
+
+/// Writes the run of an accepted record, or the report of one that is not.
+fn write_run_of<O: Sink>(
+    alloc: Global,
+    history: &History,
+    output: &mut O,
+) -> Result<Shown, AuditError>
+    ensures text { WritesRun history.now (filled O.Sink output.old output.new) result }
+    ensures device { TellsDevice (filled O.Sink output.old output.new) result }
+{
+    match pg_run_of::run_of(alloc, history) {
+        Ok(steps) => match write_replayed(alloc, history.header(), output, &steps) {
+            Ok(()) => Ok(Shown::Run),
+            Err(error) => Err(error),
+        },
+        Err(BuildError::NotAccepted { .. }) => {
+            match write_report(alloc, output, report_of(history)) {
+                Ok(()) => Ok(Shown::Report),
+                Err(error) => Err(error),
+            }
+        }
+        Err(BuildError::Memory) => Err(AuditError::Memory),
+    }
+}
+
+/// Reads a record, and writes its run if it is accepted, and else its report.
+fn write_run<R: Source, O: Sink>(
+    alloc: Global,
+    input: &mut R,
+    output: &mut O,
+) -> Result<Shown, AuditError>
+    ensures { IsRunOf
+        (drawn R.Source input.old input.new) (filled O.Sink output.old output.new) result }
+{
+    match read_record(alloc, input) {
+        Ok(history) => write_run_of(alloc, &history, output),
+        Err(error) => Err(error),
+    }
+}
+
+/// Writes a run of the manual's machine that has the events of the record on `input`, one step a
+/// line, after a machine took each of them; where the record is not accepted, its report. It gives
+/// the exit status: 0 a run, 1 no, 2 refused, 3 memory.
+pub fn run_of<R: Source, O: Sink, E: Sink>(
+    alloc: Global,
+    input: &mut R,
+    output: &mut O,
+    errors: &mut E,
+) -> u8
+    ensures { ShowsRun (streams R.Source O.Sink E.Sink
+        (input.old, output.old, errors.old) (input.new, output.new, errors.new)) result }
+{
+    let answer = write_run(alloc, input, output);
+    tell_error(errors, &answer);
+    run_status(answer)
+}

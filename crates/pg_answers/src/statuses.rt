@@ -1,0 +1,60 @@
+//! Exit statuses.
+
+ghost use Rattle.std.specs.Prelude.{◌≡◌};
+ghost use Rattle.pg_answers.specs.Status.{error_status, verdict_status, status_of, run_status};
+
+use crate::shown::Shown;
+use pg_report::{AuditError, Verdict};
+
+/// Of a yes, and of what was done.
+pub const YES: u8 = 0;
+
+/// Of a no.
+pub const NO: u8 = 1;
+
+/// Of a refused input or a failed device.
+pub const REFUSED: u8 = 2;
+
+/// Of want of memory or of a thread.
+pub const MEMORY: u8 = 3;
+
+/// Of words that are no command.
+pub const USAGE: u8 = 64;
+
+pub(crate) fn error_status(error: AuditError) -> u8
+    ensures { result ≡ error_status error }
+{
+    match error {
+        AuditError::Refused(_) | AuditError::Device => REFUSED,
+        AuditError::Memory | AuditError::Thread => MEMORY,
+        AuditError::Checkers => USAGE,
+    }
+}
+
+pub(crate) fn verdict_status(verdict: Verdict) -> u8
+    ensures { result ≡ verdict_status verdict }
+{
+    match verdict {
+        Verdict::Yes => YES,
+        Verdict::No { .. } => NO,
+    }
+}
+
+pub(crate) fn status_of(answer: Result<Verdict, AuditError>) -> u8
+    ensures { result ≡ status_of answer }
+{
+    match answer {
+        Ok(verdict) => verdict_status(verdict),
+        Err(error) => error_status(error),
+    }
+}
+
+pub(crate) fn run_status(answer: Result<Shown, AuditError>) -> u8
+    ensures { result ≡ run_status answer }
+{
+    match answer {
+        Ok(Shown::Run) => YES,
+        Ok(Shown::Report) => NO,
+        Err(error) => error_status(error),
+    }
+}
