@@ -14,7 +14,7 @@ use Rattle.pg_report.specs.Text.{counts_text, report_text}
 use Rattle.pg_answers.specs.Refusals.{TellsError}
 use Rattle.pg_answers.specs.Status.{error_status}
 use Rattle.pg_answers.specs.Streams.{Streams}
-use Rattle.pg_answers.specs.Texts.{IsTextGiven}
+use Rattle.pg_answers.specs.Texts.{IsTextGivenBy}
 
 -- moments make the events an accepted record, and some run of the machine has them
 pub record IsCertifiedRecord (r : Recorded) : Type 0 where
@@ -61,8 +61,9 @@ certificate_status (Ok None) = 0
 certificate_status (Ok (Some n)) = 1
 certificate_status (Err e) = error_status e
 
--- The status is that of such an answer, and the line on standard error is its line.
-abbrev pub CertifiesRecord : Streams → ℕ → Type 0
-CertifiesRecord s status =
+-- By so many checkers: the status is that of such an answer, and the line on standard error is its
+-- line.
+abbrev pub CertifiesRecord : ℕ → Streams → ℕ → Type 0
+CertifiesRecord checkers s status =
     (answer : Result (Option ℕ) AuditError) × (status ≡ certificate_status answer)
-    × IsTextGiven IsCertificateOf s.input s.output answer × TellsError s.errors answer
+    × IsTextGivenBy IsCertificateOf checkers s.input s.output answer × TellsError s.errors answer

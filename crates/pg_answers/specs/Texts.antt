@@ -1,5 +1,5 @@
 -- What a command answers that writes a text of the record that it reads.
-use Rattle.std.specs.Prelude.{◌≡◌, ◌⊎◌, ℕ, List, Some, Result, Ok, Err, IfSome}
+use Rattle.std.specs.Prelude.{◌≡◌, ◌≢◌, ◌⊎◌, ℕ, List, Some, Result, Ok, Err, IfSome}
 use Rattle.pg_event.specs.Reading.{refusal}
 use Rattle.pg_event.specs.Spelling.{Recorded}
 use Rattle.pg_report.specs.declared.error.AuditError.{AuditError}
@@ -15,18 +15,19 @@ module _ {A : Type 0} (IsTextOf : Recorded → A → List ℕ → Type 0) where
   HasText bytes x P =
       (r : Recorded) × SpellsOne bytes r × (text : List ℕ) × IsTextOf r x text × P text
 
-  -- Asked for the text of the record that these bytes spell, the program answers so, and leaves the
-  -- writer so: the text was written and nothing else; or the bytes spell no record, and nothing was
-  -- written; nor was it for want of memory, nor where the reader failed; where the writer failed a
-  -- beginning of the text was.
-  abbrev pub GivesText : List ℕ → Change → Change → Result A AuditError → Type 0
-  GivesText bytes input output (Ok x) = HasText bytes x (Adds output)
-  GivesText bytes input output (Err (Refused e)) =
+  -- Asked for the text of the record that these bytes spell, the program answers so by so many
+  -- checkers, and leaves the writer so: the text was written and nothing else; or the bytes spell
+  -- no record, and nothing was written; nor was it for want of memory or of a thread, of which one
+  -- checker wants none, nor where the reader failed; where the writer failed a beginning of the
+  -- text was.
+  abbrev pub GivesText : ℕ → List ℕ → Change → Change → Result A AuditError → Type 0
+  GivesText checkers bytes input output (Ok x) = HasText bytes x (Adds output)
+  GivesText checkers bytes input output (Err (Refused e)) =
       (refusal bytes ≡ Some e) × SpellsNone bytes × AddsNothing output
-  GivesText bytes input output (Err Memory) = AddsNothing output
-  GivesText bytes input output (Err Thread) = ⊥
-  GivesText bytes input output (Err Checkers) = ⊥
-  GivesText bytes input output (Err Device) =
+  GivesText checkers bytes input output (Err Memory) = AddsNothing output
+  GivesText checkers bytes input output (Err Thread) = (checkers ≢ 1) × AddsNothing output
+  GivesText checkers bytes input output (Err Checkers) = ⊥
+  GivesText checkers bytes input output (Err Device) =
       (ReaderFails input output × AddsNothing output)
       ⊎ (WriterFails input output × (x : A) × HasText bytes x (AddsSome output))
 
@@ -43,8 +44,13 @@ module _ {A : Type 0} (IsTextOf : Recorded → A → List ℕ → Type 0) where
       ⊎ (WriterFails input output
       × (r : Recorded) × (x : A) × (text : List ℕ) × IsTextOf r x text × AddsSome output text)
 
-  -- all that such a command promises of its answer and its streams
-  pub record IsTextGiven (input output : Change) (result : Result A AuditError) : Type 0 where
-    pub gives : IfSome input.old.bytes (λ bytes. GivesText bytes input output result)
+  -- all that such a command promises of its answer and its streams, with so many checkers
+  pub record IsTextGivenBy (checkers : ℕ) (input output : Change)
+      (result : Result A AuditError) : Type 0 where
+    pub gives : IfSome input.old.bytes (λ bytes. GivesText checkers bytes input output result)
     pub written : HasWrittenText input output result
     pub failures : TellsFailures input output result
+
+  -- and on one thread
+  abbrev pub IsTextGiven : Change → Change → Result A AuditError → Type 0
+  IsTextGiven = IsTextGivenBy 1

@@ -1,7 +1,9 @@
 //! Whether some run of the machine has a record's events, whatever moments they name.
 
-ghost use Rattle.std.specs.Prelude.{◌≡◌, ◌<◌, true, length, IfOk, IfSome, slice_get};
+ghost use Rattle.std.specs.Prelude.{◌≡◌, ◌<◌, true, length, IfOk, IfSome, IfNone, slice_get};
 ghost use Rattle.std.specs.Prelude.{string_bytes};
+ghost use Rattle.pg_certify.specs.Certified.{IsDenied, CanBeCertified};
+ghost use Rattle.pg_pool.specs.Rounds.{AreCheckers};
 ghost use Rattle.pg_search.specs.Law.{names_moments};
 ghost use Rattle.pg_report.specs.Audits.{WritesText};
 ghost use Rattle.pg_report.specs.Changes.{drawn, filled};
@@ -12,17 +14,19 @@ ghost use Rattle.pg_answers.specs.Certificates.{CertifiesRecord, IsCertificateOf
 ghost use Rattle.pg_answers.specs.Certificates.{certificate_status, certified_report};
 ghost use Rattle.pg_answers.specs.Certificates.{denied_head, denied_report};
 ghost use Rattle.pg_answers.specs.Streams.{streams};
-ghost use Rattle.pg_answers.specs.Texts.{IsTextGiven};
+ghost use Rattle.pg_answers.specs.Texts.{IsTextGivenBy};
 
 use crate::refusals::tell_error;
 use crate::shown::CertificateText;
 use crate::statuses::error_status;
-use pg_certify::{certified_events_run, denied_events_have_no_run, first_denied};
+use pg_certify::{CertifyError, certified_events_run, denied_events_have_no_run, first_denied_by};
 use pg_check::History;
 use pg_codec::{Sink, Source};
 use pg_explain::{denial_text, deny};
 use pg_report::{AuditError, Report, Verdict, read_record, write_text};
-use std::alloc::{AllocError, Global};
+use std::alloc::{AllocError, AllocGlobal, Global};
+use std::sync::Wait;
+use std::thread::Threads;
 
 /// The report of a yes.
 fn yes_text(alloc: Global, history: &History) -> Result<String, AllocError>
@@ -74,8 +78,14 @@ pub(crate) fn no_text(alloc: Global, history: &History, event: u64) -> Result<St
     Ok(text)
 }
 
-/// What certifying a record comes to, with its text.
-fn certificate_of(alloc: Global, history: &History) -> Result<CertificateText, AllocError>
+/// What certifying a record came to, with its text.
+fn certificate_of(
+    alloc: Global,
+    history: &History,
+    denied: Option<u64>,
+) -> Result<CertificateText, AllocError>
+    requires denied { IfSome denied (IsDenied history.now.head history.now.events) }
+    requires certified { IfNone denied (CanBeCertified history.now.head history.now.events) }
     ensures { IfOk result (λ told. IsCertificateOf history.now told.denied
         (string_bytes told.text)) }
 {
@@ -83,7 +93,7 @@ fn certificate_of(alloc: Global, history: &History) -> Result<CertificateText, A
     certified_events_run();
     denied_events_have_no_run();
     let _events = history.events();
-    match first_denied(alloc, history)? {
+    match denied {
         None => {
             let text = yes_text(alloc, history)?;
             Ok(CertificateText { denied: None, text })
@@ -115,19 +125,26 @@ fn give_certificate<O: Sink>(
 }
 
 /// Reads a record, and writes whether it can be certified. Nothing is written before that is known.
-fn write_certificate<R: Source, O: Sink>(
-    alloc: Global,
+fn write_certificate<T: AllocGlobal + Threads + Wait + Sync, R: Source, O: Sink>(
+    rt: &T,
+    checkers: u16,
     input: &mut R,
     output: &mut O,
 ) -> Result<Option<u64>, AuditError>
-    ensures { IsTextGiven IsCertificateOf
+    requires { AreCheckers checkers }
+    ensures { IsTextGivenBy IsCertificateOf checkers
         (drawn R.Source input.old input.new) (filled O.Sink output.old output.new) result }
 {
-    let history = match read_record(alloc, input) {
+    let history = match read_record(rt.alloc(), input) {
         Ok(history) => history,
         Err(error) => return Err(error),
     };
-    let told = certificate_of(alloc, &history)?;
+    let denied = match first_denied_by(rt, rt.alloc(), &history, checkers as u32) {
+        Ok(denied) => denied,
+        Err(CertifyError::Memory) => return Err(AuditError::Memory),
+        Err(CertifyError::Thread) => return Err(AuditError::Thread),
+    };
+    let told = certificate_of(rt.alloc(), &history, denied)?;
     give_certificate(output, told)
 }
 
@@ -144,17 +161,20 @@ fn certificate_status(answer: Result<Option<u64>, AuditError>) -> u8
 /// Writes whether some run of the machine has the events of the record on `input`, whatever moments
 /// they name: a report, and behind a no what stands behind it: the least event that no moments
 /// witness, what its processor would have read then, and when the event would last have been
-/// witnessed. It gives the exit status: 0 yes, 1 no, 2 refused, 3 memory.
-pub fn certify<R: Source, O: Sink, E: Sink>(
-    alloc: Global,
+/// witnessed. So many checkers judge, and the answer is the same for each number of them. It gives
+/// the exit status: 0 yes, 1 no, 2 refused, 3 memory or a thread.
+pub fn certify<T: AllocGlobal + Threads + Wait + Sync, R: Source, O: Sink, E: Sink>(
+    rt: &T,
+    checkers: u16,
     input: &mut R,
     output: &mut O,
     errors: &mut E,
 ) -> u8
-    ensures { CertifiesRecord (streams R.Source O.Sink E.Sink
+    requires { AreCheckers checkers }
+    ensures { CertifiesRecord checkers (streams R.Source O.Sink E.Sink
         (input.old, output.old, errors.old) (input.new, output.new, errors.new)) result }
 {
-    let answer = write_certificate(alloc, input, output);
+    let answer = write_certificate(rt, checkers, input, output);
     tell_error(errors, &answer);
     certificate_status(answer)
 }

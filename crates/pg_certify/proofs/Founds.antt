@@ -18,7 +18,7 @@ use Rattle.pg_search.specs.Law.{names_moments, with_moments, WitnessedBy, CanBeW
 use Rattle.pg_certify.specs.Certified.{IsEvent, IsFound, IsCertified, IsDenied, NamesMoments}
 use Rattle.pg_certify.proofs.Gathered.{Good, UpTo}
 
-some_same : (x y : Event) → Some x ≡ Some y → x ≡ y
+pub some_same : (x y : Event) → Some x ≡ Some y → x ≡ y
 some_same x y h = cc
 
 same_without : (ws : List ℕ) (e : Event) → without_moments (with_moments ws e) ≡ without_moments e

@@ -1,3 +1,4 @@
 mod Gathered
 mod Founds
 mod Meaning
+mod Shares

@@ -1,1 +1,2 @@
 pub mod Certified
+pub mod Shares

@@ -1,19 +1,23 @@
 //! Events judged one by one, each by moments that are guessed or, where guesses fail, searched.
 
-ghost use Rattle.std.specs.Prelude.{◌≡◌, ◌<◌, ◌^◌, true, false, length, MatchOption};
+ghost use Rattle.std.specs.Prelude.{◌≡◌, ◌<◌, ◌^◌, true, length, Some, slice_get};
 ghost use Rattle.std.specs.Prelude.{IfOk, IfSome, IfNone};
 ghost use Rattle.std.specs.List.{AllByRecursion};
 ghost use Rattle.pg_event.specs.Form.{processor_of};
 ghost use Rattle.pg_event.specs.Spelling.{AreMoments};
-ghost use Rattle.pg_search.specs.Law.{names_moments, with_moments, CanBeWitnessed};
+ghost use Rattle.pg_search.specs.Law.{names_moments, CanBeWitnessed};
 ghost use Rattle.pg_certify.specs.Certified.{IsFound, IsDenied, NamesMoments, Certifies};
 ghost use Rattle.pg_certify.specs.Certified.{CanBeCertified, IsEvent};
+ghost use Rattle.pg_certify.specs.Shares.{IsDealt, IsLeastDenied};
 
-use crate::guesses::{Guesses, Part, Scope, key_of};
+use crate::case::{Asks, Case, case_of, with_moments};
+use crate::guesses::{Guesses, Part, Scope, key_of, space_of};
 use crate::recent::Recent;
+use crate::share::Share;
 use crate::walk::{Walk, first_moments, walk_by};
 use pg_check::{History, Memo, failing};
-use pg_event::{Event, Moments, Outcome, uses_last, want_of};
+use pg_entry::has_bit;
+use pg_event::{Event, Moments};
 use pg_search::find_moments;
 use std::alloc::{AllocError, Global};
 use std::marker::Model;
@@ -49,45 +53,6 @@ impl<'a> Model for Certifier<'a> {
     ghost invariant = { λ c. IsPast c.memo c.history.now.head c.history.now.events };
 }
 
-/// The event with these moments in place of its own, if it names some.
-fn with_moments(event: &Event, chosen: Moments) -> Event
-    ensures { result ≡ with_moments chosen event.now }
-{
-    match *event {
-        Event::Access {
-            p,
-            flags,
-            la,
-            outcome,
-            ..
-        } => Event::Access {
-            p,
-            flags,
-            la,
-            outcome,
-            moments: chosen,
-        },
-        Event::Assist {
-            p,
-            flags,
-            la,
-            word,
-            ..
-        } => Event::Assist {
-            p,
-            flags,
-            la,
-            word,
-            moments: chosen,
-        },
-        Event::Write { .. }
-        | Event::MovCr3 { .. }
-        | Event::Invlpg { .. }
-        | Event::Invpcid { .. }
-        | Event::MovCr4Pge { .. } => *event,
-    }
-}
-
 /// The numbers of a list of moments are within their field.
 fn numbers_fit(numbers: &[u32])
     ensures { AllByRecursion (λ w. w < 2 ^ 32) numbers.now }
@@ -102,11 +67,10 @@ fn moments_fit(moments: Moments)
     numbers_fit(moments.as_slice());
 }
 
-/// What moments may have been found for that serve an access to a page: the page by each size,
-/// under the own PCID, and if it is global.
-fn pages_of(p: u16, pcid: u16, la: u64) -> [u64; 6] {
+/// The pages other than one of 4 KBytes of the own PCID that may serve an access: large ones, and
+/// global ones of each size.
+fn rare_pages_of(p: u16, pcid: u16, la: u64) -> [u64; 5] {
     [
-        key_of(p, Scope::Page(pcid), Part::Of4K, la),
         key_of(p, Scope::Page(pcid), Part::Of2M, la),
         key_of(p, Scope::Page(pcid), Part::Of1G, la),
         key_of(p, Scope::GlobalPage, Part::Of4K, la),
@@ -118,83 +82,16 @@ fn pages_of(p: u16, pcid: u16, la: u64) -> [u64; 6] {
 /// So many changes of a word are looked at.
 const MOST_CHANGES: usize = 16;
 
-/// A number that tells a PCID of a processor, and is no address of a word.
-fn space_of(p: u16, pcid: u16) -> u64 {
-    (p as u64) << 32 | (pcid as u64) << 8 | 1
-}
-
-/// The moments that an event names, if it names some.
-fn moments_of(event: &Event) -> Option<Moments> {
-    match *event {
-        Event::Access { moments, .. } | Event::Assist { moments, .. } => Some(moments),
-        Event::Write { .. }
-        | Event::MovCr3 { .. }
-        | Event::Invlpg { .. }
-        | Event::Invpcid { .. }
-        | Event::MovCr4Pge { .. } => None,
-    }
-}
-
-/// What an event asks of its processor for an address: a page, the word that an assist names, or
-/// another entry.
-#[derive(Clone, Copy)]
-enum Asks {
-    Page,
-    Word(u64),
-    Entry,
-}
-
-/// An event that names moments: its number, its processor and PCID, the address, and what it asks.
-#[derive(Clone, Copy)]
-struct Case {
-    i: u32,
-    p: u16,
-    pcid: u16,
-    la: u64,
-    asks: Asks,
-}
-
-/// What an access asks.
-fn asks_of(outcome: Outcome) -> Asks {
-    if uses_last(want_of(outcome)) {
-        Asks::Page
-    } else {
-        Asks::Entry
-    }
-}
-
-/// What an event asks, if it names moments.
-fn case_of(history: &History, i: u32, event: &Event) -> Option<Case>
-    requires processor { processor_of event.now < length history.now.head.processors }
-    ensures number { IfSome result (λ case. case.i ≡ i) }
-    ensures processor { IfSome result (λ case. case.p < length history.now.head.processors) }
-    ensures names { MatchOption result (names_moments event.now ≡ false)
-        (λ case. names_moments event.now ≡ true) }
-{
-    let (p, la, asks) = match *event {
-        Event::Access { p, la, outcome, .. } => (p, la, asks_of(outcome)),
-        Event::Assist { p, la, word, .. } => (p, la, Asks::Word(word)),
-        Event::Write { .. }
-        | Event::MovCr3 { .. }
-        | Event::Invlpg { .. }
-        | Event::Invpcid { .. }
-        | Event::MovCr4Pge { .. } => return None,
-    };
-    let pcid = history.control_at(p, i).pcid;
-    Some(Case {
-        i,
-        p,
-        pcid,
-        la,
-        asks,
-    })
+fn last_of(moments: &Moments) -> u32 {
+    let all = moments.as_slice();
+    all[all.len() - 1]
 }
 
 impl<'a> Certifier<'a> {
-    fn new(alloc: Global, history: &'a History) -> Certifier<'a>
+    /// One that is to find moments for so many events of a run.
+    fn new(alloc: Global, history: &'a History, count: usize) -> Certifier<'a>
         ensures { result ≡ history.now }
     {
-        let count = history.len() as usize;
         Certifier {
             alloc,
             history,
@@ -218,20 +115,48 @@ impl<'a> Certifier<'a> {
         }
     }
 
-    /// The event with moments that were found for a key, if they witness it.
-    fn judge_kept(&mut self, event: &Event, i: u32, key: u64) -> Option<Event>
+    /// The event with these moments, if the last is not too early and they witness it.
+    fn judge_since(&mut self, event: &Event, i: u32, moments: Moments, since: u32) -> Option<Event>
         requires { IsEvent self.old.head self.old.events i event.now }
         ensures same { self.new ≡ self.old }
         ensures found { IfSome result (IsFound self.old.head self.old.events i) }
     {
-        let lists = self.guesses.of(key)?;
-        if let Some(found) = self.judge(event, i, lists.newer) {
+        if last_of(&moments) < since {
+            None
+        } else {
+            self.judge(event, i, moments)
+        }
+    }
+
+    /// The event with moments that were found for a page, if they witness it.
+    fn judge_kept(&mut self, event: &Event, i: u32, key: u64, since: u32) -> Option<Event>
+        requires { IsEvent self.old.head self.old.events i event.now }
+        ensures same { self.new ≡ self.old }
+        ensures found { IfSome result (IsFound self.old.head self.old.events i) }
+    {
+        let lists = self.guesses.page(key)?;
+        if let Some(found) = self.judge_since(event, i, lists.newer, since) {
             return Some(found);
         }
         match lists.older {
-            Some(moments) => self.judge(event, i, moments),
+            Some(moments) => self.judge_since(event, i, moments, since),
             None => None,
         }
+    }
+
+    /// The access to a large or a global page with moments that were found for that, if these
+    /// witness it.
+    fn guess_rare(&mut self, event: &Event, case: Case) -> Option<Event>
+        requires { IsEvent self.old.head self.old.events case.i event.now }
+        ensures same { self.new ≡ self.old }
+        ensures found { IfSome result (IsFound self.old.head self.old.events case.i) }
+    {
+        for key in rare_pages_of(case.p, case.pcid, case.la) {
+            if let Some(found) = self.judge_kept(event, case.i, key, 0) {
+                return Some(found);
+            }
+        }
+        None
     }
 
     /// The access to a page with moments that were found for that, if they witness it.
@@ -240,12 +165,16 @@ impl<'a> Certifier<'a> {
         ensures same { self.new ≡ self.old }
         ensures found { IfSome result (IsFound self.old.head self.old.events case.i) }
     {
-        for key in pages_of(case.p, case.pcid, case.la) {
-            if let Some(found) = self.judge_kept(event, case.i, key) {
-                return Some(found);
-            }
+        let key = key_of(case.p, Scope::Page(case.pcid), Part::Of4K, case.la);
+        let since = self.guesses.since(case.p, case.pcid);
+        if let Some(found) = self.judge_kept(event, case.i, key, since) {
+            return Some(found);
         }
-        None
+        if self.guesses.has_rare() {
+            self.guess_rare(event, case)
+        } else {
+            None
+        }
     }
 
     /// The assist with the moments of a walk as far as it reads a word, if they witness it.
@@ -265,6 +194,15 @@ impl<'a> Certifier<'a> {
         None
     }
 
+    /// Keeps the moments of a walk by which an event was found.
+    fn note_walk(&mut self, case: Case, walk: &Walk)
+        ensures { self.new ≡ self.old }
+    {
+        let is_page = matches!(case.asks, Asks::Page);
+        self.guesses
+            .note(case.p, case.pcid, case.la, walk, is_page);
+    }
+
     /// The event with the moments of a walk that reads its first entries at these moments, and what
     /// comes below at one moment, if they witness it.
     fn guess_walk(&mut self, event: &Event, case: Case, front: &[u32], moment: u32) -> Option<Event>
@@ -274,33 +212,14 @@ impl<'a> Certifier<'a> {
         ensures found { IfSome result (IsFound self.old.head self.old.events case.i) }
     {
         let walk = walk_by(self.history, case.p, case.la, front, moment);
-        match case.asks {
+        let found = match case.asks {
             Asks::Page | Asks::Entry => self.judge(event, case.i, walk.moments),
             Asks::Word(word) => self.judge_word(event, case.i, word, &walk),
+        };
+        if found.is_some() {
+            self.note_walk(case, &walk);
         }
-    }
-
-    /// Keeps the moments that were found for an event, if some were.
-    fn note(&mut self, case: Case, found: &Option<Event>)
-        requires { case.p < length self.old.head.processors }
-        ensures { self.new ≡ self.old }
-    {
-        let Some(event) = found else {
-            return;
-        };
-        let Some(moments) = moments_of(event) else {
-            return;
-        };
-        let Case {
-            i,
-            p,
-            pcid,
-            la,
-            asks,
-        } = case;
-        let walk = walk_by(self.history, p, la, moments.as_slice(), i);
-        self.guesses
-            .note(p, pcid, la, &walk, matches!(asks, Asks::Page));
+        found
     }
 
     /// The event by the tables of the walk that was found last with the same upper bits of the
@@ -312,7 +231,7 @@ impl<'a> Certifier<'a> {
         ensures found { IfSome result (IsFound self.old.head self.old.events case.i) }
     {
         let key = key_of(case.p, Scope::Tables(case.pcid), part, case.la);
-        let near = self.guesses.of(key)?.newer;
+        let near = self.guesses.tables(key)?;
         let tables = first_moments(&near, count);
         match self.guess_walk(event, case, tables.as_slice(), case.i) {
             Some(found) => Some(found),
@@ -392,11 +311,11 @@ impl<'a> Certifier<'a> {
     {
         let mut next = self.changes.last(word);
         for _ in 0..MOST_CHANGES {
-            let change = next?;
-            if let Some(found) = self.guess_change(event, case, change, count) {
+            let step = next?;
+            if let Some(found) = self.guess_change(event, case, step.event, count) {
                 return Some(found);
             }
-            next = self.changes.before(change);
+            next = self.changes.before(step);
         }
         None
     }
@@ -435,6 +354,27 @@ impl<'a> Certifier<'a> {
         }
     }
 
+    /// The event with moments that witness it, by a search of all that there are, or `None` where
+    /// none do.
+    fn search(&mut self, event: &Event, case: Case) -> Result<Option<Event>, AllocError>
+        requires event { IsEvent self.old.head self.old.events case.i event.now }
+        requires names { names_moments event.now ≡ true }
+        requires processor { case.p < length self.old.head.processors }
+        ensures same { self.new ≡ self.old }
+        ensures found { IfOk result
+            (λ r. IfSome r (IsFound self.old.head self.old.events case.i)) }
+        ensures none { IfOk result
+            (λ r. IfNone r (CanBeWitnessed self.old.head self.old.events case.i → ⊥)) }
+    {
+        let Some(moments) = find_moments(self.alloc, self.history, case.i as u64)? else {
+            return Ok(None);
+        };
+        moments_fit(moments);
+        let walk = walk_by(self.history, case.p, case.la, moments.as_slice(), case.i);
+        self.note_walk(case, &walk);
+        Ok(Some(with_moments(event, moments)))
+    }
+
     /// The event with moments of a walk that is made anew, or of a search of all, or `None` where
     /// no moments witness it.
     fn find_new(&mut self, event: &Event, case: Case) -> Result<Option<Event>, AllocError>
@@ -449,7 +389,7 @@ impl<'a> Certifier<'a> {
     {
         match self.guess_new(event, case) {
             Some(found) => Ok(Some(found)),
-            None => search(self.alloc, self.history, case.i as u64, event),
+            None => self.search(event, case),
         }
     }
 
@@ -469,9 +409,7 @@ impl<'a> Certifier<'a> {
                 return Ok(Some(found));
             }
         }
-        let found = self.find_new(event, case)?;
-        self.note(case, &found);
-        Ok(found)
+        self.find_new(event, case)
     }
 
     /// Takes note of an event that changes a word of table memory, or may change a PCID.
@@ -479,16 +417,52 @@ impl<'a> Certifier<'a> {
         requires { processor_of event.now < length self.old.head.processors }
         ensures { self.new ≡ self.old }
     {
-        let key = match *event {
-            Event::Write { addr, .. } => Some(addr),
-            Event::Assist { word, .. } => Some(word),
-            Event::MovCr3 { p, .. } => Some(space_of(p, self.history.control_at(p, i).pcid)),
+        match *event {
+            Event::Write { addr, .. } => self.changes.note(i, addr),
+            Event::Assist { word, .. } => self.changes.note(i, word),
+            Event::MovCr3 { p, .. } => {
+                let space = space_of(p, self.history.control_at(p, i).pcid);
+                self.changes.note(i, space);
+            }
             Event::Access { .. }
             | Event::Invlpg { .. }
             | Event::Invpcid { .. }
-            | Event::MovCr4Pge { .. } => None,
-        };
-        self.changes.note(i, key);
+            | Event::MovCr4Pge { .. } => {}
+        }
+    }
+
+    /// Takes note of an event that drops all that its processor has for a PCID, or for any, but for
+    /// global translations (Intel SDM, vol. 3, 4.10.4.1).
+    fn note_drop(&mut self, i: u32, event: &Event)
+        ensures { self.new ≡ self.old }
+    {
+        match *event {
+            Event::MovCr3 { p, operand } => {
+                if !has_bit(operand, 63) {
+                    self.guesses.flush(i, p, (operand % 4096) as u16);
+                }
+            }
+            Event::Invpcid { p, kind, pcid, .. } => match kind {
+                0 => {}
+                1 => self.guesses.flush(i, p, pcid),
+                _ => self.guesses.flush_all(i, p),
+            },
+            Event::MovCr4Pge { p, .. } => self.guesses.flush_all(i, p),
+            Event::Write { .. }
+            | Event::Access { .. }
+            | Event::Assist { .. }
+            | Event::Invlpg { .. } => {}
+        }
+    }
+
+    /// Takes note of the event with this number, for guesses at those that come after it.
+    fn see(&mut self, i: u64)
+        requires { i < length self.old.events }
+        ensures { self.new ≡ self.old }
+    {
+        let event = &self.history.events()[i as usize];
+        self.note_change(i as u32, event);
+        self.note_drop(i as u32, event);
     }
 
     /// The event with this number with moments that witness it, which is itself where it names
@@ -503,7 +477,6 @@ impl<'a> Certifier<'a> {
             (λ r. IfNone r (CanBeWitnessed self.old.head self.old.events i → ⊥)) }
     {
         let event = &self.history.events()[i as usize];
-        self.note_change(i as u32, event);
         match case_of(self.history, i as u32, event) {
             Some(case) => self.find_case(event, case),
             None => Ok(Some(*event)),
@@ -511,28 +484,36 @@ impl<'a> Certifier<'a> {
     }
 }
 
-/// The event with moments that witness it, by a search of all that there are, or `None` where none
-/// do.
-fn search(
+/// The event with this number.
+fn event_at(history: &History, i: u64) -> &Event
+    requires { i < length history.now.events }
+    ensures { slice_get history.now.events i ≡ Some result.now }
+{
+    &history.events()[i as usize]
+}
+
+/// Of the events of a share, the least that no moments witness, or `None` where some moments
+/// witness each.
+pub(crate) fn first_denied_of(
     alloc: Global,
     history: &History,
-    i: u64,
-    event: &Event,
-) -> Result<Option<Event>, AllocError>
-    requires event { IsEvent history.now.head history.now.events i event.now }
-    requires names { names_moments event.now ≡ true }
-    ensures found { IfOk result
-        (λ r. IfSome r (IsFound history.now.head history.now.events i)) }
-    ensures none { IfOk result
-        (λ r. IfNone r (CanBeWitnessed history.now.head history.now.events i → ⊥)) }
+    share: Share,
+) -> Result<Option<u64>, AllocError>
+    ensures { IfOk result (IsLeastDenied
+        (IsDealt share.checkers history.now.events share.number)
+        history.now.head history.now.events) }
 {
-    match find_moments(alloc, history, i)? {
-        Some(moments) => {
-            moments_fit(moments);
-            Ok(Some(with_moments(event, moments)))
+    let mut certifier = Certifier::new(alloc, history, share.size_of(history.len()));
+    for i in 0..history.len() {
+        if share.has(event_at(history, i)) {
+            match certifier.find(i)? {
+                Some(_) => {}
+                None => return Ok(Some(i)),
+            }
         }
-        None => Ok(None),
+        certifier.see(i);
     }
+    Ok(None)
 }
 
 /// The least event that no moments witness, or `None` where some moments make the run's events an
@@ -545,14 +526,7 @@ pub fn first_denied(alloc: Global, history: &History) -> Result<Option<u64>, All
     ensures certified { IfOk result
         (λ r. IfNone r (CanBeCertified history.now.head history.now.events)) }
 {
-    let mut certifier = Certifier::new(alloc, history);
-    for i in 0..history.len() {
-        match certifier.find(i)? {
-            Some(_) => {}
-            None => return Ok(Some(i)),
-        }
-    }
-    Ok(None)
+    first_denied_of(alloc, history, Share::new(0, 1))
 }
 
 /// Moments for all events of a run, or the least event that no moments witness: `first_denied`
@@ -562,7 +536,7 @@ pub fn first_denied(alloc: Global, history: &History) -> Result<Option<u64>, All
 pub fn certify(alloc: Global, history: &History) -> Result<Certified, AllocError>
     ensures { IfOk result (Certifies history.now.head history.now.events) }
 {
-    let mut certifier = Certifier::new(alloc, history);
+    let mut certifier = Certifier::new(alloc, history, history.len() as usize);
     let mut found = Vec::new(alloc);
     for i in 0..history.len() {
         match certifier.find(i)? {
@@ -571,6 +545,7 @@ pub fn certify(alloc: Global, history: &History) -> Result<Certified, AllocError
             }
             None => return Ok(Certified::No(i)),
         }
+        certifier.see(i);
     }
     Ok(Certified::Yes(found))
 }

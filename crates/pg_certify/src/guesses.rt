@@ -24,16 +24,20 @@ pub(crate) struct Lists {
     pub older: Option<Moments>,
 }
 
-/// The moments that were found for pages, and for tables. Where memory is refused, some are not
-/// kept.
+/// The moments that were found for pages, and for tables, and since when those of a processor and
+/// PCID may serve. Where memory is refused, some are not kept.
 #[derive(Drop)]
 pub(crate) struct Guesses {
-    lists: HashMap<u64, Lists>,
+    pages: HashMap<u64, Lists>,
+    tables: HashMap<u64, Moments>,
+    flushes: HashMap<u64, u32>,
+    /// Whether any page was large or global.
+    has_rare: bool,
 }
 
 /// A part of the linear address space, told by the upper bits of an address: a page by its size, or
 /// what lies below an entry of level 2, 3 or 4.
-#[derive(Clone, Copy)]
+#[derive(Clone, Copy, PartialEq, Eq)]
 pub(crate) enum Part {
     /// Bits 47:12.
     Of4K,
@@ -61,6 +65,16 @@ pub(crate) fn key_of(p: u16, scope: Scope, part: Part, la: u64) -> u64 {
     (p as u64) << 52 | scope << 38 | part << 36 | number
 }
 
+/// A key that tells a PCID of a processor, and is no address of a word.
+pub(crate) fn space_of(p: u16, pcid: u16) -> u64 {
+    (p as u64) << 32 | (pcid as u64) << 8 | 1
+}
+
+/// A key that tells all PCIDs of a processor.
+fn spaces_of(p: u16) -> u64 {
+    (p as u64) << 32 | 2
+}
+
 /// The page that a walk by so many moments comes to.
 fn page_by(count: usize) -> Part {
     match count {
@@ -74,21 +88,65 @@ fn page_by(count: usize) -> Part {
 impl Guesses {
     pub(crate) fn new(alloc: Global) -> Guesses {
         Guesses {
-            lists: HashMap::new(alloc),
+            pages: HashMap::new(alloc),
+            tables: HashMap::new(alloc),
+            flushes: HashMap::new(alloc),
+            has_rare: false,
         }
     }
 
-    /// The moments that were found for a key.
-    pub(crate) fn of(&self, key: u64) -> Option<Lists> {
-        match self.lists.get(&key) {
+    /// The moments that were found for a page.
+    pub(crate) fn page(&self, key: u64) -> Option<Lists> {
+        match self.pages.get(&key) {
             Some(lists) => Some(*lists),
             None => None,
         }
     }
 
-    /// Keeps moments that were found for a key.
+    /// The moments that were found last for tables.
+    pub(crate) fn tables(&self, key: u64) -> Option<Moments> {
+        match self.tables.get(&key) {
+            Some(moments) => Some(*moments),
+            None => None,
+        }
+    }
+
+    /// Whether any page was large or global.
+    pub(crate) fn has_rare(&self) -> bool {
+        self.has_rare
+    }
+
+    /// The moment behind the last event that dropped all that a key tells, and 0 where none did.
+    fn flushed(&self, key: u64) -> u32 {
+        match self.flushes.get(&key) {
+            Some(moment) => *moment,
+            None => 0,
+        }
+    }
+
+    /// The first moment since which a translation of a processor and PCID may have been made that
+    /// is not global.
+    pub(crate) fn since(&self, p: u16, pcid: u16) -> u32 {
+        self.flushed(space_of(p, pcid)).max(self.flushed(spaces_of(p)))
+    }
+
+    fn keep_flush(&mut self, event: u32, key: u64) {
+        let _refused = self.flushes.insert(key, event.saturating_add(1)).is_err();
+    }
+
+    /// Takes note that an event dropped what a processor had for a PCID.
+    pub(crate) fn flush(&mut self, event: u32, p: u16, pcid: u16) {
+        self.keep_flush(event, space_of(p, pcid));
+    }
+
+    /// Takes note that an event dropped what a processor had for any PCID.
+    pub(crate) fn flush_all(&mut self, event: u32, p: u16) {
+        self.keep_flush(event, spaces_of(p));
+    }
+
+    /// Keeps moments that were found for a page.
     fn keep(&mut self, key: u64, moments: Moments) {
-        let older = match self.of(key) {
+        let older = match self.page(key) {
             Some(lists) => Some(lists.newer),
             None => None,
         };
@@ -96,7 +154,7 @@ impl Guesses {
             newer: moments,
             older,
         };
-        let _refused = self.lists.insert(key, lists).is_err();
+        let _refused = self.pages.insert(key, lists).is_err();
     }
 
     /// Keeps the moments of a walk that witness an event under a PCID, for the tables that it comes
@@ -104,7 +162,8 @@ impl Guesses {
     pub(crate) fn note(&mut self, p: u16, pcid: u16, la: u64, walk: &Walk, is_page: bool) {
         let moments = walk.moments;
         for part in [Part::Of2M, Part::Of1G, Part::Of512G] {
-            self.keep(key_of(p, Scope::Tables(pcid), part, la), moments);
+            let key = key_of(p, Scope::Tables(pcid), part, la);
+            let _refused = self.tables.insert(key, moments).is_err();
         }
         if is_page {
             let part = page_by(moments.len());
@@ -112,6 +171,7 @@ impl Guesses {
             if walk.is_global {
                 self.keep(key_of(p, Scope::GlobalPage, part, la), moments);
             }
+            self.has_rare = self.has_rare || walk.is_global || part != Part::Of4K;
         }
     }
 }

@@ -3,13 +3,17 @@
 //! the guesses fail all moments are searched.
 #![tactic(auto)]
 
+mod case;
 mod certifier;
+mod crew;
 mod guesses;
 mod laws;
 mod recent;
+mod share;
 mod walk;
 
 pub use certifier::{Certified, certify, first_denied};
+pub use crew::{CertifyError, first_denied_by};
 pub use laws::{
     certified_events_run, certified_exactly_where_a_run_exists, denied_events_have_no_run,
 };

@@ -53,15 +53,15 @@ pub record AnswersUsage (words : List (List ℕ)) (s : Streams) (status : ℕ) :
   pub asked_version : AsksVersion words → ¬ IsFault why
   pub gives : GivesUsage why s.output s.errors status
 
--- whether some run has the record's events; or the record with moments for them
-abbrev pub CertifiesBy : Bool → Streams → ℕ → Type 0
-CertifiesBy false = CertifiesRecord
-CertifiesBy true = NamesRecord
+-- by so many checkers whether some run has the record's events; or the record with moments for them
+abbrev pub CertifiesBy : ℕ → Bool → Streams → ℕ → Type 0
+CertifiesBy checkers false = CertifiesRecord checkers
+CertifiesBy checkers true = NamesRecord
 
 -- what a plan's command does
 abbrev pub DoesCommand : Command → Plan → Streams → ℕ → Type 0
 DoesCommand Check plan s status = Checks plan.checkers s status
-DoesCommand Certify plan s status = CertifiesBy plan.bytes s status
+DoesCommand Certify plan s status = CertifiesBy plan.checkers plan.bytes s status
 DoesCommand Run plan s status = RunsGuest plan.single plan.bytes s status
 DoesCommand RunOf plan s status = ShowsRun s status
 DoesCommand Explain plan s status = ExplainsRecord s status

@@ -22,7 +22,7 @@ use pg_plan::{Command, Plan, Usage, plan};
 use pg_report::AuditError;
 use pg_runner::RunError;
 use pg_script::{ScriptError, ScriptRefusal};
-use std::alloc::{AllocGlobal, Global};
+use std::alloc::AllocGlobal;
 use std::sync::Wait;
 use std::thread::Threads;
 
@@ -99,20 +99,21 @@ fn give_text<O: Sink, E: Sink>(text: &str, output: &mut O, errors: &mut E) -> u8
 }
 
 /// Certifies the record on `input`, and writes its report, or the record with moments.
-fn certify_by<R: Source, O: Sink, E: Sink>(
-    alloc: Global,
-    as_bytes: bool,
+fn certify_by<T: AllocGlobal + Threads + Wait + Sync, R: Source, O: Sink, E: Sink>(
+    rt: &T,
+    plan: Plan,
     input: &mut R,
     output: &mut O,
     errors: &mut E,
 ) -> u8
-    ensures { CertifiesBy as_bytes (streams R.Source O.Sink E.Sink
+    requires { AreCheckers plan.checkers }
+    ensures { CertifiesBy plan.checkers plan.bytes (streams R.Source O.Sink E.Sink
         (input.old, output.old, errors.old) (input.new, output.new, errors.new)) result }
 {
-    if as_bytes {
-        name_moments(alloc, input, output, errors)
+    if plan.bytes {
+        name_moments(rt.alloc(), input, output, errors)
     } else {
-        certify(alloc, input, output, errors)
+        certify(rt, plan.checkers, input, output, errors)
     }
 }
 
@@ -130,7 +131,7 @@ fn perform<T: AllocGlobal + Threads + Wait + Sync, R: Source, O: Sink, E: Sink>(
 {
     match plan.command {
         Command::Check => check(rt, plan.checkers, input, output, errors),
-        Command::Certify => certify_by(rt.alloc(), plan.bytes, input, output, errors),
+        Command::Certify => certify_by(rt, plan, input, output, errors),
         Command::Run => run(rt, plan, input, output, errors),
         Command::RunOf => run_of(rt.alloc(), input, output, errors),
         Command::Explain => explain(rt.alloc(), input, output, errors),

@@ -10,7 +10,7 @@ use Rattle.pg_answers.proofs.Named.{is_named, same_count, well_alike}
 use Rattle.pg_answers.proofs.naming.write_named.Goals as goal
 
 pub returns-in-Err : goal.returns-in-Err
-returns-in-Err g c = reading_fails IsNaming _ _ c.in-Err.error c.in-Err.ensures.reads c.in-Err.ensures.device (Keeps-refl _) refl
+returns-in-Err g c = reading_fails IsNaming 1 _ _ c.in-Err.error c.in-Err.ensures.reads c.in-Err.ensures.device (Keeps-refl _) refl
 
 pub write_events-requires-clause-count : goal.write_events-requires-clause-count
 write_events-requires-clause-count g c =
@@ -35,7 +35,7 @@ returns-in-Yes g c =
     let certified : IsCertified r.head r.events found = rw c.in-Yes.is at c.in_ok-found.ensures in
     let named = is_named r found c.events-events.ensures.well certified in
     let wrote = c.write_events.ensures in
-    text_told IsNaming _ _ r c.in-Ok.ensures.reads c.in-Ok.ensures.device Named (record_bytes (with_events r found)) named c.write_events.result (rw c.deref.ensures.value at wrote.text) wrote.device wrote.named
+    text_told IsNaming 1 _ _ r c.in-Ok.ensures.reads c.in-Ok.ensures.device Named (record_bytes (with_events r found)) named c.write_events.result (rw c.deref.ensures.value at wrote.text) wrote.device wrote.named
 
 pub returns : goal.returns
 returns g c =
@@ -45,4 +45,4 @@ returns g c =
     let count : length r.events < 2 ^ 32 = c.events-events.ensures.count in
     let runs = c.denied_events_have_no_run.ensures r.head r.events n c.events-events.ensures.well (omega (arith, count)) denied in
     let text = c.in_ok-text-in-No.text in
-    text_told IsNaming _ _ r c.in-Ok.ensures.reads c.in-Ok.ensures.device (Denied text) [] ((n, record { denied = denied; none = runs.0; before = runs.1 }, c.in_ok-text-in-No.ensures), refl) (Ok (Denied text)) (Appends-nil _) refl refl
+    text_told IsNaming 1 _ _ r c.in-Ok.ensures.reads c.in-Ok.ensures.device (Denied text) [] ((n, record { denied = denied; none = runs.0; before = runs.1 }, c.in_ok-text-in-No.ensures), refl) (Ok (Denied text)) (Appends-nil _) refl refl

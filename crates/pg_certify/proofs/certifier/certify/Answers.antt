@@ -22,7 +22,7 @@ loop-i-preserved c =
     let f : IsFound head events i x = found_at c.args.history.now c.loop-i.certifier i c.in_ok-event.field-0 x c.loop-i.invariant.same c.in-Some.is c.in_ok-event.ensures.found in
     let more : UpTo HasMoments head events (i + 1) (c.loop-i.found.items ++ x ∷ []) = one_more HasMoments head events i c.loop-i.found.items x c.loop-i.invariant.found (found_good head events i x f) in
     record {
-      same = c.find.ensures.same ∙ c.loop-i.invariant.same;
+      same = c.see.ensures ∙ (c.find.ensures.same ∙ c.loop-i.invariant.same);
       found = subst (UpTo HasMoments head events (i + 1)) (sym c.in_ok-push-in-Some.ensures.items) more;
       before = each_more (CanBeWitnessed head events) i c.loop-i.invariant.before (found_can head events i x f);
     }

@@ -1,0 +1,102 @@
+//! What an event that names moments asks.
+
+ghost use Rattle.std.specs.Prelude.{◌≡◌, ◌<◌, true, false, length, MatchOption, IfSome};
+ghost use Rattle.pg_event.specs.Form.{processor_of};
+ghost use Rattle.pg_search.specs.Law.{names_moments, with_moments};
+
+use pg_check::History;
+use pg_event::{Event, Moments, Outcome, uses_last, want_of};
+
+/// The event with these moments in place of its own, if it names some.
+pub(crate) fn with_moments(event: &Event, chosen: Moments) -> Event
+    ensures { result ≡ with_moments chosen event.now }
+{
+    match *event {
+        Event::Access {
+            p,
+            flags,
+            la,
+            outcome,
+            ..
+        } => Event::Access {
+            p,
+            flags,
+            la,
+            outcome,
+            moments: chosen,
+        },
+        Event::Assist {
+            p,
+            flags,
+            la,
+            word,
+            ..
+        } => Event::Assist {
+            p,
+            flags,
+            la,
+            word,
+            moments: chosen,
+        },
+        Event::Write { .. }
+        | Event::MovCr3 { .. }
+        | Event::Invlpg { .. }
+        | Event::Invpcid { .. }
+        | Event::MovCr4Pge { .. } => *event,
+    }
+}
+
+/// What an event asks of its processor for an address: a page, the word that an assist names, or
+/// another entry.
+#[derive(Clone, Copy)]
+pub(crate) enum Asks {
+    Page,
+    Word(u64),
+    Entry,
+}
+
+/// An event that names moments: its number, its processor and PCID, the address, and what it asks.
+#[derive(Clone, Copy)]
+pub(crate) struct Case {
+    pub i: u32,
+    pub p: u16,
+    pub pcid: u16,
+    pub la: u64,
+    pub asks: Asks,
+}
+
+/// What an access asks.
+fn asks_of(outcome: Outcome) -> Asks {
+    if uses_last(want_of(outcome)) {
+        Asks::Page
+    } else {
+        Asks::Entry
+    }
+}
+
+/// What an event asks, if it names moments.
+pub(crate) fn case_of(history: &History, i: u32, event: &Event) -> Option<Case>
+    requires processor { processor_of event.now < length history.now.head.processors }
+    ensures number { IfSome result (λ case. case.i ≡ i) }
+    ensures processor { IfSome result (λ case. case.p < length history.now.head.processors) }
+    ensures names { MatchOption result (names_moments event.now ≡ false)
+        (λ case. names_moments event.now ≡ true) }
+{
+    let (p, la, asks) = match *event {
+        Event::Access { p, la, outcome, .. } => (p, la, asks_of(outcome)),
+        Event::Assist { p, la, word, .. } => (p, la, Asks::Word(word)),
+        Event::Write { .. }
+        | Event::MovCr3 { .. }
+        | Event::Invlpg { .. }
+        | Event::Invpcid { .. }
+        | Event::MovCr4Pge { .. } => return None,
+    };
+    let pcid = history.control_at(p, i).pcid;
+    Some(Case {
+        i,
+        p,
+        pcid,
+        la,
+        asks,
+    })
+}
