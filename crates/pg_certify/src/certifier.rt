@@ -199,8 +199,7 @@ impl<'a> Certifier<'a> {
         ensures { self.new ≡ self.old }
     {
         let is_page = matches!(case.asks, Asks::Page);
-        self.guesses
-            .note(case.p, case.pcid, case.la, walk, is_page);
+        self.guesses.note(case.p, case.pcid, case.la, walk, is_page);
     }
 
     /// The event with the moments of a walk that reads its first entries at these moments, and what

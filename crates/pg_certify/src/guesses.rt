@@ -127,7 +127,8 @@ impl Guesses {
     /// The first moment since which a translation of a processor and PCID may have been made that
     /// is not global.
     pub(crate) fn since(&self, p: u16, pcid: u16) -> u32 {
-        self.flushed(space_of(p, pcid)).max(self.flushed(spaces_of(p)))
+        self.flushed(space_of(p, pcid))
+            .max(self.flushed(spaces_of(p)))
     }
 
     fn keep_flush(&mut self, event: u32, key: u64) {
