@@ -73,55 +73,71 @@ static uint64_t answer_of(const struct access *access, const struct processor *p
     }
 }
 
-/* The level at which the walk that is done now reads the word, or else that of its frame. */
-static unsigned level_of_word(uint64_t linear, uint32_t frame, uint64_t index)
+/* A word that a processor set flags of, and the first and the last level at which the walk that is
+ * done now reads it: two where a frame serves at two levels. */
+struct change {
+    uint32_t frame;
+    uint64_t index, set;
+    unsigned first, last;
+};
+
+static void find_levels(uint64_t linear, struct change *change)
 {
     const uint64_t cr3 = processors[acting].processor.cr3;
-    uint32_t read_frame;
-    uint64_t read_index;
+    uint32_t frame;
+    uint64_t index;
     unsigned level;
 
+    change->first = change->last = 0;
     for (level = 4; level > 0; level--)
-        if (find_word(cr3, linear, level, &read_frame, &read_index) == level &&
-            read_frame == frame && read_index == index)
-            return level;
-    return level_of_frame(frame);
+        if (find_word(cr3, linear, level, &frame, &index) == level && frame == change->frame &&
+            index == change->index) {
+            change->first = change->first == 0 ? level : change->first;
+            change->last = level;
+        }
+    if (change->first == 0)
+        change->first = change->last = level_of_frame(change->frame);
 }
 
-static void record_change(uint32_t frame, uint64_t index, uint32_t flags, uint64_t linear)
+static void find_flags(uint64_t linear, struct change *change)
 {
-    const uint64_t before = held[frame][index], address = POOL_FRAME(frame) + 8 * index;
-    const uint64_t now = *word_at(address), set = now & ~before;
+    const uint64_t before = held[change->frame][change->index];
+    const uint64_t address = POOL_FRAME(change->frame) + 8 * change->index;
+    const uint64_t now = *word_at(address);
 
-    if ((now ^ before) != set || (set & ~(uint64_t)(ACCESSED | DIRTY)) != 0)
+    change->set = now & ~before;
+    if ((now ^ before) != change->set || (change->set & ~(uint64_t)(ACCESSED | DIRTY)) != 0)
         stop("stopped: a table word was changed, at", address);
-    held[frame][index] = now;
-    if (settings.version == 2)
+    find_levels(linear, change);
+}
+
+/* What is set of the word at this level: A where the walk reads it first, D where it ends. */
+static void record_change(const struct change *change, unsigned level, uint32_t flags,
+                          uint64_t linear)
+{
+    const uint64_t set = (change->first == level ? change->set & ACCESSED : 0) |
+                         (change->last == level ? change->set & DIRTY : 0);
+
+    held[change->frame][change->index] |= set;
+    if (set != 0 && settings.version == 2)
         taken(pcid_record_assist_unnamed(&record, acting,
                                          flags | (set & DIRTY ? PCID_RECORD_DIRTY : 0), linear,
-                                         address));
+                                         POOL_FRAME(change->frame) + 8 * change->index));
 }
 
 /* Flags that were set meanwhile: an assist for each, the upper levels first. */
 static void record_changes(uint32_t flags, uint64_t linear)
 {
-    struct {
-        uint32_t frame;
-        uint64_t index;
-        unsigned level;
-    } change[MOST_CHANGES];
+    struct change change[MOST_CHANGES];
     uint32_t count = 0, at, k;
     unsigned level;
 
     for (at = 0; count < MOST_CHANGES && next_changed(&at, &change[count].frame,
-                                                      &change[count].index); at++) {
-        change[count].level = level_of_word(linear, change[count].frame, change[count].index);
-        count++;
-    }
+                                                      &change[count].index); at++)
+        find_flags(linear, &change[count++]);
     for (level = 4; level > 0; level--)
         for (k = 0; k < count; k++)
-            if (change[k].level == level)
-                record_change(change[k].frame, change[k].index, flags, linear);
+            record_change(&change[k], level, flags, linear);
 }
 
 static void record_fault(const struct processor *processor, uint32_t flags, uint64_t linear)
