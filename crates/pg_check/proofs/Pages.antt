@@ -130,7 +130,7 @@ same_chain head events p la (w ∷ ws) want =
 -- ---- how long it lasts
 
 -- a leaf is of one of the three sizes
-abbrev IsPaged : Kind → Type 0
+abbrev pub IsPaged : Kind → Type 0
 IsPaged (Leaf frame shift global_bit) = IsPageShift shift
 IsPaged (Table addr) = Unit {0}
 IsPaged Absent = Unit {0}
@@ -150,7 +150,7 @@ either_paged : (b : Bool) (k l : Kind) → IsPaged k → IsPaged l → IsPaged (
 either_paged true k l x y = x
 either_paged false k l x y = y
 
-kind_paged : (cfg : Cfg) (level : Level) (e : ℕ) → IsPaged (kind_of cfg level e)
+pub kind_paged : (cfg : Cfg) (level : Level) (e : ℕ) → IsPaged (kind_of cfg level e)
 kind_paged cfg level e =
     either_paged (not (has_bit e 0)) Absent (cond (is_reserved cfg level e) Reserved (target cfg.m e (leaf_shift level e))) tt
     (either_paged (is_reserved cfg level e) Reserved (target cfg.m e (leaf_shift level e)) tt (target_paged cfg.m e level))
