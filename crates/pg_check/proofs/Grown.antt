@@ -26,11 +26,14 @@ says_alike n head xs ys s alike within says = (
 -- a slot that is right of a run is right of each that reads alike
 walk_stays : (old new : Past) (n : ℕ) (head : Head) (xs ys : List Event) (slot : Option Slot) → IsPast old head xs → IsPast new head ys → AreAlike n head xs ys → HasWalk old n slot → HasWalk new n slot
 walk_stays old new n head xs ys None was is alike has = tt
-walk_stays old new n head xs ys (Some s) was is alike has = (has.0, λ other events stands.
-let same : head ≡ other = same-head new head other ys events is stands in
-let here : IsPast new head events = subst (λ (h : Head). IsPast new h events) (sym same) stands in
-subst (λ (h : Head). Says s h events) same
-(says_alike n head xs events s (alike-next n head xs ys events alike (alike-past new n head ys events is here)) has.0 (has.1 head xs was)))
+walk_stays old new n head xs ys (Some s) was is alike has = (
+  has.0,
+  λ other events stands.
+      let same : head ≡ other = same-head new head other ys events is stands in
+      let here : IsPast new head events = subst (λ (h : Head). IsPast new h events) (sym same) stands in
+      subst (λ (h : Head). Says s h events) same
+      (says_alike n head xs events s (alike-next n head xs ys events alike (alike-past new n head ys events is here)) has.0 (has.1 head xs was)),
+)
 
 walks_stay : (old new : Past) (n : ℕ) (head : Head) (xs ys : List Event) (slots : List (Option Slot)) → IsPast old head xs → IsPast new head ys → AreAlike n head xs ys → HaveWalks old n slots → HaveWalks new n slots
 walks_stay old new n head xs ys [] was is alike have = tt

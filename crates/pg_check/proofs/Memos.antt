@@ -33,8 +33,11 @@ slots_kept past n (x ∷ xs) (suc i) s all has = (all.0, slots_kept past n xs i 
 -- a slot that is made of a walk has it
 pub made_slot : (past : Past) (n : ℕ) (s : Slot) (p page : ℕ) (ws : List ℕ) (walk : Lasting) → (s.p ≡ p) × (s.page ≡ page) × (s.moments ≡ ws) → walk_in s ≡ walk → IsWithin n s →
     ((head : Head) (events : List Event) → IsPast past head events → IsWalk head events p page wants.Leaf ws (Ok walk)) → HasWalk past n (Some s)
-made_slot past n s p page ws walk same e within is = (within, λ head events h.
-subst (λ q. IsWalk head events q s.page wants.Leaf s.moments (Ok (walk_in s))) (sym same.0)
-(subst (λ la. IsWalk head events p la wants.Leaf s.moments (Ok (walk_in s))) (sym same.1)
-(subst (λ vs. IsWalk head events p page wants.Leaf vs (Ok (walk_in s))) (sym same.2)
-(subst (λ (l : Lasting). IsWalk head events p page wants.Leaf ws (Ok l)) (sym e) (is head events h)))))
+made_slot past n s p page ws walk same e within is = (
+  within,
+  λ head events h.
+      subst (λ q. IsWalk head events q s.page wants.Leaf s.moments (Ok (walk_in s))) (sym same.0)
+      (subst (λ la. IsWalk head events p la wants.Leaf s.moments (Ok (walk_in s))) (sym same.1)
+      (subst (λ vs. IsWalk head events p page wants.Leaf vs (Ok (walk_in s))) (sym same.2)
+      (subst (λ (l : Lasting). IsWalk head events p page wants.Leaf ws (Ok l)) (sym e) (is head events h)))),
+)

@@ -159,7 +159,7 @@ kind_paged cfg level e =
 same_lasting : (head : Head) (events : List Event) (p la : ℕ) (l : Lasting) (k : Kind) → IsPaged k →
     LastsTo head events p (start_of la) l k → LastsTo head events p la l k
 same_lasting head events p la l (Leaf frame shift global_bit) paged lasts =
-    (lasts.0, λ asked. subst (λ (n : ℕ). IsDroppedAt head events p (with_number l.chain.pcid shift l.global n) l.chain.end.moment l.dropped) (same_number la shift paged) (lasts.1 asked))
+    (lasts.0, subst (λ (n : ℕ). IsDroppedAt head events p (with_number l.chain.pcid shift l.global n) l.chain.end.moment l.asked l.dropped) (same_number la shift paged) lasts.1)
 same_lasting head events p la l (Table addr) paged lasts = tt
 same_lasting head events p la l Absent paged lasts = tt
 same_lasting head events p la l Reserved paged lasts = tt

@@ -111,8 +111,12 @@ impl<'a> Model for Memo<'a> {
     ghost invariant = { λ memo. HaveWalks memo.reader memo.limit memo.slots.items };
 }
 
-/// So many walks are kept at most: more would not stay in a cache of the processor that judges.
+/// So many walks are kept at most by a memo for a few events: it takes time to make more slots.
 const MOST_SLOTS: usize = 16_384;
+
+/// So many are kept at most for events that come later: more would not stay in a cache of the
+/// processor that judges.
+const MOST_KEPT_SLOTS: usize = 32_768;
 
 /// An odd number whose bits are spread, which spreads those of what it is multiplied by.
 const SPREAD: u64 = 0x9e37_79b9_7f4a_7c15;
@@ -136,23 +140,23 @@ fn is_of(slot: &Slot, p: u16, page: u64, moments: &Moments) -> bool
     slot.p == p && slot.page == page && slot.moments.as_slice() == moments.as_slice()
 }
 
-/// Slots for so many walks, up to a limit. Where memory is refused there are none.
-fn empty_slots(alloc: Global, walks: usize) -> Vec<Option<Slot>>
+/// So many slots. Where memory is refused there are none.
+fn empty_slots(alloc: Global, count: usize) -> Vec<Option<Slot>>
     ensures { (past : Past) (limit : ℕ) → HaveWalks past limit result.items }
 {
-    match Vec::from_elem(alloc, None, walks.min(MOST_SLOTS)) {
+    match Vec::from_elem(alloc, None, count) {
         Ok(slots) => slots,
         Err(_) => Vec::new(alloc),
     }
 }
 
-/// These slots if there are enough of them for so many walks, else as many as it takes.
-fn with_room(alloc: Global, slots: Vec<Option<Slot>>, walks: usize) -> Vec<Option<Slot>>
+/// These slots if there are so many, else so many with no walk.
+fn with_room(alloc: Global, slots: Vec<Option<Slot>>, count: usize) -> Vec<Option<Slot>>
     ensures { (past : Past) (limit : ℕ) → HaveWalks past limit slots.items →
         HaveWalks past limit result.items }
 {
-    if slots.len() < walks.min(MOST_SLOTS) {
-        empty_slots(alloc, walks)
+    if slots.len() < count {
+        empty_slots(alloc, count)
     } else {
         slots
     }
@@ -166,7 +170,7 @@ impl<'a> Memo<'a> {
     {
         Memo {
             reader: Reader::new(past, walks),
-            slots: empty_slots(past.alloc, walks),
+            slots: empty_slots(past.alloc, walks.min(MOST_SLOTS)),
             limit: u32::MAX,
         }
     }
@@ -184,14 +188,14 @@ impl<'a> Memo<'a> {
     {
         Memo {
             reader: Reader::new(past, walks),
-            slots: with_room(past.alloc, slots, walks),
+            slots: with_room(past.alloc, slots, walks.min(MOST_KEPT_SLOTS)),
             limit,
         }
     }
 
     /// The slots, where they rest on the first so many events.
     pub(crate) fn into_slots(self, limit: u32) -> Vec<Option<Slot>>
-        ensures { HaveWalks self limit result.items }
+        ensures { HaveWalks self.entry limit result.items }
     {
         let alloc = self.past().alloc;
         let Memo {
@@ -277,7 +281,8 @@ impl<'a> Memo<'a> {
     {
         let second = first | 1;
         if first < self.slots.len() && second < self.slots.len() {
-            self.slots[second] = self.slots[first];
+            let before = self.slots[first];
+            self.slots[second] = before;
         }
     }
 
