@@ -1,7 +1,7 @@
 -- A walk comes to the same in runs that read alike at its moments.
-use Rattle.std.proofs.Common.{◌≡◌, ℕ, zero, suc, ◌+◌, ◌-◌, ◌<◌, ◌≤◌, Bool, true, false, not, cond, leb, ◌&&◌, ◌||◌, ◌==◌, List, [], ◌∷◌, ◌++◌, take, length, Option, Some, None, Result, Ok, Err, refl, sym, ap, ◌∙◌, arith}
+use Rattle.std.proofs.Common.{◌≡◌, ℕ, zero, suc, ◌+◌, ◌-◌, ◌<◌, ◌≤◌, Bool, true, not, cond, leb, ◌&&◌, ◌||◌, ◌==◌, List, [], ◌∷◌, ◌++◌, length, Option, Some, None, Ok, Err, refl, sym, ap, ◌∙◌, arith}
 use Rattle.std.specs.Prelude.{slice_get, fold}
-use Rattle.std.specs.List.{list_all, AllByRecursion}
+use Rattle.std.specs.List.{AllByRecursion}
 use Rattle.std.proofs.lemmas.Bool.{and_parts, and_from, leb-true, le-leb}
 use Rattle.std.proofs.lemmas.List.{take-append-le}
 use Rattle.pg_entry.specs.declared.Rights.{Rights}
@@ -209,8 +209,8 @@ pub alike_lasts : (n : ℕ) (head : Head) (xs ys : List Event) (p la : ℕ) (l :
 alike_lasts n head xs ys p la l (Leaf frame shift global_bit) alike read asked paged lasts = (
   lasts.0 ∙ ap (λ (c : Control). global_bit && c.pge) (alike.controls p l.chain.end.moment read),
   let key = translation_key l.chain.pcid shift l.global la in
-  alike_drop (λ a b. not (survives head xs p (λ c e. must_drop_translation c e key) a b)) (λ a b. not (survives head ys p (λ c e. must_drop_translation c e key) a b))
-  n l.chain.end.moment l.asked l.dropped (λ a b low high. ap not (alike.drops p (Translation key) a b low high paged)) read asked lasts.1,
+      alike_drop (λ a b. not (survives head xs p (λ c e. must_drop_translation c e key) a b)) (λ a b. not (survives head ys p (λ c e. must_drop_translation c e key) a b))
+      n l.chain.end.moment l.asked l.dropped (λ a b low high. ap not (alike.drops p (Translation key) a b low high paged)) read asked lasts.1,
 )
 alike_lasts n head xs ys p la l (Table addr) alike read asked paged lasts = tt
 alike_lasts n head xs ys p la l Absent alike read asked paged lasts = tt

@@ -1,5 +1,5 @@
 -- Walks that were kept stay right as events are added to their run.
-use Rattle.std.proofs.Common.{◌≡◌, ℕ, ◌≤◌, List, [], ◌∷◌, ◌++◌, length, Option, Some, None, Result, Ok, Err, OnOk, OnErr, sym, ap, subst, ◌∙◌, arith, refl}
+use Rattle.std.proofs.Common.{◌≡◌, ℕ, ◌≤◌, List, [], ◌∷◌, ◌++◌, length, Option, Some, None, Result, Ok, Err, OnOk, OnErr, sym, subst, ◌∙◌, arith}
 use Rattle.pg_event.specs.declared.event.Event.{Event}
 use Rattle.pg_event.specs.declared.event.Want.TheVariants as wants
 use Rattle.pg_event.specs.Heads.{Head}
@@ -51,8 +51,7 @@ walk_later past n m None le has = tt
 walk_later past n m (Some s) le has =
     let within = has.0 in
     let read : s.moment ≤ n = within.read in
-    let asked : s.asked ≤ n = within.asked in
-    (
+    let asked : s.asked ≤ n = within.asked in (
       record {
         few = within.few;
         ordered = in_order-later s.moments n m le within.ordered;

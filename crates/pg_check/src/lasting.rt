@@ -79,11 +79,7 @@ fn if_below(first: Option<u32>, to: u32) -> Option<u32>
         IsFirstDrop (λ a b. not (not (any_from test a (b - a)))) from to result }
 {
     match first {
-        Some(number) => if number < to {
-            first
-        } else {
-            None
-        },
+        Some(number) => if number < to { first } else { None },
         None => None,
     }
 }
@@ -101,8 +97,7 @@ pub fn asked_up_to(reader: &mut Reader<'_>, p: u16, la: u64, walk: Lasting, to: 
         Kind::Leaf { shift, .. } => {
             let moment = chain.end.moment;
             let global = walk.global;
-            let first =
-                reader.first_drop_of_translation(p, chain.pcid, shift, la, global, moment);
+            let first = reader.first_drop_of_translation(p, chain.pcid, shift, la, global, moment);
             Lasting {
                 chain,
                 global,

@@ -203,11 +203,7 @@ impl<'a> Memo<'a> {
             slots,
             limit: own,
         } = self;
-        if own <= limit {
-            slots
-        } else {
-            Vec::new(alloc)
-        }
+        if own <= limit { slots } else { Vec::new(alloc) }
     }
 
     /// What the run did.
@@ -304,8 +300,11 @@ impl<'a> Memo<'a> {
             IsWalk head events p page Leaf moments.now (Ok walk) }
         ensures { self.new ≡ self.old }
     {
+        if place >= self.slots.len() {
+            return;
+        }
         let slot = slot_of(p, page, moments, walk);
-        if place < self.slots.len() && is_within(&slot, self.limit) {
+        if is_within(&slot, self.limit) {
             self.slots[place] = Some(slot);
         }
     }

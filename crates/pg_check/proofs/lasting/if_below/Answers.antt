@@ -1,4 +1,4 @@
-use Rattle.std.proofs.Common.{◌-◌, ◌^◌, ◌≤◌, ℕ, not, Option, subst, arith}
+use Rattle.std.proofs.Common.{◌-◌, ◌^◌, ℕ, not, Option, subst, arith}
 use Rattle.pg_event.specs.Witness.{any_from}
 use Rattle.pg_inval.specs.Lists.{IsFirstDrop}
 use Rattle.pg_check.proofs.Lastings.{none_before}

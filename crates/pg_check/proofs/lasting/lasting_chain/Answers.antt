@@ -2,7 +2,6 @@ use Rattle.std.proofs.Common.{◌≡◌, sym, ap, subst, ◌∙◌, refl, false,
 use Rattle.pg_entry.specs.declared.Cfg.{Cfg}
 use Rattle.pg_entry.specs.declared.Kind.{Kind}
 use Rattle.pg_entry.specs.Kinds.{kind_of}
-use Rattle.pg_event.specs.Invalidation.{translation_key}
 use Rattle.pg_check.specs.declared.lasting.Lasting.{Lasting}
 use Rattle.pg_check.specs.Lasting.{LastsTo}
 use Rattle.pg_check.proofs.Lastings.{nothing_lasts, not_yet}
