@@ -111,12 +111,15 @@ impl<'a> Model for Memo<'a> {
     ghost invariant = { λ memo. HaveWalks memo.reader memo.limit memo.slots.items };
 }
 
-/// So many walks are kept at most by a memo for a few events: it takes time to make more slots.
+/// So many walks are kept at most by a memo for a round: more would not stay in a cache of the
+/// processor that judges.
 const MOST_SLOTS: usize = 16_384;
 
-/// So many are kept at most for events that come later: more would not stay in a cache of the
-/// processor that judges.
-const MOST_KEPT_SLOTS: usize = 32_768;
+/// Slots that outlive a window are so many for each recorded processor, if that is more.
+const SLOTS_FOR_EACH: usize = 1_024;
+
+/// So many are kept at most, however many processors there are.
+const MOST_KEPT_SLOTS: usize = 65_536;
 
 /// An odd number whose bits are spread, which spreads those of what it is multiplied by.
 const SPREAD: u64 = 0x9e37_79b9_7f4a_7c15;
@@ -162,6 +165,12 @@ fn with_room(alloc: Global, slots: Vec<Option<Slot>>, count: usize) -> Vec<Optio
     }
 }
 
+/// So many slots are worth their room where so many walks may come.
+fn slots_for(past: &Past, walks: usize) -> usize {
+    let all = past.controls.processors().saturating_mul(SLOTS_FOR_EACH);
+    walks.min(all.max(MOST_SLOTS).min(MOST_KEPT_SLOTS))
+}
+
 impl<'a> Memo<'a> {
     /// No walk. There is room for so many, up to a limit; where memory is refused, each walk is
     /// made anew.
@@ -188,7 +197,7 @@ impl<'a> Memo<'a> {
     {
         Memo {
             reader: Reader::new(past, walks),
-            slots: with_room(past.alloc, slots, walks.min(MOST_KEPT_SLOTS)),
+            slots: with_room(past.alloc, slots, slots_for(past, walks)),
             limit,
         }
     }
@@ -241,7 +250,8 @@ impl<'a> Memo<'a> {
         place as usize & !1
     }
 
-    /// What a place has of a walk to a page.
+    /// What a place has of a walk to a page. Each access asks it, so that a call would cost much.
+    #[inline(always)]
     fn kept_at(&self, place: usize, p: u16, page: u64, moments: &Moments) -> Option<Lasting>
         ensures { (head : Head) (events : List Event) → IsPast self.now head events →
             IfSome result (λ l. IsWalk head events p page Leaf moments.now (Ok l)) }
