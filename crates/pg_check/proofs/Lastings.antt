@@ -1,14 +1,18 @@
 -- What the first event that drops a translation says of an access.
-use Rattle.std.proofs.Common.{◌≡◌, ℕ, ◌+◌, ◌-◌, ◌<◌, ◌≤◌, Bool, true, false, not, nat_lt, List, Some, ◌⊎◌, inl, inr, sym, ap, subst, ◌∙◌, arith}
+use Rattle.std.proofs.Common.{◌≡◌, ℕ, ◌+◌, ◌-◌, ◌<◌, ◌≤◌, Bool, true, false, not, nat_lt, List, Option, Some, None, MatchOption, ◌⊎◌, inl, inr, sym, ap, subst, ◌∙◌, arith}
 use Rattle.std.proofs.lemmas.Bool.{ltb-true, lt-ltb, false≢true, false_from_ne_true, cases_lt}
 use Rattle.pg_event.specs.declared.event.Event.{Event}
 use Rattle.pg_event.specs.Heads.{Head}
-use Rattle.pg_event.specs.Witness.{any_from}
+use Rattle.std.specs.Prelude.{slice_get}
+use Rattle.pg_event.specs.declared.keys.TranslationKey.{TranslationKey}
+use Rattle.pg_event.specs.Invalidation.{must_drop_translation}
+use Rattle.pg_event.specs.Values.{control_at}
+use Rattle.pg_event.specs.Witness.{any_from, takes_out}
 use Rattle.pg_entry.specs.declared.Kind.{Kind}
 use Rattle.pg_entry.specs.declared.Kind.TheVariants.{Table, Absent, Reserved}
 use Rattle.pg_inval.specs.Lists.{IsFirstDrop}
 use Rattle.pg_check.specs.declared.lasting.Lasting.{Lasting}
-use Rattle.pg_check.specs.Lasting.{LastsTo, IsAsked}
+use Rattle.pg_check.specs.Lasting.{LastsTo, IsAsked, IsDroppedAt}
 use Rattle.pg_inval.proofs.AnyFrom.{same_truth, not-not, any_from-at, any_from-passes}
 
 -- whether a number of a window passes a test, said twice not
@@ -53,11 +57,26 @@ nothing_lasts head events p la l k (inl (x, e)) = subst (λ (j : Kind). LastsTo 
 nothing_lasts head events p la l k (inr (inl e)) = subst (λ (j : Kind). LastsTo head events p la l j) (sym e) tt
 nothing_lasts head events p la l k (inr (inr e)) = subst (λ (j : Kind). LastsTo head events p la l j) (sym e) tt
 
--- no number lies in a window that ends where it begins, or before
-pub none_at_once : (test : ℕ → Bool) (from number : ℕ) → number ≤ from → false ≡ any_from test from (number - from)
-none_at_once test from number h = let none : number - from ≡ 0 = omega (arith, h) in ap (λ n. any_from test from n) (sym none)
+-- no number lies in a window that ends where it begins
+pub none_at_once : (test : ℕ → Bool) (from : ℕ) → passes_in test from from ≡ false
+none_at_once test from = let none : from - from ≡ 0 = omega arith in ap (λ n. not (not (any_from test from n))) none
 
--- it was asked of a walk that an event comes after
-pub was_asked : (number : ℕ) (l : Lasting) → IsAsked number l → l.chain.end.moment < number → l.asked ≡ true
-was_asked number l (inl at_once) h = absurd (omega arith)
-was_asked number l (inr asked) h = asked
+-- the first number that passes, of those below an earlier end
+pub none_before : (test : ℕ → Bool) (from to end : ℕ) → to ≤ end → passes_in test from end ≡ false → passes_in test from to ≡ false
+none_before test from to end within none = not-not (any_from test from (to - from)) ∙ sym (none_shorter test from end to within none)
+
+-- whether the event with a number drops a translation
+abbrev pub drops_at : Head → List Event → ℕ → TranslationKey → ℕ → Bool
+drops_at head events p key j = takes_out p (λ c e. must_drop_translation c e key) (control_at head events p j) (slice_get events j)
+
+-- nothing drops it at once
+pub not_yet : (head : Head) (events : List Event) (p : ℕ) (key : TranslationKey) (moment : ℕ) → IsDroppedAt head events p key moment moment None
+not_yet head events p key moment = none_at_once (drops_at head events p key) moment
+
+-- it is known of each event up to which that was asked
+pub asked_so_far : (l : Lasting) (number to : ℕ) → number ≤ to → l.asked ≡ to → IsAsked number l
+asked_so_far l number to h e = go l.dropped
+  where
+    go : (found : Option ℕ) → MatchOption found (number ≤ l.asked) (λ first. Unit {0})
+    go None = omega (arith, h, e)
+    go (Some first) = tt

@@ -8,33 +8,36 @@ use Rattle.pg_chain.specs.Standing.{IsPast}
 use Rattle.pg_check.specs.declared.memo.Slot.{Slot}
 use Rattle.pg_check.specs.declared.lasting.Lasting.{Lasting}
 use Rattle.pg_check.specs.Lasting.{IsWalk}
-use Rattle.pg_check.specs.Remembered.{HasWalk, HaveWalks, walk_in}
+use Rattle.pg_check.specs.Remembered.{HasWalk, HaveWalks, IsWithin, walk_in}
 
 -- what holds of each slot holds of the one at a place
-pub slot_at : (past : Past) (slots : List (Option Slot)) (i : ℕ) (d : Option Slot) → HaveWalks past slots → i < length slots → HasWalk past (get_or slots i d)
-slot_at past [] i d all h = absurd (omega arith)
-slot_at past (x ∷ xs) zero d all h = all.0
-slot_at past (x ∷ xs) (suc i) d all h = slot_at past xs i d all.1 (omega arith)
+pub slot_at : (past : Past) (n : ℕ) (slots : List (Option Slot)) (i : ℕ) (d : Option Slot) → HaveWalks past n slots → i < length slots → HasWalk past n (get_or slots i d)
+slot_at past n [] i d all h = absurd (omega arith)
+slot_at past n (x ∷ xs) zero d all h = all.0
+slot_at past n (x ∷ xs) (suc i) d all h = slot_at past n xs i d all.1 (omega arith)
 
 -- a slot says what the walk comes to that it names
-pub walk_of_slot : (past : Past) (s : Slot) (p page : ℕ) (ws : List ℕ) → HasWalk past (Some s) → (s.p ≡ p) × (s.page ≡ page) × (s.moments ≡ ws) →
+pub walk_of_slot : (past : Past) (n : ℕ) (s : Slot) (p page : ℕ) (ws : List ℕ) → HasWalk past n (Some s) → (s.p ≡ p) × (s.page ≡ page) × (s.moments ≡ ws) →
     (head : Head) (events : List Event) → IsPast past head events → IsWalk head events p page wants.Leaf ws (Ok (walk_in s))
-walk_of_slot past s p page ws has same head events h =
+walk_of_slot past n s p page ws has same head events h =
     subst (λ q. IsWalk head events q page wants.Leaf ws (Ok (walk_in s))) same.0
     (subst (λ la. IsWalk head events s.p la wants.Leaf ws (Ok (walk_in s))) same.1
-    (subst (λ vs. IsWalk head events s.p s.page wants.Leaf vs (Ok (walk_in s))) same.2 (has head events h)))
+    (subst (λ vs. IsWalk head events s.p s.page wants.Leaf vs (Ok (walk_in s))) same.2 (has.1 head events h)))
 
 -- a slot may be written at any place
-pub slots_kept : (past : Past) (slots : List (Option Slot)) (i : ℕ) (s : Option Slot) → HaveWalks past slots → HasWalk past s → HaveWalks past (set slots i s)
-slots_kept past [] i s all has = all
-slots_kept past (x ∷ xs) zero s all has = (has, all.1)
-slots_kept past (x ∷ xs) (suc i) s all has = (all.0, slots_kept past xs i s all.1 has)
+pub slots_kept : (past : Past) (n : ℕ) (slots : List (Option Slot)) (i : ℕ) (s : Option Slot) → HaveWalks past n slots → HasWalk past n s → HaveWalks past n (set slots i s)
+slots_kept past n [] i s all has = all
+slots_kept past n (x ∷ xs) zero s all has = (has, all.1)
+slots_kept past n (x ∷ xs) (suc i) s all has = (all.0, slots_kept past n xs i s all.1 has)
 
 -- a slot that is made of a walk has it
-pub made_slot : (past : Past) (s : Slot) (p page : ℕ) (ws : List ℕ) (walk : Lasting) → (s.p ≡ p) × (s.page ≡ page) × (s.moments ≡ ws) → walk_in s ≡ walk →
-    ((head : Head) (events : List Event) → IsPast past head events → IsWalk head events p page wants.Leaf ws (Ok walk)) → HasWalk past (Some s)
-made_slot past s p page ws walk same e is = λ head events h.
-    subst (λ q. IsWalk head events q s.page wants.Leaf s.moments (Ok (walk_in s))) (sym same.0)
-    (subst (λ la. IsWalk head events p la wants.Leaf s.moments (Ok (walk_in s))) (sym same.1)
-    (subst (λ vs. IsWalk head events p page wants.Leaf vs (Ok (walk_in s))) (sym same.2)
-    (subst (λ (l : Lasting). IsWalk head events p page wants.Leaf ws (Ok l)) (sym e) (is head events h))))
+pub made_slot : (past : Past) (n : ℕ) (s : Slot) (p page : ℕ) (ws : List ℕ) (walk : Lasting) → (s.p ≡ p) × (s.page ≡ page) × (s.moments ≡ ws) → walk_in s ≡ walk → IsWithin n s →
+    ((head : Head) (events : List Event) → IsPast past head events → IsWalk head events p page wants.Leaf ws (Ok walk)) → HasWalk past n (Some s)
+made_slot past n s p page ws walk same e within is = (
+  within,
+  λ head events h.
+      subst (λ q. IsWalk head events q s.page wants.Leaf s.moments (Ok (walk_in s))) (sym same.0)
+      (subst (λ la. IsWalk head events p la wants.Leaf s.moments (Ok (walk_in s))) (sym same.1)
+      (subst (λ vs. IsWalk head events p page wants.Leaf vs (Ok (walk_in s))) (sym same.2)
+      (subst (λ (l : Lasting). IsWalk head events p page wants.Leaf ws (Ok l)) (sym e) (is head events h)))),
+)

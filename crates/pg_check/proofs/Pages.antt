@@ -130,7 +130,7 @@ same_chain head events p la (w ∷ ws) want =
 -- ---- how long it lasts
 
 -- a leaf is of one of the three sizes
-abbrev IsPaged : Kind → Type 0
+abbrev pub IsPaged : Kind → Type 0
 IsPaged (Leaf frame shift global_bit) = IsPageShift shift
 IsPaged (Table addr) = Unit {0}
 IsPaged Absent = Unit {0}
@@ -150,7 +150,7 @@ either_paged : (b : Bool) (k l : Kind) → IsPaged k → IsPaged l → IsPaged (
 either_paged true k l x y = x
 either_paged false k l x y = y
 
-kind_paged : (cfg : Cfg) (level : Level) (e : ℕ) → IsPaged (kind_of cfg level e)
+pub kind_paged : (cfg : Cfg) (level : Level) (e : ℕ) → IsPaged (kind_of cfg level e)
 kind_paged cfg level e =
     either_paged (not (has_bit e 0)) Absent (cond (is_reserved cfg level e) Reserved (target cfg.m e (leaf_shift level e))) tt
     (either_paged (is_reserved cfg level e) Reserved (target cfg.m e (leaf_shift level e)) tt (target_paged cfg.m e level))
@@ -159,7 +159,7 @@ kind_paged cfg level e =
 same_lasting : (head : Head) (events : List Event) (p la : ℕ) (l : Lasting) (k : Kind) → IsPaged k →
     LastsTo head events p (start_of la) l k → LastsTo head events p la l k
 same_lasting head events p la l (Leaf frame shift global_bit) paged lasts =
-    (lasts.0, λ asked. subst (λ (n : ℕ). IsDroppedAt head events p (with_number l.chain.pcid shift l.global n) l.chain.end.moment l.dropped) (same_number la shift paged) (lasts.1 asked))
+    (lasts.0, subst (λ (n : ℕ). IsDroppedAt head events p (with_number l.chain.pcid shift l.global n) l.chain.end.moment l.asked l.dropped) (same_number la shift paged) lasts.1)
 same_lasting head events p la l (Table addr) paged lasts = tt
 same_lasting head events p la l Absent paged lasts = tt
 same_lasting head events p la l Reserved paged lasts = tt

@@ -1,7 +1,7 @@
 -- How long the translation lasts that a walk gives.
-use Rattle.std.specs.Prelude.{◌≡◌, ℕ, ◌-◌, ◌^◌, ◌≤◌, ◌⊎◌, true, not, ◌&&◌, List, Option}
+use Rattle.std.specs.Prelude.{◌≡◌, ℕ, ◌≤◌, not, ◌&&◌, List, Option}
 use Rattle.std.specs.Prelude.{Result, Ok, Err}
-use Rattle.std.specs.Prelude.{MatchResult}
+use Rattle.std.specs.Prelude.{MatchResult, MatchOption}
 use Rattle.pg_entry.specs.declared.Kind.{Kind}
 use Rattle.pg_entry.specs.declared.Kind.TheVariants as kinds
 use Rattle.pg_entry.specs.Kinds.{kind_of}
@@ -17,21 +17,20 @@ use Rattle.pg_inval.specs.Lists.{IsFirstDrop}
 use Rattle.pg_chain.specs.Walked.{chain_of}
 use Rattle.pg_check.specs.declared.lasting.Lasting.{Lasting}
 
--- the first event from a moment on that drops a translation
-abbrev pub IsDroppedAt : Head → List Event → ℕ → TranslationKey → ℕ → Option ℕ → Type 0
-IsDroppedAt head events p key moment dropped =
+-- the first event from a moment up to, not with, another that drops a translation
+abbrev pub IsDroppedAt : Head → List Event → ℕ → TranslationKey → ℕ → ℕ → Option ℕ → Type 0
+IsDroppedAt head events p key moment to dropped =
     IsFirstDrop
     (λ a b. not (survives head events p (λ c e. must_drop_translation c e key) a b))
-    moment (2 ^ 32 - 1) dropped
+    moment to dropped
 
--- whether the translation that a leaf gives is global and, if that was asked, the first event from
--- its reading on that drops it; nothing is said of what gives no translation
+-- whether the translation that a leaf gives is global and, as far as that was asked, the first
+-- event from its reading on that drops it; nothing is said of what gives no translation
 abbrev pub LastsTo : Head → List Event → ℕ → ℕ → Lasting → Kind → Type 0
 LastsTo head events p la l (kinds.Leaf frame shift global_bit) =
     (l.global ≡ (global_bit && (control_at head events p l.chain.end.moment).pge))
-    × (l.asked ≡ true →
-    IsDroppedAt head events p (translation_key l.chain.pcid shift l.global la)
-    l.chain.end.moment l.dropped)
+    × IsDroppedAt head events p (translation_key l.chain.pcid shift l.global la)
+    l.chain.end.moment l.asked l.dropped
 LastsTo head events p la l (kinds.Table addr) = Unit {0}
 LastsTo head events p la l kinds.Absent = Unit {0}
 LastsTo head events p la l kinds.Reserved = Unit {0}
@@ -41,9 +40,10 @@ abbrev pub IsLasting : Head → List Event → ℕ → ℕ → Lasting → Type 
 IsLasting head events p la l =
     LastsTo head events p la l (kind_of head.cfg l.chain.end.level l.chain.end.value)
 
--- it was asked, if an event with this number comes after the last reading
+-- it is known if an event before the one with this number drops the translation: one does, or that
+-- was asked so far
 abbrev pub IsAsked : ℕ → Lasting → Type 0
-IsAsked number l = (number ≤ l.chain.end.moment) ⊎ (l.asked ≡ true)
+IsAsked number l = MatchOption l.dropped (number ≤ l.asked) (λ first. Unit {0})
 
 -- what the moments of an access to an address by processor p come to, and how long it lasts
 abbrev pub IsWalk : Head → List Event → ℕ → ℕ → Want → List ℕ → Result Lasting Reason → Type 0

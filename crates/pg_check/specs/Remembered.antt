@@ -1,9 +1,10 @@
 -- What a memo of walks keeps true.
-use Rattle.std.specs.Prelude.{◌≡◌, List, Option, Some, None, Ok}
+use Rattle.std.specs.Prelude.{◌≡◌, ℕ, ◌≤◌, true, List, length, Option, Some, None, Ok}
 use Rattle.std.specs.List.{AllByRecursion}
 use Rattle.pg_event.specs.declared.event.Event.{Event}
 use Rattle.pg_event.specs.declared.event.Want.TheVariants as wants
 use Rattle.pg_event.specs.Heads.{Head}
+use Rattle.pg_event.specs.Witness.{is_in_order}
 use Rattle.pg_chain.specs.declared.history.Past.{Past}
 use Rattle.pg_chain.specs.Standing.{IsPast}
 use Rattle.pg_chain.specs.Walked.{chain_of}
@@ -30,13 +31,22 @@ walk_in s = record {
   dropped = s.dropped;
 }
 
--- a slot has what the walk comes to that it names, of every run that the past stands for
-abbrev pub HasWalk : Past → Option Slot → Type 0
-HasWalk past None = Unit {0}
-HasWalk past (Some s) =
-    (head : Head) (events : List Event) → IsPast past head events →
-    (chain_of head events s.p s.page s.moments wants.Leaf ≡ Ok (walk_in s).chain)
-    × IsLasting head events s.p s.page (walk_in s)
+-- what a slot says rests on the first so many events alone
+pub record IsWithin (limit : ℕ) (s : Slot) : Type 0 where
+  pub few : length s.moments ≤ 4
+  pub ordered : is_in_order s.moments limit ≡ true
+  pub read : s.moment ≤ limit
+  pub asked : s.asked ≤ limit
 
-abbrev pub HaveWalks : Past → List (Option Slot) → Type 0
-HaveWalks past slots = AllByRecursion (HasWalk past) slots
+-- a slot has what the walk comes to that it names, of every run that the past stands for, and goes
+-- on having it while events are added
+abbrev pub HasWalk : Past → ℕ → Option Slot → Type 0
+HasWalk past limit None = Unit {0}
+HasWalk past limit (Some s) =
+    IsWithin limit s
+    × ((head : Head) (events : List Event) → IsPast past head events →
+    (chain_of head events s.p s.page s.moments wants.Leaf ≡ Ok (walk_in s).chain)
+    × IsLasting head events s.p s.page (walk_in s))
+
+abbrev pub HaveWalks : Past → ℕ → List (Option Slot) → Type 0
+HaveWalks past limit slots = AllByRecursion (HasWalk past limit) slots

@@ -8,17 +8,19 @@ ghost use Rattle.pg_chain.specs.Standing.{IsPast, processor_count};
 ghost use Rattle.pg_event.specs.declared.event.Event.{Event};
 ghost use Rattle.pg_event.specs.Heads.{Head};
 ghost use Rattle.pg_event.specs.Spelling.{IsHead, segment_count};
-ghost use Rattle.pg_event.specs.Witness.{first_bad};
+ghost use Rattle.pg_event.specs.Witness.{first_bad, first_bad_from};
 ghost use Rattle.pg_check.specs.Judging.{Awaits, IsFound, IsJudged, MayFollow};
+ghost use Rattle.pg_check.specs.Remembered.{HaveWalks};
 ghost use Rattle.pg_check.specs.Stretches.{IsStretch};
 
 use crate::judge::first_bad_of;
-use crate::memo::Memo;
+use crate::memo::{Memo, Slot};
 use crate::stretch::Stretch;
 use pg_chain::Past;
 use pg_event::{Event, Header, Reason};
 use std::alloc::{AllocError, Global};
 use std::marker::Model;
+use std::mem;
 
 /// What is known of a run so far, and its first bad event. The events themselves are let go once
 /// they are judged; those after a bad one are noted alone.
@@ -28,11 +30,14 @@ pub struct Judged {
     past: Past,
     count: u64,
     first_bad: Option<(u64, Reason)>,
+    /// Walks that were made by the events that were judged.
+    slots: Vec<Option<Slot>>,
 }
 
 impl Model for Judged {
     ghost use Rattle.pg_event.specs.Spelling.{IsHead};
     ghost use Rattle.pg_check.specs.Judging.{Findings};
+    ghost use Rattle.pg_check.specs.Remembered.{HaveWalks};
 
     ghost Value = { Findings };
 
@@ -43,7 +48,29 @@ impl Model for Judged {
       first_bad = j.first_bad;
     } };
 
-    ghost invariant = { λ j. IsHead j.header };
+    ghost invariant = { λ j. IsHead j.header × HaveWalks j.past j.count j.slots.items };
+}
+
+/// The first bad event of some, the first of which has this number, where `kept` are walks of the
+/// events before them; and the walks that are kept then.
+fn judge_by(
+    past: &Past,
+    kept: Vec<Option<Slot>>,
+    first: u64,
+    events: &[Event],
+) -> (Option<(u64, Reason)>, Vec<Option<Slot>>)
+    requires kept { HaveWalks past.now first kept.items }
+    requires processors { AllByRecursion
+        (λ e. processor_of e < processor_count past.now) events.now }
+    requires count { first + length events.now < 2 ^ 32 }
+    ensures first { (head : Head) (all : List Event) → IsPast past.now head all →
+        result.0 ≡ first_bad_from head all first events.now }
+    ensures kept { HaveWalks past.now (first + length events.now) result.1.items }
+{
+    let last = (first + events.len() as u64) as u32;
+    let mut memo = Memo::with_slots(past, kept, events.len(), last);
+    let found = first_bad_of(&mut memo, first, events);
+    (found, memo.into_slots(last))
 }
 
 impl Judged {
@@ -58,6 +85,7 @@ impl Judged {
             past,
             count: 0,
             first_bad: None,
+            slots: Vec::new(alloc),
         })
     }
 
@@ -104,6 +132,18 @@ impl Judged {
             IsFound found head before events.now →
             IsJudged self.new head (before ++ events.now) }
     {
+        self.move_on(events, found);
+    }
+
+    /// The same, and what it leaves as it is.
+    fn move_on(&mut self, events: &[Event], found: Option<(u64, Reason)>)
+        requires { (head : Head) × (before : List Event) × Awaits self.old head before events.now }
+        ensures judged { (head : Head) (before : List Event) →
+            Awaits self.old head before events.now → IsFound found head before events.now →
+            IsJudged self.new head (before ++ events.now) }
+        ensures past { self.new.past ≡ self.old.past }
+        ensures count { self.new.count ≡ self.old.count + length events.now }
+    {
         self.first_bad = self.first_bad.or(found);
         self.count += events.len() as u64;
     }
@@ -118,14 +158,14 @@ impl Judged {
             OnErr result (IsJudged self.new head before) }
     {
         self.note(events)?;
-        let found = match self.first_bad {
-            Some(_) => None,
-            None => {
-                let mut memo = Memo::new(&self.past, events.len());
-                first_bad_of(&mut memo, self.count, events)
-            }
-        };
-        self.settle(events, found);
+        if self.first_bad.is_some() {
+            self.move_on(events, None);
+            return Ok(());
+        }
+        let kept = mem::replace(&mut self.slots, Vec::new(self.past.alloc));
+        let (found, slots) = judge_by(&self.past, kept, self.count, events);
+        self.move_on(events, found);
+        self.slots = slots;
         Ok(())
     }
 

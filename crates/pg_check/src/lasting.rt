@@ -1,9 +1,12 @@
 //! Walks by moments, and how long the translations last that they give.
 
-ghost use Rattle.std.specs.Prelude.{◌≡◌, ◌&&◌, ◌<◌, ◌≤◌, ◌^◌, List, IfOk};
+ghost use Rattle.std.specs.Prelude.{◌≡◌, ◌&&◌, ◌<◌, ◌≤◌, ◌-◌, ◌^◌, ℕ, Bool, not, List};
+ghost use Rattle.std.specs.Prelude.{IfOk, IsTrue};
 ghost use Rattle.pg_event.specs.declared.event.Event.{Event};
 ghost use Rattle.pg_event.specs.Heads.{Head};
 ghost use Rattle.pg_event.specs.Values.{control_at};
+ghost use Rattle.pg_event.specs.Witness.{any_from};
+ghost use Rattle.pg_inval.specs.Lists.{IsFirstDrop};
 ghost use Rattle.pg_chain.specs.Standing.{IsPast, processor_count};
 ghost use Rattle.pg_check.specs.Lasting.{IsLasting, IsAsked, IsWalk};
 
@@ -17,10 +20,9 @@ pub struct Lasting {
     pub chain: Chain,
     /// Whether the translation is global.
     pub global: bool,
-    /// Whether it was looked up when the translation had to go, which nobody needs to know where it
-    /// is used at once.
-    pub asked: bool,
-    /// The first event from the last reading on at which it had to go, if that was looked up.
+    /// Up to this event, not with it, it was looked up when the translation had to go.
+    pub asked: u32,
+    /// The first event from the last reading on at which it had to go, if one of those is.
     pub dropped: Option<u32>,
 }
 
@@ -35,40 +37,78 @@ fn is_global(reader: &mut Reader<'_>, p: u16, moment: u32, global_bit: bool) -> 
     global_bit && reader.control_at(p, moment).pge
 }
 
-/// How long the translation lasts that a walk gives, as far as the event with this number asks.
-pub fn lasting_chain(reader: &mut Reader<'_>, p: u16, la: u64, chain: Chain, number: u32) -> Lasting
+/// The translation that a walk gives, of which nothing was looked up yet.
+fn lasting_chain(reader: &mut Reader<'_>, p: u16, la: u64, chain: Chain) -> Lasting
     requires { p < processor_count reader.old }
     ensures past { reader.new ≡ reader.old }
     ensures chain { result.chain ≡ chain }
-    ensures asked { IsAsked number result }
     ensures lasting { (head : Head) (events : List Event) → IsPast reader.old head events →
         IsLasting head events p la result }
 {
     let end = chain.end;
     match kind_at(reader.cfg(), end) {
-        Kind::Leaf {
-            shift,
-            global_bit,
-            ..
-        } => {
-            let global = is_global(reader, p, end.moment, global_bit);
-            let asked = end.moment < number;
-            let dropped = if asked {
-                reader.first_drop_of_translation(p, chain.pcid, shift, la, global, end.moment)
-            } else {
-                None
-            };
+        Kind::Leaf { global_bit, .. } => Lasting {
+            chain,
+            global: is_global(reader, p, end.moment, global_bit),
+            asked: end.moment,
+            dropped: None,
+        },
+        Kind::Table { .. } | Kind::Absent | Kind::Reserved => Lasting {
+            chain,
+            global: false,
+            asked: end.moment,
+            dropped: None,
+        },
+    }
+}
+
+/// Whether it is known of a walk if its translation had to go before the event with this number.
+pub fn is_asked(walk: &Lasting, number: u32) -> bool
+    ensures { IsTrue result → IsAsked number walk.now }
+{
+    match walk.dropped {
+        Some(_) => true,
+        None => number <= walk.asked,
+    }
+}
+
+/// The first event from one on at which something was dropped, if that lies below another.
+fn if_below(first: Option<u32>, to: u32) -> Option<u32>
+    ensures { (test : ℕ → Bool) (from : ℕ) →
+        IsFirstDrop (λ a b. not (not (any_from test a (b - a)))) from (2 ^ 32 - 1) first →
+        IsFirstDrop (λ a b. not (not (any_from test a (b - a)))) from to result }
+{
+    match first {
+        Some(number) => if number < to { first } else { None },
+        None => None,
+    }
+}
+
+/// The first event at which the translation of a walk had to go, of those up to, not with, another.
+pub fn asked_up_to(reader: &mut Reader<'_>, p: u16, la: u64, walk: Lasting, to: u32) -> Lasting
+    ensures past { reader.new ≡ reader.old }
+    ensures chain { result.chain ≡ walk.chain }
+    ensures asked { (number : ℕ) → number ≤ to → IsAsked number result }
+    ensures lasting { (head : Head) (events : List Event) → IsPast reader.old head events →
+        IsLasting head events p la walk → IsLasting head events p la result }
+{
+    let chain = walk.chain;
+    match kind_at(reader.cfg(), chain.end) {
+        Kind::Leaf { shift, .. } => {
+            let moment = chain.end.moment;
+            let global = walk.global;
+            let first = reader.first_drop_of_translation(p, chain.pcid, shift, la, global, moment);
             Lasting {
                 chain,
                 global,
-                asked,
-                dropped,
+                asked: to,
+                dropped: if_below(first, to),
             }
         }
         Kind::Table { .. } | Kind::Absent | Kind::Reserved => Lasting {
             chain,
-            global: false,
-            asked: true,
+            global: walk.global,
+            asked: to,
             dropped: None,
         },
     }
@@ -79,6 +119,7 @@ pub fn lasting_chain(reader: &mut Reader<'_>, p: u16, la: u64, chain: Chain, num
 pub fn lasting_walk(
     reader: &mut Reader<'_>,
     number: u32,
+    to: u32,
     p: u16,
     la: u64,
     moments: &Moments,
@@ -91,7 +132,14 @@ pub fn lasting_walk(
         IsWalk head events p la want moments.now result }
 {
     match chain_by(reader, p, la, moments, want) {
-        Ok(chain) => Ok(lasting_chain(reader, p, la, chain, number)),
+        Ok(chain) => {
+            let walk = lasting_chain(reader, p, la, chain);
+            if is_asked(&walk, number) {
+                Ok(walk)
+            } else {
+                Ok(asked_up_to(reader, p, la, walk, number.max(to)))
+            }
+        }
         Err(reason) => Err(reason),
     }
 }

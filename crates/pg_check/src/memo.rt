@@ -1,18 +1,21 @@
 //! Walks that were made, kept so that they need not be made again.
 
-ghost use Rattle.std.specs.Prelude.{◌≡◌, ◌<◌, List, Ok, IfOk, IfSome, IsTrue};
+ghost use Rattle.std.specs.Prelude.{◌≡◌, ◌<◌, ℕ, List, Ok, IfOk, IfSome, IsTrue};
 ghost use Rattle.pg_event.specs.declared.event.Event.{Event};
 ghost use Rattle.pg_event.specs.declared.event.Want.TheVariants.{Leaf};
 ghost use Rattle.pg_event.specs.Heads.{Head};
 ghost use Rattle.pg_event.specs.Values.{control_at};
+ghost use Rattle.pg_chain.specs.declared.history.Past.{Past};
 ghost use Rattle.pg_chain.specs.Standing.{IsPast, processor_count};
 ghost use Rattle.pg_check.specs.Lasting.{IsAsked, IsWalk};
-ghost use Rattle.pg_check.specs.Remembered.{HasWalk, walk_in};
+ghost use Rattle.pg_check.specs.Remembered.{HasWalk, HaveWalks, IsWithin, walk_in};
 
-use crate::lasting::{Lasting, lasting_chain, lasting_walk};
+use crate::lasting::{Lasting, asked_up_to, is_asked, lasting_walk};
+use crate::walk::is_in_order;
 use pg_chain::{Chain, Past, Reader, Step};
 use pg_entry::{Level, Rights};
 use pg_event::{Control, Moments, Reason, Want};
+use std::alloc::Global;
 use std::marker::Model;
 
 /// A walk that was made: which one, and what it came to. The page is told by its first address: no
@@ -24,6 +27,7 @@ pub struct Slot {
     pub value: u64,
     pub moments: Moments,
     pub moment: u32,
+    pub asked: u32,
     pub dropped: Option<u32>,
     pub p: u16,
     pub pcid: u16,
@@ -31,7 +35,6 @@ pub struct Slot {
     pub rights: Rights,
     pub tables: bool,
     pub global: bool,
-    pub asked: bool,
 }
 
 /// What the walk of a slot came to.
@@ -68,6 +71,7 @@ fn slot_of(p: u16, page: u64, moments: &Moments, walk: Lasting) -> Slot
         value: end.value,
         moments: *moments,
         moment: end.moment,
+        asked: walk.asked,
         dropped: walk.dropped,
         p,
         pcid: walk.chain.pcid,
@@ -75,8 +79,14 @@ fn slot_of(p: u16, page: u64, moments: &Moments, walk: Lasting) -> Slot
         rights: end.rights,
         tables: walk.chain.tables,
         global: walk.global,
-        asked: walk.asked,
     }
+}
+
+/// Whether what a slot says rests on the first so many events alone, so that later ones leave it.
+fn is_within(slot: &Slot, limit: u32) -> bool
+    ensures { IsTrue result → IsWithin limit slot.now }
+{
+    slot.moment <= limit && slot.asked <= limit && is_in_order(slot.moments.as_slice(), limit)
 }
 
 /// Walks that were made by a past. Where levels are read long before they are used, most accesses
@@ -85,6 +95,8 @@ fn slot_of(p: u16, page: u64, moments: &Moments, walk: Lasting) -> Slot
 pub struct Memo<'a> {
     reader: Reader<'a>,
     slots: Vec<Option<Slot>>,
+    /// What the slots say rests on the first so many events.
+    limit: u32,
 }
 
 impl<'a> Model for Memo<'a> {
@@ -96,11 +108,18 @@ impl<'a> Model for Memo<'a> {
 
     ghost view = { λ memo. memo.reader };
 
-    ghost invariant = { λ memo. HaveWalks memo.reader memo.slots.items };
+    ghost invariant = { λ memo. HaveWalks memo.reader memo.limit memo.slots.items };
 }
 
-/// So many walks are kept at most: more would not stay in a cache of the processor that judges.
+/// So many walks are kept at most by a memo for a round: more would not stay in a cache of the
+/// processor that judges.
 const MOST_SLOTS: usize = 16_384;
+
+/// Slots that outlive a window are so many for each recorded processor, if that is more.
+const SLOTS_FOR_EACH: usize = 1_024;
+
+/// So many are kept at most, however many processors there are.
+const MOST_KEPT_SLOTS: usize = 65_536;
 
 /// An odd number whose bits are spread, which spreads those of what it is multiplied by.
 const SPREAD: u64 = 0x9e37_79b9_7f4a_7c15;
@@ -124,21 +143,76 @@ fn is_of(slot: &Slot, p: u16, page: u64, moments: &Moments) -> bool
     slot.p == p && slot.page == page && slot.moments.as_slice() == moments.as_slice()
 }
 
+/// So many slots. Where memory is refused there are none.
+fn empty_slots(alloc: Global, count: usize) -> Vec<Option<Slot>>
+    ensures { (past : Past) (limit : ℕ) → HaveWalks past limit result.items }
+{
+    match Vec::from_elem(alloc, None, count) {
+        Ok(slots) => slots,
+        Err(_) => Vec::new(alloc),
+    }
+}
+
+/// These slots if there are so many, else so many with no walk.
+fn with_room(alloc: Global, slots: Vec<Option<Slot>>, count: usize) -> Vec<Option<Slot>>
+    ensures { (past : Past) (limit : ℕ) → HaveWalks past limit slots.items →
+        HaveWalks past limit result.items }
+{
+    if slots.len() < count {
+        empty_slots(alloc, count)
+    } else {
+        slots
+    }
+}
+
+/// So many slots are worth their room where so many walks may come.
+fn slots_for(past: &Past, walks: usize) -> usize {
+    let all = past.controls.processors().saturating_mul(SLOTS_FOR_EACH);
+    walks.min(all.max(MOST_SLOTS).min(MOST_KEPT_SLOTS))
+}
+
 impl<'a> Memo<'a> {
     /// No walk. There is room for so many, up to a limit; where memory is refused, each walk is
     /// made anew.
     pub(crate) fn new(past: &'a Past, walks: usize) -> Memo<'a>
         ensures { result ≡ past.now }
     {
-        let count = walks.min(MOST_SLOTS);
-        let slots = match Vec::from_elem(past.alloc, None, count) {
-            Ok(slots) => slots,
-            Err(_) => Vec::new(past.alloc),
-        };
         Memo {
             reader: Reader::new(past, walks),
-            slots,
+            slots: empty_slots(past.alloc, walks.min(MOST_SLOTS)),
+            limit: u32::MAX,
         }
+    }
+
+    /// The walks that slots have, which rest on the first so many events of the run. There is room
+    /// for so many more, up to a limit.
+    pub(crate) fn with_slots(
+        past: &'a Past,
+        slots: Vec<Option<Slot>>,
+        walks: usize,
+        limit: u32,
+    ) -> Memo<'a>
+        requires { HaveWalks past.now limit slots.items }
+        ensures { result ≡ past.now }
+    {
+        Memo {
+            reader: Reader::new(past, walks),
+            slots: with_room(past.alloc, slots, slots_for(past, walks)),
+            limit,
+        }
+    }
+
+    /// The slots, where they rest on the first so many events.
+    pub(crate) fn into_slots(self, limit: u32) -> Vec<Option<Slot>>
+        ensures { HaveWalks self.entry limit result.items }
+    {
+        let alloc = self.past().alloc;
+        let Memo {
+            reader: _,
+            slots,
+            limit: own,
+        } = self;
+        if own <= limit { slots } else { Vec::new(alloc) }
     }
 
     /// What the run did.
@@ -176,7 +250,8 @@ impl<'a> Memo<'a> {
         place as usize & !1
     }
 
-    /// What a place has of a walk to a page.
+    /// What a place has of a walk to a page. Each access asks it, so that a call would cost much.
+    #[inline(always)]
     fn kept_at(&self, place: usize, p: u16, page: u64, moments: &Moments) -> Option<Lasting>
         ensures { (head : Head) (events : List Event) → IsPast self.now head events →
             IfSome result (λ l. IsWalk head events p page Leaf moments.now (Ok l)) }
@@ -206,23 +281,14 @@ impl<'a> Memo<'a> {
         }
     }
 
-    /// Keeps a walk at a place, where there is one.
-    fn keep(&mut self, place: usize, slot: Option<Slot>)
-        requires { HasWalk self.old slot }
-        ensures { self.new ≡ self.old }
-    {
-        if place < self.slots.len() {
-            self.slots[place] = slot;
-        }
-    }
-
     /// Makes room at the first of two places: what it has goes to the other.
     fn make_way(&mut self, first: usize)
         ensures { self.new ≡ self.old }
     {
-        if first < self.slots.len() {
+        let second = first | 1;
+        if first < self.slots.len() && second < self.slots.len() {
             let before = self.slots[first];
-            self.keep(first | 1, before);
+            self.slots[second] = before;
         }
     }
 
@@ -234,20 +300,27 @@ impl<'a> Memo<'a> {
     {
         let first = self.place_of(p, page, moments);
         self.make_way(first);
-        self.keep_walk(first, p, page, moments, walk);
+        self.keep(first, p, page, moments, walk);
     }
 
-    /// Keeps what a walk to a page came to at a place, where there is one.
-    fn keep_walk(&mut self, place: usize, p: u16, page: u64, moments: &Moments, walk: Lasting)
+    /// Keeps what a walk to a page came to at a place, where there is one, unless it rests on later
+    /// events than the others.
+    fn keep(&mut self, place: usize, p: u16, page: u64, moments: &Moments, walk: Lasting)
         requires { (head : Head) (events : List Event) → IsPast self.old head events →
             IsWalk head events p page Leaf moments.now (Ok walk) }
         ensures { self.new ≡ self.old }
     {
-        self.keep(place, Some(slot_of(p, page, moments, walk)));
+        if place >= self.slots.len() {
+            return;
+        }
+        let slot = slot_of(p, page, moments, walk);
+        if is_within(&slot, self.limit) {
+            self.slots[place] = Some(slot);
+        }
     }
 
-    /// A walk that a place has. The first event that comes after its last reading asks when its
-    /// translation had to go.
+    /// A walk that a place has. The first event after those up to which that was asked, asks when
+    /// its translation had to go.
     fn asked_walk(
         &mut self,
         number: u32,
@@ -257,20 +330,19 @@ impl<'a> Memo<'a> {
         moments: &Moments,
         walk: Lasting,
     ) -> Lasting
-        requires processor { p < processor_count self.old }
-        requires walk { (head : Head) (events : List Event) → IsPast self.old head events →
+        requires { (head : Head) (events : List Event) → IsPast self.old head events →
             IsWalk head events p page Leaf moments.now (Ok walk) }
         ensures past { self.new ≡ self.old }
         ensures asked { IsAsked number result }
         ensures walk { (head : Head) (events : List Event) → IsPast self.old head events →
             IsWalk head events p page Leaf moments.now (Ok result) }
     {
-        if walk.asked || number <= walk.chain.end.moment {
+        if is_asked(&walk, number) {
             return walk;
         }
-        let asked = lasting_chain(&mut self.reader, p, page, walk.chain, number);
-        self.keep_walk(place, p, page, moments, asked);
-        asked
+        let known = asked_up_to(&mut self.reader, p, page, walk, number.max(self.limit));
+        self.keep(place, p, page, moments, known);
+        known
     }
 
     /// A walk that was not kept.
@@ -287,7 +359,8 @@ impl<'a> Memo<'a> {
         ensures walk { (head : Head) (events : List Event) → IsPast self.old head events →
             IsWalk head events p page Leaf moments.now result }
     {
-        match lasting_walk(&mut self.reader, number, p, page, moments, Want::Leaf) {
+        let to = self.limit;
+        match lasting_walk(&mut self.reader, number, to, p, page, moments, Want::Leaf) {
             Ok(walk) => {
                 self.remember(p, page, moments, walk);
                 Ok(walk)
@@ -336,7 +409,7 @@ impl<'a> Memo<'a> {
         if may_be_kept(want) {
             self.page_walk(number, p, la - la % 4096, moments)
         } else {
-            lasting_walk(&mut self.reader, number, p, la, moments, want)
+            lasting_walk(&mut self.reader, number, number, p, la, moments, want)
         }
     }
 }

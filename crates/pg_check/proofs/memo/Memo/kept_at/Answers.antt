@@ -17,10 +17,10 @@ returns-then-is_of c =
     let slot = c.in-Some.slot in
     let within : c.args.place < length memo.slots.items = subst (λ (xs : List (Option Slot)). c.args.place < length xs) c.deref.ensures.value at.3.0 in
     let read = at.3.1 found in
-    let has : HasWalk memo.reader (Some slot) =
-    subst (λ (s : Option Slot). HasWalk memo.reader s) (sym (read ∙ ap (λ (xs : List (Option Slot)). get_or xs c.args.place found) c.deref.ensures.value) ∙ c.in-Some.is)
-    (slot_at memo.reader memo.slots.items c.args.place found c.self.invariant within) in
+    let has : HasWalk memo.reader memo.limit (Some slot) =
+    subst (λ (s : Option Slot). HasWalk memo.reader memo.limit s) (sym (read ∙ ap (λ (xs : List (Option Slot)). get_or xs c.args.place found) c.deref.ensures.value) ∙ c.in-Some.is)
+    (slot_at memo.reader memo.limit memo.slots.items c.args.place found c.self.invariant within) in
     λ head events h.
     subst (λ (l : Lasting). IsWalk head events c.args.p c.args.page wants.Leaf c.args.moments.now (Ok l)) (sym c.walk_in.ensures)
-    (walk_of_slot memo.reader slot c.args.p c.args.page c.args.moments.now has (c.if-is_of.ensures refl)
+    (walk_of_slot memo.reader memo.limit slot c.args.p c.args.page c.args.moments.now has (c.if-is_of.ensures refl)
     head events (subst (λ (x : Past). IsPast x head events) (sym c.self.view_is) h))

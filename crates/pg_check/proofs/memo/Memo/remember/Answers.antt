@@ -3,5 +3,5 @@ use Rattle.pg_chain.specs.declared.history.Past.{Past}
 use Rattle.pg_chain.specs.Standing.{IsPast}
 use Rattle.pg_check.proofs.memo.Memo.remember.Goals as goal
 
-pub keep_walk-requires : goal.keep_walk-requires
-keep_walk-requires c = λ head events h. c.requires head events (subst (λ (x : Past). IsPast x head events) c.make_way.ensures h)
+pub keep-requires : goal.keep-requires
+keep-requires c = λ head events h. c.requires head events (subst (λ (x : Past). IsPast x head events) c.make_way.ensures h)

@@ -5,7 +5,7 @@ use Rattle.pg_check.specs.Remembered.{HaveWalks}
 use Rattle.pg_check.proofs.memo.Memo.walk_anew.Goals as goal
 
 pub invariant_of-self : goal.invariant_of-self
-invariant_of-self c = subst (λ (x : Past). HaveWalks x c.self.inside.slots.items) (sym c.lasting_walk.ensures.past) c.self.invariant
+invariant_of-self c = subst (λ (x : Past). HaveWalks x c.self.inside.limit c.self.inside.slots.items) (sym c.lasting_walk.ensures.past) c.self.invariant
 
 pub remember-requires : goal.remember-requires
 remember-requires c = λ head events h.
