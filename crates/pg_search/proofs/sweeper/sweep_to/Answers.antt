@@ -1,8 +1,4 @@
-use Rattle.std.proofs.Common.{◌≡◌, ℕ, ◌+◌, ◌<◌, List, Some, get_or, take, refl, ◌∙◌, ap, subst, arith, length}
-use Rattle.std.specs.Prelude.{slice_get}
-use Rattle.std.proofs.lemmas.List.{length-take, get_or-take}
-use Rattle.std.proofs.lemmas.Option.{slice_get_read}
-use Rattle.pg_event.specs.declared.event.Event.{Event}
+use Rattle.std.proofs.Common.{◌≡◌, ℕ, ◌+◌, ◌∙◌, ap, subst, arith}
 use Rattle.pg_search.specs.Found.{is_useful}
 use Rattle.pg_search.specs.Sweep.{standing}
 use Rattle.pg_search.specs.Swept.{IsSweep}
