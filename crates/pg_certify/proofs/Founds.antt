@@ -1,11 +1,11 @@
 -- What is found for an event witnesses it.
-use Rattle.std.proofs.Common.{◌≡◌, ℕ, ◌+◌, ◌<◌, ◌≤◌, false, List, [], ◌∷◌, length, refl, ap, sym, ◌∙◌, subst, arith, inl, inr, Option, Some, None, take_all, map}
+use Rattle.std.proofs.Common.{◌≡◌, ℕ, ◌+◌, ◌<◌, ◌≤◌, true, false, List, [], ◌∷◌, length, refl, ap, sym, ◌∙◌, subst, arith, inl, inr, Option, Some, None, take_all, map}
 use Rattle.std.specs.Prelude.{slice_get, IfSome, IfNone}
 use Rattle.std.proofs.lemmas.Bool.{cases_lt}
 use Rattle.pg_event.specs.declared.event.Event.{Event}
 use Rattle.pg_event.specs.declared.event.Event.TheVariants.{Write, Access, Assist, MovCr3, Invlpg, Invpcid, MovCr4Pge}
 use Rattle.pg_event.specs.Heads.{Head}
-use Rattle.pg_event.specs.Form.{processor_of}
+use Rattle.pg_event.specs.Form.{broken_rule, processor_of}
 use Rattle.pg_event.specs.Spelling.{Recorded, AreMoments}
 use Rattle.pg_event.specs.Witness.{failing_event}
 use Rattle.pg_chain.specs.declared.history.Past.{Past}
@@ -14,8 +14,8 @@ use Rattle.pg_chain.proofs.Notes.{processor_count-past}
 use Rattle.pg_check.proofs.Known.{processor-known}
 use Rattle.pg_run_of.specs.Converse.{without_moments, HasMoments, AreSameButMoments}
 use Rattle.pg_run_of.proofs.Moments.{judged_alike}
-use Rattle.pg_search.specs.Law.{names_moments, with_moments, WitnessedBy, CanBeWitnessed}
-use Rattle.pg_certify.specs.Certified.{IsEvent, IsFound, IsCertified, IsDenied, NamesMoments}
+use Rattle.pg_search.specs.Law.{names_moments, with_moments, AreWitness, CanBeWitnessed}
+use Rattle.pg_certify.specs.Certified.{IsFoundFor, IsUnwitnessed, IsFound, IsCertified, IsDenied}
 use Rattle.pg_certify.proofs.Gathered.{Good, UpTo}
 
 pub some_same : (x y : Event) → Some x ≡ Some y → x ≡ y
@@ -49,38 +49,34 @@ processor_with ws (Invpcid p kind pcid la) = refl
 processor_with ws (MovCr4Pge p on) = refl
 
 -- the event with moments that witness it
-pub found_with : (head : Head) (events : List Event) (i : ℕ) (e : Event) (ws : List ℕ) → IsEvent head events i e → AreMoments ws → failing_event head events i (with_moments ws e) ≡ None →
-    IsFound head events i (with_moments ws e)
-found_with head events i e ws at fits good = record { event = e; there = at.there; same = same_without ws e; fits = fits_with ws e fits; good = good }
+pub found_with : (head : Head) (events : List Event) (i : ℕ) (e : Event) (ws : List ℕ) → AreMoments ws → failing_event head events i (with_moments ws e) ≡ None → IsFoundFor head events i e (with_moments ws e)
+found_with head events i e ws fits good = record { same = same_without ws e; fits = fits_with ws e fits; good = good }
 
 -- by a search
-pub found_by : (head : Head) (events : List Event) (i : ℕ) (e : Event) (ws : List ℕ) → IsEvent head events i e → AreMoments ws → WitnessedBy head events i ws →
-    IsFound head events i (with_moments ws e)
-found_by head events i e ws at fits by =
-    let same : by.0 ≡ e = some_same by.0 e (sym by.1 ∙ at.there) in
-    found_with head events i e ws at fits (subst (λ x. failing_event head events i (with_moments ws x) ≡ None) same by.2.good)
+pub found_by : (head : Head) (events : List Event) (i : ℕ) (e : Event) (ws : List ℕ) → AreMoments ws → AreWitness head events i e ws → IsFoundFor head events i e (with_moments ws e)
+found_by head events i e ws fits by = found_with head events i e ws fits by.good
 
 -- an event that names no moments
-pub found_itself : (head : Head) (events : List Event) (i : ℕ) (e : Event) → slice_get events i ≡ Some e → names_moments e ≡ false → IsFound head events i e
-found_itself head events i (Write p addr value) at h = record { event = Write p addr value; there = at; same = refl; fits = tt; good = refl }
-found_itself head events i (Access p flags la outcome moments) at h = absurd (cc)
-found_itself head events i (Assist p flags la word moments) at h = absurd (cc)
-found_itself head events i (MovCr3 p operand) at h = record { event = MovCr3 p operand; there = at; same = refl; fits = tt; good = refl }
-found_itself head events i (Invlpg p la) at h = record { event = Invlpg p la; there = at; same = refl; fits = tt; good = refl }
-found_itself head events i (Invpcid p kind pcid la) at h = record { event = Invpcid p kind pcid la; there = at; same = refl; fits = tt; good = refl }
-found_itself head events i (MovCr4Pge p on) at h = record { event = MovCr4Pge p on; there = at; same = refl; fits = tt; good = refl }
+pub found_itself : (head : Head) (events : List Event) (i : ℕ) (e : Event) → names_moments e ≡ false → IsFoundFor head events i e e
+found_itself head events i (Write p addr value) h = record { same = refl; fits = tt; good = refl }
+found_itself head events i (Access p flags la outcome moments) h = absurd (cc)
+found_itself head events i (Assist p flags la word moments) h = absurd (cc)
+found_itself head events i (MovCr3 p operand) h = record { same = refl; fits = tt; good = refl }
+found_itself head events i (Invlpg p la) h = record { same = refl; fits = tt; good = refl }
+found_itself head events i (Invpcid p kind pcid la) h = record { same = refl; fits = tt; good = refl }
+found_itself head events i (MovCr4Pge p on) h = record { same = refl; fits = tt; good = refl }
 
 -- its processor is known to its past
-pub processor_past : (past : Past) (head : Head) (events : List Event) (i : ℕ) (e : Event) (ws : List ℕ) → IsPast past head events → IsEvent head events i e →
+pub processor_past : (past : Past) (head : Head) (events : List Event) (e : Event) (ws : List ℕ) → IsPast past head events → broken_rule head e ≡ None →
     processor_of (with_moments ws e) < processor_count past
-processor_past past head events i e ws stands at =
+processor_past past head events e ws stands well =
     let n = processor_count-past past head events stands in
-    let known = processor-known head e at.well in
+    let known = processor-known head e well in
     let same = processor_with ws e in
     omega (arith, n, known, same)
 
 -- the moments that an event names
-abbrev named : Event → List ℕ
+abbrev pub named : Event → List ℕ
 named (Write p addr value) = 0 ∷ []
 named (Access p flags la outcome moments) = moments
 named (Assist p flags la word moments) = moments
@@ -116,13 +112,17 @@ replaced ws (Invlpg p la) = refl
 replaced ws (Invpcid p kind pcid la) = refl
 replaced ws (MovCr4Pge p on) = refl
 
+-- the moments of what is found for an event witness it
+pub found_witness : (head : Head) (events : List Event) (i : ℕ) (e x : Event) → IsFoundFor head events i e x → AreWitness head events i e (named x)
+found_witness head events i e x h =
+    let fits = has_some x h.fits in
+    let is : x ≡ with_moments (named x) e = sym (itself x) ∙ ap (with_moments (named x)) h.same ∙ replaced (named x) e in
+    record { some = fits.0; few = fits.1; good = subst (λ y. failing_event head events i y ≡ None) is h.good }
+
 -- what is found for an event shows that some moments witness it
 pub found_can : (head : Head) (events : List Event) (i : ℕ) (x : Event) → IsFound head events i x → CanBeWitnessed head events i
 found_can head events i x h =
-    let ws : List ℕ = named x in
-    let fits = has_some x h.fits in
-    let is : x ≡ with_moments ws h.event = sym (itself x) ∙ ap (with_moments ws) h.same ∙ replaced ws h.event in
-    (ws, (h.event, h.there, record { some = fits.0; few = fits.1; good = subst (λ y. failing_event head events i y ≡ None) is h.good }))
+    (named x, (h.event, h.there, found_witness head events i h.event x (record { same = h.same; fits = h.fits; good = h.good })))
 
 -- what is found for an event is one of those that are gathered
 pub found_good : (head : Head) (events : List Event) (i : ℕ) (x : Event) → IsFound head events i x → Good HasMoments head events i x
@@ -140,23 +140,30 @@ all_found head events found n all h =
     let same : AreSameButMoments found events = h.same ∙ ap (map without_moments) (take_all n events (omega (arith, all))) in
     record { same = same; fits = h.fits; good = judged_alike head found events same 0 found ∙ h.good }
 
+-- an event that no moments witness
+pub cannot : (head : Head) (events : List Event) (i : ℕ) (e : Event) → slice_get events i ≡ Some e → IsUnwitnessed head events i e → CanBeWitnessed head events i → ⊥
+cannot head events i e at none can =
+    let same : can.1.0 ≡ e = some_same can.1.0 e (sym can.1.1 ∙ at) in
+    none can.0 (subst (λ x. AreWitness head events i x can.0) same can.1.2)
+
 -- an event for which nothing is found is denied, where each before it can be witnessed
-pub denied_at : (h s : Recorded) (i : ℕ) (r : Option Event) → s ≡ h → i < length h.events → r ≡ None → IfNone r (NamesMoments s.events i) → IfNone r (CanBeWitnessed s.head s.events i → ⊥) →
-    ((k : ℕ) → k < i → CanBeWitnessed h.head h.events k) → IsDenied h.head h.events i
-denied_at h s i (Some x) same lt none names denied before = absurd (cc)
-denied_at h s i None same lt none names denied before = record {
+pub denied_at : (h s : Recorded) (i : ℕ) (e : Event) (r : Option Event) → s ≡ h → i < length h.events → slice_get h.events i ≡ Some e → r ≡ None → IfNone r (names_moments e ≡ true) →
+    IfNone r (IsUnwitnessed s.head s.events i e) → ((k : ℕ) → k < i → CanBeWitnessed h.head h.events k) → IsDenied h.head h.events i
+denied_at h s i e (Some x) same lt at none names denied before = absurd (cc)
+denied_at h s i e None same lt at none names denied before = record {
   within = lt;
-  names = subst (λ (q : Recorded). NamesMoments q.events i) same names;
-  denied = subst (λ (q : Recorded). CanBeWitnessed q.head q.events i → ⊥) same denied;
+  names = (e, at, names);
+  denied = cannot h.head h.events i e at (subst (λ (q : Recorded). IsUnwitnessed q.head q.events i e) same denied);
   before = before;
 }
 
 -- what is found for the next event, of a run that is told
-pub found_at : (h s : Recorded) (i : ℕ) (r : Option Event) (x : Event) → s ≡ h → r ≡ Some x → IfSome r (IsFound s.head s.events i) → IsFound h.head h.events i x
-found_at h s i None x same is found = absurd (cc)
-found_at h s i (Some y) x same is found =
+pub found_at : (h s : Recorded) (i : ℕ) (e : Event) (r : Option Event) (x : Event) → s ≡ h → slice_get h.events i ≡ Some e → r ≡ Some x → IfSome r (IsFoundFor s.head s.events i e) → IsFound h.head h.events i x
+found_at h s i e None x same at is found = absurd (cc)
+found_at h s i e (Some y) x same at is found =
     let one : y ≡ x = some_same y x is in
-    subst (λ (q : Recorded). IsFound q.head q.events i x) same (subst (IsFound s.head s.events i) one found)
+    let f : IsFoundFor h.head h.events i e x = subst (λ (q : Recorded). IsFoundFor q.head q.events i e x) same (subst (IsFoundFor s.head s.events i e) one found) in
+    record { event = e; there = at; same = f.same; fits = f.fits; good = f.good }
 
 -- one number more
 pub each_more : (P : ℕ → Type 0) (i : ℕ) → ((k : ℕ) → k < i → P k) → P i → (k : ℕ) → k < i + 1 → P k

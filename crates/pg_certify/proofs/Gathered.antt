@@ -32,7 +32,7 @@ take_there (x ∷ xs) zero e h = let same : x ≡ e = cc in first xs same
     first (y ∷ ys) same = ap (λ y. y ∷ []) same
 take_there (x ∷ xs) (suc i) e h = ap (λ ys. x ∷ ys) (take_there xs i e h)
 
-there_within : (xs : List Event) (i : ℕ) (e : Event) → slice_get xs i ≡ Some e → i < length xs
+pub there_within : (xs : List Event) (i : ℕ) (e : Event) → slice_get xs i ≡ Some e → i < length xs
 there_within [] i e h = absurd (cc)
 there_within (x ∷ xs) zero e h = omega arith
 there_within (x ∷ xs) (suc i) e h = omega (arith, there_within xs i e h)

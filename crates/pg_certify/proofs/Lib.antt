@@ -2,3 +2,4 @@ mod Gathered
 mod Founds
 mod Meaning
 mod Shares
+mod Windows

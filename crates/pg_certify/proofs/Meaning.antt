@@ -1,5 +1,5 @@
 -- What an answer means for runs of the machine.
-use Rattle.std.proofs.Common.{◌≡◌, ℕ, zero, suc, ◌-◌, ◌^◌, ◌<◌, ◌≤◌, List, [], ◌∷◌, length, refl, ap, sym, ◌∙◌, arith, take, take_all, map}
+use Rattle.std.proofs.Common.{◌≡◌, ℕ, zero, suc, ◌-◌, ◌^◌, ◌<◌, ◌≤◌, List, [], ◌∷◌, length, refl, ap, sym, ◌∙◌, subst, arith, take, take_all, map}
 use Rattle.std.specs.Prelude.{slice_get}
 use Rattle.std.proofs.lemmas.List.{length-take, length-map, take-take}
 use Rattle.pg_event.specs.declared.event.Event.{Event}
@@ -14,7 +14,7 @@ use Rattle.pg_run_of.proofs.Whole.{accepted_events_run}
 use Rattle.pg_run_of.proofs.Converse.{runs_are_accepted}
 use Rattle.pg_run_of.proofs.Moments.{judged_alike, well_same}
 use Rattle.pg_search.specs.Law.{CanBeWitnessed, UnwitnessedEventsHaveNoRun}
-use Rattle.pg_certify.specs.Certified.{IsCertified, HasRunButMoments, CertifiedEventsRun, DeniedEventsHaveNoRun, CertifiedExactlyWhereARunExists}
+use Rattle.pg_certify.specs.Certified.{IsCertified, CanBeCertified, HasRunButMoments, CertifiedEventsRun, DeniedEventsHaveNoRun, CertifiedExactlyWhereARunExists}
 use Rattle.pg_certify.proofs.Gathered.{Good, gathered}
 use Rattle.pg_certify.proofs.Founds.{can_good}
 
@@ -76,6 +76,12 @@ run_certifies head events few run =
     let count : length events ≡ length (visible steps) = sym (length-map events without_moments) ∙ ap length run.2 ∙ length-map (visible steps) without_moments in
     let made = runs_are_accepted head steps run.1 (omega (arith, count, few)) in
     (made.0, record { same = made.1 ∙ sym run.2; fits = made.3; good = made.4 })
+
+-- where each event can be witnessed
+pub certified_where_each_can : (head : Head) (events : List Event) → AreWellFormed head events → length events ≤ 2 ^ 32 - 1 → ((k : ℕ) → k < length events → CanBeWitnessed head events k) → CanBeCertified head events
+certified_where_each_can head events well few each =
+    let front : HasRunButMoments head (take (length events) events) = front_run head events (length events) (omega arith) well each in
+    run_certifies head events few (subst (HasRunButMoments head) (take_all (length events) events (omega arith)) front)
 
 pub certified_exactly_where_a_run_exists : CertifiedExactlyWhereARunExists
 certified_exactly_where_a_run_exists head events well few = (λ h. certified_events_run head events h.0 well h.1, run_certifies head events few)

@@ -9,11 +9,11 @@ use Rattle.pg_event.specs.declared.event.Event.TheVariants.{Write, Access, Assis
 use Rattle.pg_event.specs.Heads.{Head}
 use Rattle.pg_event.specs.Spelling.{Recorded}
 use Rattle.pg_run_of.specs.Converse.{HasMoments}
-use Rattle.pg_search.specs.Law.{CanBeWitnessed}
-use Rattle.pg_certify.specs.Certified.{IsFound, IsDenied, CanBeCertified, NamesMoments}
+use Rattle.pg_search.specs.Law.{names_moments}
+use Rattle.pg_certify.specs.Certified.{IsFound, IsUnwitnessed, IsDenied, CanBeCertified}
 use Rattle.pg_certify.specs.Shares.{AreAnswers, IsAnswer, dealt_to, IsDealt, IsDealtBelow, IsLeastDenied, earlier}
 use Rattle.pg_certify.proofs.Gathered.{gathered}
-use Rattle.pg_certify.proofs.Founds.{found_can, found_good, all_found}
+use Rattle.pg_certify.proofs.Founds.{cannot, found_can, found_good, all_found}
 
 -- no event is dealt to a checker below the first
 none_below : (n : ℕ) (o : Option Event) → o ≢ None → IfSome o (λ e. dealt_to n e < 0) → ⊥
@@ -122,13 +122,13 @@ all_certified P head events None all h =
     (found.0, all_found head events found.0 (length events) refl found.1)
 
 -- an event of a share for which nothing is found, where each of the share before it was found
-pub denied_share : (P : ℕ → Type 0) (h s : Recorded) (i : ℕ) (r : Option Event) → s ≡ h → i < length h.events → r ≡ None → IfNone r (NamesMoments s.events i) →
-    IfNone r (CanBeWitnessed s.head s.events i → ⊥) → ((k : ℕ) → k < i → P k → FoundAt h.head h.events k) → IsLeastDenied P h.head h.events (Some i)
-denied_share P h s i (Some x) same lt none names denied before = absurd (cc)
-denied_share P h s i None same lt none names denied before = record {
+pub denied_share : (P : ℕ → Type 0) (h s : Recorded) (i : ℕ) (e : Event) (r : Option Event) → s ≡ h → i < length h.events → slice_get h.events i ≡ Some e → r ≡ None → IfNone r (names_moments e ≡ true) →
+    IfNone r (IsUnwitnessed s.head s.events i e) → ((k : ℕ) → k < i → P k → FoundAt h.head h.events k) → IsLeastDenied P h.head h.events (Some i)
+denied_share P h s i e (Some x) same lt at none names denied before = absurd (cc)
+denied_share P h s i e None same lt at none names denied before = record {
   within = lt;
-  names = subst (λ (q : Recorded). NamesMoments q.events i) same names;
-  denied = subst (λ (q : Recorded). CanBeWitnessed q.head q.events i → ⊥) same denied;
+  names = (e, at, names);
+  denied = cannot h.head h.events i e at (subst (λ (q : Recorded). IsUnwitnessed q.head q.events i e) same denied);
   before = before;
 }
 

@@ -5,20 +5,25 @@ use Rattle.std.specs.Prelude.{Some, None, slice_get}
 use Rattle.std.specs.List.{AllByRecursion}
 use Rattle.pg_event.specs.declared.event.Event.{Event}
 use Rattle.pg_event.specs.Heads.{Head}
-use Rattle.pg_event.specs.Form.{broken_rule}
 use Rattle.pg_event.specs.Witness.{Accepted, failing_event}
 use Rattle.pg_check.specs.Kept.{AreWellFormed}
 use Rattle.pg_machine.specs.declared.step.Step.{Step}
 use Rattle.pg_machine.specs.Machine.{IsRun, visible}
 use Rattle.pg_run_of.specs.Converse.{without_moments, AreSameButMoments, HasMoments}
-use Rattle.pg_search.specs.Law.{names_moments, CanBeWitnessed, RunBeginsWith}
+use Rattle.pg_search.specs.Law.{names_moments, AreWitness, CanBeWitnessed, RunBeginsWith}
 use Rattle.pg_certify.specs.declared.certifier.Certified.{Certified}
 use Rattle.pg_certify.specs.declared.certifier.Certified.TheVariants.{Yes, No}
 
--- event i is this one, and well formed
-pub record IsEvent (head : Head) (events : List Event) (i : ℕ) (e : Event) : Type 0 where
-  pub there : slice_get events i ≡ Some e
-  pub well : broken_rule head e ≡ None
+-- it is this event but for the moments, and these witness it as event i
+pub record IsFoundFor (head : Head) (events : List Event) (i : ℕ) (event found : Event) :
+    Type 0 where
+  pub same : without_moments found ≡ without_moments event
+  pub fits : HasMoments found
+  pub good : failing_event head events i found ≡ None
+
+-- no one to four moments witness this event as event i
+abbrev pub IsUnwitnessed : Head → List Event → ℕ → Event → Type 0
+IsUnwitnessed head events i e = (ws : List ℕ) → AreWitness head events i e ws → ⊥
 
 -- it is event i but for the moments, and these witness it
 pub record IsFound (head : Head) (events : List Event) (i : ℕ) (found : Event) : Type 0 where

@@ -4,8 +4,8 @@ ghost use Rattle.std.specs.Prelude.{◌≡◌, ◌<◌, true, false, length, Mat
 ghost use Rattle.pg_event.specs.Form.{processor_of};
 ghost use Rattle.pg_search.specs.Law.{names_moments, with_moments};
 
-use pg_check::History;
 use pg_event::{Event, Moments, Outcome, uses_last, want_of};
+use pg_search::Seen;
 
 /// The event with these moments in place of its own, if it names some.
 pub(crate) fn with_moments(event: &Event, chosen: Moments) -> Event
@@ -75,10 +75,10 @@ fn asks_of(outcome: Outcome) -> Asks {
 }
 
 /// What an event asks, if it names moments.
-pub(crate) fn case_of(history: &History, i: u32, event: &Event) -> Option<Case>
-    requires processor { processor_of event.now < length history.now.head.processors }
+pub(crate) fn case_of(seen: &Seen<'_>, i: u32, event: &Event) -> Option<Case>
+    requires processor { processor_of event.now < length seen.now.head.processors }
     ensures number { IfSome result (λ case. case.i ≡ i) }
-    ensures processor { IfSome result (λ case. case.p < length history.now.head.processors) }
+    ensures processor { IfSome result (λ case. case.p < length seen.now.head.processors) }
     ensures names { MatchOption result (names_moments event.now ≡ false)
         (λ case. names_moments event.now ≡ true) }
 {
@@ -91,7 +91,7 @@ pub(crate) fn case_of(history: &History, i: u32, event: &Event) -> Option<Case>
         | Event::Invpcid { .. }
         | Event::MovCr4Pge { .. } => return None,
     };
-    let pcid = history.control_at(p, i).pcid;
+    let pcid = seen.control_at(p, i).pcid;
     Some(Case {
         i,
         p,

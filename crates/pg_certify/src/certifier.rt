@@ -1,24 +1,24 @@
 //! Events judged one by one, each by moments that are guessed or, where guesses fail, searched.
 
-ghost use Rattle.std.specs.Prelude.{◌≡◌, ◌<◌, ◌^◌, true, length, Some, slice_get};
+ghost use Rattle.std.specs.Prelude.{◌≡◌, ◌<◌, ◌≤◌, ◌^◌, true, length, Some, None, slice_get};
 ghost use Rattle.std.specs.Prelude.{IfOk, IfSome, IfNone};
 ghost use Rattle.std.specs.List.{AllByRecursion};
-ghost use Rattle.pg_event.specs.Form.{processor_of};
+ghost use Rattle.pg_event.specs.Form.{broken_rule, processor_of};
 ghost use Rattle.pg_event.specs.Spelling.{AreMoments};
-ghost use Rattle.pg_search.specs.Law.{names_moments, CanBeWitnessed};
-ghost use Rattle.pg_certify.specs.Certified.{IsFound, IsDenied, NamesMoments, Certifies};
-ghost use Rattle.pg_certify.specs.Certified.{CanBeCertified, IsEvent};
+ghost use Rattle.pg_search.specs.Law.{names_moments};
+ghost use Rattle.pg_certify.specs.Certified.{IsFoundFor, IsUnwitnessed, IsDenied, Certifies};
+ghost use Rattle.pg_certify.specs.Certified.{CanBeCertified};
 ghost use Rattle.pg_certify.specs.Shares.{IsDealt, IsLeastDenied};
 
 use crate::case::{Asks, Case, case_of, with_moments};
-use crate::guesses::{Guesses, Part, Scope, key_of, space_of};
-use crate::recent::Recent;
+use crate::guesses::{Part, Scope, key_of, space_of};
+use crate::hints::Hints;
 use crate::share::Share;
 use crate::walk::{Walk, first_moments, walk_by};
 use pg_check::{History, Memo, failing};
 use pg_entry::has_bit;
 use pg_event::{Event, Moments};
-use pg_search::find_moments;
+use pg_search::{Seen, find_moments_at};
 use std::alloc::{AllocError, Global};
 use std::marker::Model;
 
@@ -33,13 +33,11 @@ pub enum Certified {
 
 /// A run, what was looked up of it, and moments that were found for its events.
 #[derive(Drop)]
-struct Certifier<'a> {
+pub(crate) struct Certifier<'a> {
     alloc: Global,
-    history: &'a History,
+    seen: Seen<'a>,
     memo: Memo<'a>,
-    guesses: Guesses,
-    /// When words of table memory were changed, and when processors left PCIDs.
-    changes: Recent,
+    hints: Hints,
 }
 
 impl<'a> Model for Certifier<'a> {
@@ -48,9 +46,9 @@ impl<'a> Model for Certifier<'a> {
 
     ghost Value = { Recorded };
 
-    ghost view = { λ c. c.history.now };
+    ghost view = { λ c. c.seen };
 
-    ghost invariant = { λ c. IsPast c.memo c.history.now.head c.history.now.events };
+    ghost invariant = { λ c. IsPast c.memo c.seen.head c.seen.events };
 }
 
 /// The numbers of a list of moments are within their field.
@@ -88,24 +86,30 @@ fn last_of(moments: &Moments) -> u32 {
 }
 
 impl<'a> Certifier<'a> {
-    /// One that is to find moments for so many events of a run.
-    fn new(alloc: Global, history: &'a History, count: usize) -> Certifier<'a>
-        ensures { result ≡ history.now }
+    /// One that is to find moments for so many events, by what was found before.
+    pub(crate) fn new(alloc: Global, seen: Seen<'a>, hints: Hints, count: usize) -> Certifier<'a>
+        ensures { result ≡ seen.entry }
     {
+        let memo = seen.memo(count);
         Certifier {
             alloc,
-            history,
-            memo: history.stretch().memo(count),
-            guesses: Guesses::new(alloc),
-            changes: Recent::new(alloc),
+            seen,
+            memo,
+            hints,
         }
+    }
+
+    /// What was found, for those that come after.
+    pub(crate) fn into_hints(self) -> Hints {
+        self.hints
     }
 
     /// The event with these moments, if they witness it.
     fn judge(&mut self, event: &Event, i: u32, moments: Moments) -> Option<Event>
-        requires { IsEvent self.old.head self.old.events i event.now }
+        requires { broken_rule self.old.head event.now ≡ None }
         ensures same { self.new ≡ self.old }
-        ensures found { IfSome result (IsFound self.old.head self.old.events i) }
+        ensures found { IfSome result
+            (IsFoundFor self.old.head self.old.events i event.now) }
     {
         moments_fit(moments);
         let guessed = with_moments(event, moments);
@@ -117,9 +121,10 @@ impl<'a> Certifier<'a> {
 
     /// The event with these moments, if the last is not too early and they witness it.
     fn judge_since(&mut self, event: &Event, i: u32, moments: Moments, since: u32) -> Option<Event>
-        requires { IsEvent self.old.head self.old.events i event.now }
+        requires { broken_rule self.old.head event.now ≡ None }
         ensures same { self.new ≡ self.old }
-        ensures found { IfSome result (IsFound self.old.head self.old.events i) }
+        ensures found { IfSome result
+            (IsFoundFor self.old.head self.old.events i event.now) }
     {
         if last_of(&moments) < since {
             None
@@ -130,11 +135,12 @@ impl<'a> Certifier<'a> {
 
     /// The event with moments that were found for a page, if they witness it.
     fn judge_kept(&mut self, event: &Event, i: u32, key: u64, since: u32) -> Option<Event>
-        requires { IsEvent self.old.head self.old.events i event.now }
+        requires { broken_rule self.old.head event.now ≡ None }
         ensures same { self.new ≡ self.old }
-        ensures found { IfSome result (IsFound self.old.head self.old.events i) }
+        ensures found { IfSome result
+            (IsFoundFor self.old.head self.old.events i event.now) }
     {
-        let lists = self.guesses.page(key)?;
+        let lists = self.hints.guesses.page(key)?;
         if let Some(found) = self.judge_since(event, i, lists.newer, since) {
             return Some(found);
         }
@@ -147,9 +153,10 @@ impl<'a> Certifier<'a> {
     /// The access to a large or a global page with moments that were found for that, if these
     /// witness it.
     fn guess_rare(&mut self, event: &Event, case: Case) -> Option<Event>
-        requires { IsEvent self.old.head self.old.events case.i event.now }
+        requires { broken_rule self.old.head event.now ≡ None }
         ensures same { self.new ≡ self.old }
-        ensures found { IfSome result (IsFound self.old.head self.old.events case.i) }
+        ensures found { IfSome result
+            (IsFoundFor self.old.head self.old.events case.i event.now) }
     {
         for key in rare_pages_of(case.p, case.pcid, case.la) {
             if let Some(found) = self.judge_kept(event, case.i, key, 0) {
@@ -161,16 +168,17 @@ impl<'a> Certifier<'a> {
 
     /// The access to a page with moments that were found for that, if they witness it.
     fn guess_last(&mut self, event: &Event, case: Case) -> Option<Event>
-        requires { IsEvent self.old.head self.old.events case.i event.now }
+        requires { broken_rule self.old.head event.now ≡ None }
         ensures same { self.new ≡ self.old }
-        ensures found { IfSome result (IsFound self.old.head self.old.events case.i) }
+        ensures found { IfSome result
+            (IsFoundFor self.old.head self.old.events case.i event.now) }
     {
         let key = key_of(case.p, Scope::Page(case.pcid), Part::Of4K, case.la);
-        let since = self.guesses.since(case.p, case.pcid);
+        let since = self.hints.guesses.since(case.p, case.pcid);
         if let Some(found) = self.judge_kept(event, case.i, key, since) {
             return Some(found);
         }
-        if self.guesses.has_rare() {
+        if self.hints.guesses.has_rare() {
             self.guess_rare(event, case)
         } else {
             None
@@ -179,9 +187,10 @@ impl<'a> Certifier<'a> {
 
     /// The assist with the moments of a walk as far as it reads a word, if they witness it.
     fn judge_word(&mut self, event: &Event, i: u32, word: u64, walk: &Walk) -> Option<Event>
-        requires { IsEvent self.old.head self.old.events i event.now }
+        requires { broken_rule self.old.head event.now ≡ None }
         ensures same { self.new ≡ self.old }
-        ensures found { IfSome result (IsFound self.old.head self.old.events i) }
+        ensures found { IfSome result
+            (IsFoundFor self.old.head self.old.events i event.now) }
     {
         for level in 0..walk.moments.len() {
             if walk.words[level] == word {
@@ -199,18 +208,21 @@ impl<'a> Certifier<'a> {
         ensures { self.new ≡ self.old }
     {
         let is_page = matches!(case.asks, Asks::Page);
-        self.guesses.note(case.p, case.pcid, case.la, walk, is_page);
+        self.hints
+            .guesses
+            .note(case.p, case.pcid, case.la, walk, is_page);
     }
 
     /// The event with the moments of a walk that reads its first entries at these moments, and what
     /// comes below at one moment, if they witness it.
     fn guess_walk(&mut self, event: &Event, case: Case, front: &[u32], moment: u32) -> Option<Event>
-        requires event { IsEvent self.old.head self.old.events case.i event.now }
+        requires well { broken_rule self.old.head event.now ≡ None }
         requires processor { case.p < length self.old.head.processors }
         ensures same { self.new ≡ self.old }
-        ensures found { IfSome result (IsFound self.old.head self.old.events case.i) }
+        ensures found { IfSome result
+            (IsFoundFor self.old.head self.old.events case.i event.now) }
     {
-        let walk = walk_by(self.history, case.p, case.la, front, moment);
+        let walk = walk_by(&self.seen, case.p, case.la, front, moment);
         let found = match case.asks {
             Asks::Page | Asks::Entry => self.judge(event, case.i, walk.moments),
             Asks::Word(word) => self.judge_word(event, case.i, word, &walk),
@@ -224,13 +236,14 @@ impl<'a> Certifier<'a> {
     /// The event by the tables of the walk that was found last with the same upper bits of the
     /// address, and what lies below as it is read now, or by all moments of that walk.
     fn guess_tables(&mut self, event: &Event, case: Case, part: Part, count: usize) -> Option<Event>
-        requires event { IsEvent self.old.head self.old.events case.i event.now }
+        requires well { broken_rule self.old.head event.now ≡ None }
         requires processor { case.p < length self.old.head.processors }
         ensures same { self.new ≡ self.old }
-        ensures found { IfSome result (IsFound self.old.head self.old.events case.i) }
+        ensures found { IfSome result
+            (IsFoundFor self.old.head self.old.events case.i event.now) }
     {
         let key = key_of(case.p, Scope::Tables(case.pcid), part, case.la);
-        let near = self.guesses.tables(key)?;
+        let near = self.hints.guesses.tables(key)?;
         let tables = first_moments(&near, count);
         match self.guess_walk(event, case, tables.as_slice(), case.i) {
             Some(found) => Some(found),
@@ -240,10 +253,11 @@ impl<'a> Certifier<'a> {
 
     /// The event by walks that were found for addresses near its own, the nearest first.
     fn guess_near(&mut self, event: &Event, case: Case) -> Option<Event>
-        requires event { IsEvent self.old.head self.old.events case.i event.now }
+        requires well { broken_rule self.old.head event.now ≡ None }
         requires processor { case.p < length self.old.head.processors }
         ensures same { self.new ≡ self.old }
-        ensures found { IfSome result (IsFound self.old.head self.old.events case.i) }
+        ensures found { IfSome result
+            (IsFoundFor self.old.head self.old.events case.i event.now) }
     {
         for (part, count) in [(Part::Of2M, 3), (Part::Of1G, 2), (Part::Of512G, 1)] {
             if let Some(found) = self.guess_tables(event, case, part, count) {
@@ -256,10 +270,11 @@ impl<'a> Certifier<'a> {
     /// The event by a walk at an earlier moment, or by the tables of one, `count` of them, and what
     /// lies below as it is read now.
     fn guess_at(&mut self, event: &Event, case: Case, moment: u32, count: usize) -> Option<Event>
-        requires event { IsEvent self.old.head self.old.events case.i event.now }
+        requires well { broken_rule self.old.head event.now ≡ None }
         requires processor { case.p < length self.old.head.processors }
         ensures same { self.new ≡ self.old }
-        ensures found { IfSome result (IsFound self.old.head self.old.events case.i) }
+        ensures found { IfSome result
+            (IsFoundFor self.old.head self.old.events case.i event.now) }
     {
         if let Some(found) = self.guess_walk(event, case, &[], moment) {
             return Some(found);
@@ -272,10 +287,12 @@ impl<'a> Certifier<'a> {
     fn latest_under(&self, case: Case, moment: u32) -> Option<u32>
         requires { case.p < length self.now.head.processors }
     {
-        if self.history.control_at(case.p, moment).pcid == case.pcid {
+        if self.seen.control_at(case.p, moment).pcid == case.pcid {
             Some(moment)
         } else {
-            self.changes.last_to(space_of(case.p, case.pcid), moment)
+            self.hints
+                .changes
+                .last_to(space_of(case.p, case.pcid), moment)
         }
     }
 
@@ -288,10 +305,11 @@ impl<'a> Certifier<'a> {
         change: u32,
         count: usize,
     ) -> Option<Event>
-        requires event { IsEvent self.old.head self.old.events case.i event.now }
+        requires well { broken_rule self.old.head event.now ≡ None }
         requires processor { case.p < length self.old.head.processors }
         ensures same { self.new ≡ self.old }
-        ensures found { IfSome result (IsFound self.old.head self.old.events case.i) }
+        ensures found { IfSome result
+            (IsFoundFor self.old.head self.old.events case.i event.now) }
     {
         if let Some(moment) = self.latest_under(case, change) {
             if let Some(found) = self.guess_at(event, case, moment, count) {
@@ -303,30 +321,32 @@ impl<'a> Certifier<'a> {
 
     /// The event by walks before the last changes of a word, the newest first.
     fn guess_changes(&mut self, event: &Event, case: Case, word: u64, count: usize) -> Option<Event>
-        requires event { IsEvent self.old.head self.old.events case.i event.now }
+        requires well { broken_rule self.old.head event.now ≡ None }
         requires processor { case.p < length self.old.head.processors }
         ensures same { self.new ≡ self.old }
-        ensures found { IfSome result (IsFound self.old.head self.old.events case.i) }
+        ensures found { IfSome result
+            (IsFoundFor self.old.head self.old.events case.i event.now) }
     {
-        let mut next = self.changes.last(word);
+        let mut next = self.hints.changes.last(word);
         for _ in 0..MOST_CHANGES {
             let step = next?;
             if let Some(found) = self.guess_change(event, case, step.event, count) {
                 return Some(found);
             }
-            next = self.changes.before(step);
+            next = self.hints.changes.before(step);
         }
         None
     }
 
     /// The event by walks before the last changes of what is read now, from the last entry up.
     fn guess_earlier(&mut self, event: &Event, case: Case) -> Option<Event>
-        requires event { IsEvent self.old.head self.old.events case.i event.now }
+        requires well { broken_rule self.old.head event.now ≡ None }
         requires processor { case.p < length self.old.head.processors }
         ensures same { self.new ≡ self.old }
-        ensures found { IfSome result (IsFound self.old.head self.old.events case.i) }
+        ensures found { IfSome result
+            (IsFoundFor self.old.head self.old.events case.i event.now) }
     {
-        let walk = walk_by(self.history, case.p, case.la, &[], case.i);
+        let walk = walk_by(&self.seen, case.p, case.la, &[], case.i);
         let depth = walk.moments.len();
         for place in 1..depth + 1 {
             let word = walk.words[depth - place];
@@ -339,10 +359,11 @@ impl<'a> Certifier<'a> {
 
     /// The event by walks that are made anew: now, near by, or earlier.
     fn guess_new(&mut self, event: &Event, case: Case) -> Option<Event>
-        requires event { IsEvent self.old.head self.old.events case.i event.now }
+        requires well { broken_rule self.old.head event.now ≡ None }
         requires processor { case.p < length self.old.head.processors }
         ensures same { self.new ≡ self.old }
-        ensures found { IfSome result (IsFound self.old.head self.old.events case.i) }
+        ensures found { IfSome result
+            (IsFoundFor self.old.head self.old.events case.i event.now) }
     {
         if let Some(found) = self.guess_walk(event, case, &[], case.i) {
             return Some(found);
@@ -356,20 +377,21 @@ impl<'a> Certifier<'a> {
     /// The event with moments that witness it, by a search of all that there are, or `None` where
     /// none do.
     fn search(&mut self, event: &Event, case: Case) -> Result<Option<Event>, AllocError>
-        requires event { IsEvent self.old.head self.old.events case.i event.now }
+        requires well { broken_rule self.old.head event.now ≡ None }
         requires names { names_moments event.now ≡ true }
+        requires within { case.i ≤ length self.old.events }
         requires processor { case.p < length self.old.head.processors }
         ensures same { self.new ≡ self.old }
         ensures found { IfOk result
-            (λ r. IfSome r (IsFound self.old.head self.old.events case.i)) }
+            (λ r. IfSome r (IsFoundFor self.old.head self.old.events case.i event.now)) }
         ensures none { IfOk result
-            (λ r. IfNone r (CanBeWitnessed self.old.head self.old.events case.i → ⊥)) }
+            (λ r. IfNone r (IsUnwitnessed self.old.head self.old.events case.i event.now)) }
     {
-        let Some(moments) = find_moments(self.alloc, self.history, case.i as u64)? else {
+        let Some(moments) = find_moments_at(self.alloc, &self.seen, case.i, event)? else {
             return Ok(None);
         };
         moments_fit(moments);
-        let walk = walk_by(self.history, case.p, case.la, moments.as_slice(), case.i);
+        let walk = walk_by(&self.seen, case.p, case.la, moments.as_slice(), case.i);
         self.note_walk(case, &walk);
         Ok(Some(with_moments(event, moments)))
     }
@@ -377,14 +399,15 @@ impl<'a> Certifier<'a> {
     /// The event with moments of a walk that is made anew, or of a search of all, or `None` where
     /// no moments witness it.
     fn find_new(&mut self, event: &Event, case: Case) -> Result<Option<Event>, AllocError>
-        requires event { IsEvent self.old.head self.old.events case.i event.now }
+        requires well { broken_rule self.old.head event.now ≡ None }
         requires names { names_moments event.now ≡ true }
+        requires within { case.i ≤ length self.old.events }
         requires processor { case.p < length self.old.head.processors }
         ensures same { self.new ≡ self.old }
         ensures found { IfOk result
-            (λ r. IfSome r (IsFound self.old.head self.old.events case.i)) }
+            (λ r. IfSome r (IsFoundFor self.old.head self.old.events case.i event.now)) }
         ensures none { IfOk result
-            (λ r. IfNone r (CanBeWitnessed self.old.head self.old.events case.i → ⊥)) }
+            (λ r. IfNone r (IsUnwitnessed self.old.head self.old.events case.i event.now)) }
     {
         match self.guess_new(event, case) {
             Some(found) => Ok(Some(found)),
@@ -394,14 +417,15 @@ impl<'a> Certifier<'a> {
 
     /// The event with moments that witness it, or `None` where it names moments and none do.
     fn find_case(&mut self, event: &Event, case: Case) -> Result<Option<Event>, AllocError>
-        requires event { IsEvent self.old.head self.old.events case.i event.now }
+        requires well { broken_rule self.old.head event.now ≡ None }
         requires names { names_moments event.now ≡ true }
+        requires within { case.i ≤ length self.old.events }
         requires processor { case.p < length self.old.head.processors }
         ensures same { self.new ≡ self.old }
         ensures found { IfOk result
-            (λ r. IfSome r (IsFound self.old.head self.old.events case.i)) }
+            (λ r. IfSome r (IsFoundFor self.old.head self.old.events case.i event.now)) }
         ensures none { IfOk result
-            (λ r. IfNone r (CanBeWitnessed self.old.head self.old.events case.i → ⊥)) }
+            (λ r. IfNone r (IsUnwitnessed self.old.head self.old.events case.i event.now)) }
     {
         if matches!(case.asks, Asks::Page) {
             if let Some(found) = self.guess_last(event, case) {
@@ -417,11 +441,11 @@ impl<'a> Certifier<'a> {
         ensures { self.new ≡ self.old }
     {
         match *event {
-            Event::Write { addr, .. } => self.changes.note(i, addr),
-            Event::Assist { word, .. } => self.changes.note(i, word),
+            Event::Write { addr, .. } => self.hints.changes.note(i, addr),
+            Event::Assist { word, .. } => self.hints.changes.note(i, word),
             Event::MovCr3 { p, .. } => {
-                let space = space_of(p, self.history.control_at(p, i).pcid);
-                self.changes.note(i, space);
+                let space = space_of(p, self.seen.control_at(p, i).pcid);
+                self.hints.changes.note(i, space);
             }
             Event::Access { .. }
             | Event::Invlpg { .. }
@@ -438,15 +462,15 @@ impl<'a> Certifier<'a> {
         match *event {
             Event::MovCr3 { p, operand } => {
                 if !has_bit(operand, 63) {
-                    self.guesses.flush(i, p, (operand % 4096) as u16);
+                    self.hints.guesses.flush(i, p, (operand % 4096) as u16);
                 }
             }
             Event::Invpcid { p, kind, pcid, .. } => match kind {
                 0 => {}
-                1 => self.guesses.flush(i, p, pcid),
-                _ => self.guesses.flush_all(i, p),
+                1 => self.hints.guesses.flush(i, p, pcid),
+                _ => self.hints.guesses.flush_all(i, p),
             },
-            Event::MovCr4Pge { p, .. } => self.guesses.flush_all(i, p),
+            Event::MovCr4Pge { p, .. } => self.hints.guesses.flush_all(i, p),
             Event::Write { .. }
             | Event::Access { .. }
             | Event::Assist { .. }
@@ -454,29 +478,28 @@ impl<'a> Certifier<'a> {
         }
     }
 
-    /// Takes note of the event with this number, for guesses at those that come after it.
-    fn see(&mut self, i: u64)
-        requires { i < length self.old.events }
+    /// Takes note of an event with this number, for guesses at those that come after it.
+    pub(crate) fn see(&mut self, i: u32, event: &Event)
+        requires { processor_of event.now < length self.old.head.processors }
         ensures { self.new ≡ self.old }
     {
-        let event = &self.history.events()[i as usize];
-        self.note_change(i as u32, event);
-        self.note_drop(i as u32, event);
+        self.note_change(i, event);
+        self.note_drop(i, event);
     }
 
-    /// The event with this number with moments that witness it, which is itself where it names
-    /// none, or `None` where no moments do.
-    fn find(&mut self, i: u64) -> Result<Option<Event>, AllocError>
-        requires within { i < length self.old.events }
+    /// The event, as one with this number, with moments that witness it, which is itself where it
+    /// names none, or `None` where no moments do.
+    pub(crate) fn find(&mut self, i: u32, event: &Event) -> Result<Option<Event>, AllocError>
+        requires well { broken_rule self.old.head event.now ≡ None }
+        requires within { i ≤ length self.old.events }
         ensures same { self.new ≡ self.old }
         ensures found { IfOk result
-            (λ r. IfSome r (IsFound self.old.head self.old.events i)) }
-        ensures names { IfOk result (λ r. IfNone r (NamesMoments self.old.events i)) }
+            (λ r. IfSome r (IsFoundFor self.old.head self.old.events i event.now)) }
+        ensures names { IfOk result (λ r. IfNone r (names_moments event.now ≡ true)) }
         ensures none { IfOk result
-            (λ r. IfNone r (CanBeWitnessed self.old.head self.old.events i → ⊥)) }
+            (λ r. IfNone r (IsUnwitnessed self.old.head self.old.events i event.now)) }
     {
-        let event = &self.history.events()[i as usize];
-        match case_of(self.history, i as u32, event) {
+        match case_of(&self.seen, i, event) {
             Some(case) => self.find_case(event, case),
             None => Ok(Some(*event)),
         }
@@ -486,7 +509,8 @@ impl<'a> Certifier<'a> {
 /// The event with this number.
 fn event_at(history: &History, i: u64) -> &Event
     requires { i < length history.now.events }
-    ensures { slice_get history.now.events i ≡ Some result.now }
+    ensures there { slice_get history.now.events i ≡ Some result.now }
+    ensures well { broken_rule history.now.head result.now ≡ None }
 {
     &history.events()[i as usize]
 }
@@ -502,15 +526,17 @@ pub(crate) fn first_denied_of(
         (IsDealt share.checkers history.now.events share.number)
         history.now.head history.now.events) }
 {
-    let mut certifier = Certifier::new(alloc, history, share.size_of(history.len()));
+    let count = share.size_of(history.len());
+    let mut certifier = Certifier::new(alloc, Seen::of(history), Hints::new(alloc), count);
     for i in 0..history.len() {
-        if share.has(event_at(history, i)) {
-            match certifier.find(i)? {
+        let asked = event_at(history, i);
+        if share.has(asked) {
+            match certifier.find(i as u32, asked)? {
                 Some(_) => {}
                 None => return Ok(Some(i)),
             }
         }
-        certifier.see(i);
+        certifier.see(i as u32, asked);
     }
     Ok(None)
 }
@@ -535,16 +561,18 @@ pub fn first_denied(alloc: Global, history: &History) -> Result<Option<u64>, All
 pub fn certify(alloc: Global, history: &History) -> Result<Certified, AllocError>
     ensures { IfOk result (Certifies history.now.head history.now.events) }
 {
-    let mut certifier = Certifier::new(alloc, history, history.len() as usize);
+    let count = history.len() as usize;
+    let mut certifier = Certifier::new(alloc, Seen::of(history), Hints::new(alloc), count);
     let mut found = Vec::new(alloc);
     for i in 0..history.len() {
-        match certifier.find(i)? {
+        let asked = event_at(history, i);
+        match certifier.find(i as u32, asked)? {
             Some(event) => {
                 found.push(event)?;
             }
             None => return Ok(Certified::No(i)),
         }
-        certifier.see(i);
+        certifier.see(i as u32, asked);
     }
     Ok(Certified::Yes(found))
 }

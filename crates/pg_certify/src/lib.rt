@@ -5,14 +5,19 @@
 
 mod case;
 mod certifier;
+mod certifying;
 mod crew;
 mod guesses;
+mod hints;
+mod kept;
 mod laws;
 mod recent;
 mod share;
 mod walk;
+mod window;
 
 pub use certifier::{Certified, certify, first_denied};
+pub use certifying::Certifying;
 pub use crew::{CertifyError, first_denied_by};
 pub use laws::{
     certified_events_run, certified_exactly_where_a_run_exists, denied_events_have_no_run,

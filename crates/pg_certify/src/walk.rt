@@ -3,9 +3,9 @@
 
 ghost use Rattle.std.specs.Prelude.{◌<◌, length};
 
-use pg_check::History;
 use pg_entry::{Entry, Kind, Level, classify, has_bit, table_of};
 use pg_event::{Moments, entry_address};
+use pg_search::Seen;
 
 /// A walk from level 4 down to the first entry that refers to no table.
 #[derive(Clone, Copy)]
@@ -51,12 +51,12 @@ pub(crate) fn first_moments(moments: &Moments, count: usize) -> Moments {
 
 /// The walk of a processor for an address that reads its first entries at these moments, and what
 /// comes below at one moment.
-pub(crate) fn walk_by(history: &History, p: u16, la: u64, front: &[u32], moment: u32) -> Walk
-    requires { p < length history.now.head.processors }
+pub(crate) fn walk_by(seen: &Seen<'_>, p: u16, la: u64, front: &[u32], moment: u32) -> Walk
+    requires { p < length seen.now.head.processors }
 {
-    let cfg = history.header().cfg;
+    let cfg = seen.header().cfg;
     let mut at = moment_at(front, 0, moment);
-    let mut table = history.control_at(p, at).root;
+    let mut table = seen.control_at(p, at).root;
     let mut moments = Moments::first(at);
     let mut words = [0; 4];
     let mut last = Entry(0);
@@ -66,7 +66,7 @@ pub(crate) fn walk_by(history: &History, p: u16, la: u64, front: &[u32], moment:
             moments = and_then(moments, at);
         }
         words[i] = entry_address(table, LEVELS[i], la);
-        last = Entry(history.value_at(at, words[i]));
+        last = Entry(seen.value_at(at, words[i]));
         if !matches!(classify(cfg, LEVELS[i], last), Kind::Table { .. }) {
             break;
         }
@@ -75,6 +75,6 @@ pub(crate) fn walk_by(history: &History, p: u16, la: u64, front: &[u32], moment:
     Walk {
         moments,
         words,
-        is_global: has_bit(last.0, 8) && history.control_at(p, at).pge,
+        is_global: has_bit(last.0, 8) && seen.control_at(p, at).pge,
     }
 }

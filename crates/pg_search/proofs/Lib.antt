@@ -16,3 +16,4 @@ mod Lasts
 mod Thinned
 mod ThinnedWitness
 mod ThinnedFresh
+mod AnsweredAt

@@ -308,8 +308,9 @@ number_of s (e ∷ es) (suc w) h =
           ap (slice_get (numbers_from s (e ∷ es))) (rank_left e es w f) ∙ ap (λ xs. slice_get xs (rank es w)) (numbers_left e s es f) ∙ number_of (s + 1) es w next ∙ ap (λ n. Some n) same
     ]
 
-put_back_before : (events : List Event) (i u : ℕ) → u < rank events i → slice_get (numbers_from 0 events) u ≡ Some (placed events i u)
-put_back_before events i u low =
+-- the event that is put back goes on by one rank
+put_back_next : (events : List Event) (i u : ℕ) → u < rank events i → rank events (suc (placed events i u)) ≡ suc u
+put_back_next events i u low =
     let w : ℕ = placed events i u in
     let at : rank events w ≡ u = placed_rank events i u (omega (arith, low)) in
     let under : w < i = rank_earlier events w i (omega (arith, at, low)) in
@@ -317,9 +318,24 @@ put_back_before events i u low =
       | inl lt ↦ lt
       | inr ge ↦ absurd (omega (arith, placed_latest events i u (suc w) (omega (arith, under)) ge))
     ] in
-    let next : rank events (suc w) ≡ suc (rank events w) = omega (arith, at, later, rank_by_one events w) in
+    omega (arith, at, later, rank_by_one events w)
+
+put_back_before : (events : List Event) (i u : ℕ) → u < rank events i → slice_get (numbers_from 0 events) u ≡ Some (placed events i u)
+put_back_before events i u low =
+    let w : ℕ = placed events i u in
+    let at : rank events w ≡ u = placed_rank events i u (omega (arith, low)) in
+    let next : rank events (suc w) ≡ suc (rank events w) = omega (arith, at, put_back_next events i u low) in
     let same : 0 + w ≡ w = omega arith in
     ap (slice_get (numbers_from 0 events)) (sym at) ∙ number_of 0 events w next ∙ ap (λ n. Some n) same
 
+event_put_back : (events : List Event) (i u : ℕ) → u < rank events i → slice_get events (placed events i u) ≡ slice_get (thinned events) u
+event_put_back events i u low =
+    let w : ℕ = placed events i u in
+    let at : rank events w ≡ u = placed_rank events i u (omega (arith, low)) in
+    elim (kept_or_left events w) as (λ _. slice_get events w ≡ slice_get (thinned events) u) [
+      | inl k ↦ sym k.event ∙ ap (slice_get (thinned events)) at
+      | inr l ↦ absurd (omega (arith, at, l.next, put_back_next events i u low))
+    ]
+
 pub numbers_put_back : NumbersPutBack
-numbers_put_back = record { before = put_back_before; now = placed_end }
+numbers_put_back = record { before = put_back_before; event = event_put_back; now = placed_end }

@@ -3,7 +3,7 @@ use Rattle.std.proofs.Common.{◌≡◌, ℕ, ◌+◌, ◌%◌, ◌^◌, ◌≤�
 use Rattle.std.specs.Option.{option_or}
 use Rattle.std.specs.List.{AllByRecursion}
 use Rattle.std.proofs.lemmas.Bool.{and_parts, and_from, leb-true, le-leb, eqb-true, eq-eqb}
-use Rattle.std.proofs.lemmas.List.{length-map}
+use Rattle.std.proofs.lemmas.List.{length-map, map-id}
 use Rattle.pg_entry.specs.declared.Cfg.{Cfg}
 use Rattle.pg_entry.specs.declared.Rights.{Rights}
 use Rattle.pg_entry.specs.declared.Cause.{Cause}
@@ -24,6 +24,8 @@ use Rattle.pg_event.specs.declared.event.Reason.TheVariants as reasons
 use Rattle.pg_event.specs.declared.event.Want.{Want}
 use Rattle.pg_event.specs.declared.claim.Claim.{Claim}
 use Rattle.pg_event.specs.declared.claim.Update.{Update}
+use Rattle.pg_event.specs.declared.keys.StructureKey.{StructureKey}
+use Rattle.pg_event.specs.declared.keys.TranslationKey.{TranslationKey}
 use Rattle.pg_event.specs.Heads.{Head}
 use Rattle.pg_event.specs.Values.{mem_at, control_at}
 use Rattle.pg_event.specs.Invalidation.{structure_key, translation_key, must_drop_structure, must_drop_translation}
@@ -34,7 +36,7 @@ use Rattle.pg_run_of.specs.Converse.{AreSameButMoments}
 use Rattle.pg_run_of.proofs.Accesses.{guard_none, last_none}
 use Rattle.pg_run_of.proofs.Moments.{event_same}
 use Rattle.pg_search.specs.Law.{names_moments, with_moments, AreWitness}
-use Rattle.pg_search.specs.Thinned.{thinned, rank, placed, WitnessedAmongChanges}
+use Rattle.pg_search.specs.Thinned.{thinned, rank, placed, WitnessedAmongChanges, AreAlike, WitnessedAlike}
 use Rattle.pg_search.proofs.Thinned.{IsOfChanges, structures_of_changes, translations_of_changes, rank_rises, memory_thinned, control_thinned, survives_thinned, placed_rank, placed_end, placed_rises}
 
 -- moments of some events, up to a last one, are carried to moments of others in their order, with
@@ -43,7 +45,10 @@ pub record Carries (head : Head) (xs ys : List Event) (i : ℕ) (f : ℕ → ℕ
   pub rises : (w x : ℕ) → w ≤ x → x ≤ i → f w ≤ f x
   pub memory : (w a : ℕ) → w ≤ i → mem_at xs w a ≡ mem_at ys (f w) a
   pub control : (p w : ℕ) → w ≤ i → control_at head xs p w ≡ control_at head ys p (f w)
-  pub survival : (p : ℕ) (test : Control → Event → Bool) (from to : ℕ) → IsOfChanges test → from ≤ i → to ≤ i → survives head xs p test from to ≡ survives head ys p test (f from) (f to)
+  pub structures : (p : ℕ) (s : StructureKey) (from to : ℕ) → from ≤ i → to ≤ i →
+      survives head xs p (λ c e. must_drop_structure c e s) from to ≡ survives head ys p (λ c e. must_drop_structure c e s) (f from) (f to)
+  pub translations : (p : ℕ) (t : TranslationKey) (from to : ℕ) → from ≤ i → to ≤ i →
+      survives head xs p (λ c e. must_drop_translation c e t) from to ≡ survives head ys p (λ c e. must_drop_translation c e t) (f from) (f to)
 
 -- moments, none above the last
 
@@ -130,7 +135,7 @@ moved_structures head xs ys i f p pcid la [] k up = refl
 moved_structures head xs ys i f p pcid la (r ∷ []) k up = refl
 moved_structures head xs ys i f p pcid la (r ∷ s ∷ rs) k up =
     let test : Control → Event → Bool = λ c e. must_drop_structure c e (structure_key pcid r.level la) in
-    ap (λ b. b && structures_survive head ys p pcid la (map (moved f) (s ∷ rs))) (sym (k.survival p test r.moment s.moment (structures_of_changes (structure_key pcid r.level la)) up.0 up.1.0))
+    ap (λ b. b && structures_survive head ys p pcid la (map (moved f) (s ∷ rs))) (sym (k.structures p (structure_key pcid r.level la) r.moment s.moment up.0 up.1.0))
     ∙ ap (λ b. survives head xs p test r.moment s.moment && b) (moved_structures head xs ys i f p pcid la (s ∷ rs) k up.1)
 
 -- what has no reason
@@ -190,7 +195,7 @@ moved_end head xs ys f c pcid r (kinds.Leaf frame shift global_bit) k low h =
     let global : Bool = global_bit && (control_at head xs c.p r.moment).pge in
     let now : Control = control_at head ys c.p (f i) in
     ap (λ (d : Control). leaf_end head c pcid r.rights address (global_bit && d.pge) (survives head ys c.p (test (global_bit && d.pge)) (f r.moment) (f i)) now) (sym (k.control c.p r.moment low))
-    ∙ ap (λ b. leaf_end head c pcid r.rights address global b now) (sym (k.survival c.p (test global) r.moment i (translations_of_changes (translation_key pcid shift global c.la)) low (omega arith)))
+    ∙ ap (λ b. leaf_end head c pcid r.rights address global b now) (sym (k.translations c.p (translation_key pcid shift global c.la) r.moment i low (omega arith)))
     ∙ ap (leaf_end head c pcid r.rights address global (survives head xs c.p (test global) r.moment i)) (sym (k.control c.p i (omega arith))) ∙ h
 moved_end head xs ys f c pcid r kinds.Absent k low h = moved_fault head.cfg f c causes.Absent r.moment c.outcome h
 moved_end head xs ys f c pcid r kinds.Reserved k low h = moved_fault head.cfg f c causes.Reserved r.moment c.outcome h
@@ -320,18 +325,24 @@ to_changes head events i = record {
   rises = λ w x low _. rank_rises events w x low;
   memory = λ w a _. memory_thinned events w a;
   control = λ p w _. control_thinned head events p w;
-  survival = λ p test from to h _ _. survives_thinned head events p test from to h;
+  structures = λ p s from to _ _. survives_thinned head events p (λ c e. must_drop_structure c e s) from to (structures_of_changes s);
+  translations = λ p t from to _ _. survives_thinned head events p (λ c e. must_drop_translation c e t) from to (translations_of_changes t);
 }
+
+survives_placed : (head : Head) (events : List Event) (i p : ℕ) (test : Control → Event → Bool) (from to : ℕ) → IsOfChanges test → from ≤ rank events i → to ≤ rank events i →
+    survives head (thinned events) p test from to ≡ survives head events p test (placed events i from) (placed events i to)
+survives_placed head events i p test from to h low high =
+    ap (λ v. survives head (thinned events) p test v to) (sym (placed_rank events i from low))
+    ∙ ap (survives head (thinned events) p test (rank events (placed events i from))) (sym (placed_rank events i to high))
+    ∙ sym (survives_thinned head events p test (placed events i from) (placed events i to) h)
 
 from_changes : (head : Head) (events : List Event) (i : ℕ) → Carries head (thinned events) events (rank events i) (placed events i)
 from_changes head events i = record {
   rises = λ u v low high. placed_rises events i u v low high;
   memory = λ u a low. ap (λ v. mem_at (thinned events) v a) (sym (placed_rank events i u low)) ∙ sym (memory_thinned events (placed events i u) a);
   control = λ p u low. ap (control_at head (thinned events) p) (sym (placed_rank events i u low)) ∙ sym (control_thinned head events p (placed events i u));
-  survival = λ p test from to h low high.
-      ap (λ v. survives head (thinned events) p test v to) (sym (placed_rank events i from low))
-      ∙ ap (survives head (thinned events) p test (rank events (placed events i from))) (sym (placed_rank events i to high))
-      ∙ sym (survives_thinned head events p test (placed events i from) (placed events i to) h);
+  structures = λ p s from to low high. survives_placed head events i p (λ c e. must_drop_structure c e s) from to (structures_of_changes s) low high;
+  translations = λ p t from to low high. survives_placed head events i p (λ c e. must_drop_translation c e t) from to (translations_of_changes t) low high;
 }
 
 pub witness_thinned : (head : Head) (events : List Event) (i : ℕ) (e : Event) (ws : List ℕ) → AreWitness head events i e ws → AreWitness head (thinned events) (rank events i) e (map (rank events) ws)
@@ -342,9 +353,23 @@ witness_placed head events i e us h =
     subst (λ n. AreWitness head events n e (map (placed events i) us)) (placed_end events i)
     (carried head (thinned events) events (rank events i) (placed events i) e us (from_changes head events i) h)
 
+-- to a run that is alike
+
+alike_carries : (head : Head) (xs ys : List Event) (i : ℕ) → AreAlike head xs ys i → Carries head xs ys i (λ w. w)
+alike_carries head xs ys i h = record {
+  rises = λ w x low _. low;
+  memory = h.memory;
+  control = h.control;
+  structures = h.structures;
+  translations = h.translations;
+}
+
+pub witnessed_alike : WitnessedAlike
+witnessed_alike head xs ys i e ws h witness = subst (AreWitness head ys i e) (map-id ws) (carried head xs ys i (λ w. w) e ws (alike_carries head xs ys i h) witness)
+
 -- the moments of other events say nothing
 
-other_moments : (head : Head) (xs ys : List Event) (i : ℕ) (e : Event) (ws : List ℕ) → AreSameButMoments xs ys → AreWitness head xs i e ws → AreWitness head ys i e ws
+pub other_moments : (head : Head) (xs ys : List Event) (i : ℕ) (e : Event) (ws : List ℕ) → AreSameButMoments xs ys → AreWitness head xs i e ws → AreWitness head ys i e ws
 other_moments head xs ys i e ws same h = record {
   some = h.some;
   few = h.few;

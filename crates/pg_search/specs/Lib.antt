@@ -7,3 +7,5 @@ pub mod Held
 pub mod Swept
 pub mod Last
 pub mod Thinned
+pub mod Bare
+pub mod Seen

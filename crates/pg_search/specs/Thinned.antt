@@ -1,8 +1,14 @@
 -- Events without those that change nothing: which moments witness an event is told by the others.
-use Rattle.std.specs.Prelude.{◌≡◌, ℕ, zero, suc, ◌+◌, ◌<◌, Bool, true, not, nat_le, Some, slice_get}
+use Rattle.std.specs.Prelude.{◌≡◌, ℕ, zero, suc, ◌+◌, ◌<◌, ◌≤◌, Bool, true, not, nat_le, Some}
+use Rattle.std.specs.Prelude.{slice_get}
 use Rattle.std.specs.Prelude.{if◌then◌else◌, List, [], ◌∷◌, length, map, take, filter}
 use Rattle.pg_event.specs.declared.event.Event.{Event}
+use Rattle.pg_event.specs.declared.keys.StructureKey.{StructureKey}
+use Rattle.pg_event.specs.declared.keys.TranslationKey.{TranslationKey}
 use Rattle.pg_event.specs.Heads.{Head}
+use Rattle.pg_event.specs.Values.{mem_at, control_at}
+use Rattle.pg_event.specs.Invalidation.{must_drop_structure, must_drop_translation}
+use Rattle.pg_event.specs.Witness.{survives}
 use Rattle.pg_chain.specs.Standing.{changes_nothing}
 use Rattle.pg_run_of.specs.Converse.{AreSameButMoments}
 use Rattle.pg_search.specs.declared.last.Last.{Last}
@@ -83,4 +89,22 @@ numbers_from i (e ∷ es) =
 pub record NumbersPutBack : Type 0 where
   pub before : (events : List Event) (i u : ℕ) → u < rank events i →
       slice_get (numbers_from 0 events) u ≡ Some (placed events i u)
+  pub event : (events : List Event) (i u : ℕ) → u < rank events i →
+      slice_get events (placed events i u) ≡ slice_get (thinned events) u
   pub now : (events : List Event) (i : ℕ) → placed events i (rank events i) ≡ i
+
+-- two runs have the same memory, control registers and drops up to a moment
+pub record AreAlike (head : Head) (xs ys : List Event) (i : ℕ) : Type 0 where
+  pub memory : (w a : ℕ) → w ≤ i → mem_at xs w a ≡ mem_at ys w a
+  pub control : (p w : ℕ) → w ≤ i → control_at head xs p w ≡ control_at head ys p w
+  pub structures : (p : ℕ) (s : StructureKey) (from to : ℕ) → from ≤ i → to ≤ i →
+      survives head xs p (λ c e. must_drop_structure c e s) from to
+      ≡ survives head ys p (λ c e. must_drop_structure c e s) from to
+  pub translations : (p : ℕ) (t : TranslationKey) (from to : ℕ) → from ≤ i → to ≤ i →
+      survives head xs p (λ c e. must_drop_translation c e t) from to
+      ≡ survives head ys p (λ c e. must_drop_translation c e t) from to
+
+-- no more than these says which moments witness an event
+abbrev pub WitnessedAlike : Type 0
+WitnessedAlike = (head : Head) (xs ys : List Event) (i : ℕ) (e : Event) (ws : List ℕ) →
+    AreAlike head xs ys i → AreWitness head xs i e ws → AreWitness head ys i e ws

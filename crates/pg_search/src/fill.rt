@@ -12,8 +12,8 @@ ghost use Rattle.pg_search.specs.Held.{trail_of, place_of, made_from, IsNow, Are
 use crate::fresh::are_as_fresh;
 use crate::held::{Found, HeldFound, HeldSpot, Spot};
 use crate::now::Now;
+use crate::seen::Seen;
 use crate::sought::{Sought, is_useful};
-use pg_check::History;
 use pg_entry::{Entry, Kind, Level, classify, combine, dirty, table_of};
 use pg_event::{Header, Moments, Parent, below, entry_address, may_cache, translation_key};
 use pg_machine::Translation;
@@ -63,7 +63,7 @@ fn next_table(header: &Header, now: Now, level: Level, spot: Spot) -> Option<Par
 
 /// The entry that a table has now at the level of these spots: that of a spot in the same table, if
 /// there is one, and else it is looked up.
-fn word_in(spots: &[HeldSpot], history: &History, now: Now, level: Level, from: Parent) -> u64
+fn word_in(spots: &[HeldSpot], history: &Seen<'_>, now: Now, level: Level, from: Parent) -> u64
     requires current { AreCurrent history.now.events now.la now.moment level spots.now }
     requires within { from.table < 2 ^ 52 }
     ensures { result ≡ entry_at history.now.events now.la now.moment level from }
@@ -164,7 +164,7 @@ fn put_found(into: &mut Vec<HeldFound>, found: Found) -> Result<(), AllocError>
 /// Puts in the table that is read now from a spot, if it leads to one.
 fn add_spot(
     into: &mut Vec<HeldSpot>,
-    history: &History,
+    history: &Seen<'_>,
     now: Now,
     level: Level,
     spot: Spot,
@@ -195,7 +195,7 @@ fn add_spot(
 /// Puts in the tables that are read now from spots.
 pub(crate) fn add_spots(
     into: &mut Vec<HeldSpot>,
-    history: &History,
+    history: &Seen<'_>,
     now: Now,
     level: Level,
     spots: &[HeldSpot],
@@ -247,7 +247,7 @@ fn next_leaf(header: &Header, now: Now, level: Level, spot: Spot) -> Option<Tran
 /// Puts in the translation that is read now from a spot, if it leads to one that is of use.
 fn add_found(
     into: &mut Vec<HeldFound>,
-    history: &History,
+    history: &Seen<'_>,
     now: Now,
     sought: &Sought,
     level: Level,
@@ -279,7 +279,7 @@ fn add_found(
 /// Puts in the translations that are read now from spots and are of use.
 pub(crate) fn add_founds(
     into: &mut Vec<HeldFound>,
-    history: &History,
+    history: &Seen<'_>,
     now: Now,
     sought: &Sought,
     level: Level,

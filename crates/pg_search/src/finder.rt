@@ -1,19 +1,22 @@
-ghost use Rattle.std.specs.Prelude.{◌≡◌, ◌<◌, ◌^◌, true, map, filter, length, slice_get};
+ghost use Rattle.std.specs.Prelude.{◌≡◌, ◌<◌, ◌≤◌, ◌^◌, ℕ, true, map, filter, length, slice_get};
+ghost use Rattle.std.specs.Prelude.{List, None};
 ghost use Rattle.std.specs.Prelude.{IfOk, IfSome, IfNone};
 ghost use Rattle.pg_entry.specs.declared.Level.TheVariants.{Four, Three, Two, One};
-ghost use Rattle.pg_event.specs.Form.{processor_of};
+ghost use Rattle.pg_event.specs.Form.{broken_rule, processor_of};
 ghost use Rattle.pg_search.specs.Sweep.{entry_at, moments_of, read_at, standing};
 ghost use Rattle.pg_search.specs.Found.{is_useful, gives, finds, found_in, found_access};
 ghost use Rattle.pg_search.specs.Found.{found_assist, found, IsPick};
 ghost use Rattle.pg_search.specs.Held.{place_of, IsNow, AreReady};
 ghost use Rattle.pg_search.specs.Swept.{IsSweep};
-ghost use Rattle.pg_search.specs.Law.{names_moments, WitnessedBy, AreFreshest};
+ghost use Rattle.pg_search.specs.Law.{names_moments, AreWitness, WitnessedBy, AreFreshest};
 ghost use Rattle.pg_search.specs.Law.{CanBeWitnessed, RunBeginsWith};
+ghost use Rattle.pg_search.specs.Thinned.{AreFreshestOf};
 
 use crate::fill::next_moments;
 use crate::fresh::fresher;
 use crate::held::{HeldFound, HeldSpot, Spot};
 use crate::now::{Now, root_spot};
+use crate::seen::Seen;
 use crate::sought::{Sought, gives, is_sought};
 use crate::sweeper::{Sweep, sweep_to};
 use pg_check::History;
@@ -54,7 +57,7 @@ pub(crate) fn best_made(
 }
 
 /// Whether what is sought is read now from a spot of the current PCID.
-fn finds(history: &History, now: Now, sought: &Sought, level: Level, spot: Spot) -> bool
+fn finds(history: &Seen<'_>, now: Now, sought: &Sought, level: Level, spot: Spot) -> bool
     requires word { spot.word
         ≡ entry_at history.now.events now.la now.moment level spot.from }
     requires now { IsNow history.now now }
@@ -67,7 +70,7 @@ fn finds(history: &History, now: Now, sought: &Sought, level: Level, spot: Spot)
 
 /// The freshest moments of a walk that reads what is sought now, from spots at a level.
 fn best_at(
-    history: &History,
+    history: &Seen<'_>,
     now: Now,
     sought: &Sought,
     level: Level,
@@ -91,7 +94,7 @@ fn best_at(
 
 /// The freshest moments of a walk that reads what is sought now.
 pub(crate) fn best_in(
-    history: &History,
+    history: &Seen<'_>,
     now: Now,
     sought: &Sought,
     sweep: &Sweep,
@@ -113,11 +116,11 @@ pub(crate) fn best_in(
 /// Moments for what an access claims.
 fn find_access(
     alloc: Global,
-    history: &History,
+    history: &Seen<'_>,
     claim: Claim,
 ) -> Result<Option<Moments>, AllocError>
     requires processor { claim.p < length history.now.head.processors }
-    requires within { claim.number < length history.now.events }
+    requires within { claim.number ≤ length history.now.events }
     ensures { IfOk result (IsPick (found_access history.now.head history.now.events claim)) }
 {
     let sought = Sought::Fault(claim);
@@ -130,11 +133,11 @@ fn find_access(
 /// Moments for what an assist names.
 fn find_assist(
     alloc: Global,
-    history: &History,
+    history: &Seen<'_>,
     update: Update,
 ) -> Result<Option<Moments>, AllocError>
     requires processor { update.p < length history.now.head.processors }
-    requires within { update.number < length history.now.events }
+    requires within { update.number ≤ length history.now.events }
     ensures { IfOk result (IsPick (found_assist history.now.head history.now.events update)) }
 {
     let sought = Sought::Word(update);
@@ -145,12 +148,12 @@ fn find_assist(
 /// Moments for an event of this number, whatever moments it names itself.
 fn found_for(
     alloc: Global,
-    history: &History,
+    history: &Seen<'_>,
     i: u32,
     event: &Event,
 ) -> Result<Option<Moments>, AllocError>
     requires processor { processor_of event.now < length history.now.head.processors }
-    requires within { i < length history.now.events }
+    requires within { i ≤ length history.now.events }
     ensures { IfOk result (IsPick (found history.now.head history.now.events i event.now)) }
 {
     match *event {
@@ -176,6 +179,31 @@ fn found_for(
     }
 }
 
+/// Moments that witness an access or an assist as the event with this number, which need not be one
+/// of the history, or `None` where no one to four moments do. Only the events before that number
+/// say so, and of these those alone that change something: `witnessed_among_changes` is the law by
+/// which a history need not have the others.
+///
+/// Where several would do it gives the freshest, as `find_moments` does, and costs as much.
+pub fn find_moments_at(
+    alloc: Global,
+    history: &Seen<'_>,
+    number: u32,
+    event: &Event,
+) -> Result<Option<Moments>, AllocError>
+    requires within { number ≤ length history.now.events }
+    requires well { broken_rule history.now.head event.now ≡ None }
+    requires names { names_moments event.now ≡ true }
+    ensures some { IfOk result (λ found. IfSome found
+        (AreWitness history.now.head history.now.events number event.now)) }
+    ensures freshest { IfOk result (λ found. IfSome found
+        (AreFreshestOf history.now.head history.now.events number event.now)) }
+    ensures none { IfOk result (λ found. IfNone found ((ws : List ℕ) →
+        AreWitness history.now.head history.now.events number event.now ws → ⊥)) }
+{
+    found_for(alloc, history, number, event)
+}
+
 /// Moments that witness an access or an assist in the place of its own, or `None` where no one to
 /// four moments do: then no run of the machine begins with the events up to this one, whoever
 /// writes their moments. `names_moments` tells whether an event is an access or an assist.
@@ -197,5 +225,6 @@ pub fn find_moments(alloc: Global, history: &History, i: u64) -> Result<Option<M
         (RunBeginsWith history.now.head history.now.events i → ⊥)) }
 {
     let event = &history.events()[i as usize];
-    found_for(alloc, history, i as u32, event)
+    let seen = Seen::of(history);
+    found_for(alloc, &seen, i as u32, event)
 }

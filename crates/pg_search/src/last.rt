@@ -1,17 +1,18 @@
-ghost use Rattle.std.specs.Prelude.{◌≡◌, ◌<◌, true, length, slice_get};
+ghost use Rattle.std.specs.Prelude.{◌≡◌, ◌<◌, ◌≤◌, true, None, length, slice_get};
 ghost use Rattle.std.specs.Prelude.{IfOk, IfSome, IfNone};
-ghost use Rattle.pg_event.specs.Form.{processor_of};
+ghost use Rattle.pg_event.specs.Form.{broken_rule, processor_of};
 ghost use Rattle.pg_search.specs.Sweep.{standing};
 ghost use Rattle.pg_search.specs.Found.{is_useful, found_sought, IsPick};
 ghost use Rattle.pg_search.specs.Held.{IsNow};
 ghost use Rattle.pg_search.specs.Swept.{IsSweep};
 ghost use Rattle.pg_search.specs.Law.{names_moments};
 ghost use Rattle.pg_search.specs.Last.{latest, IsLatestFound, IsLatestOf, IsLast};
-ghost use Rattle.pg_search.specs.Last.{HasNoLast};
+ghost use Rattle.pg_search.specs.Last.{HasNoLast, NoneWitness, IsLastOf};
 
 use crate::finder::{best_in, best_made};
 use crate::fresh::fresher;
 use crate::now::{Now, after, at_start};
+use crate::seen::Seen;
 use crate::sought::Sought;
 use crate::sweeper::{Sweep, fill, leave};
 use pg_check::History;
@@ -28,7 +29,7 @@ pub struct Last {
 }
 
 /// The freshest moments that give what is sought now.
-fn best_now(history: &History, now: Now, sought: &Sought, sweep: &Sweep) -> Option<Moments>
+fn best_now(history: &Seen<'_>, now: Now, sought: &Sought, sweep: &Sweep) -> Option<Moments>
     requires now { IsNow history.now now }
     requires sweep { IsSweep (is_useful history.now.head sought.now) sweep.now
         (standing history.now.head history.now.events now.p now.la now.moment) }
@@ -59,14 +60,14 @@ fn latest(last: Option<Last>, number: u32, best: Option<Moments>) -> Option<Last
 /// moments.
 fn find_last(
     alloc: Global,
-    history: &History,
+    history: &Seen<'_>,
     p: u16,
     la: u64,
     number: u32,
     sought: &Sought,
 ) -> Result<Option<Last>, AllocError>
     requires processor { p < length history.now.head.processors }
-    requires within { number < length history.now.events }
+    requires within { number ≤ length history.now.events }
     ensures { IfOk result (IsLatestFound history.now.head history.now.events p la sought.now
         number) }
 {
@@ -78,11 +79,12 @@ fn find_last(
     };
     let mut now = at_start(history, p, la);
     let mut last = None;
-    for event in &history.events()[..number as usize] {
+    for i in 0..number {
+        let event = history.event_at(i);
         fill(&mut sweep, history, now, sought)?;
         last = latest(last, now.moment, best_now(history, now, sought, &sweep));
-        leave(&mut sweep, history, &now, sought, event);
-        now = after(history, now, event);
+        leave(&mut sweep, history, &now, sought, &event);
+        now = after(history, now, &event);
     }
     Ok(last)
 }
@@ -90,12 +92,12 @@ fn find_last(
 /// The same for what an event seeks.
 fn last_for(
     alloc: Global,
-    history: &History,
+    history: &Seen<'_>,
     i: u32,
     event: &Event,
 ) -> Result<Option<Last>, AllocError>
     requires processor { processor_of event.now < length history.now.head.processors }
-    requires within { i < length history.now.events }
+    requires within { i ≤ length history.now.events }
     ensures { IfOk result (IsLatestOf history.now.head history.now.events event.now i) }
 {
     match *event {
@@ -127,6 +129,28 @@ fn last_for(
     }
 }
 
+/// The latest number below this one at which some moments would witness an access or an assist,
+/// which need not be an event of the history. `None` where there is no such number.
+/// `last_among_changes` is the law by which a history need not have accesses that got their answer.
+///
+/// It takes one pass over the events before that number. It fails only where memory is refused.
+pub fn last_moments_at(
+    alloc: Global,
+    history: &Seen<'_>,
+    number: u32,
+    event: &Event,
+) -> Result<Option<Last>, AllocError>
+    requires within { number ≤ length history.now.events }
+    requires well { broken_rule history.now.head event.now ≡ None }
+    requires names { names_moments event.now ≡ true }
+    ensures some { IfOk result (λ last. IfSome last
+        (IsLastOf history.now.head history.now.events number event.now)) }
+    ensures none { IfOk result (λ last. IfNone last
+        (NoneWitness history.now.head history.now.events event.now 0 number)) }
+{
+    last_for(alloc, history, number, event)
+}
+
 /// The latest number below that of an access or an assist which the event could have had: some
 /// moments would witness it there, and none would at any number between. `None` where there is no
 /// such number: then no moments would have witnessed the event anywhere before. `names_moments`
@@ -142,5 +166,6 @@ pub fn last_moments(alloc: Global, history: &History, i: u64) -> Result<Option<L
         (HasNoLast history.now.head history.now.events i)) }
 {
     let event = &history.events()[i as usize];
-    last_for(alloc, history, i as u32, event)
+    let seen = Seen::of(history);
+    last_for(alloc, &seen, i as u32, event)
 }

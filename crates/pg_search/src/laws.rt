@@ -4,7 +4,7 @@ ghost use Rattle.pg_search.specs.Law.{UnwitnessedEventsHaveNoRun, FoundMomentsWi
 ghost use Rattle.pg_search.specs.Law.{NoneFoundNoneWitness};
 ghost use Rattle.pg_search.specs.Exact.{StandingIsExact, MadeIsExact};
 ghost use Rattle.pg_search.specs.Thinned.{WitnessedAmongChanges, FreshestAmongChanges};
-ghost use Rattle.pg_search.specs.Thinned.{LastAmongChanges, NumbersPutBack};
+ghost use Rattle.pg_search.specs.Thinned.{LastAmongChanges, NumbersPutBack, WitnessedAlike};
 
 /// Where no moments witness an event, no run of the machine begins with the events up to it.
 pub fn unwitnessed_events_have_no_run()
@@ -50,4 +50,10 @@ pub fn last_among_changes()
 /// A moment among the events that change something is put back by their numbers.
 pub fn numbers_put_back()
     ensures { NumbersPutBack }
+{}
+
+/// Which moments witness an event is told by what the events before it leave in memory, in control
+/// registers and in caches: so these may be kept in less room than they take.
+pub fn witnessed_alike()
+    ensures { WitnessedAlike }
 {}

@@ -2,6 +2,7 @@
 //! with the events up to it.
 #![tactic(auto)]
 
+mod bare;
 mod fill;
 mod finder;
 mod fresh;
@@ -9,13 +10,16 @@ mod held;
 mod last;
 mod laws;
 mod now;
+mod seen;
 mod sought;
 mod sweeper;
 
-pub use finder::{find_moments, names_moments};
-pub use last::{Last, last_moments};
+pub use bare::Bare;
+pub use finder::{find_moments, find_moments_at, names_moments};
+pub use last::{Last, last_moments, last_moments_at};
 pub use laws::{
     found_moments_witness, freshest_among_changes, last_among_changes, made_is_exact,
     none_found_none_witness, numbers_put_back, standing_is_exact, unwitnessed_events_have_no_run,
-    witnessed_among_changes,
+    witnessed_alike, witnessed_among_changes,
 };
+pub use seen::Seen;

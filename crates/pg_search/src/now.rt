@@ -6,7 +6,7 @@ ghost use Rattle.pg_search.specs.Sweep.{entry_at};
 ghost use Rattle.pg_search.specs.Held.{IsNow};
 
 use crate::held::{HeldSpot, Spot, written};
-use pg_check::History;
+use crate::seen::Seen;
 use pg_entry::Level;
 use pg_event::{Control, Event, entry_address, root_of};
 
@@ -22,7 +22,7 @@ pub(crate) struct Now {
 }
 
 /// The entry that level 4 has for an address at a moment.
-fn word_of(history: &History, la: u64, moment: u32, control: Control) -> u64
+fn word_of(history: &Seen<'_>, la: u64, moment: u32, control: Control) -> u64
     requires { control.root < 2 ^ 52 }
     ensures { result ≡ entry_at history.now.events la moment Four (root_of control) }
 {
@@ -30,7 +30,7 @@ fn word_of(history: &History, la: u64, moment: u32, control: Control) -> u64
 }
 
 /// A processor and address before the first event.
-pub(crate) fn at_start(history: &History, p: u16, la: u64) -> Now
+pub(crate) fn at_start(history: &Seen<'_>, p: u16, la: u64) -> Now
     requires { p < length history.now.head.processors }
     ensures now { IsNow history.now result }
     ensures asked { (result.p ≡ p) × (result.la ≡ la) }
@@ -47,7 +47,7 @@ pub(crate) fn at_start(history: &History, p: u16, la: u64) -> Now
 }
 
 /// The entry of level 4 after an event. It is looked up where the root has changed.
-fn next_word(history: &History, now: Now, event: &Event, control: Control) -> u64
+fn next_word(history: &Seen<'_>, now: Now, event: &Event, control: Control) -> u64
     requires now { IsNow history.now now }
     requires event { slice_get history.now.events now.moment ≡ Some event.now }
     requires room { now.moment + 1 < 2 ^ 32 }
@@ -64,7 +64,7 @@ fn next_word(history: &History, now: Now, event: &Event, control: Control) -> u6
 }
 
 /// The same processor and address after an event.
-pub(crate) fn after(history: &History, now: Now, event: &Event) -> Now
+pub(crate) fn after(history: &Seen<'_>, now: Now, event: &Event) -> Now
     requires now { IsNow history.now now }
     requires event { slice_get history.now.events now.moment ≡ Some event.now }
     requires room { now.moment + 1 < 2 ^ 32 }
@@ -82,7 +82,7 @@ pub(crate) fn after(history: &History, now: Now, event: &Event) -> Now
 }
 
 /// The control registers after an event. They are looked up where they may have changed.
-fn next_control(history: &History, now: Now, event: &Event) -> Control
+fn next_control(history: &Seen<'_>, now: Now, event: &Event) -> Control
     requires now { IsNow history.now now }
     requires event { slice_get history.now.events now.moment ≡ Some event.now }
     requires room { now.moment + 1 < 2 ^ 32 }

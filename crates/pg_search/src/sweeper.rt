@@ -15,8 +15,8 @@ ghost use Rattle.pg_search.specs.Found.{is_useful, next_useful};
 use crate::fill::{add_founds, add_spots};
 use crate::held::{HeldFound, HeldSpot};
 use crate::now::{Now, after, at_start, root_spot};
+use crate::seen::Seen;
 use crate::sought::Sought;
-use pg_check::History;
 use pg_entry::Level;
 use pg_event::{
     Event, below, must_drop_structure, must_drop_translation, processor_of, structure_key,
@@ -37,7 +37,7 @@ pub(crate) struct Sweep {
 fn fill_level(
     made: &mut Vec<HeldFound>,
     under: &mut Vec<HeldSpot>,
-    history: &History,
+    history: &Seen<'_>,
     now: Now,
     sought: &Sought,
     level: Level,
@@ -61,7 +61,7 @@ fn fill_level(
 /// All fills of a moment, from level 4 down.
 pub(crate) fn fill(
     sweep: &mut Sweep,
-    history: &History,
+    history: &Seen<'_>,
     now: Now,
     sought: &Sought,
 ) -> Result<(), AllocError>
@@ -130,7 +130,13 @@ fn see_event(spots: &mut Vec<HeldSpot>, level: Level, la: u64, event: &Event)
 }
 
 /// What an event leaves of spots that the level above gave.
-fn leave_spots(spots: &mut Vec<HeldSpot>, history: &History, now: &Now, event: &Event, above: Level)
+fn leave_spots(
+    spots: &mut Vec<HeldSpot>,
+    history: &Seen<'_>,
+    now: &Now,
+    event: &Event,
+    above: Level,
+)
     requires now { IsNow history.now now.now }
     requires event { slice_get history.now.events now.now.moment ≡ Some event.now }
     requires current { AreCurrent history.now.events now.now.la now.now.moment (below above)
@@ -143,7 +149,13 @@ fn leave_spots(spots: &mut Vec<HeldSpot>, history: &History, now: &Now, event: &
 }
 
 /// What an event leaves.
-pub(crate) fn leave(sweep: &mut Sweep, history: &History, now: &Now, sought: &Sought, event: &Event)
+pub(crate) fn leave(
+    sweep: &mut Sweep,
+    history: &Seen<'_>,
+    now: &Now,
+    sought: &Sought,
+    event: &Event,
+)
     requires now { IsNow history.now now.now }
     requires event { slice_get history.now.events now.now.moment ≡ Some event.now }
     requires before { IsSweep (is_useful history.now.head sought.now) sweep.old
@@ -163,14 +175,14 @@ pub(crate) fn leave(sweep: &mut Sweep, history: &History, now: &Now, sought: &So
 /// as the events say.
 pub(crate) fn sweep_to(
     alloc: Global,
-    history: &History,
+    history: &Seen<'_>,
     p: u16,
     la: u64,
     moment: u32,
     sought: &Sought,
 ) -> Result<(Sweep, Now), AllocError>
     requires processor { p < length history.now.head.processors }
-    requires within { moment < length history.now.events }
+    requires within { moment ≤ length history.now.events }
     ensures sweep { IfOk result (λ r. IsSweep (is_useful history.now.head sought.now) r.0
         (standing history.now.head history.now.events p la moment)) }
     ensures now { IfOk result (λ r. IsNow history.now r.1) }
@@ -183,10 +195,11 @@ pub(crate) fn sweep_to(
         made: Vec::new(alloc),
     };
     let mut now = at_start(history, p, la);
-    for event in &history.events()[..moment as usize] {
+    for i in 0..moment {
+        let event = history.event_at(i);
         fill(&mut sweep, history, now, sought)?;
-        leave(&mut sweep, history, &now, sought, event);
-        now = after(history, now, event);
+        leave(&mut sweep, history, &now, sought, &event);
+        now = after(history, now, &event);
     }
     fill(&mut sweep, history, now, sought)?;
     Ok((sweep, now))

@@ -6,12 +6,12 @@ use Rattle.pg_search.specs.Swept.{IsSweep}
 use Rattle.pg_search.specs.Last.{IsLatestFound}
 use Rattle.pg_search.proofs.last.find_last.Given as goal
 
-abbrev pub invariant-loop-event : goal.invariant-loop-event
-invariant-loop-event l = record {
-  sweep : IsSweep (is_useful l.history.head l.sought) l.sweep (swept l.history.head l.history.events l.p l.la l.event-index);
+abbrev pub invariant-loop-i : goal.invariant-loop-i
+invariant-loop-i l = record {
+  sweep : IsSweep (is_useful l.history.head l.sought) l.sweep (swept l.history.head l.history.events l.p l.la l.i);
   now : IsNow l.history l.now;
   p : l.now.p ≡ l.p;
   la : l.now.la ≡ l.la;
-  moment : l.now.moment ≡ l.event-index;
-  latest : IsLatestFound l.history.head l.history.events l.p l.la l.sought l.event-index l.last;
+  moment : l.now.moment ≡ l.i;
+  latest : IsLatestFound l.history.head l.history.events l.p l.la l.sought l.i l.last;
 }

@@ -1,10 +1,12 @@
 use Rattle.std.proofs.Common.{◌≡◌, ◌<◌, List, Some, None, length, true, ap, sym, ◌∙◌, subst}
-use Rattle.std.specs.Prelude.{slice_get, IfSome}
+use Rattle.std.specs.Prelude.{slice_get, IfOk, IfSome}
 use Rattle.std.proofs.lemmas.Option.{slice_get-get_or}
 use Rattle.std.proofs.lemmas.Result.{IfOk-weaker}
 use Rattle.pg_event.specs.declared.event.Event.{Event}
 use Rattle.pg_event.specs.Heads.{Head}
 use Rattle.pg_event.specs.Form.{broken_rule}
+use Rattle.pg_event.specs.Spelling.{Recorded}
+use Rattle.pg_search.specs.Last.{IsLatestOf}
 use Rattle.pg_search.specs.Law.{names_moments}
 use Rattle.pg_search.proofs.Runs.{all_at}
 use Rattle.pg_search.proofs.Lasts.{last_is, no_last}
@@ -21,7 +23,8 @@ returns-clause-some c =
     ap (λ (xs : List Event). slice_get xs c.args.i) (sym c.events.ensures.events) ∙ slice_get-get_or es c.args.i e lt ∙ ap (λ (x : Event). Some x) (sym c.index-events-i.is) in
     let well = all_at (λ x. broken_rule head x ≡ None) events c.args.i e c.events.ensures.well at in
     let names : names_moments e ≡ true = subst (λ o. IfSome o (λ x. names_moments x ≡ true)) at c.requires.names in
-    IfOk-weaker c.last_for.result _ _ (λ last h. last_is head events c.args.i e last at well names h) c.last_for.ensures
+    let got : IfOk c.last_for.result (IsLatestOf head events e c.args.i) = subst (λ (r : Recorded). IfOk c.last_for.result (IsLatestOf r.head r.events e c.args.i)) c.of-seen.ensures c.last_for.ensures in
+    IfOk-weaker c.last_for.result _ _ (λ last h. last_is head events c.args.i e last at well names h) got
 
 pub returns-clause-none : goal.returns-clause-none
 returns-clause-none c =
@@ -33,4 +36,5 @@ returns-clause-none c =
     let at : slice_get events c.args.i ≡ Some e =
     ap (λ (xs : List Event). slice_get xs c.args.i) (sym c.events.ensures.events) ∙ slice_get-get_or es c.args.i e lt ∙ ap (λ (x : Event). Some x) (sym c.index-events-i.is) in
     let names : names_moments e ≡ true = subst (λ o. IfSome o (λ x. names_moments x ≡ true)) at c.requires.names in
-    IfOk-weaker c.last_for.result _ _ (λ last h. no_last head events c.args.i e last at names h) c.last_for.ensures
+    let got : IfOk c.last_for.result (IsLatestOf head events e c.args.i) = subst (λ (r : Recorded). IfOk c.last_for.result (IsLatestOf r.head r.events e c.args.i)) c.of-seen.ensures c.last_for.ensures in
+    IfOk-weaker c.last_for.result _ _ (λ last h. no_last head events c.args.i e last at names h) got

@@ -5,11 +5,11 @@ use Rattle.pg_search.specs.Held.{IsNow}
 use Rattle.pg_search.specs.Swept.{IsSweep}
 use Rattle.pg_search.proofs.sweeper.sweep_to.Given as goal
 
-abbrev pub invariant-loop-event : goal.invariant-loop-event
-invariant-loop-event l = record {
-  sweep : IsSweep (is_useful l.history.head l.sought) l.sweep (swept l.history.head l.history.events l.p l.la l.event-index);
+abbrev pub invariant-loop-i : goal.invariant-loop-i
+invariant-loop-i l = record {
+  sweep : IsSweep (is_useful l.history.head l.sought) l.sweep (swept l.history.head l.history.events l.p l.la l.i);
   now : IsNow l.history l.now;
   p : l.now.p ≡ l.p;
   la : l.now.la ≡ l.la;
-  moment : l.now.moment ≡ l.event-index;
+  moment : l.now.moment ≡ l.i;
 }

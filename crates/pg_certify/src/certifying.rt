@@ -1,0 +1,144 @@
+//! A run that is certified as it is read.
+
+ghost use Rattle.std.specs.Prelude.{◌≡◌, ◌+◌, ◌<◌, ◌≤◌, ◌^◌, [], ◌++◌, List, length};
+ghost use Rattle.std.specs.Prelude.{None, IfOk, IfSome, IfNone, OnOk, OnErr};
+ghost use Rattle.pg_event.specs.declared.event.Event.{Event};
+ghost use Rattle.pg_event.specs.Heads.{Head};
+ghost use Rattle.pg_event.specs.Spelling.{IsHead, segment_count};
+ghost use Rattle.pg_check.specs.Kept.{AreWellFormed};
+ghost use Rattle.pg_certify.specs.declared.window.Denied.{Denied};
+ghost use Rattle.pg_certify.specs.Certified.{IsDenied, CanBeCertified};
+ghost use Rattle.pg_certify.specs.Windows.{IsCertifying, MayCome, IsJudgedWindow, after_window};
+
+use crate::hints::Hints;
+use crate::kept::Kept;
+use crate::window::{Denied, first_denied_among};
+use pg_event::{Event, Header};
+use pg_search::witnessed_among_changes;
+use std::alloc::{AllocError, Global};
+use std::marker::Model;
+
+/// What is known of a run so far, and its least event that no moments witness. Of its events those
+/// alone are kept that change memory, control registers or caches, and none behind one that is
+/// denied.
+#[derive(Drop)]
+pub struct Certifying {
+    alloc: Global,
+    kept: Kept,
+    hints: Hints,
+    count: u64,
+    denied: Option<u64>,
+}
+
+impl Model for Certifying {
+    ghost use Rattle.pg_certify.specs.Windows.{Findings};
+
+    ghost Value = { Findings };
+
+    ghost view = { λ c. record { kept = c.kept; count = c.count; denied = c.denied } };
+}
+
+impl Certifying {
+    /// A run with no event yet. Fails where memory is refused.
+    pub fn new(alloc: Global, header: Header) -> Result<Certifying, AllocError>
+        requires { IsHead header }
+        ensures { IfOk result (λ certifying. IsCertifying certifying header []) }
+    {
+        let kept = Kept::new(alloc, header)?;
+        Ok(Certifying {
+            alloc,
+            kept,
+            hints: Hints::new(alloc),
+            count: 0,
+            denied: None,
+        })
+    }
+
+    /// Takes what judging so many events came to.
+    fn take(&mut self, found: Option<Denied>, count: usize)
+        requires rank { IfSome found (λ d. d.rank ≤ length self.old.kept.events) }
+        requires place { IfSome found (λ d. d.place < count) }
+        requires count { self.old.count + count < 2 ^ 32 }
+        ensures { self.new ≡ after_window self.old found count }
+    {
+        if let Some(denied) = found {
+            self.kept.forget_from(denied.rank as usize);
+            self.denied = Some(self.count + denied.place as u64);
+        }
+        self.count += count as u64;
+    }
+
+    /// Judges the events that come next, where none before them is denied.
+    fn judge(&mut self, window: &[Event]) -> Result<(), AllocError>
+        requires well { AreWellFormed self.old.kept.head window.now }
+        requires kept { length self.old.kept.events ≤ self.old.count }
+        requires count { self.old.count + length window.now < 2 ^ 32 }
+        ensures ok { OnOk result (IsJudgedWindow self.old window.now self.new) }
+        ensures err { OnErr result (self.new ≡ self.old) }
+    {
+        let first = self.kept.len();
+        self.kept.keep_all(window)?;
+        match first_denied_among(
+            self.alloc,
+            &self.kept,
+            &mut self.hints,
+            first as u32,
+            window,
+        ) {
+            Ok(found) => {
+                self.take(found, window.len());
+                Ok(())
+            }
+            Err(refused) => {
+                self.kept.forget_from(first);
+                Err(refused)
+            }
+        }
+    }
+
+    /// Takes the events that come next, and judges them, unless an event before them is denied.
+    /// Fails where memory is refused, and then they have not come.
+    pub fn window(&mut self, events: &[Event]) -> Result<(), AllocError>
+        requires { MayCome self.old events.now }
+        ensures ok { (head : Head) (before : List Event) → IsCertifying self.old head before →
+            OnOk result (IsCertifying self.new head (before ++ events.now)) }
+        ensures err { OnErr result (self.new ≡ self.old) }
+    {
+        witnessed_among_changes();
+        match self.settle() {
+            Some(_) => {
+                self.take(None, events.len());
+                Ok(())
+            }
+            None => self.judge(events),
+        }
+    }
+
+    /// How many events have come.
+    pub fn len(&self) -> u64
+        ensures { (head : Head) (events : List Event) → IsCertifying self.now head events →
+            result ≡ length events }
+    {
+        self.count
+    }
+
+    /// How many segments held them: each was full but the last.
+    pub fn segments(&self) -> u64
+        ensures { (head : Head) (events : List Event) → IsCertifying self.now head events →
+            result ≡ segment_count (record { head = head; events = events }) }
+    {
+        self.count.div_ceil(self.kept.header().segment as u64)
+    }
+
+    /// The least event that no moments witness, or `None` where some moments make the run's events
+    /// an accepted record.
+    pub fn settle(&self) -> Option<u64>
+        ensures found { result ≡ self.now.denied }
+        ensures denied { (head : Head) (events : List Event) →
+            IsCertifying self.now head events → IfSome result (IsDenied head events) }
+        ensures certified { (head : Head) (events : List Event) →
+            IsCertifying self.now head events → IfNone result (CanBeCertified head events) }
+    {
+        self.denied
+    }
+}

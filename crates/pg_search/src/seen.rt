@@ -1,0 +1,114 @@
+//! What a search sees of a run.
+
+ghost use Rattle.std.specs.Prelude.{◌≡◌, ◌<◌, ◌^◌, length, Some, slice_get};
+ghost use Rattle.pg_event.specs.Spelling.{IsHead};
+ghost use Rattle.pg_event.specs.Values.{mem_at, control_at};
+ghost use Rattle.pg_chain.specs.Standing.{IsPast};
+ghost use Rattle.pg_search.specs.Seen.{IsSeen};
+
+use crate::bare::Bare;
+use pg_chain::Past;
+use pg_check::{History, Memo, Stretch};
+use pg_event::{Control, Event, Header};
+use std::marker::Model;
+
+/// The events of a run, as somebody has kept them.
+#[derive(Clone, Copy)]
+pub(crate) enum Events<'a> {
+    Whole(&'a [Event]),
+    Bared(&'a [Bare]),
+}
+
+/// The settings of a run, its events, perhaps without their moments, and what is looked up of them.
+#[derive(Drop)]
+pub struct Seen<'a> {
+    header: &'a Header,
+    past: &'a Past,
+    events: Events<'a>,
+}
+
+impl<'a> Model for Seen<'a> {
+    ghost use Rattle.pg_event.specs.Spelling.{Recorded};
+    ghost use Rattle.pg_search.specs.Seen.{IsSeen, events_in};
+
+    ghost Value = { Recorded };
+
+    ghost view = { λ s. record { head = s.header.now; events = events_in s.events } };
+
+    ghost invariant = { λ s. IsSeen s.header.now (events_in s.events) s.past.now };
+}
+
+impl<'a> Seen<'a> {
+    /// A run by its settings, its past and its events without their moments.
+    pub fn new(header: &'a Header, past: &'a Past, events: &'a [Bare]) -> Seen<'a>
+        requires { IsSeen header.now events.now past.now }
+        ensures { result ≡ record { head = header.now; events = events.now } }
+    {
+        Seen {
+            header,
+            past,
+            events: Events::Bared(events),
+        }
+    }
+
+    /// A run that is kept whole.
+    pub fn of(history: &'a History) -> Seen<'a>
+        ensures { result ≡ history.now }
+    {
+        Seen {
+            header: history.header(),
+            past: history.stretch().past,
+            events: Events::Whole(history.events()),
+        }
+    }
+
+    /// The settings of the run.
+    pub fn header(&self) -> &Header
+        ensures header { result.now ≡ self.now.head }
+        ensures head { IsHead self.now.head }
+    {
+        self.header
+    }
+
+    /// The event with this number.
+    pub(crate) fn event_at(&self, number: u32) -> Event
+        requires { number < length self.now.events }
+        ensures event { slice_get self.now.events number ≡ Some result }
+        ensures count { length self.now.events < 2 ^ 32 }
+    {
+        match self.events {
+            Events::Whole(events) => events[number as usize],
+            Events::Bared(events) => events[number as usize].event(),
+        }
+    }
+
+    /// The value at a physical address just before the event with this number.
+    pub fn value_at(&self, moment: u32, addr: u64) -> u64
+        ensures { result ≡ mem_at self.now.events moment addr }
+    {
+        self.past.value_at(moment, addr)
+    }
+
+    /// The control registers of a processor just before the event with this number.
+    pub fn control_at(&self, p: u16, moment: u32) -> Control
+        requires { p < length self.now.head.processors }
+        ensures control { result ≡ control_at self.now.head self.now.events p moment }
+        ensures root { result.root < 2 ^ 52 }
+    {
+        self.past.control_at(p, moment)
+    }
+
+    /// A memo for judging by this run, with room for so many walks, up to a limit.
+    pub fn memo(&self, walks: usize) -> Memo<'a>
+        ensures { IsPast result self.now.head self.now.events }
+    {
+        let header = self.header;
+        let stretch = Stretch {
+            past: self.past,
+            segment: header.segment,
+            first: 0,
+            events: &[],
+        };
+        stretch.memo(walks)
+    }
+}
