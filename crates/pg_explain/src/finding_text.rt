@@ -15,12 +15,9 @@ use pg_entry::{AccessKind, Kind, Level, Rights};
 use pg_event::{Event, Want};
 use std::alloc::AllocError;
 
-/// Appends the line of the event with this number, where there is one.
-pub(crate) fn push_numbered(
-    text: &mut String,
-    events: &[Event],
-    number: u32,
-) -> Result<(), AllocError>
+/// Appends the line of the event with this number, where there is one. `Err` is for want of memory
+/// alone, and may leave a part of the line.
+pub fn push_numbered(text: &mut String, events: &[Event], number: u32) -> Result<(), AllocError>
     ensures { OnOk result
         (string_bytes text.new ≡ string_bytes text.old ++ numbered_text events.now number) }
 {
@@ -226,12 +223,9 @@ fn push_expected_code(text: &mut String, expected: u16) -> Result<(), AllocError
     push_code(text, expected)
 }
 
-/// Appends what stands behind a reason, without an end of the line.
-pub(crate) fn push_finding(
-    text: &mut String,
-    events: &[Event],
-    finding: Finding,
-) -> Result<(), AllocError>
+/// Appends what stands behind a reason, without an end of the line. `Err` is for want of memory
+/// alone, and may leave a part of the line.
+pub fn push_finding(text: &mut String, events: &[Event], finding: Finding) -> Result<(), AllocError>
     ensures { OnOk result
         (string_bytes text.new ≡ string_bytes text.old ++ finding_text events.now finding) }
 {

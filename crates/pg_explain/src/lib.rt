@@ -30,6 +30,8 @@ pub use entry::WalkEntry;
 pub use explainer::{Explanation, explain};
 pub use filter::{Filter, pages_show_their_drops, shown_text};
 pub use finding::{Finding, Limit, Misfit, Prevention, Tagged, Wish};
+pub use finding_text::{push_finding, push_numbered};
+pub use last_lines::push_last_moments;
 pub use laws::{
     findings_stand_behind_reasons, others_leave_the_word, unwritten_words_stay,
     writers_leave_the_word,
@@ -37,4 +39,5 @@ pub use laws::{
 pub use names::{level_number, rights_text};
 pub use tallier::{Tally, counts_add_up, tallies};
 pub use tally_lines::tally_text;
-pub use text::explanation_text;
+pub use text::{deed_name, explanation_text, push_last};
+pub use walk_text::push_entry;

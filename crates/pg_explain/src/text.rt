@@ -14,8 +14,8 @@ use pg_event::{Event, Moments};
 use pg_search::Last;
 use std::alloc::{AllocError, Global};
 
-/// What an event is.
-fn deed_name(events: &[Event], number: u32) -> &'static str
+/// What the event with this number is: `access`, `assist` or `event`.
+pub fn deed_name(events: &[Event], number: u32) -> &'static str
     ensures { result.now ≡ deed_name (slice_get events.now number) }
 {
     match events.get(number as usize) {
@@ -42,8 +42,9 @@ fn push_listed(text: &mut String, name: &str, numbers: &[u32]) -> Result<(), All
     text.push_str("\n")
 }
 
-/// Appends whether other moments would do.
-fn push_last(text: &mut String, deed: &str, other: Option<Moments>) -> Result<(), AllocError>
+/// Appends whether other moments would do, as a line. `Err` is for want of memory alone, and may leave
+/// a part of the line.
+pub fn push_last(text: &mut String, deed: &str, other: Option<Moments>) -> Result<(), AllocError>
     ensures { OnOk result
         (string_bytes text.new ≡ string_bytes text.old ++ last_text deed.now other) }
 {

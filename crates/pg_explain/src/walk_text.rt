@@ -57,7 +57,9 @@ pub(crate) fn push_writer(text: &mut String, writer: Option<u32>) -> Result<(), 
     }
 }
 
-fn push_entry(text: &mut String, entry: &WalkEntry) -> Result<(), AllocError>
+/// Appends the line of an entry of a walk. `Err` is for want of memory alone, and may leave a part of
+/// the line.
+pub fn push_entry(text: &mut String, entry: &WalkEntry) -> Result<(), AllocError>
     ensures { OnOk result
         (string_bytes text.new ≡ string_bytes text.old ++ entry_text entry.now) }
 {
