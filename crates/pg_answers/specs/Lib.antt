@@ -7,5 +7,6 @@ pub mod Upgrades
 pub mod Lines
 pub mod Texts
 pub mod Explanations
+pub mod Summaries
 pub mod Certificates
 pub mod Naming

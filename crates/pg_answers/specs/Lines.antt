@@ -1,5 +1,5 @@
 -- What `show` answers: the events of a record that are asked for, a line each.
-use Rattle.std.specs.Prelude.{◌≡◌, ℕ, List, None, Result}
+use Rattle.std.specs.Prelude.{◌≡◌, ℕ, List, Result}
 use Rattle.pg_event.specs.Spelling.{Recorded}
 use Rattle.pg_explain.specs.declared.filter.Filter.{Filter}
 use Rattle.pg_explain.specs.Filters.{shown_text}
@@ -15,11 +15,11 @@ use Rattle.pg_answers.specs.Texts.{IsTextGiven}
 -- what a plan asks of the events that are shown
 abbrev pub filter_of : Plan → Filter
 filter_of plan = record {
-  from = plan.from;
-  to = plan.to;
-  cpu = None;
-  page = None;
-  word = None;
+  from = plan.selection.from;
+  to = plan.selection.to;
+  cpu = plan.selection.cpu;
+  page = plan.selection.page;
+  word = plan.selection.word;
 }
 
 -- the lines of a record's events that a filter lets through; the verdict is the record's

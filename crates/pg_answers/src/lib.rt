@@ -11,6 +11,7 @@ mod replayer;
 mod runs;
 mod shown;
 mod statuses;
+mod summaries;
 mod upgrader;
 
 pub use certificates::certify;
@@ -23,4 +24,5 @@ pub use replayer::run_of;
 pub use runs::run_text;
 pub use shown::Shown;
 pub use statuses::{MEMORY, NO, REFUSED, USAGE, YES};
+pub use summaries::{check_all, explain_all};
 pub use upgrader::upgrade;

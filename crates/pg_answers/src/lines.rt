@@ -20,12 +20,13 @@ use std::alloc::{AllocError, Global};
 pub fn filter_of(plan: Plan) -> Filter
     ensures { result ≡ filter_of plan }
 {
+    let asked = plan.selection;
     Filter {
-        from: plan.from,
-        to: plan.to,
-        cpu: None,
-        page: None,
-        word: None,
+        from: asked.from,
+        to: asked.to,
+        cpu: asked.cpu,
+        page: asked.page,
+        word: asked.word,
     }
 }
 

@@ -1,5 +1,5 @@
 -- What a parse by the command line answers.
-use Rattle.std.proofs.Common.{arith, ⊎_elim, option_map, Box, ◌≡◌, ◌↔◌, ◌⊎◌, ◌∙◌, ℕ, Bool, true, List, [], ◌∷◌, Option, Some, None, codes, inl, inr, refl, sym, ap, subst}
+use Rattle.std.proofs.Common.{arith, ⊎_elim, option_map, Box, ◌≡◌, ◌↔◌, ◌⊎◌, ◌∙◌, ℕ, Bool, true, List, [], ◌∷◌, ◌++◌, drop, Option, Some, None, codes, inl, inr, refl, sym, ap, subst}
 use Rattle.std.specs.Box.{box_value}
 use Rattle.std.specs.Option.{option_map_or}
 use Rattle.clap.specs.Kinds.{HasKind, IsAmong, Kinds}
@@ -17,7 +17,9 @@ use Rattle.clap.specs.Faults.{fault_of, is_simple_and_free}
 use Rattle.clap.proofs.OnLiterals.{clap_on_literals}
 use Rattle.pg_plan.specs.declared.request.Plan.{Plan}
 use Rattle.pg_plan.specs.declared.request.Command.{Command}
-use Rattle.pg_plan.specs.Commands.{AreAsked, AreFrom1To64, Asks, AsksOnly, file_in, named_file, IsAsked, IsNumberIn, IsPlanOf, command_line, command_word, faults, is_on}
+use Rattle.pg_plan.specs.declared.request.Selection.{Selection}
+use Rattle.pg_plan.specs.Commands.{AreAsked, AreFrom1To64, Asks, AsksOnly, file_in, named_file, IsAsked, IsNumberIn, IsPlanOf, IsSelectionOf, command_line, command_word, faults, is_on}
+use Rattle.pg_plan.specs.Values.{AreHexDigits, IsAddressIn, IsCpuIn, IsOptional, IsPageIn}
 
 is_plain : is_simple_and_free command_line ≡ true
 unfolding clap_on_literals
@@ -67,15 +69,46 @@ pub asked_range : (o : Option Text) (n : ℕ) → AreAsked o n → AreFrom1To64 
 asked_range None n is = (omega arith, omega arith)
 asked_range (Some text) n is = is.1
 
--- a number in a text may be one of checkers, is too small or too large, or there is none
-pub counts_few : (text : Text) (k : ℕ) → ((n : ℕ) → (Some k ≡ Some n) ↔ IsNumberIn text n) → AreFrom1To64 k → (n : ℕ) → (Some k ≡ Some n) ↔ AreAsked (Some text) n
-counts_few text k is few n = (λ e. let same : k ≡ n = cc in ((is n).0 e, subst AreFrom1To64 same few), λ h. (is n).1 h.0)
+-- what an option was read as is what its text spells, and nothing else is
+abbrev pub Reads : {A : Type 0} → Option A → (A → Type 0) → Type 0
+Reads {A} o P = (x : A) → (o ≡ Some x) ↔ P x
 
-pub counts_others : (text : Text) (k : ℕ) → ((n : ℕ) → (Some k ≡ Some n) ↔ IsNumberIn text n) → (AreFrom1To64 k → ⊥) → (n : ℕ) → (None ≡ Some n) ↔ AreAsked (Some text) n
-counts_others text k is others n = (λ e. absurd cc, λ h. let e : Some k ≡ Some n = (is n).1 h.0 in let same : n ≡ k = cc in absurd (others (subst AreFrom1To64 same h.1)))
+-- of Some there is but one
+some_is : {A : Type 0} (x y : A) → Some x ≡ Some y → x ≡ y
+some_is x y e = ap (λ o. option_map_or (λ r. r) o x) e
 
-pub counts_none : (text : Text) → ((n : ℕ) → (None ≡ Some n) ↔ IsNumberIn text n) → (n : ℕ) → (None ≡ Some n) ↔ AreAsked (Some text) n
-counts_none text is n = (λ e. absurd cc, λ h. let e : None ≡ Some n = (is n).1 h.0 in absurd cc)
+-- a number that was read may be one of those that are wished, or may not, or there is none
+module _ (P Q : ℕ → Type 0) where
+  pub reads_both : (k : ℕ) → Reads (Some k) P → Q k → Reads (Some k) (λ n. P n × Q n)
+  reads_both k is wished n = (λ e. ((is n).0 e, subst Q (some_is k n e) wished), λ h. (is n).1 h.0)
+
+  pub reads_other : (k : ℕ) → Reads (Some k) P → (Q k → ⊥) → Reads None (λ n. P n × Q n)
+  reads_other k is other n = (λ e. absurd cc, λ h. absurd (other (subst Q (sym (some_is k n ((is n).1 h.0))) h.1)))
+
+  pub reads_none : Reads None P → Reads None (λ n. P n × Q n)
+  reads_none is n = (λ e. absurd cc, λ h. let e : None ≡ Some n = (is n).1 h.0 in absurd cc)
+
+-- a value is what its text spells, where there is a text
+module _ (IsIn : Text → ℕ → Type 0) (text : Text) where
+  pub given : (n : ℕ) → Reads (Some n) (IsIn text) → Reads (Some (Some n)) (IsOptional IsIn (Some text))
+  given n is None = (λ e. let bad : Some n ≡ None = some_is (Some n) None e in absurd cc, λ h. absurd h)
+  given n is (Some m) = (λ e. (is m).0 (some_is (Some n) (Some m) e), λ h. ap (λ o. Some o) ((is m).1 h))
+
+  pub refused : Reads None (IsIn text) → Reads None (IsOptional IsIn (Some text))
+  refused is None = (λ e. absurd cc, λ h. absurd h)
+  refused is (Some m) = (λ e. absurd cc, λ h. let e : None ≡ Some m = (is m).1 h in absurd cc)
+
+-- the digits behind `0x` spell the address
+pub address_is : (text digits : Text) (r : Option ℕ) → text ≡ codes "0x" ++ digits → Reads r (AreHexDigits digits) → Reads r (IsAddressIn text)
+address_is text digits r is spelled n = (there, back)
+  where
+    there : r ≡ Some n → IsAddressIn text n
+    there e = (digits, is, (spelled n).0 e)
+
+    back : IsAddressIn text n → r ≡ Some n
+    back h =
+        let same : h.0 ≡ digits = ap (drop 2) (sym h.1 ∙ is) in
+        (spelled n).1 (subst (λ d. AreHexDigits d n) same h.2)
 
 -- a text is given only where it may be asked for
 pub text_named : (kind : ErrorKind) (app : App) (words : List Text) (error : Error) → app ≡ command_line → (is_simple_and_free app ≡ true → HasKind (fault_of app words) error) → kind_of error ≡ kind → (kind ≡ OutOfMemory → ⊥) → IsAmong kind (faults words)
@@ -101,55 +134,93 @@ joined (Some x) name rows a b = cc
 parts : {A B : Type 0} (p q : A × B) → Some p ≡ Some q → (p.0 ≡ q.0) × (p.1 ≡ q.1)
 parts p q e = (ap (λ o. option_map_or (λ r. r.0) o p.0) e, ap (λ o. option_map_or (λ r. r.1) o p.1) e)
 
-abbrev made : Command → ℕ → Bool → Bool → ℕ → ℕ → Plan
-made command checkers single bytes from to = record { command = command; checkers = checkers; single = single; bytes = bytes; from = from; to = to }
+abbrev chosen : ℕ → ℕ → Option ℕ → Option ℕ → Option ℕ → Selection
+chosen from to cpu page word = record { from = from; to = to; cpu = cpu; page = page; word = word }
 
-same_plan : (plan other : Plan) → plan.command ≡ other.command → plan.checkers ≡ other.checkers → plan.single ≡ other.single → plan.bytes ≡ other.bytes → plan.from ≡ other.from → plan.to ≡ other.to → plan ≡ other
-same_plan plan other a b c d e f =
-    ap (λ v. made v plan.checkers plan.single plan.bytes plan.from plan.to) a
-    ∙ ap (λ v. made other.command v plan.single plan.bytes plan.from plan.to) b
-    ∙ ap (λ v. made other.command other.checkers v plan.bytes plan.from plan.to) c
-    ∙ ap (λ v. made other.command other.checkers other.single v plan.from plan.to) d
-    ∙ ap (λ v. made other.command other.checkers other.single other.bytes v plan.to) e
-    ∙ ap (λ v. made other.command other.checkers other.single other.bytes other.from v) f
+same_selection : (x y : Selection) → x.from ≡ y.from → x.to ≡ y.to → x.cpu ≡ y.cpu → x.page ≡ y.page → x.word ≡ y.word → x ≡ y
+same_selection x y a b c d e =
+    ap (λ v. chosen v x.to x.cpu x.page x.word) a
+    ∙ ap (λ v. chosen y.from v x.cpu x.page x.word) b
+    ∙ ap (λ v. chosen y.from y.to v x.page x.word) c
+    ∙ ap (λ v. chosen y.from y.to y.cpu v x.word) d
+    ∙ ap (λ v. chosen y.from y.to y.cpu y.page v) e
+
+-- options that were read as these ask for just these events
+pub selection_is : (rows : List Row) (asked : Selection)
+    → Reads (Some asked.from) (IsAsked 0 (first_of (codes "from") rows))
+    → Reads (Some asked.to) (IsAsked 4294967295 (first_of (codes "to") rows))
+    → Reads (Some asked.cpu) (IsOptional IsCpuIn (first_of (codes "cpu") rows))
+    → Reads (Some asked.page) (IsOptional IsPageIn (first_of (codes "page") rows))
+    → Reads (Some asked.word) (IsOptional IsAddressIn (first_of (codes "word") rows))
+    → Reads (Some asked) (IsSelectionOf rows)
+selection_is rows asked froms tos cpus pages words other = (there, back)
+  where
+    there : Some asked ≡ Some other → IsSelectionOf rows other
+    there e =
+        subst (IsSelectionOf rows) (some_is asked other e) (record {
+          from = (froms asked.from).0 refl;
+          to = (tos asked.to).0 refl;
+          cpu = (cpus asked.cpu).0 refl;
+          page = (pages asked.page).0 refl;
+          word = (words asked.word).0 refl;
+        })
+
+    back : IsSelectionOf rows other → Some asked ≡ Some other
+    back h =
+        ap (λ x. Some x) (same_selection asked other
+        (some_is asked.from other.from ((froms other.from).1 h.from))
+        (some_is asked.to other.to ((tos other.to).1 h.to))
+        (some_is asked.cpu other.cpu ((cpus other.cpu).1 h.cpu))
+        (some_is asked.page other.page ((pages other.page).1 h.page))
+        (some_is asked.word other.word ((words other.word).1 h.word)))
+
+-- what was read as nothing can't be read
+pub not_read : {A : Type 0} (P : A → Type 0) → Reads None P → (x : A) → P x → ⊥
+not_read P none x p = let e : None ≡ Some x = (none x).1 p in absurd cc
+
+pub no_selection : (rows : List Row) → ((asked : Selection) → IsSelectionOf rows asked → ⊥) → Reads None (IsSelectionOf rows)
+no_selection rows none asked = (λ e. absurd cc, λ h. absurd (none asked h))
+
+abbrev made : Command → ℕ → Bool → Bool → Selection → Plan
+made command checkers single bytes selection = record { command = command; checkers = checkers; single = single; bytes = bytes; selection = selection }
+
+same_plan : (plan other : Plan) → plan.command ≡ other.command → plan.checkers ≡ other.checkers → plan.single ≡ other.single → plan.bytes ≡ other.bytes → plan.selection ≡ other.selection → plan ≡ other
+same_plan plan other a b c d e =
+    ap (λ v. made v plan.checkers plan.single plan.bytes plan.selection) a
+    ∙ ap (λ v. made other.command v plan.single plan.bytes plan.selection) b
+    ∙ ap (λ v. made other.command other.checkers v plan.bytes plan.selection) c
+    ∙ ap (λ v. made other.command other.checkers other.single v plan.selection) d
+    ∙ ap (λ v. made other.command other.checkers other.single other.bytes v) e
 
 -- a plan that was made of what the rows say is theirs, and no other is
 pub plan_is : (found : Option (Text × List Row)) (name : Text) (rows : List Row) (plan : Plan) → found ≡ Some (name, rows)
     → ((c : Command) → (Some plan.command ≡ Some c) ↔ (name ≡ command_word c))
     → ((n : ℕ) → (Some plan.checkers ≡ Some n) ↔ AreAsked (first_of (codes "checkers") rows) n)
-    → ((n : ℕ) → (Some plan.from ≡ Some n) ↔ IsAsked 0 (first_of (codes "from") rows) n)
-    → ((n : ℕ) → (Some plan.to ≡ Some n) ↔ IsAsked 4294967295 (first_of (codes "to") rows) n)
+    → Reads (Some plan.selection) (IsSelectionOf rows)
     → plan.single ≡ is_on (first_of (codes "single") rows) → plan.bytes ≡ is_on (first_of (codes "bytes") rows)
     → (other : Plan) → (Some plan ≡ Some other) ↔ IsPlanOf found other
-plan_is found name rows plan found_is commands counts froms tos single_is bytes_is other = (there, back)
+plan_is found name rows plan found_is commands counts events single_is bytes_is other = (there, back)
   where
     there : Some plan ≡ Some other → IsPlanOf found other
     there e =
-        let same : plan ≡ other = cc in
-        subst (IsPlanOf found) same (record {
+        subst (IsPlanOf found) (some_is plan other e) (record {
           rows = rows;
           command = found_is ∙ ap (λ w. Some (w, rows)) ((commands plan.command).0 refl);
           checkers = (counts plan.checkers).0 refl;
           single = single_is;
           bytes = bytes_is;
-          from = (froms plan.from).0 refl;
-          to = (tos plan.to).0 refl;
+          selection = (events plan.selection).0 refl;
         })
 
     back : IsPlanOf found other → Some plan ≡ Some other
     back h =
         let both = parts (name, rows) (command_word other.command, h.rows) (sym found_is ∙ h.command) in
-        let here : Some plan.command ≡ Some other.command = (commands other.command).1 both.0 in
-        let command_is : plan.command ≡ other.command = cc in
-        let counted : Some plan.checkers ≡ Some other.checkers = (counts other.checkers).1 (subst (λ r. AreAsked (first_of (codes "checkers") r) other.checkers) (sym both.1) h.checkers) in
-        let started : Some plan.from ≡ Some other.from = (froms other.from).1 (subst (λ r. IsAsked 0 (first_of (codes "from") r) other.from) (sym both.1) h.from) in
-        let ended : Some plan.to ≡ Some other.to = (tos other.to).1 (subst (λ r. IsAsked 4294967295 (first_of (codes "to") r) other.to) (sym both.1) h.to) in
+        let command_is = some_is plan.command other.command ((commands other.command).1 both.0) in
+        let checkers_is = some_is plan.checkers other.checkers ((counts other.checkers).1 (subst (λ r. AreAsked (first_of (codes "checkers") r) other.checkers) (sym both.1) h.checkers)) in
+        let selection_is = some_is plan.selection other.selection ((events other.selection).1 (subst (λ r. IsSelectionOf r other.selection) (sym both.1) h.selection)) in
         let alone : plan.single ≡ other.single = single_is ∙ ap (λ r. is_on (first_of (codes "single") r)) both.1 ∙ sym h.single in
         let written : plan.bytes ≡ other.bytes = bytes_is ∙ ap (λ r. is_on (first_of (codes "bytes") r)) both.1 ∙ sym h.bytes in
-        let checkers_is : plan.checkers ≡ other.checkers = cc in
-        let from_is : plan.from ≡ other.from = cc in
-        let to_is : plan.to ≡ other.to = cc in
-        ap (λ x. Some x) (same_plan plan other command_is checkers_is alone written from_is to_is)
+        ap (λ x. Some x) (same_plan plan other command_is checkers_is alone written selection_is)
 
 -- rows of which a number is refused have no plan
 pub no_plan : (found : Option (Text × List Row)) (name : Text) (rows : List Row) → found ≡ Some (name, rows)

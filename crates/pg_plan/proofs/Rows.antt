@@ -7,7 +7,9 @@ use Rattle.clap.specs.Kinds.{Kinds}
 use Rattle.clap.specs.declared.error.kind.ErrorKind.TheVariants.{DisplayHelp, DisplayVersion, InvalidSubcommand, MissingSubcommand, UnknownArgument, ValueValidation, ArgumentConflict}
 use Rattle.clap.proofs.OnLiterals.{clap_on_literals}
 use Rattle.pg_plan.specs.Commands.{AreAsked, Asks, IsAsked, command_line}
+use Rattle.pg_plan.specs.Values.{IsCpuIn, IsOptional, IsPageIn}
 use Rattle.pg_plan.specs.declared.request.Plan.{Plan}
+use Rattle.pg_plan.specs.declared.request.Selection.{Selection}
 use Rattle.pg_plan.specs.declared.request.Command.TheVariants.{Check, Certify, Run, Show}
 
 abbrev Gives : List Text → Kinds → Type 0
@@ -17,6 +19,13 @@ Gives words kinds = fault_of command_line words ≡ kinds
 abbrev options : Option (Text × List Row) → List Row
 options None = []
 options (Some found) = found.1
+
+abbrev every : Selection
+every = record { from = 0; to = 4294967295; cpu = None; page = None; word = None }
+
+-- the plan of `check`
+abbrev bare : Plan
+bare = record { command = Check; checkers = 1; single = false; bytes = false; selection = every }
 
 check : Gives (codes "check" ∷ []) []
 unfolding clap_on_literals
@@ -30,9 +39,9 @@ certify_bytes : Gives (codes "certify" ∷ codes "--bytes" ∷ []) []
 unfolding clap_on_literals
 certify_bytes = refl
 
-asks_certify : Asks (codes "certify" ∷ codes "--bytes" ∷ []) (record { command = Certify; checkers = 1; single = false; bytes = true; from = 0; to = 4294967295 }) None
+asks_certify : Asks (codes "certify" ∷ codes "--bytes" ∷ []) (record bare { command = Certify; bytes = true }) None
 unfolding clap_on_literals
-asks_certify = (refl, record { rows = options (subcommand_of command_line (codes "certify" ∷ codes "--bytes" ∷ [])); command = refl; checkers = refl; single = refl; bytes = refl; from = refl; to = refl }, refl)
+asks_certify = (refl, record { rows = options (subcommand_of command_line (codes "certify" ∷ codes "--bytes" ∷ [])); command = refl; checkers = refl; single = refl; bytes = refl; selection = record { from = refl; to = refl; cpu = tt; page = tt; word = tt } }, refl)
 
 certify_single : Gives (codes "certify" ∷ codes "--single" ∷ []) (UnknownArgument ∷ [])
 unfolding clap_on_literals
@@ -133,9 +142,9 @@ checkers_of_run_of : Gives (codes "run-of" ∷ codes "--checkers" ∷ codes "2" 
 unfolding clap_on_literals
 checkers_of_run_of = refl
 
-asks_one : Asks (codes "check" ∷ []) (record { command = Check; checkers = 1; single = false; bytes = false; from = 0; to = 4294967295 }) None
+asks_one : Asks (codes "check" ∷ []) bare None
 unfolding clap_on_literals
-asks_one = (refl, record { rows = []; command = refl; checkers = refl; single = refl; bytes = refl; from = refl; to = refl }, refl)
+asks_one = (refl, record { rows = []; command = refl; checkers = refl; single = refl; bytes = refl; selection = record { from = refl; to = refl; cpu = tt; page = tt; word = tt } }, refl)
 
 -- ---- the switches of `run`
 
@@ -157,9 +166,9 @@ two : first_of (codes "checkers") run_options ≡ Some (codes "2")
 unfolding clap_on_literals
 two = refl
 
-asks_run : Asks run_words (record { command = Run; checkers = 2; single = true; bytes = true; from = 0; to = 4294967295 }) None
+asks_run : Asks run_words (record bare { command = Run; checkers = 2; single = true; bytes = true }) None
 unfolding clap_on_literals
-asks_run = (refl, record { rows = run_options; command = refl; checkers = subst (λ o. AreAsked o 2) (sym two) (((omega arith, (omega arith, tt)), refl, omega arith), (omega arith, omega arith)); single = refl; bytes = refl; from = refl; to = refl }, refl)
+asks_run = (refl, record { rows = run_options; command = refl; checkers = subst (λ o. AreAsked o 2) (sym two) (((omega arith, (omega arith, tt)), refl, omega arith), (omega arith, omega arith)); single = refl; bytes = refl; selection = record { from = refl; to = refl; cpu = tt; page = tt; word = tt } }, refl)
 
 -- ---- the event numbers of `show`
 
@@ -189,27 +198,63 @@ seven : first_of (codes "to") show_options ≡ Some (codes "7")
 unfolding clap_on_literals
 seven = refl
 
-asks_show : Asks show_words (record { command = Show; checkers = 1; single = false; bytes = false; from = 5; to = 7 }) None
+asks_show : Asks show_words (record bare { command = Show; selection = record every { from = 5; to = 7 } }) None
 unfolding clap_on_literals
-asks_show = (refl, record { rows = show_options; command = refl; checkers = refl; single = refl; bytes = refl; from = subst (λ o. IsAsked 0 o 5) (sym five) ((omega arith, (omega arith, tt)), refl, omega arith); to = subst (λ o. IsAsked 4294967295 o 7) (sym seven) ((omega arith, (omega arith, tt)), refl, omega arith) }, refl)
+asks_show = (refl, record { rows = show_options; command = refl; checkers = refl; single = refl; bytes = refl; selection = record { from = subst (λ o. IsAsked 0 o 5) (sym five) ((omega arith, (omega arith, tt)), refl, omega arith); to = subst (λ o. IsAsked 4294967295 o 7) (sym seven) ((omega arith, (omega arith, tt)), refl, omega arith); cpu = tt; page = tt; word = tt } }, refl)
+
+-- ---- what is asked of the events themselves
+
+cpu_too_large : Gives (codes "show" ∷ codes "--cpu" ∷ codes "65536" ∷ []) (ValueValidation ∷ [])
+unfolding clap_on_literals
+cpu_too_large = refl
+
+page_of_check : Gives (codes "check" ∷ codes "--page" ∷ codes "0x5000" ∷ []) (UnknownArgument ∷ [])
+unfolding clap_on_literals
+page_of_check = refl
+
+-- the words are taken, and then the value is no address
+page_without_0x : Gives (codes "show" ∷ codes "--page" ∷ codes "5000" ∷ []) []
+unfolding clap_on_literals
+page_without_0x = refl
+
+abbrev filter_words : List Text
+filter_words = codes "show" ∷ codes "--cpu" ∷ codes "3" ∷ codes "--page" ∷ codes "0x5F0" ∷ []
+
+abbrev filter_options : List Row
+filter_options = options (subcommand_of command_line filter_words)
+
+third : first_of (codes "cpu") filter_options ≡ Some (codes "3")
+unfolding clap_on_literals
+third = refl
+
+paged : first_of (codes "page") filter_options ≡ Some (codes "0x5F0")
+unfolding clap_on_literals
+paged = refl
+
+is_3 : IsCpuIn (codes "3") 3
+is_3 = (((omega arith, (omega arith, tt)), refl, omega arith), omega arith)
+
+is_5f0 : IsPageIn (codes "0x5F0") 1520
+is_5f0 = ((codes "5F0", refl, (omega arith, (omega arith, (omega arith, (omega arith, (omega arith, tt)))), refl, omega arith)), refl)
+
+asks_filter : Asks filter_words (record bare { command = Show; selection = record every { cpu = Some 3; page = Some 1520 } }) None
+unfolding clap_on_literals
+asks_filter = (refl, record { rows = filter_options; command = refl; checkers = refl; single = refl; bytes = refl; selection = record { from = refl; to = refl; cpu = subst (λ o. IsOptional IsCpuIn o (Some 3)) (sym third) is_3; page = subst (λ o. IsOptional IsPageIn o (Some 1520)) (sym paged) is_5f0; word = tt } }, refl)
 
 -- ---- the file
 
-abbrev bare : Plan
-bare = record { command = Check; checkers = 1; single = false; bytes = false; from = 0; to = 4294967295 }
-
 file : Asks (codes "check" ∷ codes "a.record" ∷ []) bare (Some (codes "a.record"))
 unfolding clap_on_literals
-file = (refl, record { rows = options (subcommand_of command_line (codes "check" ∷ codes "a.record" ∷ [])); command = refl; checkers = refl; single = refl; bytes = refl; from = refl; to = refl }, refl)
+file = (refl, record { rows = options (subcommand_of command_line (codes "check" ∷ codes "a.record" ∷ [])); command = refl; checkers = refl; single = refl; bytes = refl; selection = record { from = refl; to = refl; cpu = tt; page = tt; word = tt } }, refl)
 
 dash : Asks (codes "check" ∷ codes "-" ∷ []) bare None
 unfolding clap_on_literals
-dash = (refl, record { rows = options (subcommand_of command_line (codes "check" ∷ codes "-" ∷ [])); command = refl; checkers = refl; single = refl; bytes = refl; from = refl; to = refl }, refl)
+dash = (refl, record { rows = options (subcommand_of command_line (codes "check" ∷ codes "-" ∷ [])); command = refl; checkers = refl; single = refl; bytes = refl; selection = record { from = refl; to = refl; cpu = tt; page = tt; word = tt } }, refl)
 
 -- behind `--` each word is a name
 dashes : Asks (codes "check" ∷ codes "--" ∷ codes "--help" ∷ []) bare (Some (codes "--help"))
 unfolding clap_on_literals
-dashes = (refl, record { rows = options (subcommand_of command_line (codes "check" ∷ codes "--" ∷ codes "--help" ∷ [])); command = refl; checkers = refl; single = refl; bytes = refl; from = refl; to = refl }, refl)
+dashes = (refl, record { rows = options (subcommand_of command_line (codes "check" ∷ codes "--" ∷ codes "--help" ∷ [])); command = refl; checkers = refl; single = refl; bytes = refl; selection = record { from = refl; to = refl; cpu = tt; page = tt; word = tt } }, refl)
 
 file_of_upgrade : Gives (codes "upgrade" ∷ codes "a.record" ∷ []) []
 unfolding clap_on_literals

@@ -1,8 +1,7 @@
 -- What the words of a command line ask for, by what `clap` makes of them.
-use Rattle.std.specs.Prelude.{◌≡◌, ℕ, ◌≤◌, ◌<◌, ◌^◌, Bool, true, false, pos, List, [], ◌∷◌}
+use Rattle.std.specs.Prelude.{◌≡◌, ℕ, Bool, true, false, pos, List, [], ◌∷◌}
 use Rattle.std.specs.Prelude.{Option, Some, None, codes, if◌then◌else◌}
 use Rattle.std.specs.Str.{bytes_eq}
-use Rattle.std.specs.Str.Parse.{IsNumeral, digits_value}
 use Rattle.clap.specs.Faults.{fault_of}
 use Rattle.clap.specs.Kinds.{IsAmong, Kinds}
 use Rattle.clap.specs.Simple.{App, new_app, new_rule, on_top, subcommand_of, with_rule}
@@ -15,9 +14,12 @@ use Rattle.pg_plan.specs.declared.request.Command.{Command}
 use Rattle.pg_plan.specs.declared.request.Command.TheVariants.{Check, Certify, Run, RunOf}
 use Rattle.pg_plan.specs.declared.request.Command.TheVariants.{Explain, Show, Upgrade}
 use Rattle.pg_plan.specs.declared.request.Plan.{Plan}
+use Rattle.pg_plan.specs.declared.request.Selection.{Selection}
 use Rattle.pg_plan.specs.declared.request.Usage.{Usage}
 use Rattle.pg_plan.specs.declared.request.Usage.TheVariants.{Help, Version, Fault, Memory}
 pub use Rattle.clap.specs.Walk.{texts}
+pub use Rattle.pg_plan.specs.Values.{AreAsked, AreFrom1To64, IsAsked, IsNumberIn, IsAddressIn}
+pub use Rattle.pg_plan.specs.Values.{IsCpuIn, IsPageIn, IsOptional}
 
 abbrev pub command_word : Command → List ℕ
 command_word Check = codes "check"
@@ -84,9 +86,33 @@ number_rule name = record (new_rule name) {
   parser = Some (parsers.Signed (pos 0) (pos 4294967295));
 }
 
+-- a processor behind `--cpu`
+abbrev pub cpu_rule : Rule
+cpu_rule = record (new_rule (codes "cpu")) {
+  long = Some (codes "cpu");
+  action = Some Set;
+  value_names = 1;
+  parser = Some (parsers.Signed (pos 0) (pos 65535));
+}
+
+-- an address behind `--` and a name
+abbrev pub address_rule : Text → Rule
+address_rule name = record (new_rule name) {
+  long = Some name;
+  action = Some Set;
+  value_names = 1;
+}
+
+-- `show` with what is asked of the events themselves
+abbrev pub filter_line : App
+filter_line =
+    let cpu = with_rule (new_app (command_word Show)) cpu_rule in
+    let page = with_rule cpu (address_rule (codes "page")) in
+    with_rule page (address_rule (codes "word"))
+
 abbrev pub show_line : App
 show_line =
-    let line = with_rule (new_app (command_word Show)) (number_rule (codes "from")) in
+    let line = with_rule filter_line (number_rule (codes "from")) in
     with_file (with_rule line (number_rule (codes "to")))
 
 -- the commands that judge a record
@@ -114,27 +140,18 @@ faults words = fault_of command_line words
 
 -- ---- what words ask for
 
-abbrev pub AreFrom1To64 : ℕ → Type 0
-AreFrom1To64 n = (1 ≤ n) × (n ≤ 64)
-
--- a text spells a number of 32 bits by digits alone, without a sign
-abbrev pub IsNumberIn : Text → ℕ → Type 0
-IsNumberIn text n = IsNumeral 10 text × (digits_value 10 text ≡ n) × (n < 2 ^ 32)
-
--- so many checkers: one where no number is given, and else what its digits say
-abbrev pub AreAsked : Option Text → ℕ → Type 0
-AreAsked None n = n ≡ 1
-AreAsked (Some text) n = IsNumberIn text n × AreFrom1To64 n
-
--- this event number: another one where none is given, and else what its digits say
-abbrev pub IsAsked : ℕ → Option Text → ℕ → Type 0
-IsAsked other None n = n ≡ other
-IsAsked other (Some text) n = IsNumberIn text n
-
 -- a switch was given
 abbrev pub is_on : Option Text → Bool
 is_on None = false
 is_on (Some text) = bytes_eq text (codes "true")
+
+-- these are the events that options ask for
+pub record IsSelectionOf (rows : List Row) (asked : Selection) : Type 0 where
+  pub from : IsAsked 0 (first_of (codes "from") rows) asked.from
+  pub to : IsAsked 4294967295 (first_of (codes "to") rows) asked.to
+  pub cpu : IsOptional IsCpuIn (first_of (codes "cpu") rows) asked.cpu
+  pub page : IsOptional IsPageIn (first_of (codes "page") rows) asked.page
+  pub word : IsOptional IsAddressIn (first_of (codes "word") rows) asked.word
 
 -- this is the plan of a command and its options
 pub record IsPlanOf (found : Option (Text × List Row)) (plan : Plan) : Type 0 where
@@ -143,8 +160,7 @@ pub record IsPlanOf (found : Option (Text × List Row)) (plan : Plan) : Type 0 w
   pub checkers : AreAsked (first_of (codes "checkers") rows) plan.checkers
   pub single : plan.single ≡ is_on (first_of (codes "single") rows)
   pub bytes : plan.bytes ≡ is_on (first_of (codes "bytes") rows)
-  pub from : IsAsked 0 (first_of (codes "from") rows) plan.from
-  pub to : IsAsked 4294967295 (first_of (codes "to") rows) plan.to
+  pub selection : IsSelectionOf rows plan.selection
 
 -- the file of a name: none for `-`, which is standard input
 abbrev pub named_file : Option Text → Option Text

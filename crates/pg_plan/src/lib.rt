@@ -3,6 +3,7 @@
 
 mod planner;
 mod request;
+mod values;
 
 pub use planner::plan;
-pub use request::{Command, Invocation, Plan, Usage};
+pub use request::{Command, Invocation, Plan, Selection, Usage};

@@ -3,21 +3,23 @@ ghost use Rattle.std.specs.Prelude.{option_map};
 ghost use Rattle.clap.specs.Values.{kind_of};
 ghost use Rattle.clap.specs.Simple.{app_of, subcommand_rows_of};
 ghost use Rattle.clap.specs.Matches.{first_value, found_of};
-ghost use Rattle.clap.specs.Walk.{rule_of};
+ghost use Rattle.clap.specs.Walk.{rows_of, rule_of};
 ghost use Rattle.clap.specs.declared.builder.command.Command.TheViews.{out-Command as fields_of};
 ghost use Rattle.pg_plan.specs.Commands.{texts, bare_line, check_line, certify_line, run_line};
 ghost use Rattle.pg_plan.specs.Commands.{judging_line, running_line, telling_line, show_line};
 ghost use Rattle.pg_plan.specs.Commands.{file_rule, file_in, named_file, plain_line, with_file};
 ghost use Rattle.pg_plan.specs.Commands.{checkers_rule, number_rule, switch_rule, command_line};
-ghost use Rattle.pg_plan.specs.Commands.{command_word, AreAsked, AreFrom1To64, is_on};
-ghost use Rattle.pg_plan.specs.Commands.{IsAsked, IsNumberIn};
+ghost use Rattle.pg_plan.specs.Commands.{cpu_rule, address_rule, filter_line};
+ghost use Rattle.pg_plan.specs.Commands.{command_word, AreFrom1To64, is_on, IsSelectionOf};
 ghost use Rattle.pg_plan.specs.Commands.{Asks, AsksOnly, IsPlanOf};
 ghost use Rattle.pg_plan.specs.Commands.{AsksHelp, AsksVersion, NamesHelp, NamesVersion};
 ghost use Rattle.pg_plan.specs.Commands.{IsHelp, IsVersion, IsFault};
 ghost use Rattle.pg_plan.specs.declared.request.Command.{Command as Asked};
 ghost use Rattle.pg_plan.specs.declared.request.Plan.{Plan as Planned};
+ghost use Rattle.pg_plan.specs.declared.request.Selection.{Selection as Selected};
 
-use crate::request::{Command, Invocation, Plan, Usage};
+use crate::request::{Command, Invocation, Plan, Selection, Usage};
+use crate::values::{checkers_of, cpu_of, number_of, page_of, word_of};
 use clap::error::ErrorKind;
 use clap::{Arg, ArgAction, ArgMatches, Command as CommandLine, Error, value_parser};
 use std::alloc::{AllocError, Global};
@@ -70,6 +72,19 @@ const BYTES_ABOUT: &str = "Write the record itself";
 
 const FOUND_ABOUT: &str = "Write the record with the moments that were found";
 
+const CPU: &str = "cpu";
+
+const CPU_ABOUT: &str = "The processor whose events are written; every one's where left out";
+
+const PAGE: &str = "page";
+
+const PAGE_ABOUT: &str =
+    "A linear address: what has to do with its page of 4 KB is written, and nothing else";
+
+const WORD: &str = "word";
+
+const WORD_ABOUT: &str = "The physical address of a word: its writes and assists are written";
+
 const FROM: &str = "from";
 
 const FROM_ABOUT: &str = "The number of the first event that is written; 0 where left out";
@@ -86,7 +101,8 @@ const FILE_ABOUT: &str = "The file that is read; standard input where it is left
 /// What no event has as its number.
 const PAST_EVENTS: u32 = 4_294_967_295;
 
-const NO_NUMBER: &str = "error: a number is given by digits alone\n\n\
+const NO_NUMBER: &str = "error: a number is given by digits alone, an address by 0x and 1 to 16 \
+    hexadecimal digits,\n  and a page by an address that is canonical\n\n\
     For more information, try '--help'.\n";
 
 fn bare_line<'a>(alloc: Global) -> CommandLine<'a>
@@ -192,12 +208,48 @@ fn number_option<'a>(alloc: Global, name: &'a str, value: &'a str, about: &'a st
         .value_parser(value_parser!(u32))
 }
 
+/// A processor behind `--cpu`.
+fn cpu_option<'a>(alloc: Global) -> Arg<'a>
+    ensures rule { rule_of result ≡ cpu_rule }
+    ensures local { result.global ≡ false }
+{
+    Arg::new(alloc, CPU)
+        .long(CPU)
+        .value_name("P")
+        .help(CPU_ABOUT)
+        .action(ArgAction::Set)
+        .value_parser(value_parser!(u16))
+}
+
+/// An address behind `--` and a name.
+fn address_option<'a>(alloc: Global, name: &'a str, about: &'a str) -> Arg<'a>
+    ensures rule { rule_of result ≡ address_rule name.entry.now }
+    ensures local { result.global ≡ false }
+{
+    Arg::new(alloc, name)
+        .long(name)
+        .value_name("HEX")
+        .help(about)
+        .action(ArgAction::Set)
+}
+
+/// `show` with what is asked of the events themselves.
+fn filter_line<'a>(alloc: Global) -> Result<CommandLine<'a>, AllocError>
+    ensures line { IfOk result (λ line. app_of line ≡ filter_line) }
+    ensures local { IfOk result (λ line. (fields_of line).has_globals ≡ false) }
+{
+    CommandLine::new(alloc, SHOW)
+        .about(SHOW_ABOUT)
+        .arg(cpu_option(alloc))?
+        .arg(address_option(alloc, PAGE, PAGE_ABOUT))?
+        .arg(address_option(alloc, WORD, WORD_ABOUT))
+}
+
 fn show_line<'a>(alloc: Global) -> Result<CommandLine<'a>, AllocError>
     ensures line { IfOk result (λ line. app_of line ≡ show_line) }
     ensures local { IfOk result (λ line. (fields_of line).has_globals ≡ false) }
 {
-    let line = CommandLine::new(alloc, SHOW)
-        .about(SHOW_ABOUT)
+    let line = filter_line(alloc)?
         .arg(number_option(alloc, FROM, "A", FROM_ABOUT))?
         .arg(number_option(alloc, TO, "B", TO_ABOUT))?;
     with_file(alloc, line)
@@ -272,41 +324,6 @@ fn command_of(name: &str) -> Option<Command>
     }
 }
 
-/// The number that a text spells by digits alone.
-fn number_in(text: &str) -> Option<u32>
-    ensures { (n : ℕ) → (result ≡ Some n) ↔ IsNumberIn text.now n }
-{
-    // `parse` takes a plus sign too.
-    if text.as_bytes().first() == Some(&b'+') {
-        return None;
-    }
-    text.parse::<u32>().ok()
-}
-
-/// So many checkers, if the text spells their number by digits alone.
-fn checkers_of(text: Option<&str>) -> Option<u16>
-    ensures { (n : ℕ) → (result ≡ Some n) ↔ AreAsked (option_map (λ s. s.now) text.entry) n }
-{
-    let Some(text) = text else {
-        return Some(1);
-    };
-    let checkers = number_in(text)?;
-    if checkers < 1 || checkers > 64 {
-        return None;
-    }
-    Some(checkers as u16)
-}
-
-/// The event number that the text spells by digits alone, and `other` where there is no text.
-fn number_of(text: Option<&str>, other: u32) -> Option<u32>
-    ensures { (n : ℕ) → (result ≡ Some n) ↔ IsAsked other (option_map (λ s. s.now) text.entry) n }
-{
-    match text {
-        Some(text) => number_in(text),
-        None => Some(other),
-    }
-}
-
 /// Whether a switch was given. (`get_flag` says nothing of other texts than `true` and `false`.)
 fn is_on(text: Option<&str>) -> bool
     ensures { result ≡ is_on (option_map (λ s. s.now) text.entry) }
@@ -317,6 +334,25 @@ fn is_on(text: Option<&str>) -> bool
     }
 }
 
+/// Which events the options ask for.
+fn selection_of(own: &ArgMatches<'_>) -> Option<Selection>
+    ensures { (asked : Selected) → (result ≡ Some asked)
+        ↔ IsSelectionOf (rows_of (found_of own.now)) asked }
+{
+    let from = number_of(own.get_str(FROM), 0)?;
+    let to = number_of(own.get_str(TO), PAST_EVENTS)?;
+    let cpu = cpu_of(own.get_str(CPU))?;
+    let page = page_of(own.get_str(PAGE))?;
+    let word = word_of(own.get_str(WORD))?;
+    Some(Selection {
+        from,
+        to,
+        cpu,
+        page,
+        word,
+    })
+}
+
 /// What the matches ask for.
 fn plan_of(matches: &ArgMatches<'_>) -> Option<Plan>
     ensures { (plan : Planned) → (result ≡ Some plan)
@@ -325,15 +361,13 @@ fn plan_of(matches: &ArgMatches<'_>) -> Option<Plan>
     let (name, own) = matches.subcommand()?;
     let command = command_of(name)?;
     let checkers = checkers_of(own.get_str(CHECKERS))?;
-    let from = number_of(own.get_str(FROM), 0)?;
-    let to = number_of(own.get_str(TO), PAST_EVENTS)?;
+    let selection = selection_of(own)?;
     Some(Plan {
         command,
         checkers,
         single: is_on(own.get_str(SINGLE)),
         bytes: is_on(own.get_str(BYTES)),
-        from,
-        to,
+        selection,
     })
 }
 

@@ -19,6 +19,22 @@ pub enum Command {
     Upgrade,
 }
 
+/// Which events are written. Of several things that are asked all must hold.
+#[derive(Clone, Copy, Debug, PartialEq, Eq)]
+pub struct Selection {
+    /// The number of the first. It is 0 where the words say nothing.
+    pub from: u32,
+    /// The number of the last. It is 4,294,967,295, which no event has, where the words say
+    /// nothing.
+    pub to: u32,
+    /// The processor.
+    pub cpu: Option<u16>,
+    /// A canonical linear address, in the page of 4 KB that the events have to do with.
+    pub page: Option<u64>,
+    /// The physical address of the word that the events write, or in which they set flags.
+    pub word: Option<u64>,
+}
+
 /// What the words of a command line ask for.
 #[derive(Clone, Copy, Debug, PartialEq, Eq)]
 pub struct Plan {
@@ -31,11 +47,8 @@ pub struct Plan {
     pub single: bool,
     /// Whether `run` and `certify` write the record in the place of its report.
     pub bytes: bool,
-    /// The number of the first event that `show` writes. It is 0 where the words say nothing.
-    pub from: u32,
-    /// The number of the last event that `show` writes. It is 4,294,967,295, which no event has,
-    /// where the words say nothing.
-    pub to: u32,
+    /// Which events `show` writes.
+    pub selection: Selection,
 }
 
 /// What the words of a command line ask for, and of which file.

@@ -1,6 +1,15 @@
-use pg_plan::{Command, Invocation, Plan, Usage, plan};
+use pg_plan::{Command, Invocation, Plan, Selection, Usage, plan};
 use std::alloc::Global;
 use std::test::Fail;
+
+/// All events.
+const EVERY: Selection = Selection {
+    from: 0,
+    to: 4_294_967_295,
+    cpu: None,
+    page: None,
+    word: None,
+};
 
 /// A command with no option.
 const BARE: Plan = Plan {
@@ -8,12 +17,11 @@ const BARE: Plan = Plan {
     checkers: 1,
     single: false,
     bytes: false,
-    from: 0,
-    to: 4_294_967_295,
+    selection: EVERY,
 };
 
 /// Command lines and their plans.
-const PLANNED: [(&[&str], Plan); 18] = [
+const PLANNED: [(&[&str], Plan); 20] = [
     (&["check"], BARE),
     (
         &["certify"],
@@ -108,8 +116,11 @@ const PLANNED: [(&[&str], Plan); 18] = [
         &["show", "--from", "3", "--to", "12"],
         Plan {
             command: Command::Show,
-            from: 3,
-            to: 12,
+            selection: Selection {
+                from: 3,
+                to: 12,
+                ..EVERY
+            },
             ..BARE
         },
     ),
@@ -117,8 +128,11 @@ const PLANNED: [(&[&str], Plan); 18] = [
         &["show", "--to=3", "--from=012"],
         Plan {
             command: Command::Show,
-            from: 12,
-            to: 3,
+            selection: Selection {
+                from: 12,
+                to: 3,
+                ..EVERY
+            },
             ..BARE
         },
     ),
@@ -126,7 +140,7 @@ const PLANNED: [(&[&str], Plan); 18] = [
         &["show", "--from", "7"],
         Plan {
             command: Command::Show,
-            from: 7,
+            selection: Selection { from: 7, ..EVERY },
             ..BARE
         },
     ),
@@ -134,7 +148,7 @@ const PLANNED: [(&[&str], Plan); 18] = [
         &["show", "--to", "0"],
         Plan {
             command: Command::Show,
-            to: 0,
+            selection: Selection { to: 0, ..EVERY },
             ..BARE
         },
     ),
@@ -142,7 +156,34 @@ const PLANNED: [(&[&str], Plan); 18] = [
         &["show", "--from", "4294967295"],
         Plan {
             command: Command::Show,
-            from: 4_294_967_295,
+            selection: Selection {
+                from: 4_294_967_295,
+                ..EVERY
+            },
+            ..BARE
+        },
+    ),
+    (
+        &["show", "--cpu", "65535", "--page", "0x00000000000050aB"],
+        Plan {
+            command: Command::Show,
+            selection: Selection {
+                cpu: Some(65_535),
+                page: Some(0x50ab),
+                ..EVERY
+            },
+            ..BARE
+        },
+    ),
+    (
+        &["show", "--word=0xffffffffffffffff", "--page", "0xffff800000000000"],
+        Plan {
+            command: Command::Show,
+            selection: Selection {
+                page: Some(0xffff_8000_0000_0000),
+                word: Some(0xffff_ffff_ffff_ffff),
+                ..EVERY
+            },
             ..BARE
         },
     ),
@@ -182,7 +223,7 @@ fn names_of_files(rt: HostRuntime) -> Result<(), Fail> {
 }
 
 /// Command lines that are refused.
-const FAULTS: [&[&str]; 21] = [
+const FAULTS: [&[&str]; 29] = [
     &[],
     &["judge"],
     &["check", "one", "two"],
@@ -204,13 +245,24 @@ const FAULTS: [&[&str]; 21] = [
     &["show", "--to", "4294967296"],
     &["show", "--from", "0x5"],
     &["show", "--to", "1 "],
+    &["show", "--cpu", "65536"],
+    &["show", "--page", "5000"],
+    &["show", "--page", "0x"],
+    &["show", "--page", "0x800000000000"],
+    &["show", "--page", "0x0000000000005000a"],
+    &["show", "--word", "0X10"],
+    &["show", "--word", "0xg"],
+    &["explain", "--page", "0x5000"],
 ];
 
 /// What is no number, for each option that takes one.
-const NO_NUMBERS: [&str; 4] = ["+2", "-1", "", "two"];
+const NO_NUMBERS: [&str; 6] = ["+2", "-1", "", "two", "0x+2", "0x-1"];
 
-const WITH_NUMBERS: [[&str; 2]; 3] = [
+const WITH_NUMBERS: [[&str; 2]; 6] = [
     ["check", "--checkers"],
+    ["show", "--cpu"],
+    ["show", "--page"],
+    ["show", "--word"],
     ["show", "--from"],
     ["show", "--to"],
 ];

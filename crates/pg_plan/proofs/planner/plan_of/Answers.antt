@@ -6,8 +6,8 @@ use Rattle.clap.specs.Walk.{Row, Text, first_of, rows_of}
 use Rattle.clap.specs.declared.parser.matches.ArgMatches.TheViews.{out-ArgMatches}
 use Rattle.clap.proofs.WalkLemmas.{first_value-rows}
 use Rattle.pg_plan.specs.declared.request.Plan.{Plan}
-use Rattle.pg_plan.specs.Commands.{AreAsked, IsAsked, IsPlanOf, is_on}
-use Rattle.pg_plan.proofs.Parses.{joined, no_plan, not_asked, plan_is}
+use Rattle.pg_plan.specs.Commands.{AreAsked, IsPlanOf, IsSelectionOf, is_on}
+use Rattle.pg_plan.proofs.Parses.{joined, no_plan, not_asked, not_read, plan_is}
 use Rattle.pg_plan.proofs.planner.plan_of.Goals as goal
 
 pub returns-in_err-checkers : goal.returns-in_err-checkers
@@ -21,27 +21,13 @@ returns-in_err-checkers c = λ plan.
     let planned = no_plan (subcommand_rows_of c.args.matches.now) c.in_ok-name.name.now rows found_is (λ p h is. not_asked AreAsked (codes "checkers") rows none p.checkers h.rows is h.checkers) plan in
     subst (λ (o : Option Plan). (o ≡ Some plan) ↔ IsPlanOf (subcommand_rows_of c.args.matches.now) plan) (sym c.from_residual-in_err-checkers.ensures) planned
 
-pub returns-in_err-from : goal.returns-in_err-from
-returns-in_err-from c = λ plan.
+pub returns-in_err-selection : goal.returns-in_err-selection
+returns-in_err-selection c = λ plan.
     let found = found_of c.in_ok-name.own.now in
     let rows : List Row = rows_of found in
     let found_is = joined (out-ArgMatches c.args.matches.now).subcommand c.in_ok-name.name.now rows c.in_ok-name.ensures.rows c.in_ok-name.ensures.name in
-    let asked_is : option_map (λ s. s.now) c.get_str-2.result ≡ first_of (codes "from") rows = c.get_str-2.ensures ∙ first_value-rows found (codes "from") in
-    let none : (n : ℕ) → (None ≡ Some n) ↔ IsAsked 0 (first_of (codes "from") rows) n =
-    λ n. subst (λ (o : Option Text). (None ≡ Some n) ↔ IsAsked 0 o n) asked_is (c.in_err-from.ensures n) in
-    let planned = no_plan (subcommand_rows_of c.args.matches.now) c.in_ok-name.name.now rows found_is (λ p h is. not_asked (IsAsked 0) (codes "from") rows none p.from h.rows is h.from) plan in
-    subst (λ (o : Option Plan). (o ≡ Some plan) ↔ IsPlanOf (subcommand_rows_of c.args.matches.now) plan) (sym c.from_residual-in_err-from.ensures) planned
-
-pub returns-in_err-to : goal.returns-in_err-to
-returns-in_err-to c = λ plan.
-    let found = found_of c.in_ok-name.own.now in
-    let rows : List Row = rows_of found in
-    let found_is = joined (out-ArgMatches c.args.matches.now).subcommand c.in_ok-name.name.now rows c.in_ok-name.ensures.rows c.in_ok-name.ensures.name in
-    let asked_is : option_map (λ s. s.now) c.get_str-3.result ≡ first_of (codes "to") rows = c.get_str-3.ensures ∙ first_value-rows found (codes "to") in
-    let none : (n : ℕ) → (None ≡ Some n) ↔ IsAsked 4294967295 (first_of (codes "to") rows) n =
-    λ n. subst (λ (o : Option Text). (None ≡ Some n) ↔ IsAsked 4294967295 o n) asked_is (c.in_err-to.ensures n) in
-    let planned = no_plan (subcommand_rows_of c.args.matches.now) c.in_ok-name.name.now rows found_is (λ p h is. not_asked (IsAsked 4294967295) (codes "to") rows none p.to h.rows is h.to) plan in
-    subst (λ (o : Option Plan). (o ≡ Some plan) ↔ IsPlanOf (subcommand_rows_of c.args.matches.now) plan) (sym c.from_residual-in_err-to.ensures) planned
+    let planned = no_plan (subcommand_rows_of c.args.matches.now) c.in_ok-name.name.now rows found_is (λ p h is. not_read (IsSelectionOf rows) c.in_err-selection.ensures p.selection (subst (λ r. IsSelectionOf r p.selection) is h.selection)) plan in
+    subst (λ (o : Option Plan). (o ≡ Some plan) ↔ IsPlanOf (subcommand_rows_of c.args.matches.now) plan) (sym c.from_residual-in_err-selection.ensures) planned
 
 pub returns : goal.returns
 returns c = λ plan.
@@ -49,17 +35,9 @@ returns c = λ plan.
     let rows : List Row = rows_of found in
     let found_is = joined (out-ArgMatches c.args.matches.now).subcommand c.in_ok-name.name.now rows c.in_ok-name.ensures.rows c.in_ok-name.ensures.name in
     let checkers = c.in_ok-checkers.checkers in
-    let from = c.in_ok-from.from in
-    let to = c.in_ok-to.to in
     let checkers_is : option_map (λ s. s.now) c.get_str.result ≡ first_of (codes "checkers") rows = c.get_str.ensures ∙ first_value-rows found (codes "checkers") in
-    let from_is : option_map (λ s. s.now) c.get_str-2.result ≡ first_of (codes "from") rows = c.get_str-2.ensures ∙ first_value-rows found (codes "from") in
-    let to_is : option_map (λ s. s.now) c.get_str-3.result ≡ first_of (codes "to") rows = c.get_str-3.ensures ∙ first_value-rows found (codes "to") in
     let counts : (n : ℕ) → (Some checkers ≡ Some n) ↔ AreAsked (first_of (codes "checkers") rows) n =
     λ n. subst (λ (o : Option Text). (Some checkers ≡ Some n) ↔ AreAsked o n) checkers_is (c.in_ok-checkers.ensures n) in
-    let froms : (n : ℕ) → (Some from ≡ Some n) ↔ IsAsked 0 (first_of (codes "from") rows) n =
-    λ n. subst (λ (o : Option Text). (Some from ≡ Some n) ↔ IsAsked 0 o n) from_is (c.in_ok-from.ensures n) in
-    let tos : (n : ℕ) → (Some to ≡ Some n) ↔ IsAsked 4294967295 (first_of (codes "to") rows) n =
-    λ n. subst (λ (o : Option Text). (Some to ≡ Some n) ↔ IsAsked 4294967295 o n) to_is (c.in_ok-to.ensures n) in
-    let single = c.is_on.ensures ∙ ap is_on (c.get_str-4.ensures ∙ first_value-rows found (codes "single")) in
-    let bytes = c.is_on-2.ensures ∙ ap is_on (c.get_str-5.ensures ∙ first_value-rows found (codes "bytes")) in
-    plan_is (subcommand_rows_of c.args.matches.now) c.in_ok-name.name.now rows _ found_is c.in_ok-command.ensures counts froms tos single bytes plan
+    let single = c.is_on.ensures ∙ ap is_on (c.get_str-2.ensures ∙ first_value-rows found (codes "single")) in
+    let bytes = c.is_on-2.ensures ∙ ap is_on (c.get_str-3.ensures ∙ first_value-rows found (codes "bytes")) in
+    plan_is (subcommand_rows_of c.args.matches.now) c.in_ok-name.name.now rows _ found_is c.in_ok-command.ensures counts c.in_ok-selection.ensures single bytes plan

@@ -1,0 +1,122 @@
+//! What the values of options spell.
+
+ghost use Rattle.std.specs.Prelude.{◌≡◌, ◌≢◌, ◌↔◌, ◌++◌, ℕ, List, Option, Some, codes};
+ghost use Rattle.std.specs.Prelude.{option_map, MatchOption};
+ghost use Rattle.pg_plan.specs.Values.{IsNumberIn, AreAsked, IsAsked, AreHexDigits, IsAddressIn};
+ghost use Rattle.pg_plan.specs.Values.{IsCpuIn, IsPageIn, IsOptional};
+
+use pg_event::is_canonical;
+
+/// The number that a text spells by digits alone.
+fn number_in(text: &str) -> Option<u32>
+    ensures { (n : ℕ) → (result ≡ Some n) ↔ IsNumberIn text.now n }
+{
+    // `parse` takes a plus sign too.
+    if text.as_bytes().first() == Some(&b'+') {
+        return None;
+    }
+    text.parse::<u32>().ok()
+}
+
+/// So many checkers, if the text spells their number by digits alone.
+pub(crate) fn checkers_of(text: Option<&str>) -> Option<u16>
+    ensures { (n : ℕ) → (result ≡ Some n) ↔ AreAsked (option_map (λ s. s.now) text.entry) n }
+{
+    let Some(text) = text else {
+        return Some(1);
+    };
+    let checkers = number_in(text)?;
+    if checkers < 1 || checkers > 64 {
+        return None;
+    }
+    Some(checkers as u16)
+}
+
+/// The event number that the text spells by digits alone, and `other` where there is no text.
+pub(crate) fn number_of(text: Option<&str>, other: u32) -> Option<u32>
+    ensures { (n : ℕ) → (result ≡ Some n) ↔ IsAsked other (option_map (λ s. s.now) text.entry) n }
+{
+    match text {
+        Some(text) => number_in(text),
+        None => Some(other),
+    }
+}
+
+/// What follows `0x` in a text.
+fn after_0x(text: &str) -> Option<&str>
+    ensures { MatchOption result ((digits : List ℕ) → text.now ≢ codes "0x" ++ digits)
+        (λ digits. text.now ≡ codes "0x" ++ digits.now) }
+{
+    text.strip_prefix("0x")
+}
+
+/// The number that 1 to 16 hexadecimal digits spell.
+fn hex_in(digits: &str) -> Option<u64>
+    ensures { (n : ℕ) → (result ≡ Some n) ↔ AreHexDigits digits.now n }
+{
+    // `from_str_radix` takes a plus sign too.
+    if digits.len() > 16 || digits.as_bytes().first() == Some(&b'+') {
+        return None;
+    }
+    u64::from_str_radix(digits, 16).ok()
+}
+
+/// The address that a text spells by `0x` and its digits.
+fn address_in(text: &str) -> Option<u64>
+    ensures { (n : ℕ) → (result ≡ Some n) ↔ IsAddressIn text.now n }
+{
+    hex_in(after_0x(text)?)
+}
+
+fn cpu_in(text: &str) -> Option<u16>
+    ensures { (n : ℕ) → (result ≡ Some n) ↔ IsCpuIn text.now n }
+{
+    let cpu = number_in(text)?;
+    if cpu > 65_535 {
+        return None;
+    }
+    Some(cpu as u16)
+}
+
+fn page_in(text: &str) -> Option<u64>
+    ensures { (n : ℕ) → (result ≡ Some n) ↔ IsPageIn text.now n }
+{
+    let address = address_in(text)?;
+    if !is_canonical(address) {
+        return None;
+    }
+    Some(address)
+}
+
+/// The processor that the text spells, if there is a text.
+pub(crate) fn cpu_of(text: Option<&str>) -> Option<Option<u16>>
+    ensures { (cpu : Option ℕ) → (result ≡ Some cpu)
+        ↔ IsOptional IsCpuIn (option_map (λ s. s.now) text.entry) cpu }
+{
+    match text {
+        Some(text) => Some(Some(cpu_in(text)?)),
+        None => Some(None),
+    }
+}
+
+/// The address of a page that the text spells, if there is a text.
+pub(crate) fn page_of(text: Option<&str>) -> Option<Option<u64>>
+    ensures { (page : Option ℕ) → (result ≡ Some page)
+        ↔ IsOptional IsPageIn (option_map (λ s. s.now) text.entry) page }
+{
+    match text {
+        Some(text) => Some(Some(page_in(text)?)),
+        None => Some(None),
+    }
+}
+
+/// The address of a word that the text spells, if there is a text.
+pub(crate) fn word_of(text: Option<&str>) -> Option<Option<u64>>
+    ensures { (word : Option ℕ) → (result ≡ Some word)
+        ↔ IsOptional IsAddressIn (option_map (λ s. s.now) text.entry) word }
+{
+    match text {
+        Some(text) => Some(Some(address_in(text)?)),
+        None => Some(None),
+    }
+}
