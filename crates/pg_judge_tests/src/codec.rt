@@ -1,9 +1,12 @@
-ghost use Rattle.std.specs.Prelude.{◌≡◌};
-ghost use Rattle.pg_event.specs.Form.{processor_of};
+ghost use Rattle.std.specs.Prelude.{◌≤◌, length, IsTrue};
+ghost use Rattle.pg_event.specs.Spelling.{IsHead};
+ghost use Rattle.pg_codec.specs.Writing.{FitVersion};
 
-use pg_codec::*;
+use crate::written::{Written, events_of};
+use pg_codec::{ReadError, RecordReader, Source, Watched, write_end, write_header, write_segment};
 use pg_entry::{Cfg, CfgFlags};
-use pg_event::{Event, Header, Moments, Outcome, Version};
+use pg_event::{Event, Header, Outcome, Version, most_processors, processor_of};
+use std::alloc::{AllocError, Global};
 use std::io::{self, ErrorKind, Read};
 use std::test::Fail;
 
@@ -56,157 +59,172 @@ fn dripping(bytes: &'static [u8], reads_left: usize) -> Watched<Drip> {
     })
 }
 
-#[test]
-fn one_byte_a_read(rt: HostRuntime) -> Result<(), Fail> {
-    let mut source = dripping(&RECORD, 1000);
-    let mut reader = RecordReader::new(rt.alloc())?;
-    let header = reader.read_header(rt.alloc(), &mut source)?;
-    assert_eq!(rt; header.segment, 16);
-    let Some(events) = reader.read_segment(rt.alloc(), &mut source)? else {
-        panic!(rt; "no segment");
-    };
-    assert_eq!(rt; events.len(), 5);
-    let Event::Access { outcome, .. } = events[4] else {
-        panic!(rt; "no access");
-    };
-    assert_eq!(rt; outcome, Outcome::Page(0x9123));
-    assert!(rt; reader.read_segment(rt.alloc(), &mut source)?.is_none());
-    Ok(())
+/// The header and the events of a record of one segment.
+struct Case {
+    name: &'static str,
+    bytes: &'static [u8],
+    version: Version,
+    processors: &'static [(u64, bool)],
+    events: &'static [Written],
 }
 
-fn four_times(moment: u32) -> Option<Moments> {
-    Moments::first(moment)
-        .with(moment)
-        .and_then(|m| m.with(moment))
-        .and_then(|m| m.with(moment))
-}
-
-fn write(addr: u64, value: u64) -> Event
-    ensures { processor_of result ≡ 0 }
-{
-    Event::Write { p: 0, addr, value }
-}
-
-#[test]
-fn writes_the_record(rt: HostRuntime) -> Result<(), Fail> {
-    let header = Header {
+const CASES: [Case; 2] = [
+    Case {
+        name: "version 1",
+        bytes: &RECORD,
         version: Version::One,
+        processors: &[(0x1001, true)],
+        events: &[
+            Written::Write(0, 0x1000, 0x2007),
+            Written::Write(0, 0x2000, 0x3007),
+            Written::Write(0, 0x3000, 0x4007),
+            Written::Write(0, 0x4028, 0x9007),
+            Written::Access {
+                p: 0,
+                flags: 4,
+                la: 0x5123,
+                outcome: Outcome::Page(0x9123),
+                at: &[4, 4, 4, 4],
+            },
+        ],
+    },
+    Case {
+        name: "version 2",
+        bytes: &ASSIST_RECORD,
+        version: Version::Two,
+        processors: &[(0x1001, true), (0x2001, false)],
+        events: &[Written::Assist {
+            p: 1,
+            flags: 0x15,
+            la: 0x5123,
+            word: 0x4028,
+            at: &[0, 0, 0, 0],
+        }],
+    },
+];
+
+fn header_of(alloc: Global, case: &Case) -> Result<Header, AllocError> {
+    Ok(Header {
+        version: case.version,
         cfg: Cfg {
             flags: CfgFlags(3),
             m: 40,
         },
         segment: 16,
-        processors: vec![in rt.alloc(); (0x1001, true)]?,
-    };
-    let moments = four_times(4);
-    let access = Event::Access {
-        p: 0,
-        flags: 4,
-        la: 0x5123,
-        outcome: Outcome::Page(0x9123),
-        moments: moments.expect(&rt, "four moments"),
-    };
-    let events = [
-        write(0x1000, 0x2007),
-        write(0x2000, 0x3007),
-        write(0x3000, 0x4007),
-        write(0x4028, 0x9007),
-        access,
-    ];
-    let bytes: Vec<u8> = Vec::new(rt.alloc());
-    let mut sink = Watched::new(bytes);
-    assert!(rt; write_header(&mut sink, &header).is_ok());
-    assert!(rt; write_segment(&mut sink, Version::One, 0, &events).is_ok());
-    assert!(rt; write_end(&mut sink, 5).is_ok());
-    assert_eq!(rt; sink.inner.as_slice(), RECORD.as_slice());
-    Ok(())
+        processors: Vec::from_slice(alloc, case.processors)?,
+    })
 }
 
-fn assist(moments: Moments) -> Event
-    ensures { processor_of result ≡ 1 }
-{
-    Event::Assist {
-        p: 1,
-        flags: 0x15,
-        la: 0x5123,
-        word: 0x4028,
-        moments,
+/// Reads the header, one segment and the end mark, of which nothing else is told.
+fn read_all(alloc: Global, bytes: &'static [u8]) -> Result<(Header, Vec<Event>), Fail> {
+    let mut source = dripping(bytes, 1000);
+    let mut reader = RecordReader::new(alloc)?;
+    let header = reader.read_header(alloc, &mut source)?;
+    let Some(events) = reader.read_segment(alloc, &mut source)? else {
+        return Err(Fail::from("no segment"));
+    };
+    match reader.read_segment(alloc, &mut source)? {
+        None => Ok((header, events)),
+        Some(_) => Err(Fail::from("two segments")),
     }
 }
 
-#[test]
-fn reads_an_assist(rt: HostRuntime) -> Result<(), Fail> {
-    let mut source = dripping(&ASSIST_RECORD, 1000);
-    let mut reader = RecordReader::new(rt.alloc())?;
-    let header = reader.read_header(rt.alloc(), &mut source)?;
-    assert_eq!(rt; header.version, Version::Two);
-    assert_eq!(rt; header.processors.len(), 2);
-    let Some(events) = reader.read_segment(rt.alloc(), &mut source)? else {
-        panic!(rt; "no segment");
-    };
-    assert_eq!(rt; events.len(), 1);
-    assert_eq!(rt;
-        events[0],
-        assist(four_times(0).expect(&rt, "four moments"))
-    );
-    assert!(rt; reader.read_segment(rt.alloc(), &mut source)?.is_none());
-    Ok(())
+/// Whether a record is read so, one byte a read.
+fn is_read(alloc: Global, case: &Case) -> Result<bool, Fail> {
+    let (header, events) = read_all(alloc, case.bytes)?;
+    let wanted = events_of(alloc, case.events)?;
+    Ok(header.is_same(&header_of(alloc, case)?) && events == wanted)
+}
+
+/// The bytes of a record of one segment.
+fn written(alloc: Global, header: &Header, events: &[Event]) -> Option<Vec<u8>>
+    requires head { IsHead header.now }
+    requires some { 1 ≤ length events.now }
+    requires few { length events.now ≤ 65536 }
+    requires processors { FitVersion header.now.version events.now }
+{
+    let mut sink = Watched::new(Vec::new(alloc));
+    write_header(&mut sink, header).ok()?;
+    write_segment(&mut sink, header.version, 0, events).ok()?;
+    write_end(&mut sink, events.len() as u32).ok()?;
+    Some(sink.inner)
+}
+
+/// Whether the processor of each event has a place in a record of this version.
+fn fit(version: Version, events: &[Event]) -> bool
+    ensures { IsTrue result → FitVersion version events.now }
+{
+    let most = most_processors(version);
+    events
+        .iter()
+        .all(|event| (processor_of(event) as usize) < most)
+}
+
+/// Whether a record is written so.
+fn is_written(alloc: Global, case: &Case) -> Result<bool, Fail> {
+    let header = header_of(alloc, case)?;
+    let events = events_of(alloc, case.events)?;
+    let may = header.is_in_range() && 1 <= events.len() && events.len() <= 65_536;
+    if !may || !fit(header.version, &events) {
+        return Err(Fail::from("no record"));
+    }
+    let bytes = written(alloc, &header, &events).ok_or("a failed write")?;
+    Ok(bytes.as_slice() == case.bytes)
 }
 
 #[test]
-fn writes_an_assist(rt: HostRuntime) -> Result<(), Fail> {
-    let header = Header {
-        version: Version::Two,
-        cfg: Cfg {
-            flags: CfgFlags(3),
-            m: 40,
-        },
-        segment: 16,
-        processors: vec![in rt.alloc(); (0x1001, true), (0x2001, false)]?,
-    };
-    let events = [assist(four_times(0).expect(&rt, "four moments"))];
-    let mut sink = Watched::new(Vec::new(rt.alloc()));
-    assert!(rt; write_header(&mut sink, &header).is_ok());
-    assert!(rt; write_segment(&mut sink, Version::Two, 0, &events).is_ok());
-    assert!(rt; write_end(&mut sink, 1).is_ok());
-    assert_eq!(rt; sink.inner.as_slice(), ASSIST_RECORD.as_slice());
+fn records_are_read_and_written(rt: HostRuntime) -> Result<(), Fail> {
+    for case in CASES.iter() {
+        assert!(rt; is_read(rt.alloc(), case)?, "reading {}", case.name);
+        assert!(rt; is_written(rt.alloc(), case)?, "writing {}", case.name);
+    }
     Ok(())
+}
+
+/// What a reader answers first where the read of this number fails, and then, if the device failed
+/// once.
+fn failed(alloc: Global, read: usize) -> Result<Option<(ReadError, ReadError)>, AllocError> {
+    let mut source = dripping(&RECORD, read);
+    let mut reader = RecordReader::new(alloc)?;
+    let Err(first) = reader.read_header(alloc, &mut source) else {
+        return Ok(None);
+    };
+    let before = source.failures();
+    let Err(then) = reader.read_segment(alloc, &mut source) else {
+        return Ok(None);
+    };
+    let is_once = (before, source.failures()) == (1, 1);
+    Ok(is_once.then_some((first, then)))
 }
 
 #[test]
 fn failing_device(rt: HostRuntime) -> Result<(), Fail> {
+    let wanted = Some((ReadError::Device, ReadError::Failed));
     for k in 0..150 {
-        let mut source = dripping(&RECORD, k);
-        let mut reader = RecordReader::new(rt.alloc())?;
-        match reader.read_header(rt.alloc(), &mut source) {
-            Ok(_) => panic!(rt; "read at {k}"),
-            Err(e) => assert_eq!(rt; e, ReadError::Device),
-        }
-        assert_eq!(rt; source.failures(), 1);
-        match reader.read_segment(rt.alloc(), &mut source) {
-            Ok(_) => panic!(rt; "read at {k}"),
-            Err(e) => assert_eq!(rt; e, ReadError::Failed),
-        }
-        assert_eq!(rt; source.failures(), 1);
+        assert!(rt; failed(rt.alloc(), k)? == wanted, "read {k}");
     }
     Ok(())
 }
 
+/// The numbers of what a reader answers in the midst of the end mark, and then.
+fn refused(alloc: Global) -> Result<Option<(u8, u8)>, Fail> {
+    let mut source = dripping(&RECORD[..148], 1000);
+    let mut reader = RecordReader::new(alloc)?;
+    let _header = reader.read_header(alloc, &mut source)?;
+    if reader.read_segment(alloc, &mut source)?.is_none() {
+        return Ok(None);
+    }
+    let Err(first) = reader.read_segment(alloc, &mut source) else {
+        return Ok(None);
+    };
+    let Err(then) = reader.read_segment(alloc, &mut source) else {
+        return Ok(None);
+    };
+    Ok(Some((first.number(), then.number())))
+}
+
 #[test]
 fn refused_and_then_failed(rt: HostRuntime) -> Result<(), Fail> {
-    let mut source = dripping(&RECORD[..148], 1000);
-    let mut reader = RecordReader::new(rt.alloc())?;
-    let _header = reader.read_header(rt.alloc(), &mut source)?;
-    if reader.read_segment(rt.alloc(), &mut source)?.is_none() {
-        panic!(rt; "no segment");
-    }
-    match reader.read_segment(rt.alloc(), &mut source) {
-        Ok(_) => panic!(rt; "read a cut end mark"),
-        Err(e) => assert_eq!(rt; e.number(), 8),
-    }
-    match reader.read_segment(rt.alloc(), &mut source) {
-        Ok(_) => panic!(rt; "read after a refusal"),
-        Err(e) => assert_eq!(rt; e.number(), 13),
-    }
+    assert!(rt; refused(rt.alloc())? == Some((8, 13)));
     Ok(())
 }

@@ -24,10 +24,10 @@ fn one_processor(alloc: Global) -> Result<Header, AllocError>
     })
 }
 
-#[test]
-fn a_change_is_seen_after_its_event(rt: HostRuntime) -> Result<(), Fail> {
-    let header = one_processor(rt.alloc())?;
-    let mut controls = Controls::new(rt.alloc(), &header)?;
+/// A MOV to CR3 and one to CR4, and what stood before the one and behind it.
+fn seen(alloc: Global) -> Result<([u64; 2], [u16; 2], [bool; 2], u64), AllocError> {
+    let header = one_processor(alloc)?;
+    let mut controls = Controls::new(alloc, &header)?;
     controls.note(
         4,
         &Event::MovCr3 {
@@ -36,12 +36,15 @@ fn a_change_is_seen_after_its_event(rt: HostRuntime) -> Result<(), Fail> {
         },
     )?;
     controls.note(5, &Event::MovCr4Pge { p: 0, on: false })?;
-    assert_eq!(rt; controls.root_at(0, 4), 0x1000);
-    assert_eq!(rt; controls.root_at(0, 5), 0x7000);
-    assert_eq!(rt; controls.pcid_at(0, 4), 1);
-    assert_eq!(rt; controls.pcid_at(0, 5), 2);
-    assert!(rt; controls.pge_at(0, 5));
-    assert!(rt; !controls.pge_at(0, 6));
-    assert_eq!(rt; controls.next(), 6);
+    let roots = [controls.root_at(0, 4), controls.root_at(0, 5)];
+    let pcids = [controls.pcid_at(0, 4), controls.pcid_at(0, 5)];
+    let pges = [controls.pge_at(0, 5), controls.pge_at(0, 6)];
+    Ok((roots, pcids, pges, controls.next()))
+}
+
+#[test]
+fn a_change_is_seen_after_its_event(rt: HostRuntime) -> Result<(), Fail> {
+    let wanted = ([0x1000, 0x7000], [1, 2], [true, false], 6);
+    assert!(rt; seen(rt.alloc())? == wanted);
     Ok(())
 }

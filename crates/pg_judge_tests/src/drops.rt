@@ -1,5 +1,6 @@
+use crate::written::{Written, event_of};
 use pg_entry::Level;
-use pg_event::{Control, Event, Moments, Outcome};
+use pg_event::{Control, Event, Outcome};
 use pg_inval::Drops;
 use std::alloc::{AllocError, Global};
 use std::test::Fail;
@@ -9,6 +10,118 @@ const LA: u64 = 0x40_5123;
 const NEXT_PAGE: u64 = 0x40_6000;
 
 const NEXT_2MB: u64 = 0x60_5123;
+
+const WRITE: Written = Written::Write(0, 0x1000, 7);
+
+const ANSWER: Written = Written::Access {
+    p: 0,
+    flags: 4,
+    la: LA,
+    outcome: Outcome::Page(0x9123),
+    at: &[5],
+};
+
+const FAULT: Written = Written::Access {
+    p: 0,
+    flags: 4,
+    la: LA,
+    outcome: Outcome::Fault(4),
+    at: &[5],
+};
+
+const ASSIST: Written = Written::Assist {
+    p: 0,
+    flags: 0x15,
+    la: LA,
+    word: 0x1000,
+    at: &[5],
+};
+
+const INVLPG: Written = Written::Invlpg(0, LA);
+
+const MOV_CR3: Written = Written::Cr3(0, 0x7002);
+
+/// With bit 63, by which it drops nothing.
+const MOV_CR3_KEEPS: Written = Written::Cr3(0, 0x8000_0000_0000_7002);
+
+/// INVPCID of each type, of PCID 2 and `LA` where it names them.
+const INVPCID_0: Written = Written::Invpcid(0, 0, 2, LA);
+
+const INVPCID_1: Written = Written::Invpcid(0, 1, 2, 0);
+
+const INVPCID_2: Written = Written::Invpcid(0, 2, 0, 0);
+
+const INVPCID_3: Written = Written::Invpcid(0, 3, 0, 0);
+
+const PGE_OFF: Written = Written::Pge(0, false);
+
+const PGE_ON: Written = Written::Pge(0, true);
+
+/// What is cached, for a linear address.
+enum Key {
+    /// A structure entry of a PCID and a level; level 1 gives none.
+    Table(u16, Level, u64),
+    /// A translation of a PCID by a page of so many bits, global or not.
+    Page(u16, u8, u64, bool),
+}
+
+/// An event, and whether its processor has to drop what a key says.
+type Row = (Written, Key, bool);
+
+const STRUCTURES: [Row; 21] = [
+    (WRITE, Key::Table(1, Level::Two, LA), false),
+    (ASSIST, Key::Table(1, Level::Two, LA), false),
+    (ANSWER, Key::Table(1, Level::Two, LA), false),
+    (MOV_CR3, Key::Table(2, Level::Four, LA), true),
+    (MOV_CR3, Key::Table(1, Level::Four, LA), false),
+    (MOV_CR3_KEEPS, Key::Table(2, Level::Four, LA), false),
+    (INVLPG, Key::Table(1, Level::Two, NEXT_2MB), true),
+    (INVLPG, Key::Table(2, Level::Two, LA), false),
+    (INVPCID_0, Key::Table(2, Level::Two, NEXT_PAGE), true),
+    (INVPCID_0, Key::Table(2, Level::Two, NEXT_2MB), false),
+    (INVPCID_0, Key::Table(2, Level::Three, NEXT_2MB), true),
+    (INVPCID_0, Key::Table(1, Level::Two, LA), false),
+    (INVPCID_1, Key::Table(2, Level::Two, LA), true),
+    (INVPCID_1, Key::Table(1, Level::Two, LA), false),
+    (INVPCID_2, Key::Table(1, Level::Three, LA), true),
+    (INVPCID_3, Key::Table(2, Level::Three, LA), true),
+    (PGE_OFF, Key::Table(2, Level::Two, LA), true),
+    (PGE_ON, Key::Table(1, Level::Two, LA), false),
+    (FAULT, Key::Table(1, Level::Two, NEXT_PAGE), true),
+    (FAULT, Key::Table(1, Level::Two, NEXT_2MB), false),
+    (FAULT, Key::Table(2, Level::Two, LA), false),
+];
+
+const TRANSLATIONS: [Row; 28] = [
+    (WRITE, Key::Page(1, 12, LA, false), false),
+    (ASSIST, Key::Page(1, 12, LA, false), false),
+    (ANSWER, Key::Page(1, 12, LA, false), false),
+    (MOV_CR3, Key::Page(2, 12, LA, false), true),
+    (MOV_CR3, Key::Page(2, 12, LA, true), false),
+    (MOV_CR3, Key::Page(1, 12, LA, false), false),
+    (MOV_CR3_KEEPS, Key::Page(2, 12, LA, false), false),
+    (INVLPG, Key::Page(1, 12, LA, false), true),
+    (INVLPG, Key::Page(2, 12, LA, true), true),
+    (INVLPG, Key::Page(2, 12, LA, false), false),
+    (INVLPG, Key::Page(1, 12, NEXT_PAGE, false), false),
+    (INVLPG, Key::Page(1, 21, NEXT_PAGE, false), true),
+    (INVPCID_0, Key::Page(2, 12, LA, false), true),
+    (INVPCID_0, Key::Page(2, 12, LA, true), false),
+    (INVPCID_0, Key::Page(2, 12, NEXT_PAGE, false), false),
+    (INVPCID_0, Key::Page(1, 12, LA, false), false),
+    (INVPCID_1, Key::Page(2, 30, LA, false), true),
+    (INVPCID_1, Key::Page(2, 30, LA, true), false),
+    (INVPCID_1, Key::Page(1, 30, LA, false), false),
+    (INVPCID_2, Key::Page(2, 12, LA, true), true),
+    (INVPCID_3, Key::Page(2, 12, LA, true), false),
+    (INVPCID_3, Key::Page(2, 12, LA, false), true),
+    (PGE_OFF, Key::Page(2, 12, LA, true), true),
+    (PGE_ON, Key::Page(1, 12, LA, false), false),
+    (FAULT, Key::Page(1, 12, LA, false), true),
+    (FAULT, Key::Page(2, 12, LA, true), true),
+    (FAULT, Key::Page(2, 12, LA, false), false),
+    (FAULT, Key::Page(1, 12, NEXT_PAGE, false), false),
+];
 
 /// One event noted as number 5 of a processor whose PCID is 1, with global pages on.
 fn noted(alloc: Global, event: &Event) -> Result<Drops, AllocError> {
@@ -22,8 +135,18 @@ fn noted(alloc: Global, event: &Event) -> Result<Drops, AllocError> {
     Ok(drops)
 }
 
+/// Whether processor p had to drop it between two moments.
+fn is_dropped(drops: &Drops, p: u16, key: &Key, from: u32, to: u32) -> bool {
+    match *key {
+        Key::Table(pcid, level, la) => is_table_dropped(drops, p, (pcid, level, la), from, to),
+        Key::Page(pcid, shift, la, global) => {
+            is_page_dropped(drops, p, (pcid, shift, la, global), from, to)
+        }
+    }
+}
+
 /// Whether processor p had to drop a structure entry; level 1 gives none.
-fn drops_table(drops: &Drops, p: u16, key: (u16, Level, u64), from: u32, to: u32) -> bool {
+fn is_table_dropped(drops: &Drops, p: u16, key: (u16, Level, u64), from: u32, to: u32) -> bool {
     let (pcid, level, la) = key;
     match level {
         Level::Four => drops.structure_dropped(p, pcid, Level::Four, la, from, to),
@@ -34,7 +157,7 @@ fn drops_table(drops: &Drops, p: u16, key: (u16, Level, u64), from: u32, to: u32
 }
 
 /// Whether processor p had to drop a translation; there are three sizes of pages.
-fn drops_page(drops: &Drops, p: u16, key: (u16, u8, u64, bool), from: u32, to: u32) -> bool {
+fn is_page_dropped(drops: &Drops, p: u16, key: (u16, u8, u64, bool), from: u32, to: u32) -> bool {
     let (pcid, shift, la, global) = key;
     match shift {
         12 => drops.translation_dropped(p, pcid, 12, la, global, from, to),
@@ -44,140 +167,30 @@ fn drops_page(drops: &Drops, p: u16, key: (u16, u8, u64, bool), from: u32, to: u
     }
 }
 
-fn answer() -> Event {
-    Event::Access {
-        p: 0,
-        flags: 4,
-        la: LA,
-        outcome: Outcome::Page(0x9123),
-        moments: Moments::first(5),
-    }
-}
-
-fn assist() -> Event {
-    Event::Assist {
-        p: 0,
-        flags: 0x15,
-        la: LA,
-        word: 0x1000,
-        moments: Moments::first(5),
-    }
-}
-
-fn fault() -> Event {
-    Event::Access {
-        p: 0,
-        flags: 4,
-        la: LA,
-        outcome: Outcome::Fault(4),
-        moments: Moments::first(5),
-    }
-}
-
-fn invlpg() -> Event {
-    Event::Invlpg { p: 0, la: LA }
-}
-
-fn mov_cr3(operand: u64) -> Event {
-    Event::MovCr3 { p: 0, operand }
-}
-
-fn invpcid(kind: u8, pcid: u16, la: u64) -> Event {
-    Event::Invpcid {
-        p: 0,
-        kind,
-        pcid,
-        la,
-    }
-}
-
-fn write() -> Event {
-    Event::Write {
-        p: 0,
-        addr: 0x1000,
-        value: 7,
-    }
-}
-
-fn mov_cr4(on: bool) -> Event {
-    Event::MovCr4Pge { p: 0, on }
+/// Whether the event drops it or not as the row says: processor 0 at the event's number alone, and
+/// processor 1 never.
+fn is_right(alloc: Global, row: &Row) -> Result<bool, Fail> {
+    let (written, key, wanted) = row;
+    let drops = noted(alloc, &event_of(written).ok_or("moments")?)?;
+    let at_event = is_dropped(&drops, 0, key, 5, 6);
+    let before = is_dropped(&drops, 0, key, 0, 5);
+    let after = is_dropped(&drops, 0, key, 6, 9);
+    let by_other = is_dropped(&drops, 1, key, 5, 6);
+    Ok([at_event, before, after, by_other] == [*wanted, false, false, false])
 }
 
 #[test]
 fn structures(rt: HostRuntime) -> Result<(), Fail> {
-    let rows = [
-        (write(), 1, Level::Two, LA, false),
-        (assist(), 1, Level::Two, LA, false),
-        (answer(), 1, Level::Two, LA, false),
-        (mov_cr3(0x7002), 2, Level::Four, LA, true),
-        (mov_cr3(0x7002), 1, Level::Four, LA, false),
-        (mov_cr3(0x8000_0000_0000_7002), 2, Level::Four, LA, false),
-        (invlpg(), 1, Level::Two, NEXT_2MB, true),
-        (invlpg(), 2, Level::Two, LA, false),
-        (invpcid(0, 2, LA), 2, Level::Two, NEXT_PAGE, true),
-        (invpcid(0, 2, LA), 2, Level::Two, NEXT_2MB, false),
-        (invpcid(0, 2, LA), 2, Level::Three, NEXT_2MB, true),
-        (invpcid(0, 2, LA), 1, Level::Two, LA, false),
-        (invpcid(1, 2, 0), 2, Level::Two, LA, true),
-        (invpcid(1, 2, 0), 1, Level::Two, LA, false),
-        (invpcid(2, 0, 0), 1, Level::Three, LA, true),
-        (invpcid(3, 0, 0), 2, Level::Three, LA, true),
-        (mov_cr4(false), 2, Level::Two, LA, true),
-        (mov_cr4(true), 1, Level::Two, LA, false),
-        (fault(), 1, Level::Two, NEXT_PAGE, true),
-        (fault(), 1, Level::Two, NEXT_2MB, false),
-        (fault(), 2, Level::Two, LA, false),
-    ];
-    for (event, pcid, level, la, dropped) in rows {
-        let drops = noted(rt.alloc(), &event)?;
-        let key = (pcid, level, la);
-        assert_eq!(rt; drops_table(&drops, 0, key, 5, 6), dropped, "{event:?}");
-        assert!(rt; !drops_table(&drops, 0, key, 0, 5));
-        assert!(rt; !drops_table(&drops, 0, key, 6, 9));
-        assert!(rt; !drops_table(&drops, 1, key, 5, 6));
+    for (place, row) in STRUCTURES.iter().enumerate() {
+        assert!(rt; is_right(rt.alloc(), row)?, "row {place}");
     }
     Ok(())
 }
 
 #[test]
 fn translations(rt: HostRuntime) -> Result<(), Fail> {
-    let rows = [
-        (write(), 1, 12, LA, false, false),
-        (assist(), 1, 12, LA, false, false),
-        (answer(), 1, 12, LA, false, false),
-        (mov_cr3(0x7002), 2, 12, LA, false, true),
-        (mov_cr3(0x7002), 2, 12, LA, true, false),
-        (mov_cr3(0x7002), 1, 12, LA, false, false),
-        (mov_cr3(0x8000_0000_0000_7002), 2, 12, LA, false, false),
-        (invlpg(), 1, 12, LA, false, true),
-        (invlpg(), 2, 12, LA, true, true),
-        (invlpg(), 2, 12, LA, false, false),
-        (invlpg(), 1, 12, NEXT_PAGE, false, false),
-        (invlpg(), 1, 21, NEXT_PAGE, false, true),
-        (invpcid(0, 2, LA), 2, 12, LA, false, true),
-        (invpcid(0, 2, LA), 2, 12, LA, true, false),
-        (invpcid(0, 2, LA), 2, 12, NEXT_PAGE, false, false),
-        (invpcid(0, 2, LA), 1, 12, LA, false, false),
-        (invpcid(1, 2, 0), 2, 30, LA, false, true),
-        (invpcid(1, 2, 0), 2, 30, LA, true, false),
-        (invpcid(1, 2, 0), 1, 30, LA, false, false),
-        (invpcid(2, 0, 0), 2, 12, LA, true, true),
-        (invpcid(3, 0, 0), 2, 12, LA, true, false),
-        (invpcid(3, 0, 0), 2, 12, LA, false, true),
-        (mov_cr4(false), 2, 12, LA, true, true),
-        (mov_cr4(true), 1, 12, LA, false, false),
-        (fault(), 1, 12, LA, false, true),
-        (fault(), 2, 12, LA, true, true),
-        (fault(), 2, 12, LA, false, false),
-        (fault(), 1, 12, NEXT_PAGE, false, false),
-    ];
-    for (event, pcid, shift, la, global, dropped) in rows {
-        let drops = noted(rt.alloc(), &event)?;
-        let key = (pcid, shift, la, global);
-        assert_eq!(rt; drops_page(&drops, 0, key, 5, 6), dropped, "{event:?}");
-        assert!(rt; !drops_page(&drops, 0, key, 0, 5));
-        assert!(rt; !drops_page(&drops, 0, key, 6, 9));
-        assert!(rt; !drops_page(&drops, 1, key, 5, 6));
+    for (place, row) in TRANSLATIONS.iter().enumerate() {
+        assert!(rt; is_right(rt.alloc(), row)?, "row {place}");
     }
     Ok(())
 }

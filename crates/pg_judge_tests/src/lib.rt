@@ -13,3 +13,5 @@ mod histories;
 mod merging;
 #[cfg(test)]
 mod rounds;
+#[cfg(test)]
+mod written;

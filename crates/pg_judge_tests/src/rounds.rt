@@ -1,14 +1,12 @@
-ghost use Rattle.std.specs.Prelude.{◌≡◌, ◌≤◌, IfOk};
-ghost use Rattle.pg_event.specs.Spelling.{IsHead};
-
+use crate::written::{INVLPG, MAPPED, Written, add_all, started};
 use pg_check::{History, SegmentVerdict};
-use pg_entry::{Cfg, CfgFlags};
-use pg_event::{Event, Header, Moments, Outcome, Reason, Version, well_formed};
+use pg_event::{Outcome, Reason, Version};
 use pg_pool::{Gate, OpenGate, PoolError, Round, Seat, audit_round, close_round, open_round};
-use std::alloc::{AllocError, Global};
+use std::alloc::{AllocError, AllocGlobal, Global};
+use std::sync::Wait;
 use std::sync::atomic::{AtomicU64, Ordering};
 use std::test::Fail;
-use std::thread;
+use std::thread::{self, Threads};
 
 /// How often a waiting thread yields before a test fails.
 const TURNS: u32 = 10_000_000;
@@ -37,51 +35,86 @@ fn left_by(alloc: Global, seats: Vec<Seat>) -> Result<Vec<u32>, Fail> {
     Ok(close_round(alloc, seats)?)
 }
 
-#[test]
-fn one_seat_takes_all(rt: HostRuntime) -> Result<(), Fail> {
-    let alloc = rt.alloc();
-    let mut seats = open_round(alloc, 0, 10, 3)?;
-    assert_eq!(rt; seats.len(), 3);
-    let seat = &mut seats[1];
-    assert_eq!(rt; seat.number(), 1);
+/// A round of the numbers from 0, what some of its seats take in their turn until they find nothing,
+/// and what is left then.
+struct Case {
+    name: &'static str,
+    last: u32,
+    checkers: u32,
+    taken: &'static [(usize, &'static [u32])],
+    left: &'static [u32],
+}
+
+const CASES: [Case; 4] = [
+    Case {
+        name: "one seat takes all",
+        last: 10,
+        checkers: 3,
+        taken: &[(1, &[1, 4, 7, 2, 5, 8, 0, 3, 6, 9])],
+        left: &[],
+    },
+    Case {
+        name: "what one seat took no other takes",
+        last: 10,
+        checkers: 3,
+        taken: &[(1, &[1, 4, 7, 2, 5, 8, 0, 3, 6, 9]), (0, &[]), (2, &[])],
+        left: &[],
+    },
+    Case {
+        name: "a round closed at once",
+        last: 10,
+        checkers: 3,
+        taken: &[],
+        left: &[0, 1, 2, 3, 4, 5, 6, 7, 8, 9],
+    },
+    Case {
+        name: "a round of nothing",
+        last: 0,
+        checkers: 2,
+        taken: &[(0, &[]), (1, &[])],
+        left: &[],
+    },
+];
+
+/// Whether the seat at a place takes these numbers and finds nothing then.
+fn takes(
+    alloc: Global,
+    seats: &mut [Seat],
+    place: usize,
+    numbers: &[u32],
+) -> Result<bool, AllocError> {
+    let Some(seat) = seats.get_mut(place) else {
+        return Ok(false);
+    };
     let taken = taken_by(alloc, seat)?;
-    assert_eq!(rt; taken.as_slice(), [1, 4, 7, 2, 5, 8, 0, 3, 6, 9].as_slice());
-    assert_eq!(rt; seat.take(), None);
-    assert!(rt; left_by(alloc, seats)?.is_empty());
-    Ok(())
+    let is_empty = seat.take().is_none();
+    Ok(taken.as_slice() == numbers && is_empty && seat.number() as usize == place)
+}
+
+/// Whether seats take what the case says.
+fn take_all(alloc: Global, seats: &mut [Seat], case: &Case) -> Result<bool, AllocError> {
+    for (place, numbers) in case.taken {
+        if !takes(alloc, seats, *place, numbers)? {
+            return Ok(false);
+        }
+    }
+    Ok(seats.len() == case.checkers as usize)
+}
+
+fn goes_so(alloc: Global, case: &Case) -> Result<bool, Fail> {
+    if case.checkers == 0 || case.checkers > 64 {
+        return Err(Fail::from("no number of checkers"));
+    }
+    let mut seats = open_round(alloc, 0, case.last, case.checkers)?;
+    let is_taken = take_all(alloc, &mut seats, case)?;
+    Ok(is_taken && left_by(alloc, seats)?.as_slice() == case.left)
 }
 
 #[test]
-fn what_one_seat_took_no_other_takes(rt: HostRuntime) -> Result<(), Fail> {
-    let alloc = rt.alloc();
-    let mut seats = open_round(alloc, 0, 10, 3)?;
-    assert_eq!(rt; seats.len(), 3);
-    let first = &mut seats[1];
-    assert_eq!(rt; taken_by(alloc, first)?.len(), 10);
-    let second = &mut seats[0];
-    assert_eq!(rt; second.take(), None);
-    let third = &mut seats[2];
-    assert_eq!(rt; third.take(), None);
-    assert!(rt; left_by(alloc, seats)?.is_empty());
-    Ok(())
-}
-
-#[test]
-fn a_round_closed_at_once(rt: HostRuntime) -> Result<(), Fail> {
-    let alloc = rt.alloc();
-    let left = left_by(alloc, open_round(alloc, 0, 10, 3)?)?;
-    assert_eq!(rt; left.as_slice(), [0, 1, 2, 3, 4, 5, 6, 7, 8, 9].as_slice());
-    Ok(())
-}
-
-#[test]
-fn a_round_of_nothing(rt: HostRuntime) -> Result<(), Fail> {
-    let mut seats = open_round(rt.alloc(), 0, 0, 2)?;
-    assert_eq!(rt; seats.len(), 2);
-    let first = &mut seats[0];
-    assert_eq!(rt; first.take(), None);
-    let second = &mut seats[1];
-    assert_eq!(rt; second.take(), None);
+fn seats_of_a_round(rt: HostRuntime) -> Result<(), Fail> {
+    for case in CASES.iter() {
+        assert!(rt; goes_so(rt.alloc(), case)?, "{}", case.name);
+    }
     Ok(())
 }
 
@@ -130,66 +163,23 @@ impl Gate for Held {
     }
 }
 
-fn one_processor(alloc: Global, segment: u32) -> Result<Header, AllocError>
-    requires { (1 ≤ segment) × (segment ≤ 65536) }
-    ensures { IfOk result IsHead }
-{
-    let mut processors = Vec::new(alloc);
-    processors.push((0x1001, true))?;
-    Ok(Header {
-        version: Version::One,
-        cfg: Cfg {
-            flags: CfgFlags(3),
-            m: 40,
-        },
-        segment,
-        processors,
-    })
-}
+/// A read of the page of 0x5000 by a walk at moment 4, an INVLPG of the page, and the same read by
+/// the walk from before it.
+const OLD_READS: [Written; 3] = [READ_AT_4, INVLPG, READ_AT_4];
 
-fn add(history: &mut History, event: Event) -> Result<(), Fail> {
-    if history.len() >= 100 {
-        return Err(Fail::from("full"));
-    }
-    match well_formed(history.header(), &event) {
-        Ok(()) => Ok(history.extend(&[event])?),
-        Err(_) => Err(Fail::from("malformed")),
-    }
-}
+const READ_AT_4: Written = Written::Access {
+    p: 0,
+    flags: 4,
+    la: 0x5123,
+    outcome: Outcome::Page(0x9123),
+    at: &[4, 4, 4, 4],
+};
 
-fn write(history: &mut History, addr: u64, value: u64) -> Result<(), Fail> {
-    add(history, Event::Write { p: 0, addr, value })
-}
-
-/// A user read of 0x5123 that got 0x9123 by a walk at moment 4.
-fn read(history: &mut History) -> Result<(), Fail> {
-    let mut moments = Moments::first(4);
-    for _ in 1..4u32 {
-        moments = moments.with(4).ok_or("levels")?;
-    }
-    add(
-        history,
-        Event::Access {
-            p: 0,
-            flags: 4,
-            la: 0x5123,
-            outcome: Outcome::Page(0x9123),
-            moments,
-        },
-    )
-}
-
-/// Four writes that map linear 0x5000 to physical 0x9000, a read through them, an INVLPG of the
-/// page, and a read by the walk from before it: in two segments.
+/// Four writes that map linear 0x5000 to physical 0x9000, and those reads: in two segments.
 fn stale_leaf(alloc: Global) -> Result<History, Fail> {
-    let mut history = History::new(alloc, one_processor(alloc, 4)?)?;
-    write(&mut history, 0x1000, 0x2007)?;
-    write(&mut history, 0x2000, 0x3007)?;
-    write(&mut history, 0x3000, 0x4007)?;
-    write(&mut history, 0x4028, 0x9007)?;
-    read(&mut history)?;
-    add(&mut history, Event::Invlpg { p: 0, la: 0x5000 })?;
-    read(&mut history)?;
+    let mut history = started(alloc, Version::One, 4, 1)?;
+    add_all(&mut history, &MAPPED)?;
+    add_all(&mut history, &OLD_READS)?;
     Ok(history)
 }
 
@@ -204,10 +194,33 @@ const STALE_LEAF: [SegmentVerdict; 2] = [
     },
 ];
 
+const BOTH: Round = Round { first: 0, last: 2 };
+
+/// Whether each of two segments came once, and in time.
+fn came_both(gate: &Held) -> bool {
+    let failed = gate.failed.load(Ordering::SeqCst);
+    let comings = gate.comings.load(Ordering::SeqCst);
+    let first = gate.workers[0].load(Ordering::SeqCst);
+    let second = gate.workers[1].load(Ordering::SeqCst);
+    // Checker 1 begins with segment 1, and waits in it for segment 0.
+    [failed, comings, first, second] == [0, 2, 1, 2]
+}
+
+/// The round of both segments of the stale leaf, by so many checkers.
+fn audited<R: AllocGlobal + Threads + Wait + Sync, G: Gate>(
+    rt: &R,
+    checkers: u32,
+    gate: &G,
+) -> Result<Result<Vec<SegmentVerdict>, PoolError>, Fail> {
+    let history = stale_leaf(rt.alloc())?;
+    if history.segments() != 2 {
+        return Err(Fail::from("not two segments"));
+    }
+    Ok(audit_round(rt, rt.alloc(), history.stretch(), BOTH, checkers, gate))
+}
+
 #[test]
 fn two_checkers_at_the_same_time(rt: HostRuntime) -> Result<(), Fail> {
-    let history = stale_leaf(rt.alloc())?;
-    assert_eq!(rt; history.segments(), 2);
     let gate = Held {
         came: AtomicU64::new(0),
         left: AtomicU64::new(0),
@@ -215,44 +228,21 @@ fn two_checkers_at_the_same_time(rt: HostRuntime) -> Result<(), Fail> {
         workers: [AtomicU64::new(0), AtomicU64::new(0)],
         failed: AtomicU64::new(0),
     };
-    let round = Round { first: 0, last: 2 };
-    let verdicts = audit_round(&rt, rt.alloc(), history.stretch(), round, 2, &gate)?;
-    assert_eq!(rt; verdicts.as_slice(), STALE_LEAF.as_slice());
-    assert_eq!(rt; gate.failed.load(Ordering::SeqCst), 0);
-    assert_eq!(rt; gate.comings.load(Ordering::SeqCst), 2);
-    let first = gate.workers[0].load(Ordering::SeqCst);
-    let second = gate.workers[1].load(Ordering::SeqCst);
-    // Checker 1 begins with segment 1, and waits in it for segment 0.
-    assert_eq!(rt; (first, second), (1, 2));
+    let verdicts = audited(&rt, 2, &gate)??;
+    assert!(rt; verdicts.as_slice() == STALE_LEAF.as_slice() && came_both(&gate));
     Ok(())
 }
 
 #[test]
 fn any_number_of_checkers(rt: HostRuntime) -> Result<(), Fail> {
-    let history = stale_leaf(rt.alloc())?;
-    assert_eq!(rt; history.segments(), 2);
-    let round = Round { first: 0, last: 2 };
-    for checkers in [1, 2, 7, 64] {
-        let verdicts = audit_round(
-            &rt,
-            rt.alloc(),
-            history.stretch(),
-            round,
-            checkers,
-            &OpenGate,
-        )?;
-        assert_eq!(rt; verdicts.as_slice(), STALE_LEAF.as_slice());
-    }
-    for checkers in [0, 65] {
-        let refused = audit_round(
-            &rt,
-            rt.alloc(),
-            history.stretch(),
-            round,
-            checkers,
-            &OpenGate,
-        );
-        assert_eq!(rt; refused.err(), Some(PoolError::Checkers));
+    for checkers in [0, 1, 2, 7, 64, 65] {
+        let is_right = match audited(&rt, checkers, &OpenGate)? {
+            Ok(verdicts) => {
+                matches!(checkers, 1..=64) && verdicts.as_slice() == STALE_LEAF.as_slice()
+            }
+            Err(error) => matches!(checkers, 0 | 65) && error == PoolError::Checkers,
+        };
+        assert!(rt; is_right, "{checkers}");
     }
     Ok(())
 }
