@@ -142,8 +142,8 @@ dropped: translation of level 1 by 4 cpu 0 invlpg 0x5000
 other moments would: 5 5 5 5
 ",
     },
-    // Event 4 leaves the page's translation, event 5 is the first that drops it, and event 6 comes too
-    // late to drop it.
+    // Event 4 leaves the page's translation, event 5 is the first that drops it, and event 6 comes
+    // too late to drop it.
     Case {
         name: "first of two invlpgs",
         version: Version::One,
