@@ -35,8 +35,8 @@ fn left_by(alloc: Global, seats: Vec<Seat>) -> Result<Vec<u32>, Fail> {
     Ok(close_round(alloc, seats)?)
 }
 
-/// A round of the numbers from 0, what some of its seats take in their turn until they find nothing,
-/// and what is left then.
+/// A round of the numbers from 0, what some of its seats take in their turn until they find
+/// nothing, and what is left then.
 struct Case {
     name: &'static str,
     last: u32,

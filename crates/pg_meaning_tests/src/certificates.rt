@@ -1,153 +1,173 @@
-ghost use Rattle.std.specs.Prelude.{◌≡◌, ◌<◌, IfOk};
-ghost use Rattle.pg_event.specs.Spelling.{IsHead};
-
+use crate::written::{INVLPG, READ, Written, add_all, started};
 use pg_certify::{first_denied, first_denied_by};
 use pg_check::History;
-use pg_entry::{Cfg, CfgFlags};
-use pg_event::{Event, Header, Moments, Outcome, Version, well_formed};
-use std::alloc::{AllocError, Global};
+use pg_event::{Outcome, Version};
+use std::alloc::{AllocGlobal, Global};
 use std::sync::Wait;
 use std::test::Fail;
 use std::thread::Threads;
 
-/// Two processors with the PCID 1 and the root 0x1000.
-fn two_processors(alloc: Global) -> Result<Header, AllocError>
-    ensures { IfOk result IsHead }
-{
-    let mut processors = Vec::new(alloc);
-    processors.push((0x1001, true))?;
-    processors.push((0x1001, true))?;
-    Ok(Header {
-        version: Version::One,
-        cfg: Cfg {
-            flags: CfgFlags(3),
-            m: 40,
-        },
-        segment: 16,
-        processors,
-    })
-}
-
-fn add(history: &mut History, event: Event) -> Result<(), Fail> {
-    if history.len() >= 10_000 {
-        return Err(Fail::from("full"));
-    }
-    match well_formed(history.header(), &event) {
-        Ok(()) => Ok(history.extend(&[event])?),
-        Err(_) => Err(Fail::from("malformed")),
-    }
-}
-
-fn write(history: &mut History, addr: u64, value: u64) -> Result<(), Fail> {
-    add(history, Event::Write { p: 0, addr, value })
-}
-
-/// A user read, which names no moments but the placeholder.
-fn read(history: &mut History, p: u16, la: u64, page: u64) -> Result<(), Fail> {
-    add(
-        history,
-        Event::Access {
-            p,
-            flags: 4,
-            la,
-            outcome: Outcome::Page(page),
-            moments: Moments::first(0),
-        },
-    )
-}
-
-/// Writes that map 0x5000 to 0x9000 and 0x6000 to 0xa000.
-fn mapped(alloc: Global) -> Result<History, Fail> {
-    let mut history = History::new(alloc, two_processors(alloc)?)?;
-    write(&mut history, 0x1000, 0x2007)?;
-    write(&mut history, 0x2000, 0x3007)?;
-    write(&mut history, 0x3000, 0x4007)?;
-    write(&mut history, 0x4028, 0x9007)?;
-    write(&mut history, 0x4030, 0xa007)?;
-    Ok(history)
-}
+/// Linear 0x5000 is mapped to physical 0x9000, and 0x6000 to 0xa000.
+const MAPPED: [Written; 5] = [
+    Written::Write(0, 0x1000, 0x2007),
+    Written::Write(0, 0x2000, 0x3007),
+    Written::Write(0, 0x3000, 0x4007),
+    Written::Write(0, 0x4028, 0x9007),
+    Written::Write(0, 0x4030, 0xa007),
+];
 
 /// Eight events: the leaf of 0x5000 is cleared and set anew, and two processors read the old page
-/// meanwhile, and other pages. No event but these INVLPG drops anything.
-fn turn(history: &mut History) -> Result<(), Fail> {
-    write(history, 0x4028, 0)?;
-    read(history, 0, 0x5123, 0x9123)?;
-    read(history, 1, 0x6123, 0xa123)?;
-    read(history, 1, 0x5123, 0x9123)?;
-    write(history, 0x4028, 0x9007)?;
-    add(history, Event::Invlpg { p: 0, la: 0x5000 })?;
-    read(history, 0, 0x5123, 0x9123)?;
-    read(history, 0, 0x6fff, 0xafff)
+/// meanwhile, and other pages. No event but these INVLPG drops anything. Reads name no moments but
+/// a placeholder.
+const TURN: [Written; 8] = [
+    Written::Write(0, 0x4028, 0),
+    Written::Access {
+        p: 0,
+        flags: READ,
+        la: 0x5123,
+        outcome: Outcome::Page(0x9123),
+        at: &[0],
+    },
+    Written::Access {
+        p: 1,
+        flags: READ,
+        la: 0x6123,
+        outcome: Outcome::Page(0xa123),
+        at: &[0],
+    },
+    Written::Access {
+        p: 1,
+        flags: READ,
+        la: 0x5123,
+        outcome: Outcome::Page(0x9123),
+        at: &[0],
+    },
+    Written::Write(0, 0x4028, 0x9007),
+    INVLPG,
+    Written::Access {
+        p: 0,
+        flags: READ,
+        la: 0x5123,
+        outcome: Outcome::Page(0x9123),
+        at: &[0],
+    },
+    Written::Access {
+        p: 0,
+        flags: READ,
+        la: 0x6fff,
+        outcome: Outcome::Page(0xafff),
+        at: &[0],
+    },
+];
+
+/// A read of a page that no walk gives.
+const DENIED: [Written; 1] = [Written::Access {
+    p: 1,
+    flags: READ,
+    la: 0x5123,
+    outcome: Outcome::Page(0xb123),
+    at: &[0],
+}];
+
+/// Another one, of another page.
+const OTHER_DENIED: [Written; 1] = [Written::Access {
+    p: 1,
+    flags: READ,
+    la: 0x6123,
+    outcome: Outcome::Page(0xb123),
+    at: &[0],
+}];
+
+/// Parts of a history, each so many turns and events behind them, and the least event that is
+/// denied.
+struct Case {
+    name: &'static str,
+    parts: &'static [(u32, &'static [Written])],
+    denied: Option<u64>,
 }
 
-/// So many turns more.
-fn turns(history: &mut History, count: u32) -> Result<(), Fail> {
+const CASES: [Case; 4] = [
+    Case {
+        name: "few events",
+        parts: &[],
+        denied: None,
+    },
+    Case {
+        name: "checkers certify what one does",
+        parts: &[(600, &[])],
+        denied: None,
+    },
+    // The events 2,405, 3,206 and 4,007 are denied, which each of several checkers may have.
+    Case {
+        name: "the least event that any checker denies is told",
+        parts: &[(300, &DENIED), (100, &DENIED), (100, &DENIED)],
+        denied: Some(2_405),
+    },
+    // Of two checkers the first has page 0x5000 of processor 1, and the second page 0x6000: the
+    // second denies event 1,205, and the first event 2,806.
+    Case {
+        name: "a later event of an earlier checker is not told",
+        parts: &[(150, &OTHER_DENIED), (200, &DENIED)],
+        denied: Some(1_205),
+    },
+];
+
+/// Adds so many turns, and more behind them.
+fn add_turns(
+    history: &mut History,
+    turn: &[Written],
+    count: u32,
+    more: &[Written],
+) -> Result<(), Fail> {
     for _ in 0..count {
-        turn(history)?;
+        add_all(history, turn)?;
+    }
+    add_all(history, more)
+}
+
+fn add_parts(history: &mut History, case: &Case) -> Result<(), Fail> {
+    add_all(history, &MAPPED)?;
+    for (count, more) in case.parts {
+        add_turns(history, &TURN, *count, more)?;
     }
     Ok(())
 }
 
-/// A read of a page that no walk gives.
-fn deny(history: &mut History) -> Result<(), Fail> {
-    read(history, 1, 0x5123, 0xb123)
-}
-
-/// Wants this answer of one checker and of several.
-fn wanted<R: Threads + Wait + Sync>(
+/// Whether several checkers give this answer, however many they are.
+fn all_answer<R: Threads + Wait + Sync>(
     rt: &R,
     alloc: Global,
     history: &History,
     denied: Option<u64>,
-) -> Result<(), Fail> {
-    if first_denied(alloc, history)? != denied {
-        return Err(Fail::from("one checker"));
-    }
+) -> bool {
     for checkers in [1, 2, 3, 4, 64] {
         if first_denied_by(rt, alloc, history, checkers) != Ok(denied) {
-            return Err(Fail::from("several checkers"));
+            return false;
         }
     }
+    true
+}
+
+/// Whether one checker and several deny what the case says.
+fn is_denied_in<R: AllocGlobal + Threads + Wait + Sync>(
+    rt: &R,
+    history: &mut History,
+    case: &Case,
+) -> Result<bool, Fail> {
+    add_parts(history, case)?;
+    let is_denied = first_denied(rt.alloc(), history)? == case.denied;
+    Ok(is_denied && all_answer(rt, rt.alloc(), history, case.denied))
+}
+
+fn is_denied<R: AllocGlobal + Threads + Wait + Sync>(rt: &R, case: &Case) -> Result<bool, Fail> {
+    let mut history = started(rt.alloc(), Version::One, 2)?;
+    is_denied_in(rt, &mut history, case)
+}
+
+#[test]
+fn checkers_deny_what_one_does(rt: HostRuntime) -> Result<(), Fail> {
+    for case in CASES.iter() {
+        assert!(rt; is_denied(&rt, case)?, "{}", case.name);
+    }
     Ok(())
-}
-
-#[test]
-fn checkers_certify_what_one_does(rt: HostRuntime) -> Result<(), Fail> {
-    let mut history = mapped(rt.alloc())?;
-    wanted(&rt, rt.alloc(), &history, None)?;
-    turns(&mut history, 600)?;
-    wanted(&rt, rt.alloc(), &history, None)
-}
-
-/// The events 2,405, 3,206 and 4,007 are denied, which each of several checkers may have.
-fn thrice_denied(history: &mut History) -> Result<(), Fail> {
-    turns(history, 300)?;
-    deny(history)?;
-    turns(history, 100)?;
-    deny(history)?;
-    turns(history, 100)?;
-    deny(history)
-}
-
-#[test]
-fn the_least_event_that_any_checker_denies_is_told(rt: HostRuntime) -> Result<(), Fail> {
-    let mut history = mapped(rt.alloc())?;
-    thrice_denied(&mut history)?;
-    wanted(&rt, rt.alloc(), &history, Some(2_405))
-}
-
-/// Of two checkers the first has page 0x5000 of processor 1, and the second page 0x6000: the second
-/// denies event 1,205, and the first event 2,806.
-fn denied_by_each(history: &mut History) -> Result<(), Fail> {
-    turns(history, 150)?;
-    read(history, 1, 0x6123, 0xb123)?;
-    turns(history, 200)?;
-    deny(history)
-}
-
-#[test]
-fn a_later_event_of_an_earlier_checker_is_not_told(rt: HostRuntime) -> Result<(), Fail> {
-    let mut history = mapped(rt.alloc())?;
-    denied_by_each(&mut history)?;
-    wanted(&rt, rt.alloc(), &history, Some(1_205))
 }

@@ -1,144 +1,50 @@
-ghost use Rattle.std.specs.Prelude.{◌≡◌, IfOk};
-ghost use Rattle.pg_event.specs.Spelling.{IsHead};
-
+use crate::written::{
+    ACCESSED, FETCH, INVLPG, MAPPED, READ, WRITE, Written, add_all, events_of, started,
+};
 use pg_check::History;
-use pg_entry::{Cfg, CfgFlags};
-use pg_event::{Event, Header, Moments, Outcome, Version, well_formed};
-use pg_explain::{Explanation, Filter, explain, explanation_text, shown_text};
-use std::alloc::{AllocError, Global};
+use pg_event::{Outcome, Version};
+use pg_explain::{Filter, explain, explanation_text, shown_text};
+use std::alloc::{AllocGlobal, Global};
+use std::process::Abort;
 use std::test::Fail;
 
-fn one_processor(alloc: Global, version: Version) -> Result<Header, AllocError>
-    ensures { IfOk result IsHead }
-{
-    let mut processors = Vec::new(alloc);
-    processors.push((0x1001, true))?;
-    Ok(Header {
-        version,
-        cfg: Cfg {
-            flags: CfgFlags(3),
-            m: 40,
-        },
-        segment: 16,
-        processors,
-    })
+/// Events, and what is told of the last of them.
+struct Case {
+    name: &'static str,
+    version: Version,
+    /// How 0x5000 is mapped.
+    before: &'static [Written],
+    events: &'static [Written],
+    /// Nothing where it is witnessed.
+    told: &'static str,
 }
 
-fn add(history: &mut History, event: Event) -> Result<(), Fail> {
-    if history.len() >= 100 {
-        return Err(Fail::from("full"));
-    }
-    match well_formed(history.header(), &event) {
-        Ok(()) => Ok(history.extend(&[event])?),
-        Err(_) => Err(Fail::from("malformed")),
-    }
-}
-
-fn write(history: &mut History, addr: u64, value: u64) -> Result<(), Fail> {
-    add(history, Event::Write { p: 0, addr, value })
-}
-
-/// Four writes that map linear 0x5000 to physical 0x9000, with these bits in each entry.
-fn mapped(alloc: Global, version: Version, bits: u64) -> Result<History, Fail> {
-    let mut history = History::new(alloc, one_processor(alloc, version)?)?;
-    write(&mut history, 0x1000, 0x2007 | bits)?;
-    write(&mut history, 0x2000, 0x3007 | bits)?;
-    write(&mut history, 0x3000, 0x4007 | bits)?;
-    write(&mut history, 0x4028, 0x9007 | bits)?;
-    Ok(history)
-}
-
-fn four(a: u32, b: u32, c: u32, d: u32) -> Result<Moments, Fail> {
-    let two = Moments::first(a).with(b);
-    let three = two.and_then(|m| m.with(c));
-    match three.and_then(|m| m.with(d)) {
-        Some(moments) => Ok(moments),
-        None => Err(Fail::from("too many moments")),
-    }
-}
-
-/// Nothing is asked of the events that are shown.
-const EACH: Filter = Filter {
-    from: 0,
-    to: 4_294_967_295,
-    cpu: None,
-    page: None,
-    word: None,
-};
-
-const READ: u8 = 4;
-
-const WRITE: u8 = 5;
-
-const FETCH: u8 = 6;
-
-/// A user access to a linear address, at these moments.
-fn access(
-    history: &mut History,
-    flags: u8,
-    la: u64,
-    outcome: Outcome,
-    moments: Moments,
-) -> Result<(), Fail> {
-    add(
-        history,
-        Event::Access {
+const CASES: [Case; 17] = [
+    Case {
+        name: "witnessed event has no explanation",
+        version: Version::One,
+        before: &MAPPED,
+        events: &[Written::Access {
             p: 0,
-            flags,
-            la,
-            outcome,
-            moments,
-        },
-    )
-}
-
-/// A user read of 0x5123 that gives 0x9123, at these moments.
-fn read(history: &mut History, moments: Moments) -> Result<(), Fail> {
-    access(history, READ, 0x5123, Outcome::Page(0x9123), moments)
-}
-
-/// What is explained of the last event.
-fn explained(alloc: Global, history: &History) -> Result<Option<Explanation>, Fail> {
-    let count = history.len();
-    if count == 0 {
-        return Err(Fail::from("no event"));
-    }
-    Ok(explain(alloc, history, count - 1)?)
-}
-
-/// Wants this explanation of the last event.
-fn tells(alloc: Global, history: &History, expected: &str) -> Result<(), Fail> {
-    match explained(alloc, history)? {
-        None => Err(Fail::from("witnessed")),
-        Some(explanation) => {
-            let text = explanation_text(alloc, history.events(), &explanation)?;
-            if text.as_str() == expected {
-                Ok(())
-            } else {
-                Err(Fail::from("another explanation"))
-            }
-        }
-    }
-}
-
-#[test]
-fn witnessed_event_has_no_explanation(rt: HostRuntime) -> Result<(), Fail> {
-    let mut history = mapped(rt.alloc(), Version::One, 0)?;
-    read(&mut history, four(4, 4, 4, 4)?)?;
-    match explained(rt.alloc(), &history)? {
-        None => Ok(()),
-        Some(_) => Err(Fail::from("explained")),
-    }
-}
-
-#[test]
-fn moments_out_of_order(rt: HostRuntime) -> Result<(), Fail> {
-    let mut history = mapped(rt.alloc(), Version::One, 0)?;
-    read(&mut history, four(4, 3, 4, 4)?)?;
-    tells(
-        rt.alloc(),
-        &history,
-        "event: 4 cpu 0 user read 0x5123 -> 0x9123 moments 4 3 4 4
+            flags: READ,
+            la: 0x5123,
+            outcome: Outcome::Page(0x9123),
+            at: &[4, 4, 4, 4],
+        }],
+        told: "",
+    },
+    Case {
+        name: "moments out of order",
+        version: Version::One,
+        before: &MAPPED,
+        events: &[Written::Access {
+            p: 0,
+            flags: READ,
+            la: 0x5123,
+            outcome: Outcome::Page(0x9123),
+            at: &[4, 3, 4, 4],
+        }],
+        told: "event: 4 cpu 0 user read 0x5123 -> 0x9123 moments 4 3 4 4
 level 4: moment 4 pcid 0x1 [0x1000] = 0x2007 table, written by event 0
 level 3: moment 3 pcid 0x1 [0x2000] = 0x3007 table, written by event 1
 level 2: moment 4 pcid 0x1 [0x3000] = 0x4007 table, written by event 2
@@ -146,41 +52,41 @@ level 1: moment 4 pcid 0x1 [0x4028] = 0x9007 leaf, written by event 3
 moments: level 4 at 4 is above moment 3
 other moments would: 4 4 4 4
 ",
-    )
-}
-
-#[test]
-fn absent_entry_above_the_last(rt: HostRuntime) -> Result<(), Fail> {
-    let mut history = mapped(rt.alloc(), Version::One, 0)?;
-    read(&mut history, four(2, 2, 2, 2)?)?;
-    tells(
-        rt.alloc(),
-        &history,
-        "event: 4 cpu 0 user read 0x5123 -> 0x9123 moments 2 2 2 2
+    },
+    Case {
+        name: "absent entry above the last",
+        version: Version::One,
+        before: &MAPPED,
+        events: &[Written::Access {
+            p: 0,
+            flags: READ,
+            la: 0x5123,
+            outcome: Outcome::Page(0x9123),
+            at: &[2, 2, 2, 2],
+        }],
+        told: "event: 4 cpu 0 user read 0x5123 -> 0x9123 moments 2 2 2 2
 level 4: moment 2 pcid 0x1 [0x1000] = 0x2007 table, written by event 0
 level 3: moment 2 pcid 0x1 [0x2000] = 0x3007 table, written by event 1
 level 2: moment 2 pcid 0x1 [0x3000] = 0x0 absent, never written
 wished: table at level 2, found absent
 other moments would: 4 4 4 4
 ",
-    )
-}
-
-#[test]
-fn moments_under_two_pcids(rt: HostRuntime) -> Result<(), Fail> {
-    let mut history = mapped(rt.alloc(), Version::One, 0)?;
-    add(
-        &mut history,
-        Event::MovCr3 {
-            p: 0,
-            operand: 0x1002,
-        },
-    )?;
-    read(&mut history, four(4, 4, 5, 5)?)?;
-    tells(
-        rt.alloc(),
-        &history,
-        "event: 5 cpu 0 user read 0x5123 -> 0x9123 moments 4 4 5 5
+    },
+    Case {
+        name: "moments under two pcids",
+        version: Version::One,
+        before: &MAPPED,
+        events: &[
+            Written::Cr3(0, 0x1002),
+            Written::Access {
+                p: 0,
+                flags: READ,
+                la: 0x5123,
+                outcome: Outcome::Page(0x9123),
+                at: &[4, 4, 5, 5],
+            },
+        ],
+        told: "event: 5 cpu 0 user read 0x5123 -> 0x9123 moments 4 4 5 5
 level 4: moment 4 pcid 0x1 [0x1000] = 0x2007 table, written by event 0
 level 3: moment 4 pcid 0x1 [0x2000] = 0x3007 table, written by event 1
 level 2: moment 5 pcid 0x2 [0x3000] = 0x4007 table, written by event 2
@@ -188,18 +94,22 @@ level 1: moment 5 pcid 0x2 [0x4028] = 0x9007 leaf, written by event 3
 pcids: 0x1 at moment 4, 0x2 at moment 5
 other moments would: 5 5 5 5
 ",
-    )
-}
-
-#[test]
-fn structure_entry_dropped_between_levels(rt: HostRuntime) -> Result<(), Fail> {
-    let mut history = mapped(rt.alloc(), Version::One, 0)?;
-    add(&mut history, Event::Invlpg { p: 0, la: 0x5000 })?;
-    read(&mut history, four(4, 4, 5, 5)?)?;
-    tells(
-        rt.alloc(),
-        &history,
-        "event: 5 cpu 0 user read 0x5123 -> 0x9123 moments 4 4 5 5
+    },
+    Case {
+        name: "structure entry dropped between levels",
+        version: Version::One,
+        before: &MAPPED,
+        events: &[
+            INVLPG,
+            Written::Access {
+                p: 0,
+                flags: READ,
+                la: 0x5123,
+                outcome: Outcome::Page(0x9123),
+                at: &[4, 4, 5, 5],
+            },
+        ],
+        told: "event: 5 cpu 0 user read 0x5123 -> 0x9123 moments 4 4 5 5
 level 4: moment 4 pcid 0x1 [0x1000] = 0x2007 table, written by event 0
 level 3: moment 4 pcid 0x1 [0x2000] = 0x3007 table, written by event 1
 level 2: moment 5 pcid 0x1 [0x3000] = 0x4007 table, written by event 2
@@ -207,19 +117,23 @@ level 1: moment 5 pcid 0x1 [0x4028] = 0x9007 leaf, written by event 3
 dropped: structure entry of level 3 by 4 cpu 0 invlpg 0x5000
 other moments would: 5 5 5 5
 ",
-    )
-}
-
-/// The page's entries never changed, so a walk at the event itself proves it.
-#[test]
-fn invlpg_of_an_unchanged_page(rt: HostRuntime) -> Result<(), Fail> {
-    let mut history = mapped(rt.alloc(), Version::One, 0)?;
-    add(&mut history, Event::Invlpg { p: 0, la: 0x5000 })?;
-    read(&mut history, four(4, 4, 4, 4)?)?;
-    tells(
-        rt.alloc(),
-        &history,
-        "event: 5 cpu 0 user read 0x5123 -> 0x9123 moments 4 4 4 4
+    },
+    // The page's entries never changed, so a walk at the event itself proves it.
+    Case {
+        name: "invlpg of an unchanged page",
+        version: Version::One,
+        before: &MAPPED,
+        events: &[
+            INVLPG,
+            Written::Access {
+                p: 0,
+                flags: READ,
+                la: 0x5123,
+                outcome: Outcome::Page(0x9123),
+                at: &[4, 4, 4, 4],
+            },
+        ],
+        told: "event: 5 cpu 0 user read 0x5123 -> 0x9123 moments 4 4 4 4
 level 4: moment 4 pcid 0x1 [0x1000] = 0x2007 table, written by event 0
 level 3: moment 4 pcid 0x1 [0x2000] = 0x3007 table, written by event 1
 level 2: moment 4 pcid 0x1 [0x3000] = 0x4007 table, written by event 2
@@ -227,22 +141,26 @@ level 1: moment 4 pcid 0x1 [0x4028] = 0x9007 leaf, written by event 3
 dropped: translation of level 1 by 4 cpu 0 invlpg 0x5000
 other moments would: 5 5 5 5
 ",
-    )
-}
-
-/// Event 4 leaves the page's translation, event 5 is the first that drops it, and event 6 comes too
-/// late to drop it.
-#[test]
-fn first_of_two_invlpgs(rt: HostRuntime) -> Result<(), Fail> {
-    let mut history = mapped(rt.alloc(), Version::One, 0)?;
-    add(&mut history, Event::Invlpg { p: 0, la: 0x6000 })?;
-    add(&mut history, Event::Invlpg { p: 0, la: 0x5000 })?;
-    add(&mut history, Event::Invlpg { p: 0, la: 0x5ff8 })?;
-    read(&mut history, four(4, 4, 4, 4)?)?;
-    tells(
-        rt.alloc(),
-        &history,
-        "event: 7 cpu 0 user read 0x5123 -> 0x9123 moments 4 4 4 4
+    },
+    // Event 4 leaves the page's translation, event 5 is the first that drops it, and event 6 comes
+    // too late to drop it.
+    Case {
+        name: "first of two invlpgs",
+        version: Version::One,
+        before: &MAPPED,
+        events: &[
+            Written::Invlpg(0, 0x6000),
+            INVLPG,
+            Written::Invlpg(0, 0x5ff8),
+            Written::Access {
+                p: 0,
+                flags: READ,
+                la: 0x5123,
+                outcome: Outcome::Page(0x9123),
+                at: &[4, 4, 4, 4],
+            },
+        ],
+        told: "event: 7 cpu 0 user read 0x5123 -> 0x9123 moments 4 4 4 4
 level 4: moment 4 pcid 0x1 [0x1000] = 0x2007 table, written by event 0
 level 3: moment 4 pcid 0x1 [0x2000] = 0x3007 table, written by event 1
 level 2: moment 4 pcid 0x1 [0x3000] = 0x4007 table, written by event 2
@@ -250,20 +168,24 @@ level 1: moment 4 pcid 0x1 [0x4028] = 0x9007 leaf, written by event 3
 dropped: translation of level 1 by 5 cpu 0 invlpg 0x5000
 other moments would: 7 7 7 7
 ",
-    )
-}
-
-/// No moment after the INVLPG reads the old leaf.
-#[test]
-fn stale_leaf_after_invlpg(rt: HostRuntime) -> Result<(), Fail> {
-    let mut history = mapped(rt.alloc(), Version::One, 0)?;
-    write(&mut history, 0x4028, 0)?;
-    add(&mut history, Event::Invlpg { p: 0, la: 0x5000 })?;
-    read(&mut history, four(4, 4, 4, 4)?)?;
-    tells(
-        rt.alloc(),
-        &history,
-        "event: 6 cpu 0 user read 0x5123 -> 0x9123 moments 4 4 4 4
+    },
+    // No moment after the INVLPG reads the old leaf.
+    Case {
+        name: "stale leaf after invlpg",
+        version: Version::One,
+        before: &MAPPED,
+        events: &[
+            Written::Write(0, 0x4028, 0),
+            INVLPG,
+            Written::Access {
+                p: 0,
+                flags: READ,
+                la: 0x5123,
+                outcome: Outcome::Page(0x9123),
+                at: &[4, 4, 4, 4],
+            },
+        ],
+        told: "event: 6 cpu 0 user read 0x5123 -> 0x9123 moments 4 4 4 4
 level 4: moment 4 pcid 0x1 [0x1000] = 0x2007 table, written by event 0
 level 3: moment 4 pcid 0x1 [0x2000] = 0x3007 table, written by event 1
 level 2: moment 4 pcid 0x1 [0x3000] = 0x4007 table, written by event 2
@@ -272,24 +194,22 @@ dropped: translation of level 1 by 5 cpu 0 invlpg 0x5000
 final: no moments prove this access
 last: moment 5 by 4 4 4 4; taken by 5 cpu 0 invlpg 0x5000
 ",
-    )
-}
-
-#[test]
-fn translation_of_another_pcid(rt: HostRuntime) -> Result<(), Fail> {
-    let mut history = mapped(rt.alloc(), Version::One, 0)?;
-    add(
-        &mut history,
-        Event::MovCr3 {
-            p: 0,
-            operand: 0x1002,
-        },
-    )?;
-    read(&mut history, four(4, 4, 4, 4)?)?;
-    tells(
-        rt.alloc(),
-        &history,
-        "event: 5 cpu 0 user read 0x5123 -> 0x9123 moments 4 4 4 4
+    },
+    Case {
+        name: "translation of another pcid",
+        version: Version::One,
+        before: &MAPPED,
+        events: &[
+            Written::Cr3(0, 0x1002),
+            Written::Access {
+                p: 0,
+                flags: READ,
+                la: 0x5123,
+                outcome: Outcome::Page(0x9123),
+                at: &[4, 4, 4, 4],
+            },
+        ],
+        told: "event: 5 cpu 0 user read 0x5123 -> 0x9123 moments 4 4 4 4
 level 4: moment 4 pcid 0x1 [0x1000] = 0x2007 table, written by event 0
 level 3: moment 4 pcid 0x1 [0x2000] = 0x3007 table, written by event 1
 level 2: moment 4 pcid 0x1 [0x3000] = 0x4007 table, written by event 2
@@ -297,18 +217,19 @@ level 1: moment 4 pcid 0x1 [0x4028] = 0x9007 leaf, written by event 3
 pcids: 0x1 at moment 4, 0x2 at moment 5
 other moments would: 5 5 5 5
 ",
-    )
-}
-
-#[test]
-fn absent_entry_read_before_the_fault(rt: HostRuntime) -> Result<(), Fail> {
-    let mut history = mapped(rt.alloc(), Version::One, 0)?;
-    let moments = four(3, 3, 3, 3)?;
-    access(&mut history, READ, 0x6000, Outcome::Fault(4), moments)?;
-    tells(
-        rt.alloc(),
-        &history,
-        "event: 4 cpu 0 user read 0x6000 -> fault 0x4 (user) moments 3 3 3 3
+    },
+    Case {
+        name: "absent entry read before the fault",
+        version: Version::One,
+        before: &MAPPED,
+        events: &[Written::Access {
+            p: 0,
+            flags: READ,
+            la: 0x6000,
+            outcome: Outcome::Fault(4),
+            at: &[3, 3, 3, 3],
+        }],
+        told: "event: 4 cpu 0 user read 0x6000 -> fault 0x4 (user) moments 3 3 3 3
 level 4: moment 3 pcid 0x1 [0x1000] = 0x2007 table, written by event 0
 level 3: moment 3 pcid 0x1 [0x2000] = 0x3007 table, written by event 1
 level 2: moment 3 pcid 0x1 [0x3000] = 0x4007 table, written by event 2
@@ -316,21 +237,24 @@ level 1: moment 3 pcid 0x1 [0x4030] = 0x0 absent, never written
 held: [0x4030] = 0x0 absent at the event, read at moment 3
 other moments would: 4 4 4 4
 ",
-    )
-}
-
-/// The leaf lost its write right by event 4, and the old translation went by event 5.
-#[test]
-fn rights_of_an_old_leaf(rt: HostRuntime) -> Result<(), Fail> {
-    let mut history = mapped(rt.alloc(), Version::One, 0)?;
-    write(&mut history, 0x4028, 0x9005)?;
-    add(&mut history, Event::Invlpg { p: 0, la: 0x5000 })?;
-    let moments = four(6, 6, 6, 6)?;
-    access(&mut history, WRITE, 0x5123, Outcome::Page(0x9123), moments)?;
-    tells(
-        rt.alloc(),
-        &history,
-        "event: 6 cpu 0 user write 0x5123 -> 0x9123 moments 6 6 6 6
+    },
+    // The leaf lost its write right by event 4, and the old translation went by event 5.
+    Case {
+        name: "rights of an old leaf",
+        version: Version::One,
+        before: &MAPPED,
+        events: &[
+            Written::Write(0, 0x4028, 0x9005),
+            INVLPG,
+            Written::Access {
+                p: 0,
+                flags: WRITE,
+                la: 0x5123,
+                outcome: Outcome::Page(0x9123),
+                at: &[6, 6, 6, 6],
+            },
+        ],
+        told: "event: 6 cpu 0 user write 0x5123 -> 0x9123 moments 6 6 6 6
 level 4: moment 6 pcid 0x1 [0x1000] = 0x2007 table, written by event 0
 level 3: moment 6 pcid 0x1 [0x2000] = 0x3007 table, written by event 1
 level 2: moment 6 pcid 0x1 [0x3000] = 0x4007 table, written by event 2
@@ -339,18 +263,19 @@ rights: -u- deny user write
 final: no moments prove this access
 last: moment 5 by 4 4 4 4; taken by 5 cpu 0 invlpg 0x5000
 ",
-    )
-}
-
-#[test]
-fn bit_flipped_in_an_answer(rt: HostRuntime) -> Result<(), Fail> {
-    let mut history = mapped(rt.alloc(), Version::One, 0)?;
-    let moments = four(4, 4, 4, 4)?;
-    access(&mut history, READ, 0x5123, Outcome::Page(0x9133), moments)?;
-    tells(
-        rt.alloc(),
-        &history,
-        "event: 4 cpu 0 user read 0x5123 -> 0x9133 moments 4 4 4 4
+    },
+    Case {
+        name: "bit flipped in an answer",
+        version: Version::One,
+        before: &MAPPED,
+        events: &[Written::Access {
+            p: 0,
+            flags: READ,
+            la: 0x5123,
+            outcome: Outcome::Page(0x9133),
+            at: &[4, 4, 4, 4],
+        }],
+        told: "event: 4 cpu 0 user read 0x5123 -> 0x9133 moments 4 4 4 4
 level 4: moment 4 pcid 0x1 [0x1000] = 0x2007 table, written by event 0
 level 3: moment 4 pcid 0x1 [0x2000] = 0x3007 table, written by event 1
 level 2: moment 4 pcid 0x1 [0x3000] = 0x4007 table, written by event 2
@@ -359,19 +284,20 @@ expected: 0x9123
 final: no moments prove this access
 last: never
 ",
-    )
-}
-
-/// With NXE on, the code of a fetch has bit 4.
-#[test]
-fn code_without_bit_4(rt: HostRuntime) -> Result<(), Fail> {
-    let mut history = mapped(rt.alloc(), Version::One, 0)?;
-    let moments = four(4, 4, 4, 4)?;
-    access(&mut history, FETCH, 0x6000, Outcome::Fault(4), moments)?;
-    tells(
-        rt.alloc(),
-        &history,
-        "event: 4 cpu 0 user fetch 0x6000 -> fault 0x4 (user) moments 4 4 4 4
+    },
+    // With NXE on, the code of a fetch has bit 4.
+    Case {
+        name: "code without bit 4",
+        version: Version::One,
+        before: &MAPPED,
+        events: &[Written::Access {
+            p: 0,
+            flags: FETCH,
+            la: 0x6000,
+            outcome: Outcome::Fault(4),
+            at: &[4, 4, 4, 4],
+        }],
+        told: "event: 4 cpu 0 user fetch 0x6000 -> fault 0x4 (user) moments 4 4 4 4
 level 4: moment 4 pcid 0x1 [0x1000] = 0x2007 table, written by event 0
 level 3: moment 4 pcid 0x1 [0x2000] = 0x3007 table, written by event 1
 level 2: moment 4 pcid 0x1 [0x3000] = 0x4007 table, written by event 2
@@ -380,17 +306,19 @@ expected: fault 0x14 (user fetch)
 final: no moments prove this access
 last: never
 ",
-    )
-}
-
-#[test]
-fn entry_used_without_accessed(rt: HostRuntime) -> Result<(), Fail> {
-    let mut history = mapped(rt.alloc(), Version::Two, 0)?;
-    read(&mut history, four(4, 4, 4, 4)?)?;
-    tells(
-        rt.alloc(),
-        &history,
-        "event: 4 cpu 0 user read 0x5123 -> 0x9123 moments 4 4 4 4
+    },
+    Case {
+        name: "entry used without accessed",
+        version: Version::Two,
+        before: &MAPPED,
+        events: &[Written::Access {
+            p: 0,
+            flags: READ,
+            la: 0x5123,
+            outcome: Outcome::Page(0x9123),
+            at: &[4, 4, 4, 4],
+        }],
+        told: "event: 4 cpu 0 user read 0x5123 -> 0x9123 moments 4 4 4 4
 level 4: moment 4 pcid 0x1 [0x1000] = 0x2007 table, written by event 0
 level 3: moment 4 pcid 0x1 [0x2000] = 0x3007 table, written by event 1
 level 2: moment 4 pcid 0x1 [0x3000] = 0x4007 table, written by event 2
@@ -399,18 +327,19 @@ accessed: bit 5 of [0x1000] = 0x2007 is 0
 final: no moments prove this access
 last: never
 ",
-    )
-}
-
-#[test]
-fn write_by_a_leaf_that_is_not_dirty(rt: HostRuntime) -> Result<(), Fail> {
-    let mut history = mapped(rt.alloc(), Version::Two, 0x20)?;
-    let moments = four(4, 4, 4, 4)?;
-    access(&mut history, WRITE, 0x5123, Outcome::Page(0x9123), moments)?;
-    tells(
-        rt.alloc(),
-        &history,
-        "event: 4 cpu 0 user write 0x5123 -> 0x9123 moments 4 4 4 4
+    },
+    Case {
+        name: "write by a leaf that is not dirty",
+        version: Version::Two,
+        before: &ACCESSED,
+        events: &[Written::Access {
+            p: 0,
+            flags: WRITE,
+            la: 0x5123,
+            outcome: Outcome::Page(0x9123),
+            at: &[4, 4, 4, 4],
+        }],
+        told: "event: 4 cpu 0 user write 0x5123 -> 0x9123 moments 4 4 4 4
 level 4: moment 4 pcid 0x1 [0x1000] = 0x2027 table, written by event 0
 level 3: moment 4 pcid 0x1 [0x2000] = 0x3027 table, written by event 1
 level 2: moment 4 pcid 0x1 [0x3000] = 0x4027 table, written by event 2
@@ -419,27 +348,18 @@ dirty: bit 6 of [0x4028] = 0x9027 is 0
 final: no moments prove this access
 last: never
 ",
-    )
-}
-
-#[test]
-fn assist_of_another_word(rt: HostRuntime) -> Result<(), Fail> {
-    let mut history = mapped(rt.alloc(), Version::Two, 0x20)?;
-    let moments = four(4, 4, 4, 4)?;
-    add(
-        &mut history,
-        Event::Assist {
-            p: 0,
+    },
+    Case {
+        name: "assist of another word",
+        version: Version::Two,
+        before: &ACCESSED,
+        events: &[Written::Assist {
             flags: WRITE + 16,
             la: 0x5123,
             word: 0x4030,
-            moments,
-        },
-    )?;
-    tells(
-        rt.alloc(),
-        &history,
-        "event: 4 cpu 0 user write 0x5123 assist [0x4030] accessed dirty moments 4 4 4 4
+            at: &[4, 4, 4, 4],
+        }],
+        told: "event: 4 cpu 0 user write 0x5123 assist [0x4030] accessed dirty moments 4 4 4 4
 level 4: moment 4 pcid 0x1 [0x1000] = 0x2027 table, written by event 0
 level 3: moment 4 pcid 0x1 [0x2000] = 0x3027 table, written by event 1
 level 2: moment 4 pcid 0x1 [0x3000] = 0x4027 table, written by event 2
@@ -448,30 +368,28 @@ assist: the word read last is [0x4028]
 final: no moments prove this assist
 last: never
 ",
-    )
-}
-
-/// Event 3 wrote the leaf, and the assist, event 4, set A and D in it.
-#[test]
-fn leaf_that_an_assist_wrote(rt: HostRuntime) -> Result<(), Fail> {
-    let mut history = mapped(rt.alloc(), Version::Two, 0x20)?;
-    let moments = four(4, 4, 4, 4)?;
-    add(
-        &mut history,
-        Event::Assist {
-            p: 0,
-            flags: WRITE + 16,
-            la: 0x5123,
-            word: 0x4028,
-            moments,
-        },
-    )?;
-    let moments = four(5, 5, 5, 5)?;
-    access(&mut history, WRITE, 0x5123, Outcome::Page(0x9133), moments)?;
-    tells(
-        rt.alloc(),
-        &history,
-        "event: 5 cpu 0 user write 0x5123 -> 0x9133 moments 5 5 5 5
+    },
+    // Event 3 wrote the leaf, and the assist, event 4, set A and D in it.
+    Case {
+        name: "leaf that an assist wrote",
+        version: Version::Two,
+        before: &ACCESSED,
+        events: &[
+            Written::Assist {
+                flags: WRITE + 16,
+                la: 0x5123,
+                word: 0x4028,
+                at: &[4, 4, 4, 4],
+            },
+            Written::Access {
+                p: 0,
+                flags: WRITE,
+                la: 0x5123,
+                outcome: Outcome::Page(0x9133),
+                at: &[5, 5, 5, 5],
+            },
+        ],
+        told: "event: 5 cpu 0 user write 0x5123 -> 0x9133 moments 5 5 5 5
 level 4: moment 5 pcid 0x1 [0x1000] = 0x2027 table, written by event 0
 level 3: moment 5 pcid 0x1 [0x2000] = 0x3027 table, written by event 1
 level 2: moment 5 pcid 0x1 [0x3000] = 0x4027 table, written by event 2
@@ -480,56 +398,119 @@ expected: 0x9123
 final: no moments prove this access
 last: never
 ",
-    )
+    },
+];
+
+/// What is told of the last event: nothing where it is witnessed.
+fn told_of(alloc: Global, history: &History) -> Result<String, Fail> {
+    let count = history.len();
+    if count == 0 {
+        return Err(Fail::from("no event"));
+    }
+    match explain(alloc, history, count - 1)? {
+        None => Ok(String::new(alloc)),
+        Some(explanation) => Ok(explanation_text(alloc, history.events(), &explanation)?),
+    }
+}
+
+fn is_told_in(alloc: Global, history: &mut History, case: &Case) -> Result<bool, Fail> {
+    add_all(history, case.before)?;
+    add_all(history, case.events)?;
+    Ok(told_of(alloc, history)?.as_str() == case.told)
+}
+
+fn is_told(alloc: Global, case: &Case) -> Result<bool, Fail> {
+    let mut history = started(alloc, case.version, 1)?;
+    is_told_in(alloc, &mut history, case)
+}
+
+fn tell_all(rt: &(impl AllocGlobal + Abort), cases: &[Case]) -> Result<(), Fail> {
+    for case in cases {
+        assert!(rt; is_told(rt.alloc(), case)?, "{}", case.name);
+    }
+    Ok(())
 }
 
 #[test]
-fn events_are_shown_a_line_each(rt: HostRuntime) -> Result<(), Fail> {
-    let events = [
-        Event::Write {
-            p: 0,
-            addr: 0x7008,
-            value: 0x74b0_0000_0000_b61f,
+fn explanations_of_the_last_event(rt: HostRuntime) -> Result<(), Fail> {
+    tell_all(&rt, &CASES)
+}
+
+/// Events of three processors, of each kind but assists.
+const EACH_KIND: [Written; 8] = [
+    Written::Write(0, 0x7008, 0x74b0_0000_0000_b61f),
+    Written::Access {
+        p: 2,
+        flags: FETCH,
+        la: 0x4020_0f38,
+        outcome: Outcome::Page(0x103_4f38),
+        at: &[44, 44, 44, 85],
+    },
+    Written::Access {
+        p: 1,
+        flags: WRITE,
+        la: 0x5000,
+        outcome: Outcome::Fault(7),
+        at: &[9, 9, 9, 9],
+    },
+    Written::Access {
+        p: 1,
+        flags: 8,
+        la: 0,
+        outcome: Outcome::Fault(0),
+        at: &[9],
+    },
+    Written::Invlpg(2, 0x4000_1f00),
+    Written::Invpcid(0, 0, 10, 0x5000),
+    Written::Cr3(0, 0x1002),
+    Written::Pge(0, false),
+];
+
+/// Events of three processors, of which the last names no address in the page of 0x5000.
+const OF_THREE: [Written; 10] = [
+    Written::Write(2, 0x4028, 0x9007),
+    Written::Cr3(0, 0x1002),
+    Written::Cr3(2, 0x1002),
+    Written::Access {
+        p: 0,
+        flags: READ,
+        la: 0x5ff8,
+        outcome: Outcome::Fault(4),
+        at: &[3, 3, 3, 3],
+    },
+    Written::Invlpg(1, 0x5000),
+    Written::Invlpg(1, 0x6000),
+    Written::Invpcid(2, 2, 0, 0),
+    Written::Pge(1, false),
+    Written::Pge(2, false),
+    Written::Assist {
+        flags: READ,
+        la: 0x6000,
+        word: 0x4028,
+        at: &[9, 9, 9, 9],
+    },
+];
+
+/// Events, and the lines of those that a filter lets through.
+struct Shown {
+    name: &'static str,
+    events: &'static [Written],
+    filter: Filter,
+    lines: &'static str,
+}
+
+const SHOWN: [Shown; 4] = [
+    Shown {
+        name: "all",
+        events: &EACH_KIND,
+        filter: Filter {
+            from: 0,
+            to: 4_294_967_295,
+            cpu: None,
+            page: None,
+            word: None,
         },
-        Event::Access {
-            p: 2,
-            flags: FETCH,
-            la: 0x4020_0f38,
-            outcome: Outcome::Page(0x103_4f38),
-            moments: four(44, 44, 44, 85)?,
-        },
-        Event::Access {
-            p: 1,
-            flags: WRITE,
-            la: 0x5000,
-            outcome: Outcome::Fault(7),
-            moments: four(9, 9, 9, 9)?,
-        },
-        Event::Access {
-            p: 1,
-            flags: 8,
-            la: 0,
-            outcome: Outcome::Fault(0),
-            moments: Moments::first(9),
-        },
-        Event::Invlpg {
-            p: 2,
-            la: 0x4000_1f00,
-        },
-        Event::Invpcid {
-            p: 0,
-            kind: 0,
-            pcid: 10,
-            la: 0x5000,
-        },
-        Event::MovCr3 {
-            p: 0,
-            operand: 0x1002,
-        },
-        Event::MovCr4Pge { p: 0, on: false },
-    ];
-    let text = shown_text(rt.alloc(), EACH, &events)?;
-    let expected = "0 cpu 0 write [0x7008] = 0x74b000000000b61f
+        lines: "0 cpu 0 write [0x7008] = 0x74b000000000b61f
 1 cpu 2 user fetch 0x40200f38 -> 0x1034f38 moments 44 44 44 85
 2 cpu 1 user write 0x5000 -> fault 0x7 (present write user) moments 9 9 9 9
 3 cpu 1 super-ac read 0x0 -> fault 0x0 moments 9
@@ -537,92 +518,66 @@ fn events_are_shown_a_line_each(rt: HostRuntime) -> Result<(), Fail> {
 5 cpu 0 invpcid 0 0xa 0x5000
 6 cpu 0 cr3 0x1002
 7 cpu 0 pge off
-";
-    if text.as_str() != expected {
-        return Err(Fail::from("other lines"));
-    }
-    Ok(())
+",
+    },
+    Shown {
+        name: "of a page",
+        events: &OF_THREE,
+        filter: Filter {
+            from: 0,
+            to: 4_294_967_295,
+            cpu: None,
+            page: Some(0x5123),
+            word: None,
+        },
+        lines: "1 cpu 0 cr3 0x1002
+3 cpu 0 user read 0x5ff8 -> fault 0x4 (user) moments 3 3 3 3
+4 cpu 1 invlpg 0x5000
+6 cpu 2 invpcid 2 0x0 0x0
+7 cpu 1 pge off
+",
+    },
+    Shown {
+        name: "of a word",
+        events: &OF_THREE,
+        filter: Filter {
+            from: 0,
+            to: 4_294_967_295,
+            cpu: None,
+            page: None,
+            word: Some(0x4028),
+        },
+        lines: "0 cpu 2 write [0x4028] = 0x9007
+9 cpu 0 user read 0x6000 assist [0x4028] accessed moments 9 9 9 9
+",
+    },
+    Shown {
+        name: "of a page and a processor",
+        events: &OF_THREE,
+        filter: Filter {
+            from: 5,
+            to: 4_294_967_295,
+            cpu: Some(1),
+            page: Some(0x5123),
+            word: None,
+        },
+        lines: "7 cpu 1 pge off\n",
+    },
+];
+
+fn is_shown(alloc: Global, shown: &Shown) -> Result<bool, Fail> {
+    let events = events_of(alloc, shown.events)?;
+    Ok(shown_text(alloc, shown.filter, &events)?.as_str() == shown.lines)
 }
 
-/// Events of three processors, of which the last names no address in the page of 0x5000.
-fn of_three_processors(alloc: Global) -> Result<Vec<Event>, Fail> {
-    let events = [
-        Event::Write {
-            p: 2,
-            addr: 0x4028,
-            value: 0x9007,
-        },
-        Event::MovCr3 {
-            p: 0,
-            operand: 0x1002,
-        },
-        Event::MovCr3 {
-            p: 2,
-            operand: 0x1002,
-        },
-        Event::Access {
-            p: 0,
-            flags: READ,
-            la: 0x5ff8,
-            outcome: Outcome::Fault(4),
-            moments: four(3, 3, 3, 3)?,
-        },
-        Event::Invlpg { p: 1, la: 0x5000 },
-        Event::Invlpg { p: 1, la: 0x6000 },
-        Event::Invpcid {
-            p: 2,
-            kind: 2,
-            pcid: 0,
-            la: 0,
-        },
-        Event::MovCr4Pge { p: 1, on: false },
-        Event::MovCr4Pge { p: 2, on: false },
-        Event::Assist {
-            p: 0,
-            flags: READ,
-            la: 0x6000,
-            word: 0x4028,
-            moments: four(9, 9, 9, 9)?,
-        },
-    ];
-    Ok(events.to_vec(alloc)?)
-}
-
-/// Fails where other lines are shown.
-fn shows(alloc: Global, filter: Filter, expected: &str) -> Result<(), Fail> {
-    let events = of_three_processors(alloc)?;
-    let text = shown_text(alloc, filter, &events)?;
-    if text.as_str() != expected {
-        return Err(Fail::from("other lines"));
+fn show_all(rt: &(impl AllocGlobal + Abort), cases: &[Shown]) -> Result<(), Fail> {
+    for shown in cases {
+        assert!(rt; is_shown(rt.alloc(), shown)?, "{}", shown.name);
     }
     Ok(())
 }
 
 #[test]
-fn events_of_a_page_a_word_and_a_processor_are_shown(rt: HostRuntime) -> Result<(), Fail> {
-    let page = Filter {
-        page: Some(0x5123),
-        ..EACH
-    };
-    let of_page = "1 cpu 0 cr3 0x1002
-3 cpu 0 user read 0x5ff8 -> fault 0x4 (user) moments 3 3 3 3
-4 cpu 1 invlpg 0x5000
-6 cpu 2 invpcid 2 0x0 0x0
-7 cpu 1 pge off
-";
-    shows(rt.alloc(), page, of_page)?;
-    let word = Filter {
-        word: Some(0x4028),
-        ..EACH
-    };
-    let of_word = "0 cpu 2 write [0x4028] = 0x9007
-9 cpu 0 user read 0x6000 assist [0x4028] accessed moments 9 9 9 9
-";
-    shows(rt.alloc(), word, of_word)?;
-    let both = Filter {
-        cpu: Some(1),
-        from: 5,
-        ..page
-    };
-    shows(rt.alloc(), both, "7 cpu 1 pge off\n")
+fn lines_of_events(rt: HostRuntime) -> Result<(), Fail> {
+    show_all(&rt, &SHOWN)
 }

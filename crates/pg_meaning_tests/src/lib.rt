@@ -13,3 +13,5 @@ mod runs;
 mod searches;
 #[cfg(test)]
 mod summaries;
+#[cfg(test)]
+mod written;

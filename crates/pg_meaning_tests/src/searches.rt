@@ -1,181 +1,246 @@
-ghost use Rattle.std.specs.Prelude.{◌≡◌, ◌<◌, IfOk, true, length, slice_get, IfSome};
-ghost use Rattle.pg_event.specs.Spelling.{IsHead};
-
+use crate::written::{ACCESSED, INVLPG, MAPPED, READ, WRITE, Written, add_all, started};
 use pg_certify::{Certified, certify};
 use pg_check::History;
-use pg_entry::{Cfg, CfgFlags};
-use pg_event::{Event, Header, Moments, Outcome, Version, well_formed};
+use pg_event::{Event, Moments, Outcome, Version};
 use pg_search::{find_moments, names_moments};
-use std::alloc::{AllocError, Global};
+use std::alloc::{AllocGlobal, Global};
+use std::process::Abort;
 use std::test::Fail;
 
-fn one_processor(alloc: Global, version: Version) -> Result<Header, AllocError>
-    ensures { IfOk result IsHead }
-{
-    let mut processors = Vec::new(alloc);
-    processors.push((0x1001, true))?;
-    Ok(Header {
-        version,
-        cfg: Cfg {
-            flags: CfgFlags(3),
-            m: 40,
-        },
-        segment: 16,
-        processors,
-    })
+/// Events that are added, and the freshest moments that are found for the last of them, if there
+/// are any. The moments that an event names are looked at by no search.
+struct Step {
+    events: &'static [Written],
+    found: Option<&'static [u32]>,
 }
 
-fn add(history: &mut History, event: Event) -> Result<(), Fail> {
-    if history.len() >= 100 {
-        return Err(Fail::from("full"));
-    }
-    match well_formed(history.header(), &event) {
-        Ok(()) => Ok(history.extend(&[event])?),
-        Err(_) => Err(Fail::from("malformed")),
-    }
+/// How memory is at first, and steps in one history.
+struct Case {
+    name: &'static str,
+    version: Version,
+    before: &'static [Written],
+    steps: &'static [Step],
 }
 
-fn write(history: &mut History, addr: u64, value: u64) -> Result<(), Fail> {
-    add(history, Event::Write { p: 0, addr, value })
-}
+/// The page is read, or written.
+const READ_PAGE: Written = Written::Access {
+    p: 0,
+    flags: READ,
+    la: 0x5123,
+    outcome: Outcome::Page(0x9123),
+    at: &[0],
+};
 
-/// A user access to 0x5123 with this outcome, whatever its moments.
-fn access(history: &mut History, flags: u8, outcome: Outcome) -> Result<(), Fail> {
-    add(
-        history,
-        Event::Access {
-            p: 0,
-            flags,
-            la: 0x5123,
-            outcome,
-            moments: Moments::first(0),
-        },
-    )
-}
+const WRITE_PAGE: Written = Written::Access {
+    p: 0,
+    flags: WRITE,
+    la: 0x5123,
+    outcome: Outcome::Page(0x9123),
+    at: &[0],
+};
 
-const READ: u8 = 4;
+/// Another page is read.
+const READ_OTHER: Written = Written::Access {
+    p: 0,
+    flags: READ,
+    la: 0x5123,
+    outcome: Outcome::Page(0x8123),
+    at: &[0],
+};
 
-const WRITE: u8 = 5;
+/// The page that the leaf maps once another was written.
+const READ_NEW: Written = Written::Access {
+    p: 0,
+    flags: READ,
+    la: 0x5123,
+    outcome: Outcome::Page(0xa123),
+    at: &[0],
+};
 
-/// The processor sets A, and D too where the flags say so, for a user access to 0x5123.
-fn assist(history: &mut History, flags: u8, word: u64) -> Result<(), Fail> {
-    add(
-        history,
-        Event::Assist {
-            p: 0,
-            flags,
-            la: 0x5123,
-            word,
-            moments: Moments::first(0),
-        },
-    )
-}
+/// A read meets an entry that is not present.
+const READ_ABSENT: Written = Written::Access {
+    p: 0,
+    flags: READ,
+    la: 0x5123,
+    outcome: Outcome::Fault(0x4),
+    at: &[0],
+};
 
-/// Wants these moments for the last event, or none.
-fn found(alloc: Global, history: &History, expected: Option<&[u32]>) -> Result<(), Fail> {
+const CASES: [Case; 8] = [
+    Case {
+        name: "fresh walk",
+        version: Version::One,
+        before: &MAPPED,
+        steps: &[Step {
+            events: &[READ_PAGE],
+            found: Some(&[4, 4, 4, 4]),
+        }],
+    },
+    Case {
+        name: "other page",
+        version: Version::One,
+        before: &MAPPED,
+        steps: &[Step {
+            events: &[READ_OTHER],
+            found: None,
+        }],
+    },
+    // The leaf is cleared by event 4. The old page is the freshest where it was read just before,
+    // and nothing gives it once the page was invalidated.
+    Case {
+        name: "stale leaf until it is invalidated",
+        version: Version::One,
+        before: &MAPPED,
+        steps: &[
+            Step {
+                events: &[Written::Write(0, 0x4028, 0), READ_PAGE],
+                found: Some(&[4, 4, 4, 4]),
+            },
+            Step {
+                events: &[INVLPG, READ_PAGE],
+                found: None,
+            },
+        ],
+    },
+    // The entries never changed, so a walk at the event itself gives the page, also after INVLPG.
+    Case {
+        name: "unchanged page after INVLPG",
+        version: Version::One,
+        before: &MAPPED,
+        steps: &[Step {
+            events: &[READ_PAGE, INVLPG, READ_PAGE],
+            found: Some(&[6, 6, 6, 6]),
+        }],
+    },
+    // The table of level 3 is replaced by event 4 with an empty one. A fault by the new one is read
+    // at its own event, and the page is found below the old one, which was last read just before.
+    Case {
+        name: "either table where one was replaced",
+        version: Version::One,
+        before: &MAPPED,
+        steps: &[
+            Step {
+                events: &[
+                    Written::Write(0, 0x1000, 0x6007),
+                    Written::Write(0, 0x4028, 0xa007),
+                    READ_NEW,
+                ],
+                found: Some(&[4, 6, 6, 6]),
+            },
+            Step {
+                events: &[READ_ABSENT],
+                found: Some(&[7, 7]),
+            },
+        ],
+    },
+    // The root's entry is replaced by event 1, so that a walk at event 2 finds no entry of level 3
+    // in the new table, nor in the old one. Moments 1 and 2 would do, and 2 and 2 are fresher.
+    Case {
+        name: "freshest of two walks",
+        version: Version::One,
+        before: &[],
+        steps: &[Step {
+            events: &[
+                Written::Write(0, 0x1000, 0x2007),
+                Written::Write(0, 0x1000, 0x6007),
+                READ_ABSENT,
+            ],
+            found: Some(&[2, 2]),
+        }],
+    },
+    // In version 2 an entry is used only once A is set: by an assist, level 4 first.
+    Case {
+        name: "accessed flags first",
+        version: Version::Two,
+        before: &MAPPED,
+        steps: &[
+            Step {
+                events: &[READ_PAGE],
+                found: None,
+            },
+            Step {
+                events: &[Written::Assist {
+                    flags: READ,
+                    la: 0x5123,
+                    word: 0x2000,
+                    at: &[0],
+                }],
+                found: None,
+            },
+        ],
+    },
+    // A leaf is used for a write only once D is set.
+    Case {
+        name: "dirty flag first",
+        version: Version::Two,
+        before: &ACCESSED,
+        steps: &[
+            Step {
+                events: &[WRITE_PAGE],
+                found: None,
+            },
+            Step {
+                events: &[Written::Assist {
+                    flags: WRITE + 16,
+                    la: 0x5123,
+                    word: 0x4028,
+                    at: &[0],
+                }],
+                found: Some(&[5, 5, 5, 5]),
+            },
+            Step {
+                events: &[WRITE_PAGE],
+                found: Some(&[6, 6, 6, 6]),
+            },
+        ],
+    },
+];
+
+/// The moments that are found for the last event, or that none are.
+fn found_of(alloc: Global, history: &History) -> Result<Option<Moments>, Fail> {
     let count = history.len();
     if count == 0 || !names_moments(&history.events()[(count - 1) as usize]) {
         return Err(Fail::from("names no moments"));
     }
-    let given = find_moments(alloc, history, count - 1)?;
-    let is_right = match (&given, expected) {
+    Ok(find_moments(alloc, history, count - 1)?)
+}
+
+/// Adds events, and says whether what is found for the last is as the step says.
+fn finds(alloc: Global, history: &mut History, step: &Step) -> Result<bool, Fail> {
+    add_all(history, step.events)?;
+    Ok(match (found_of(alloc, history)?, step.found) {
         (Some(moments), Some(wanted)) => moments.as_slice() == wanted,
         (None, None) => true,
         (Some(_), None) | (None, Some(_)) => false,
-    };
-    if !is_right {
-        return Err(Fail::from("other moments"));
+    })
+}
+
+/// Takes all steps of a case in a history.
+fn finds_in(alloc: Global, history: &mut History, case: &Case) -> Result<bool, Fail> {
+    add_all(history, case.before)?;
+    for step in case.steps {
+        if !finds(alloc, history, step)? {
+            return Ok(false);
+        }
+    }
+    Ok(true)
+}
+
+fn finds_all(alloc: Global, case: &Case) -> Result<bool, Fail> {
+    let mut history = started(alloc, case.version, 1)?;
+    finds_in(alloc, &mut history, case)
+}
+
+fn find_all(rt: &(impl AllocGlobal + Abort), cases: &[Case]) -> Result<(), Fail> {
+    for case in cases {
+        assert!(rt; finds_all(rt.alloc(), case)?, "{}", case.name);
     }
     Ok(())
 }
 
-/// Four writes that map linear 0x5000 to physical 0x9000, with these bits in each entry.
-fn mapped(alloc: Global, version: Version, bits: u64) -> Result<History, Fail> {
-    let mut history = History::new(alloc, one_processor(alloc, version)?)?;
-    write(&mut history, 0x1000, 0x2007 | bits)?;
-    write(&mut history, 0x2000, 0x3007 | bits)?;
-    write(&mut history, 0x3000, 0x4007 | bits)?;
-    write(&mut history, 0x4028, 0x9007 | bits)?;
-    Ok(history)
-}
-
 #[test]
-fn fresh_walk_is_found(rt: HostRuntime) -> Result<(), Fail> {
-    let mut history = mapped(rt.alloc(), Version::One, 0)?;
-    access(&mut history, READ, Outcome::Page(0x9123))?;
-    found(rt.alloc(), &history, Some(&[4, 4, 4, 4]))
-}
-
-#[test]
-fn other_page_is_not_found(rt: HostRuntime) -> Result<(), Fail> {
-    let mut history = mapped(rt.alloc(), Version::One, 0)?;
-    access(&mut history, READ, Outcome::Page(0x8123))?;
-    found(rt.alloc(), &history, None)
-}
-
-/// The leaf is cleared by event 4. The old page is the freshest where it was read just before, and
-/// nothing gives it once the page was invalidated.
-#[test]
-fn stale_leaf_is_found_until_invalidated(rt: HostRuntime) -> Result<(), Fail> {
-    let mut history = mapped(rt.alloc(), Version::One, 0)?;
-    write(&mut history, 0x4028, 0)?;
-    access(&mut history, READ, Outcome::Page(0x9123))?;
-    found(rt.alloc(), &history, Some(&[4, 4, 4, 4]))?;
-    add(&mut history, Event::Invlpg { p: 0, la: 0x5000 })?;
-    access(&mut history, READ, Outcome::Page(0x9123))?;
-    found(rt.alloc(), &history, None)
-}
-
-/// The entries never changed, so a walk at the event itself gives the page, also after INVLPG.
-#[test]
-fn unchanged_page_is_found_after_invlpg(rt: HostRuntime) -> Result<(), Fail> {
-    let mut history = mapped(rt.alloc(), Version::One, 0)?;
-    access(&mut history, READ, Outcome::Page(0x9123))?;
-    add(&mut history, Event::Invlpg { p: 0, la: 0x5000 })?;
-    access(&mut history, READ, Outcome::Page(0x9123))?;
-    found(rt.alloc(), &history, Some(&[6, 6, 6, 6]))
-}
-
-/// The table of level 3 is replaced by event 4 with an empty one. A fault by the new one is read at
-/// its own event, and the page is found below the old one, which was last read just before.
-#[test]
-fn either_table_is_found_where_one_was_replaced(rt: HostRuntime) -> Result<(), Fail> {
-    let mut history = mapped(rt.alloc(), Version::One, 0)?;
-    write(&mut history, 0x1000, 0x6007)?;
-    write(&mut history, 0x4028, 0xa007)?;
-    access(&mut history, READ, Outcome::Page(0xa123))?;
-    found(rt.alloc(), &history, Some(&[4, 6, 6, 6]))?;
-    access(&mut history, READ, Outcome::Fault(0x4))?;
-    found(rt.alloc(), &history, Some(&[7, 7]))
-}
-
-/// The root's entry is replaced by event 1, so that a walk at event 2 finds no entry of level 3 in
-/// the new table, nor in the old one. Moments 1 and 2 would do, and 2 and 2 are fresher.
-#[test]
-fn freshest_of_two_walks_is_found(rt: HostRuntime) -> Result<(), Fail> {
-    let mut history = History::new(rt.alloc(), one_processor(rt.alloc(), Version::One)?)?;
-    write(&mut history, 0x1000, 0x2007)?;
-    write(&mut history, 0x1000, 0x6007)?;
-    access(&mut history, READ, Outcome::Fault(0x4))?;
-    found(rt.alloc(), &history, Some(&[2, 2]))
-}
-
-/// In version 2 an entry is used only once A is set, and a leaf for a write only once D is: the
-/// assists that set them are found, and then the write.
-#[test]
-fn assists_are_found_before_their_write(rt: HostRuntime) -> Result<(), Fail> {
-    let mut history = mapped(rt.alloc(), Version::Two, 0)?;
-    access(&mut history, READ, Outcome::Page(0x9123))?;
-    found(rt.alloc(), &history, None)?;
-    assist(&mut history, READ, 0x2000)?;
-    found(rt.alloc(), &history, None)?;
-    let mut history = mapped(rt.alloc(), Version::Two, 0x20)?;
-    access(&mut history, WRITE, Outcome::Page(0x9123))?;
-    found(rt.alloc(), &history, None)?;
-    assist(&mut history, WRITE + 16, 0x4028)?;
-    found(rt.alloc(), &history, Some(&[5, 5, 5, 5]))?;
-    access(&mut history, WRITE, Outcome::Page(0x9123))?;
-    found(rt.alloc(), &history, Some(&[6, 6, 6, 6]))
+fn freshest_moments_are_found(rt: HostRuntime) -> Result<(), Fail> {
+    find_all(&rt, &CASES)
 }
 
 /// The moment at which the last event reads the entry that it reads last.
@@ -186,17 +251,33 @@ fn last_moment(events: &[Event]) -> Option<u32> {
     }
 }
 
+/// How many events are certified once these are added, and the last moment.
+fn certified(
+    alloc: Global,
+    history: &mut History,
+    events: &[Written],
+) -> Result<Option<(usize, Option<u32>)>, Fail> {
+    add_all(history, events)?;
+    match certify(alloc, history)? {
+        Certified::Yes(found) => Ok(Some((found.len(), last_moment(&found)))),
+        Certified::No(_) => Ok(None),
+    }
+}
+
 /// The leaf stands from moment 4 on, and event 4 clears it.
+const STALE_LEAF: [Written; 6] = [
+    Written::Write(0, 0x1000, 0x2007),
+    Written::Write(0, 0x2000, 0x3007),
+    Written::Write(0, 0x3000, 0x4007),
+    Written::Write(0, 0x4028, 0x9007),
+    Written::Write(0, 0x4028, 0),
+    READ_PAGE,
+];
+
 #[test]
 fn a_stale_leaf_is_certified_by_its_one_moment(rt: HostRuntime) -> Result<(), Fail> {
-    let mut history = mapped(rt.alloc(), Version::One, 0)?;
-    write(&mut history, 0x4028, 0)?;
-    access(&mut history, READ, Outcome::Page(0x9123))?;
-    match certify(rt.alloc(), &history)? {
-        Certified::Yes(found) => {
-            assert!(rt; found.len() == 6 && last_moment(&found) == Some(4));
-            Ok(())
-        }
-        Certified::No(_) => Err(Fail::from("no moments")),
-    }
+    let mut history = started(rt.alloc(), Version::One, 1)?;
+    let certified = certified(rt.alloc(), &mut history, &STALE_LEAF)?;
+    assert!(rt; certified == Some((6, Some(4))));
+    Ok(())
 }
