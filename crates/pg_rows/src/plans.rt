@@ -176,7 +176,12 @@ const PLANNED: [(&[&str], Plan); 20] = [
         },
     ),
     (
-        &["show", "--word=0xffffffffffffffff", "--page", "0xffff800000000000"],
+        &[
+            "show",
+            "--word=0xffffffffffffffff",
+            "--page",
+            "0xffff800000000000",
+        ],
         Plan {
             command: Command::Show,
             selection: Selection {
