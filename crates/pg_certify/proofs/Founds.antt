@@ -8,7 +8,7 @@ use Rattle.pg_event.specs.Heads.{Head}
 use Rattle.pg_event.specs.Form.{broken_rule, processor_of}
 use Rattle.pg_event.specs.Spelling.{Recorded, AreMoments}
 use Rattle.pg_event.specs.Witness.{failing_event}
-use Rattle.pg_chain.specs.declared.history.Past.{Past}
+use Rattle.pg_chain.specs.declared.past.Past.{Past}
 use Rattle.pg_chain.specs.Standing.{IsPast, processor_count}
 use Rattle.pg_chain.proofs.Notes.{processor_count-past}
 use Rattle.pg_check.proofs.Known.{processor-known}

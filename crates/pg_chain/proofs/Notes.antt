@@ -19,7 +19,7 @@ use Rattle.pg_state.specs.Controls as controls
 use Rattle.pg_state.proofs.Known as registers
 use Rattle.pg_inval.specs.Drops as drops
 use Rattle.pg_inval.proofs.Kept as dropped
-use Rattle.pg_chain.specs.declared.history.Past.{Past}
+use Rattle.pg_chain.specs.declared.past.Past.{Past}
 use Rattle.pg_chain.specs.Standing.{IsPast, IsNext, processor_count}
 
 -- the next event comes after all that was noted

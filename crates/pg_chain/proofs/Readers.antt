@@ -5,7 +5,7 @@ use Rattle.pg_event.specs.declared.event.Event.{Event}
 use Rattle.pg_event.specs.declared.control.Control.{Control}
 use Rattle.pg_event.specs.Heads.{Head}
 use Rattle.pg_event.specs.Values.{mem_at, control_at}
-use Rattle.pg_chain.specs.declared.history.Past.{Past}
+use Rattle.pg_chain.specs.declared.past.Past.{Past}
 use Rattle.pg_chain.specs.declared.reader.Word.{Word}
 use Rattle.pg_chain.specs.declared.reader.Spell.{Spell}
 use Rattle.pg_chain.specs.Standing.{IsPast}

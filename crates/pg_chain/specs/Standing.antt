@@ -8,7 +8,7 @@ use Rattle.pg_event.specs.Heads.{Head}
 use Rattle.pg_moment.specs.Versions as versions
 use Rattle.pg_state.specs.Controls as controls
 use Rattle.pg_inval.specs.Drops as drops
-use Rattle.pg_chain.specs.declared.history.Past.{Past}
+use Rattle.pg_chain.specs.declared.past.Past.{Past}
 
 -- how many processors it knows
 abbrev pub processor_count : Past → ℕ

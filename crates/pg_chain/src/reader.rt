@@ -11,7 +11,7 @@ ghost use Rattle.pg_inval.specs.Lists.{IsFirstDrop};
 ghost use Rattle.pg_chain.specs.Standing.{IsPast, processor_count};
 ghost use Rattle.pg_chain.specs.Known.{IsWord, IsSpell};
 
-use crate::history::Past;
+use crate::past::Past;
 use pg_entry::Cfg;
 use pg_event::Control;
 use pg_timeline::{Probes, Span};
@@ -43,7 +43,7 @@ pub struct Reader<'a> {
 }
 
 impl<'a> Model for Reader<'a> {
-    ghost use Rattle.pg_chain.specs.declared.history.Past.{Past};
+    ghost use Rattle.pg_chain.specs.declared.past.Past.{Past};
     ghost use Rattle.pg_chain.specs.Known.{AreKnown};
 
     ghost Value = { Past };

@@ -23,7 +23,7 @@ use Rattle.pg_event.specs.Witness.{leads_to, is_in_order, is_one_context, last_o
 use Rattle.pg_inval.specs.Drops.{CacheEntry, Structure, Translation, MayBeCached, IsTableLevel, must_drop}
 use Rattle.pg_inval.specs.Lists.{IsFirstDrop}
 use Rattle.pg_inval.proofs.AnyFrom.{not-not}
-use Rattle.pg_chain.specs.declared.history.Past.{Past}
+use Rattle.pg_chain.specs.declared.past.Past.{Past}
 use Rattle.pg_chain.specs.Standing.{IsPast}
 use Rattle.pg_chain.specs.Walked.{chain_of, chain_through, ended}
 use Rattle.pg_check.specs.declared.lasting.Lasting.{Lasting}

@@ -5,7 +5,7 @@ use Rattle.std.proofs.lemmas.Result.{on_ok_weaker, on_err_weaker}
 use Rattle.pg_event.specs.declared.event.Event.{Event}
 use Rattle.pg_event.specs.declared.event.Reason.{Reason}
 use Rattle.pg_event.specs.Heads.{Head}
-use Rattle.pg_chain.specs.declared.history.Past.{Past}
+use Rattle.pg_chain.specs.declared.past.Past.{Past}
 use Rattle.pg_chain.specs.Standing.{IsPast}
 use Rattle.pg_check.specs.Judging.{Findings, IsJudged, MayFollow, Awaits, IsFound}
 use Rattle.pg_check.proofs.Firsts.{first_bad-found}

@@ -5,7 +5,7 @@ ghost use Rattle.pg_event.specs.declared.event.Event.{Event};
 ghost use Rattle.pg_event.specs.declared.event.Want.TheVariants.{Leaf};
 ghost use Rattle.pg_event.specs.Heads.{Head};
 ghost use Rattle.pg_event.specs.Values.{control_at};
-ghost use Rattle.pg_chain.specs.declared.history.Past.{Past};
+ghost use Rattle.pg_chain.specs.declared.past.Past.{Past};
 ghost use Rattle.pg_chain.specs.Standing.{IsPast, processor_count};
 ghost use Rattle.pg_check.specs.Lasting.{IsAsked, IsWalk};
 ghost use Rattle.pg_check.specs.Remembered.{HasWalk, HaveWalks, IsWithin, walk_in};
@@ -100,7 +100,7 @@ pub struct Memo<'a> {
 }
 
 impl<'a> Model for Memo<'a> {
-    ghost use Rattle.pg_chain.specs.declared.history.Past.{Past};
+    ghost use Rattle.pg_chain.specs.declared.past.Past.{Past};
 
     ghost Value = { Past };
 

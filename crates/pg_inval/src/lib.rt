@@ -2,8 +2,8 @@
 #![tactic(auto)]
 
 mod dropped;
-mod history;
+mod drops;
 mod key;
 mod lists;
 
-pub use history::Drops;
+pub use drops::Drops;

@@ -8,7 +8,7 @@ ghost use Rattle.pg_pool.specs.Rounds.{AreCheckers, numbers};
 use crate::error::PoolError;
 use crate::gate::Gate;
 use crate::judge::Judge;
-use crate::judging::judge_round;
+use crate::rounds::judge_round;
 use crate::round::Round;
 use pg_check::{Memo, SegmentVerdict, Stretch};
 use std::alloc::Global;

@@ -8,7 +8,7 @@ use pg_check::{Memo, SegmentVerdict};
 
 /// What judges segments by their numbers, for many threads at once.
 pub(crate) trait Judge: Sync {
-    ghost use Rattle.pg_chain.specs.declared.history.Past.{Past};
+    ghost use Rattle.pg_chain.specs.declared.past.Past.{Past};
     ghost use Rattle.pg_pool.specs.declared.round.Round.{Round};
 
     // The segments that it can judge.

@@ -4,13 +4,13 @@
 mod auditor;
 mod checker;
 mod close;
-mod crew;
+mod checkers;
 mod deal;
 mod error;
 mod gate;
 mod hand;
 mod judge;
-mod judging;
+mod rounds;
 mod placing;
 mod round;
 mod rule;

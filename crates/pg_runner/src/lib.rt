@@ -2,13 +2,13 @@
 #![tactic(auto)]
 
 mod error;
-mod judging;
+mod record_report;
 mod result;
 mod single;
 mod turns;
 
 pub use error::RunError;
-pub use judging::report_from_bytes;
+pub use record_report::report_from_bytes;
 pub use result::RunResult;
 pub use single::{run_single, transcripts_of};
 pub use turns::turn;

@@ -8,7 +8,7 @@ ghost use Rattle.pg_runner.specs.Lines.{AreCarriedOut, IsSingleRun};
 ghost use Rattle.pg_runner.specs.Runs.{record_of};
 
 use crate::error::RunError;
-use crate::judging::report_from_bytes;
+use crate::record_report::report_from_bytes;
 use crate::result::RunResult;
 use crate::turns::turn;
 use pg_guest::{Processor, processors};

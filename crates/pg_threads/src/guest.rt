@@ -7,7 +7,7 @@ ghost use Rattle.pg_runner.specs.Runs.{record_of};
 ghost use Rattle.pg_threads.specs.Guests.{IsGuestRun};
 ghost use Rattle.pg_threads.specs.Live.{IsWant};
 
-use crate::crew::run_processors;
+use crate::processor_threads::run_processors;
 use crate::ending::ended;
 use crate::lookout::Lookout;
 use crate::watched::Watched;

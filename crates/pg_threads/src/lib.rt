@@ -1,7 +1,7 @@
 //! Runs of guest scripts whose processors carry their instructions out in threads.
 #![tactic(auto)]
 
-mod crew;
+mod processor_threads;
 mod ending;
 mod guest;
 mod lookout;

@@ -6,7 +6,7 @@ use Rattle.pg_chain.specs.Walked.{chain_of, structures_kept}
 use Rattle.pg_chain.proofs.Walks.{chain_of-known, drop-moment}
 use Rattle.pg_event.specs.declared.event.Event.{Event}
 use Rattle.pg_event.specs.Heads.{Head}
-use Rattle.pg_chain.specs.declared.history.Past.{Past}
+use Rattle.pg_chain.specs.declared.past.Past.{Past}
 use Rattle.pg_chain.specs.Standing.{IsPast}
 use Rattle.pg_chain.proofs.walker.chain_by.Goals as goal
 

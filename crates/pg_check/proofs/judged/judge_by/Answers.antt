@@ -1,7 +1,7 @@
 use Rattle.std.proofs.Common.{◌+◌, ◌<◌, ◌∙◌, length, sym, subst, arith}
 use Rattle.std.specs.List.{AllByRecursion}
 use Rattle.pg_event.specs.Form.{processor_of}
-use Rattle.pg_chain.specs.declared.history.Past.{Past}
+use Rattle.pg_chain.specs.declared.past.Past.{Past}
 use Rattle.pg_chain.specs.Standing.{processor_count}
 use Rattle.pg_check.specs.Remembered.{HaveWalks}
 use Rattle.pg_check.proofs.Grown.{walks_later}

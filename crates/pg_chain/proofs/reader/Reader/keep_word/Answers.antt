@@ -1,5 +1,5 @@
 use Rattle.std.proofs.Common.{sym, subst, Some}
-use Rattle.pg_chain.specs.declared.history.Past.{Past}
+use Rattle.pg_chain.specs.declared.past.Past.{Past}
 use Rattle.pg_chain.specs.Known.{IsWord, IfKept}
 use Rattle.pg_chain.proofs.Readers.{all_set}
 use Rattle.pg_chain.proofs.reader.Reader.keep_word.Goals as goal

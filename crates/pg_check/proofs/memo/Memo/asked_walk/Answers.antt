@@ -1,5 +1,5 @@
 use Rattle.std.proofs.Common.{Ok, sym, ap, subst, ◌∙◌}
-use Rattle.pg_chain.specs.declared.history.Past.{Past}
+use Rattle.pg_chain.specs.declared.past.Past.{Past}
 use Rattle.pg_chain.specs.declared.steps.Chain.{Chain}
 use Rattle.pg_chain.specs.Standing.{IsPast}
 use Rattle.pg_check.specs.Remembered.{HaveWalks}

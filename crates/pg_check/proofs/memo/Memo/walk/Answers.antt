@@ -1,6 +1,6 @@
 use Rattle.std.proofs.Common.{refl, sym, subst}
 use Rattle.pg_event.specs.declared.event.Want.{Want}
-use Rattle.pg_chain.specs.declared.history.Past.{Past}
+use Rattle.pg_chain.specs.declared.past.Past.{Past}
 use Rattle.pg_chain.specs.Standing.{IsPast}
 use Rattle.pg_event.specs.declared.event.Want.TheVariants as wants
 use Rattle.pg_check.specs.Lasting.{IsWalk}

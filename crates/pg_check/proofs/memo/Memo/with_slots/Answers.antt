@@ -1,5 +1,5 @@
 use Rattle.std.proofs.Common.{sym, subst}
-use Rattle.pg_chain.specs.declared.history.Past.{Past}
+use Rattle.pg_chain.specs.declared.past.Past.{Past}
 use Rattle.pg_check.specs.Remembered.{HaveWalks}
 use Rattle.pg_check.proofs.memo.Memo.with_slots.Goals as goal
 

@@ -1,4 +1,0 @@
-use Rattle.pg_chain.proofs.history.Past.first_drop_of_translation.Goals as goal
-
-pub returns-clause-run : goal.returns-clause-run
-returns-clause-run c = λ head events h. c.first_drop_of_translation.ensures.run head events h.drops

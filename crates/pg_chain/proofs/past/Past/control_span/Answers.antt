@@ -1,0 +1,4 @@
+use Rattle.pg_chain.proofs.past.Past.control_span.Goals as goal
+
+pub returns-clause-run : goal.returns-clause-run
+returns-clause-run c = λ head events h. c.control_span.ensures.run head events h.controls

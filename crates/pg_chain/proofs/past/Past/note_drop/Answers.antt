@@ -1,0 +1,18 @@
+use Rattle.std.proofs.Common.{◌≡◌, ℕ, [], ◌∷◌, ap, subst, ◌∙◌}
+use Rattle.pg_event.specs.Form.{processor_of}
+use Rattle.pg_event.specs.Values.{control_at}
+use Rattle.pg_state.proofs.Known as registers
+use Rattle.pg_inval.specs.Drops as drops
+use Rattle.pg_inval.proofs.Kept as dropped
+use Rattle.pg_chain.proofs.past.Past.note_drop.Goals as goal
+
+pub returns-in-Err-note-clause-err : goal.returns-in-Err-note-clause-err
+returns-in-Err-note-clause-err c = λ head events h count.
+    let D : ℕ → Type 0 = λ n. drops.IsCutAt c.note.new.self c.forget_from.new.self n in
+    let read : c.control_at-before.result ≡ control_at head events (processor_of c.args.event.now) c.args.moment =
+    c.control_at-before.ensures.run head events h.controls ∙ ap (λ q. control_at head events q c.args.moment) c.processor_of.ensures in
+    record {
+      versions = h.versions;
+      controls = registers.StandsFor-same c.args.self.now.controls c.note-in-Ok.new.self head events h.controls c.in-Err-note.ensures.err;
+      drops = dropped.StandsFor-cut c.note.new.self c.forget_from.new.self head events (c.args.event.now ∷ []) (c.in-Ok.ensures.run head events h.drops count read) (subst D count c.forget_from.ensures);
+    }

@@ -1,0 +1,83 @@
+//! A round from its start to its verdicts.
+ghost use Rattle.std.specs.Prelude.{◌≡◌, ◌≢◌, ◌-◌, ◌≤◌, ◌<◌, All, IfOk, IfErr, OnOk, length, map};
+ghost use Rattle.std.specs.Prelude.{vec_len};
+ghost use Rattle.pg_pool.specs.Rounds.{AreCheckers};
+ghost use Rattle.pg_pool.specs.Verdicts.{Found, verdicts_of};
+ghost use Rattle.pg_pool.specs.Work.{IsDone};
+
+use crate::checker::Done;
+use crate::close::close_round;
+use crate::checkers::run_checkers;
+use crate::deal::open_round;
+use crate::error::PoolError;
+use crate::gate::Gate;
+use crate::judge::Judge;
+use crate::placing::{judge_left, place_done};
+use crate::round::Round;
+use crate::seat::Seat;
+use pg_check::SegmentVerdict;
+use std::alloc::{AllocError, Global};
+use std::sync::Wait;
+use std::thread::Threads;
+
+/// What stands at a place until its verdict comes.
+const NO_VERDICT: SegmentVerdict = SegmentVerdict {
+    number: 0,
+    first_bad: None,
+};
+
+fn seats_of(alloc: Global, done: Vec<Done>) -> Result<Vec<Seat>, AllocError>
+    ensures { IfOk result (λ seats. seats.items ≡ map (λ d. d.seat) done.items) }
+{
+    done.into_iter().map(|one| one.into_seat()).collect(alloc)
+}
+
+/// Puts all verdicts of a round to their places: those that its checkers gave, and those of the
+/// segments that none of them took, which it judges as the worker with the number given.
+fn gather<J: Judge, G: Gate>(
+    alloc: Global,
+    judge: &J,
+    gate: &G,
+    round: Round,
+    worker: u32,
+    done: Vec<Done>,
+    verdicts: &mut [SegmentVerdict],
+) -> Result<(), AllocError>
+    requires ordered { round.first ≤ round.last }
+    requires round { round ≡ J.round judge.now }
+    requires room { length verdicts.old ≡ round.last - round.first }
+    requires some { 0 < vec_len done }
+    requires done { All (IsDone (J.finds judge.now) round) done.items }
+    ensures { (found : Found) → J.finds judge.now found →
+        OnOk result (verdicts.new ≡ verdicts_of found round) }
+{
+    place_done(verdicts, round.first, &done);
+    let left = close_round(alloc, seats_of(alloc, done)?)?;
+    judge_left(judge, gate, worker, verdicts, round.first, &left);
+    Ok(())
+}
+
+/// The verdicts of a round's segments, in order, by so many checkers. The calling thread judges
+/// what they left, as the worker after the last of them.
+pub(crate) fn judge_round<R: Threads + Wait + Sync, J: Judge, G: Gate>(
+    rt: &R,
+    alloc: Global,
+    judge: &J,
+    gate: &G,
+    round: Round,
+    checkers: u32,
+) -> Result<Vec<SegmentVerdict>, PoolError>
+    requires ordered { round.first ≤ round.last }
+    requires round { round ≡ J.round judge.now }
+    requires checkers { AreCheckers checkers }
+    ensures ok { (found : Found) → J.finds judge.now found →
+        IfOk result (λ verdicts. verdicts.items ≡ verdicts_of found round) }
+    ensures err { IfErr result (λ e. e ≢ PoolError.Checkers) }
+{
+    let count = (round.last - round.first) as usize;
+    let mut verdicts = Vec::from_elem(alloc, NO_VERDICT, count)?;
+    let seats = open_round(alloc, round.first, round.last, checkers)?;
+    let done = run_checkers(rt, alloc, judge, gate, round, seats)?;
+    gather(alloc, judge, gate, round, checkers, done, &mut verdicts)?;
+    Ok(verdicts)
+}
