@@ -1,5 +1,5 @@
 ghost use Rattle.std.specs.Prelude.{◌≡◌, ◌≢◌, ◌<◌, ◌∷◌, [], length, map, None, IfOk, IfSome};
-ghost use Rattle.std.specs.Prelude.{Decides, IsNone, OnErr, ◌↔◌, true, false};
+ghost use Rattle.std.specs.Prelude.{IsTrue, IsNone, OnErr, ◌↔◌, true, false};
 ghost use Rattle.pg_guest.specs.Held.{seen};
 ghost use Rattle.pg_guest.specs.Runs.{AreNew};
 ghost use Rattle.pg_home.specs.CoreRun.{IsCoreRun, unwritten};
@@ -65,7 +65,7 @@ fn counts_of(world: &World) -> Counts
 /// Whether a processor has the instructions that a script has for it.
 fn has_instructions(processor: &Processor, script: &Script) -> bool
     ensures { let h = processor.now in
-        Decides result (h.instructions ≡ instructions_of h.number script.now.tasks) }
+        IsTrue result ↔ (h.instructions ≡ instructions_of h.number script.now.tasks) }
 {
     same_instructions(
         processor.instructions(),
@@ -153,7 +153,7 @@ impl<'a> Board<'a> {
 
     /// Whether its settings and the instructions of its processors are those of a script.
     pub fn is_of(&self, script: &Script) -> bool
-        ensures { Decides result (IsRunOf script.now self.now.world self.now.processors) }
+        ensures { IsTrue result ↔ (IsRunOf script.now self.now.world self.now.processors) }
     {
         if !self.header().is_same(script.header()) {
             return false;

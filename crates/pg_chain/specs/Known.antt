@@ -1,27 +1,24 @@
 -- What a reader of a past keeps true.
 use Rattle.std.specs.Prelude.{◌≡◌, ℕ, ◌<◌, ◌≤◌, ◌^◌, List, Option, Some, None}
 use Rattle.std.specs.List.{AllByRecursion}
-use Rattle.pg_event.specs.declared.event.Event.{Event}
-use Rattle.pg_event.specs.Heads.{Head}
 use Rattle.pg_event.specs.Values.{mem_at, control_at}
 use Rattle.pg_chain.specs.declared.past.Past.{Past}
 use Rattle.pg_chain.specs.declared.reader.Word.{Word}
 use Rattle.pg_chain.specs.declared.reader.Spell.{Spell}
-use Rattle.pg_chain.specs.Standing.{IsPast}
+use Rattle.pg_chain.specs.Standing.{InEachRun}
 
 -- a word has its value at each moment of its span, in every run that the past stands for
 abbrev pub IsWord : Past → Word → Type 0
 IsWord past word =
-    (head : Head) (events : List Event) → IsPast past head events →
-    (w : ℕ) → word.span.from ≤ w → w ≤ word.span.to → mem_at events w word.address ≡ word.span.value
+    InEachRun past (λ head events. (w : ℕ) → word.span.from ≤ w → w ≤ word.span.to →
+        mem_at events w word.address ≡ word.span.value)
 
 -- a processor has its control registers at each moment of their span, and its table lies within the
 -- physical addresses
 pub record IsSpell (past : Past) (spell : Spell) : Type 0 where
   pub root : spell.span.value.root < 2 ^ 52
-  pub same : (head : Head) (events : List Event) → IsPast past head events →
-      (w : ℕ) → spell.span.from ≤ w → w ≤ spell.span.to →
-      control_at head events spell.p w ≡ spell.span.value
+  pub same : InEachRun past (λ head events. (w : ℕ) → spell.span.from ≤ w → w ≤ spell.span.to →
+      control_at head events spell.p w ≡ spell.span.value)
 
 -- what each place has, if it has anything
 abbrev pub IfKept : {T : Type 0} → (T → Type 0) → Option T → Type 0

@@ -20,6 +20,10 @@ pub record IsPast (past : Past) (head : Head) (events : List Event) : Type 0 whe
   pub controls : controls.StandsFor past.controls head events
   pub drops : drops.StandsFor past.drops head events
 
+-- this holds of each run that the past stands for
+abbrev pub InEachRun : Past → (Head → List Event → Type 0) → Type 0
+InEachRun past P = (head : Head) (events : List Event) → IsPast past head events → P head events
+
 -- the past stands for a run whose next event has this number
 pub record IsNext (past : Past) (moment : ℕ) : Type 0 where
   pub head : Head

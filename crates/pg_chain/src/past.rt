@@ -14,7 +14,8 @@ ghost use Rattle.pg_entry.specs.Kinds.{IsPageShift};
 ghost use Rattle.pg_timeline.specs.Timelines.{IsSpan};
 ghost use Rattle.pg_inval.specs.Drops.{may_drop, IsTableLevel};
 ghost use Rattle.pg_inval.specs.Lists.{IsFirstDrop};
-ghost use Rattle.pg_chain.specs.Standing.{IsPast, IsNext, processor_count, changes_nothing};
+ghost use Rattle.pg_chain.specs.Standing.{IsPast, InEachRun, IsNext, processor_count};
+ghost use Rattle.pg_chain.specs.Standing.{changes_nothing};
 
 use pg_entry::{Cfg, Entry, Level, marked};
 use pg_event::{Control, Event, Header, Outcome, Version, processor_of, says_dirty};
@@ -57,10 +58,11 @@ impl Past {
     pub fn note(&mut self, moment: u32, event: &Event) -> Result<(), AllocError>
         requires next { IsNext self.old moment }
         requires processor { processor_of event.now < processor_count self.old }
-        ensures ok { (head : Head) (events : List Event) → IsPast self.old head events →
-            moment ≡ length events → OnOk result (IsPast self.new head (events ++ event.now ∷ [])) }
-        ensures err { (head : Head) (events : List Event) → IsPast self.old head events →
-            moment ≡ length events → OnErr result (IsPast self.new head events) }
+        ensures ok { InEachRun self.old (λ head events.
+            moment ≡ length events →
+            OnOk result (IsPast self.new head (events ++ event.now ∷ []))) }
+        ensures err { InEachRun self.old (λ head events.
+            moment ≡ length events → OnErr result (IsPast self.new head events)) }
         ensures nothing { changes_nothing event.now ≡ true → IsOk result }
     {
         match *event {
@@ -86,10 +88,11 @@ impl Past {
         requires next { IsNext self.old moment }
         requires processor { processor_of event.now < processor_count self.old }
         requires drops { may_drop event.now ≡ true }
-        ensures ok { (head : Head) (events : List Event) → IsPast self.old head events →
-            moment ≡ length events → OnOk result (IsPast self.new head (events ++ event.now ∷ [])) }
-        ensures err { (head : Head) (events : List Event) → IsPast self.old head events →
-            moment ≡ length events → OnErr result (IsPast self.new head events) }
+        ensures ok { InEachRun self.old (λ head events.
+            moment ≡ length events →
+            OnOk result (IsPast self.new head (events ++ event.now ∷ []))) }
+        ensures err { InEachRun self.old (λ head events.
+            moment ≡ length events → OnErr result (IsPast self.new head events)) }
     {
         let before = self.controls.control_at(processor_of(event), moment);
         match self.drops.note(moment, event, before) {
@@ -111,10 +114,10 @@ impl Past {
         requires processors { AllByRecursion
             (λ e. processor_of e < processor_count self.old) events.now }
         requires count { first + length events.now ≤ 2 ^ 32 }
-        ensures ok { (head : Head) (before : List Event) → IsPast self.old head before →
-            first ≡ length before → OnOk result (IsPast self.new head (before ++ events.now)) }
-        ensures err { (head : Head) (before : List Event) → IsPast self.old head before →
-            first ≡ length before → OnErr result (IsPast self.new head before) }
+        ensures ok { InEachRun self.old (λ head before.
+            first ≡ length before → OnOk result (IsPast self.new head (before ++ events.now))) }
+        ensures err { InEachRun self.old (λ head before.
+            first ≡ length before → OnErr result (IsPast self.new head before)) }
     {
         for (i, event) in events.iter().enumerate() {
             if let Err(refused) = self.note(first + i as u32, event) {
@@ -138,8 +141,7 @@ impl Past {
 
     /// The settings of the run.
     pub fn cfg(&self) -> Cfg
-        ensures run { (head : Head) (events : List Event) → IsPast self.now head events →
-            result ≡ head.cfg }
+        ensures run { InEachRun self.now (λ head events. result ≡ head.cfg) }
         ensures within { (36 ≤ result.m) × (result.m ≤ 52) }
     {
         self.controls.cfg()
@@ -147,16 +149,14 @@ impl Past {
 
     /// The version of the run's record.
     pub fn version(&self) -> Version
-        ensures { (head : Head) (events : List Event) → IsPast self.now head events →
-            result ≡ head.version }
+        ensures { InEachRun self.now (λ head events. result ≡ head.version) }
     {
         self.controls.version()
     }
 
     /// The value at a physical address just before the event with this number.
     pub fn value_at(&self, moment: u32, addr: u64) -> u64
-        ensures { (head : Head) (events : List Event) → IsPast self.now head events →
-            result ≡ mem_at events moment addr }
+        ensures { InEachRun self.now (λ head events. result ≡ mem_at events moment addr) }
     {
         self.versions.at(moment, addr)
     }
@@ -164,8 +164,7 @@ impl Past {
     /// The control registers of a processor just before the event with this number.
     pub fn control_at(&self, p: u16, moment: u32) -> Control
         requires { p < processor_count self.now }
-        ensures run { (head : Head) (events : List Event) → IsPast self.now head events →
-            result ≡ control_at head events p moment }
+        ensures run { InEachRun self.now (λ head events. result ≡ control_at head events p moment) }
         ensures root { result.root < 2 ^ 52 }
     {
         self.controls.control_at(p, moment)
@@ -173,8 +172,8 @@ impl Past {
 
     /// The same value, with the moments around this one at which it is the same.
     pub fn value_span(&self, moment: u32, addr: u64, probes: &mut Probes) -> Span<u64>
-        ensures run { (head : Head) (events : List Event) → IsPast self.now head events →
-            IsSpan (λ w. mem_at events w addr) moment result }
+        ensures run { InEachRun self.now (λ head events.
+            IsSpan (λ w. mem_at events w addr) moment result) }
         ensures probes { (probes.old ≤ probes.new) × (probes.new ≤ probes.old + 35) }
     {
         self.versions.span_at(moment, addr, probes)
@@ -183,8 +182,8 @@ impl Past {
     /// The control registers, with the moments around this one at which they are the same.
     pub fn control_span(&self, p: u16, moment: u32, probes: &mut Probes) -> Span<Control>
         requires { p < processor_count self.now }
-        ensures run { (head : Head) (events : List Event) → IsPast self.now head events →
-            IsSpan (λ w. control_at head events p w) moment result }
+        ensures run { InEachRun self.now (λ head events.
+            IsSpan (λ w. control_at head events p w) moment result) }
         ensures root { result.value.root < 2 ^ 52 }
         ensures probes { (probes.old ≤ probes.new) × (probes.new ≤ probes.old + 35) }
     {
@@ -204,8 +203,8 @@ impl Past {
     ) -> bool
         requires { IsTableLevel level }
         ensures { let key = structure_key pcid level la in
-            (head : Head) (events : List Event) → IsPast self.now head events →
-            result ≡ survives head events p (λ c e. must_drop_structure c e key) from to }
+            InEachRun self.now (λ head events.
+            result ≡ survives head events p (λ c e. must_drop_structure c e key) from to) }
     {
         !self.drops.structure_dropped(p, pcid, level, la, from, to)
     }
@@ -224,10 +223,10 @@ impl Past {
     ) -> Option<u32>
         requires { IsPageShift shift }
         ensures run { let key = translation_key pcid shift global la in
-            (head : Head) (events : List Event) → IsPast self.now head events →
+            InEachRun self.now (λ head events.
             IsFirstDrop
             (λ a b. not (survives head events p (λ c e. must_drop_translation c e key) a b))
-            from (2 ^ 32 - 1) result }
+            from (2 ^ 32 - 1) result) }
         ensures probes { (probes.old ≤ probes.new) × (probes.new ≤ probes.old + 102) }
     {
         self.drops

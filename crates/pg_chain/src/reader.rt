@@ -1,14 +1,12 @@
 //! A past whose answers are kept, as long as they stand.
 
-ghost use Rattle.std.specs.Prelude.{◌≡◌, ◌-◌, ◌<◌, ◌≤◌, ◌^◌, List, IfSome, not};
-ghost use Rattle.pg_event.specs.declared.event.Event.{Event};
-ghost use Rattle.pg_event.specs.Heads.{Head};
+ghost use Rattle.std.specs.Prelude.{◌≡◌, ◌-◌, ◌<◌, ◌≤◌, ◌^◌, IfSome, not};
 ghost use Rattle.pg_event.specs.Values.{mem_at, control_at};
 ghost use Rattle.pg_event.specs.Invalidation.{translation_key, must_drop_translation};
 ghost use Rattle.pg_event.specs.Witness.{survives};
 ghost use Rattle.pg_entry.specs.Kinds.{IsPageShift};
 ghost use Rattle.pg_inval.specs.Lists.{IsFirstDrop};
-ghost use Rattle.pg_chain.specs.Standing.{IsPast, processor_count};
+ghost use Rattle.pg_chain.specs.Standing.{InEachRun, processor_count};
 ghost use Rattle.pg_chain.specs.Known.{IsWord, IsSpell};
 
 use crate::past::Past;
@@ -110,8 +108,7 @@ impl<'a> Reader<'a> {
 
     /// The settings of the run.
     pub fn cfg(&self) -> Cfg
-        ensures run { (head : Head) (events : List Event) → IsPast self.now head events →
-            result ≡ head.cfg }
+        ensures run { InEachRun self.now (λ head events. result ≡ head.cfg) }
         ensures within { (36 ≤ result.m) × (result.m ≤ 52) }
     {
         self.past.cfg()
@@ -126,8 +123,8 @@ impl<'a> Reader<'a> {
 
     /// The value of a word at a moment, where a place has it.
     fn known_value(&self, place: usize, moment: u32, address: u64) -> Option<u64>
-        ensures { (head : Head) (events : List Event) → IsPast self.now head events →
-            IfSome result (λ v. v ≡ mem_at events moment address) }
+        ensures { InEachRun self.now (λ head events.
+            IfSome result (λ v. v ≡ mem_at events moment address)) }
     {
         match self.words.get(place)? {
             Some(word) => if word.address == address {
@@ -152,8 +149,7 @@ impl<'a> Reader<'a> {
     /// The value at a physical address just before the event with this number.
     pub fn value_at(&mut self, moment: u32, address: u64) -> u64
         ensures past { self.new ≡ self.old }
-        ensures value { (head : Head) (events : List Event) → IsPast self.old head events →
-            result ≡ mem_at events moment address }
+        ensures value { InEachRun self.old (λ head events. result ≡ mem_at events moment address) }
     {
         let place = self.place_of(address);
         match self.known_value(place, moment, address) {
@@ -168,8 +164,8 @@ impl<'a> Reader<'a> {
 
     /// The control registers of a processor at a moment, where they are kept.
     fn known_control(&self, p: u16, moment: u32) -> Option<Control>
-        ensures run { (head : Head) (events : List Event) → IsPast self.now head events →
-            IfSome result (λ c. c ≡ control_at head events p moment) }
+        ensures run { InEachRun self.now (λ head events.
+            IfSome result (λ c. c ≡ control_at head events p moment)) }
         ensures root { IfSome result (λ c. c.root < 2 ^ 52) }
     {
         match self.spells.get(p as usize)? {
@@ -207,8 +203,7 @@ impl<'a> Reader<'a> {
     pub fn control_at(&mut self, p: u16, moment: u32) -> Control
         requires { p < processor_count self.old }
         ensures past { self.new ≡ self.old }
-        ensures run { (head : Head) (events : List Event) → IsPast self.old head events →
-            result ≡ control_at head events p moment }
+        ensures run { InEachRun self.old (λ head events. result ≡ control_at head events p moment) }
         ensures root { result.root < 2 ^ 52 }
     {
         match self.known_control(p, moment) {
@@ -235,10 +230,10 @@ impl<'a> Reader<'a> {
         requires { IsPageShift shift }
         ensures past { self.new ≡ self.old }
         ensures run { let key = translation_key pcid shift global la in
-            (head : Head) (events : List Event) → IsPast self.old head events →
+            InEachRun self.old (λ head events.
             IsFirstDrop
             (λ a b. not (survives head events p (λ c e. must_drop_translation c e key) a b))
-            from (2 ^ 32 - 1) result }
+            from (2 ^ 32 - 1) result) }
     {
         let probes = &mut self.probes;
         self.past

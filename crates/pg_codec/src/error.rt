@@ -18,7 +18,7 @@ pub enum ReadError {
     #[error("the device failed")]
     Device,
     /// A growth was refused in this call.
-    #[error("out of memory")]
+    #[error("memory ran out")]
     Memory,
     /// The reader refused before. Nothing was read.
     #[error("the reader refused before")]

@@ -6,15 +6,19 @@ ghost use Rattle.pg_codec.specs.Streams.{FailsWithDevice};
 
 use crate::stream::Source;
 use std::alloc::Global;
+use thiserror::Error;
 
 /// Why the bytes of a source were not taken in.
-#[derive(Clone, Copy, PartialEq, Eq, Debug)]
+#[derive(Clone, Copy, PartialEq, Eq, Debug, Error)]
 pub enum IntakeError {
     /// There are more than were asked for.
+    #[error("there are more bytes than were asked for")]
     TooMany,
     /// The device failed.
+    #[error("the device failed")]
     Device,
     /// Memory was refused.
+    #[error("memory ran out")]
     Memory,
 }
 

@@ -1,10 +1,10 @@
-ghost use Rattle.std.specs.Prelude.{◌≡◌, Decides};
+ghost use Rattle.std.specs.Prelude.{◌≡◌, ◌↔◌, IsTrue};
 
 use crate::instruction::Instruction;
 
 /// Whether two lists of instructions are the same.
 pub fn same_instructions(one: &[Instruction], other: &[Instruction]) -> bool
-    ensures { Decides result (one.now ≡ other.now) }
+    ensures { IsTrue result ↔ (one.now ≡ other.now) }
 {
     one == other
 }

@@ -1,7 +1,7 @@
 //! What is judged while processors run.
 
 ghost use Rattle.std.specs.Prelude.{◌≡◌, ◌%◌, ◌++◌, drop, length, IfOk, IfErr, IfSome};
-ghost use Rattle.std.specs.Prelude.{Decides, None, OnErr, OnOk};
+ghost use Rattle.std.specs.Prelude.{IsTrue, ◌↔◌, None, OnErr, OnOk};
 ghost use Rattle.pg_check.specs.Kept.{AreWellFormed};
 ghost use Rattle.pg_event.specs.Spelling.{IsHead, IsRecord};
 ghost use Rattle.pg_report.specs.Judging.{StopsJudging};
@@ -102,7 +102,7 @@ fn judge_rest<T: Threads + Wait + Sync, H: Gate>(
 
 /// Whether a record begins with events that were judged.
 fn begins(judged: &Judged, events: &[Event], trace: &Record) -> bool
-    ensures { Decides result (IsBeginning (record { head = judged.now.head; events = events.now })
+    ensures { IsTrue result ↔ (IsBeginning (record { head = judged.now.head; events = events.now })
         (record_of trace.now)) }
 {
     judged.header().is_same(&trace.header) && begins_with(&trace.events, events)
