@@ -9,7 +9,7 @@ ghost use Rattle.pg_report.specs.Audits.{WritesText, IsAudit};
 
 use crate::crew::Crew;
 use crate::error::AuditError;
-use crate::whole::judge_record;
+use crate::whole_record::judge_record;
 use crate::judging_by::judge_record_by;
 use crate::report::{Report, Verdict, verdict_of};
 use pg_check::{History, first_bad};

@@ -1,6 +1,6 @@
 use Rattle.std.proofs.Common.{ℕ, List, Option}
 use Rattle.pg_report.specs.Going.{IsJudging}
-use Rattle.pg_report.proofs.whole.judge_rest.Given as goal
+use Rattle.pg_report.proofs.whole_record.judge_rest.Given as goal
 
 abbrev pub invariant-loop : goal.invariant-loop
 invariant-loop g l =

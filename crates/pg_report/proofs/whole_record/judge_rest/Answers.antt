@@ -6,7 +6,7 @@ use Rattle.pg_check.specs.Judging.{IsJudged}
 use Rattle.pg_report.specs.Going.{IsJudging}
 use Rattle.pg_report.proofs.Continuing.{going_ends, going_fails, end_counts, failure_counts}
 use Rattle.pg_report.proofs.Windows.{error_judges, may_follow, longer, moved_on}
-use Rattle.pg_report.proofs.whole.judge_rest.Goals as goal
+use Rattle.pg_report.proofs.whole_record.judge_rest.Goals as goal
 
 pub take_in-requires-clause-next : goal.take_in-requires-clause-next
 take_in-requires-clause-next g c =

@@ -3,7 +3,7 @@ use Rattle.pg_event.specs.declared.version.Version.TheVariants.{Two}
 use Rattle.pg_event.specs.Spelling.{Recorded}
 use Rattle.pg_report.proofs.Continuing.{fresh_header_fails, going_from_fresh}
 use Rattle.pg_report.proofs.Windows.{error_judges, judging_at_start}
-use Rattle.pg_report.proofs.whole.judge_record.Goals as goal
+use Rattle.pg_report.proofs.whole_record.judge_record.Goals as goal
 
 pub returns-in-Err-clause-judges : goal.returns-in-Err-clause-judges
 returns-in-Err-clause-judges g c =
