@@ -4,10 +4,11 @@ ghost use Rattle.std.specs.Prelude.{IfOk, IfSome, IfNone};
 ghost use Rattle.pg_entry.specs.declared.Level.TheVariants.{Four, Three, Two, One};
 ghost use Rattle.pg_event.specs.Form.{broken_rule, processor_of};
 ghost use Rattle.pg_search.specs.Sweep.{entry_at, moments_of, read_at, standing};
-ghost use Rattle.pg_search.specs.Found.{is_useful, gives, finds, found_in, found_access};
+ghost use Rattle.pg_search.specs.Found.{gives, finds, found_in, found_access};
 ghost use Rattle.pg_search.specs.Found.{found_assist, found, IsPick};
 ghost use Rattle.pg_search.specs.Held.{place_of, IsNow, AreReady};
 ghost use Rattle.pg_search.specs.Swept.{IsSweep};
+ghost use Rattle.pg_search.specs.Ways.{number_of};
 ghost use Rattle.pg_search.specs.Law.{names_moments, AreWitness, WitnessedBy, AreFreshest};
 ghost use Rattle.pg_search.specs.Law.{CanBeWitnessed, RunBeginsWith};
 ghost use Rattle.pg_search.specs.Thinned.{AreFreshestOf};
@@ -100,7 +101,8 @@ pub(crate) fn best_in(
     sweep: &Sweep,
 ) -> Option<Moments>
     requires now { IsNow history.now now }
-    requires sweep { IsSweep (is_useful history.now.head sought.now) sweep.now
+    requires within { now.moment ≤ number_of sought.now }
+    requires sweep { IsSweep history.now sought.now now.la sweep.now
         (standing history.now.head history.now.events now.p now.la now.moment) }
     ensures { IsPick (found_in history.now.head history.now.events now.moment now.p now.la
         sought.now (standing history.now.head history.now.events now.p now.la now.moment)) result }
