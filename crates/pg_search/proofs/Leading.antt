@@ -1,7 +1,6 @@
 -- What is read in a table that does not lead on gives nothing of use.
-use Rattle.std.proofs.Common.{◌≡◌, ℕ, zero, suc, ◌+◌, ◌≤◌, ◌<◌, ◌%◌, ◌^◌, Bool, true, false, not, ◌&&◌, ◌||◌, ◌==◌, nat_eq, cond, List, Option, Some, None, refl, ap, sym, ◌∙◌, subst, inl, inr, ◌⊎◌, arith}
-use Rattle.std.specs.Prelude.{option_map, filter, slice_get}
-use Rattle.std.specs.HashSet.{contains}
+use Rattle.std.proofs.Common.{◌≡◌, ℕ, suc, ◌+◌, ◌≤◌, ◌%◌, ◌^◌, Bool, true, false, ◌&&◌, ◌||◌, ◌==◌, nat_eq, cond, List, Option, Some, None, refl, ap, sym, ◌∙◌, subst, inl, inr, arith}
+use Rattle.std.specs.Prelude.{option_map}
 use Rattle.std.proofs.lemmas.Bool.{cases_Bool, and_parts, eqb-true, eq-eqb, cases_lt}
 use Rattle.pg_entry.specs.declared.Cfg.{Cfg}
 use Rattle.pg_entry.specs.declared.AccessKind.{AccessKind}
@@ -26,13 +25,12 @@ use Rattle.pg_event.specs.Wants.{want_of, is_wanted, uses_last, is_table}
 use Rattle.pg_event.specs.Witness.{failing_leaf}
 use Rattle.pg_machine.specs.declared.step.Translation.{Translation}
 use Rattle.pg_machine.specs.Machine.{may_cache, translation_at}
-use Rattle.pg_run_of.proofs.Walks.{no_table_below}
 use Rattle.pg_search.specs.declared.sought.Sought.{Sought}
 use Rattle.pg_search.specs.declared.sought.Sought.TheVariants as soughts
 use Rattle.pg_search.specs.declared.ways.Ways.{Ways}
 use Rattle.pg_search.specs.declared.ways.Ways.TheVariants as ways
-use Rattle.pg_search.specs.Sweep.{Place, Made, entry_at, if_kept, made_by, place_at, table_by, next_table, next_leaf, next_place, read_at}
-use Rattle.pg_search.specs.Found.{is_none, is_answered, serves, is_claimed, is_useful, is_fault, is_sought, next_useful, finds}
+use Rattle.pg_search.specs.Sweep.{Place, Made, entry_at, if_kept, made_by, place_at, table_by, read_at}
+use Rattle.pg_search.specs.Found.{is_none, serves, is_claimed, is_useful, is_fault, next_useful, finds}
 use Rattle.pg_search.specs.Ways.{number_of, la_of, may_give, is_page, is_end, is_of_use, IsLeftOut, HasWord, leads, is_led, next_led, GivesNothing, AreWays, IsNoted}
 
 apart : true ≡ false → ⊥

@@ -65,10 +65,10 @@ IsChange events i (Some c) = (mem_at events (suc i) c.0 ≡ c.1)
 
 -- what had the old words has the new, and a word that is not among them has not come to be of use
 pub record IsNoted (events : List Event) (used : ℕ → Bool) (i : ℕ) (old new : ℕ → Bool) : Type 0
-    where
-  pub stays : (a : ℕ) → old a ≡ true → new a ≡ true
-  pub left : (a : ℕ) → new a ≡ false →
-      (mem_at events (suc i) a ≡ mem_at events i a) ⊎ (used (mem_at events (suc i) a) ≡ false)
+  where
+    pub stays : (a : ℕ) → old a ≡ true → new a ≡ true
+    pub left : (a : ℕ) → new a ≡ false →
+        (mem_at events (suc i) a ≡ mem_at events i a) ⊎ (used (mem_at events (suc i) a) ≡ false)
 
 -- a word that is not among these is of use at no moment up to one
 abbrev pub IsLeftOut : List Event → (ℕ → Bool) → ℕ → (ℕ → Bool) → Type 0

@@ -182,11 +182,13 @@ fn found_for(
 }
 
 /// Moments that witness an access or an assist as the event with this number, which need not be one
-/// of the history, or `None` where no one to four moments do. Only the events before that number
-/// say so, and of these those alone that change something: `witnessed_among_changes` is the law by
-/// which a history need not have the others.
+/// of the history, or `None` where no one to four moments do. `names_moments` tells whether an
+/// event is an access or an assist, and `pg_event::well_formed` whether it breaks a rule. Only the
+/// events before that number say so, and of these those alone that change something:
+/// `witnessed_among_changes` is the law by which a history need not have the others.
 ///
-/// Where several would do it gives the freshest, as `find_moments` does, and costs as much.
+/// Where several would do it gives the freshest, as `find_moments` does, and costs as much. It
+/// fails only where memory is refused.
 pub fn find_moments_at(
     alloc: Global,
     history: &Seen<'_>,
@@ -213,7 +215,9 @@ pub fn find_moments_at(
 /// Where several choices would do, it gives the freshest: those whose last moment is the largest,
 /// among these those whose last but one is, and so on; of two that end alike, the shorter.
 ///
-/// It takes one pass over the events up to this one. It fails only where memory is refused.
+/// It takes four passes over the events up to this one: the first three tell which tables may lead
+/// on to what the event needs, and the last goes from moment to moment. It fails only where memory
+/// is refused.
 pub fn find_moments(alloc: Global, history: &History, i: u64) -> Result<Option<Moments>, AllocError>
     requires within { i < length history.now.events }
     requires names { IfSome (slice_get history.now.events i) (λ e. names_moments e ≡ true) }

@@ -131,7 +131,8 @@ fn last_for(
 /// which need not be an event of the history. `None` where there is no such number.
 /// `last_among_changes` is the law by which a history need not have accesses that got their answer.
 ///
-/// It takes one pass over the events before that number. It fails only where memory is refused.
+/// It takes as many passes over the events before that number as `find_moments` takes. It fails only
+/// where memory is refused.
 pub fn last_moments_at(
     alloc: Global,
     history: &Seen<'_>,
@@ -154,7 +155,8 @@ pub fn last_moments_at(
 /// such number: then no moments would have witnessed the event anywhere before. `names_moments`
 /// tells whether an event is an access or an assist.
 ///
-/// It takes one pass over the events before this one. It fails only where memory is refused.
+/// It takes as many passes over the events before this one as `find_moments` takes. It fails only
+/// where memory is refused.
 pub fn last_moments(alloc: Global, history: &History, i: u64) -> Result<Option<Last>, AllocError>
     requires within { i < length history.now.events }
     requires names { IfSome (slice_get history.now.events i) (λ e. names_moments e ≡ true) }
