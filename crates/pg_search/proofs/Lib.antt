@@ -5,6 +5,7 @@ mod Stepping
 mod Sound
 mod Ready
 mod Filling
+mod Leading
 mod Reached
 mod Exact
 mod Runs

@@ -220,6 +220,35 @@ kept_each same moments keep alike give [] xs = refl
 kept_each same moments keep alike give (y ∷ ys) xs =
     kept_each same moments keep alike give ys (with_new same moments xs (give y)) ∙ ap (with_each same moments (λ z. if_kept keep (give z)) ys) (kept_new same moments keep alike xs (give y))
 
+pub kept_given : {X : Type 0} (keep : X → Bool) (o : Option X) (x : X) → if_kept keep o ≡ Some x → o ≡ Some x
+kept_given keep None x h = h
+kept_given keep (Some y) x h =
+    elim (cases_Bool (keep y)) as (λ _. Some y ≡ Some x) [
+      | inl k ↦ sym (ap (λ b. cond b (Some y) None) k) ∙ h
+      | inr n ↦ absurd (none_some x (sym (ap (λ b. cond b (Some y) None) n) ∙ h))
+    ]
+  where
+    none_some : {X : Type 0} (x : X) → None ≡ Some x → ⊥
+    none_some x e = cc
+
+-- those that give nothing may be left out
+pub each_kept : {X Y : Type 0} (same : X → X → Bool) (moments : X → List ℕ) (give : Y → Option X) (keep : Y → Bool) (ys : List Y) (xs : List X) → ((y : Y) → keep y ≡ false → give y ≡ None) →
+    with_each same moments give (filter keep ys) xs ≡ with_each same moments give ys xs
+each_kept same moments give keep [] xs h = refl
+each_kept same moments give keep (y ∷ ys) xs h =
+    elim (cases_Bool (keep y)) as (λ _. with_each same moments give (filter keep (y ∷ ys)) xs ≡ with_each same moments give (y ∷ ys) xs) [
+      | inl k ↦ rw k (each_kept same moments give keep ys (with_new same moments xs (give y)) h)
+      | inr n ↦ rw n (each_kept same moments give keep ys xs h ∙ ap (λ o. with_each same moments give ys (with_new same moments xs o)) (sym (h y n)))
+    ]
+
+pub map_kept : {X : Type 0} (f : X → X) (keep : X → Bool) (xs : List X) → ((x : X) → keep (f x) ≡ keep x) → map f (filter keep xs) ≡ filter keep (map f xs)
+map_kept f keep [] h = refl
+map_kept f keep (x ∷ xs) h =
+    elim (cases_Bool (keep x)) as (λ _. map f (filter keep (x ∷ xs)) ≡ filter keep (map f (x ∷ xs))) [
+      | inl k ↦ let there : keep (f x) ≡ true = h x ∙ k in rw (k, there) (ap (λ ys. f x ∷ ys) (map_kept f keep xs h))
+      | inr n ↦ let gone : keep (f x) ≡ false = h x ∙ n in rw (n, gone) (map_kept f keep xs h)
+    ]
+
 -- going through a list
 
 each_append : {X Y : Type 0} (same : X → X → Bool) (moments : X → List ℕ) (give : Y → Option X) (ys zs : List Y) (xs : List X) →

@@ -13,9 +13,10 @@ use Rattle.pg_event.specs.Walk.{below}
 use Rattle.pg_machine.specs.Machine.{IsIn}
 use Rattle.pg_run_of.specs.Plan.{root_at}
 use Rattle.pg_run_of.proofs.Chains.{next_or, short}
-use Rattle.pg_search.specs.Sweep.{Place, Standing, places, nothing, with_each, same_place, entry_at, place_at, next_table, read_at, next_place, stays, renewed, staying, left, swept, standing, moments_to}
+use Rattle.pg_run_of.proofs.Kept.{in_filtered}
+use Rattle.pg_search.specs.Sweep.{Place, Standing, places, nothing, if_kept, with_each, same_place, entry_at, place_at, next_table, read_at, next_place, stays, renewed, staying, left, swept, standing, moments_to}
 use Rattle.pg_search.specs.Held.{AreCurrent, AreReady}
-use Rattle.pg_search.proofs.Lists.{in_each, in_mapped, option_given}
+use Rattle.pg_search.proofs.Lists.{in_each, in_mapped, kept_given, option_given}
 use Rattle.pg_search.proofs.Swept.{swept_none, swept_more}
 use Rattle.pg_search.proofs.Sound.{standing_sound}
 
@@ -54,11 +55,19 @@ each_in head all p la w level ys xs here x h =
       | inr m ↦ gives_current head all p la w level m.0 x m.2
     ]
 
-pub each_current : (head : Head) (all : List Event) (p la w : ℕ) (level : Level) (ys xs : List Place) → AreCurrent all la w (below level) xs →
-    AreCurrent all la w (below level) (with_each same_place moments_to (next_place head all p la w level) ys xs)
-each_current head all p la w level ys xs h =
-    all_in (IsCurrent all la w (below level)) (with_each same_place moments_to (next_place head all p la w level) ys xs)
-    (each_in head all p la w level ys xs (in_all (IsCurrent all la w (below level)) xs h))
+each_in_kept : (keep : Place → Bool) (head : Head) (all : List Event) (p la w : ℕ) (level : Level) (ys xs : List Place) → Current all la w (below level) xs →
+    Current all la w (below level) (with_each same_place moments_to (λ y. if_kept keep (next_place head all p la w level y)) ys xs)
+each_in_kept keep head all p la w level ys xs here x h =
+    elim (in_each same_place moments_to (λ y. if_kept keep (next_place head all p la w level y)) x ys xs h) [
+      | inl a ↦ here x a
+      | inr m ↦ gives_current head all p la w level m.0 x (kept_given keep (next_place head all p la w level m.0) x m.2)
+    ]
+
+pub each_current : (keep : Place → Bool) (head : Head) (all : List Event) (p la w : ℕ) (level : Level) (ys xs : List Place) → AreCurrent all la w (below level) xs →
+    AreCurrent all la w (below level) (with_each same_place moments_to (λ y. if_kept keep (next_place head all p la w level y)) ys xs)
+each_current keep head all p la w level ys xs h =
+    all_in (IsCurrent all la w (below level)) (with_each same_place moments_to (λ y. if_kept keep (next_place head all p la w level y)) ys xs)
+    (each_in_kept keep head all p la w level ys xs (in_all (IsCurrent all la w (below level)) xs h))
 
 -- what an event leaves is
 
@@ -92,14 +101,22 @@ standing_in head all p la w Three x h = each_in head all p la w Four (standing h
 standing_in head all p la w Two x h = each_in head all p la w Three (standing head all p la w).threes (swept head all p la w).twos (swept_in head all p la w Two) x h
 standing_in head all p la w One x h = each_in head all p la w Two (standing head all p la w).twos (swept head all p la w).ones (swept_in head all p la w One) x h
 
-pub swept_current : (head : Head) (all : List Event) (p la w : ℕ) (level : Level) → AreCurrent all la w level (places level (swept head all p la w))
-swept_current head all p la w level = all_in (IsCurrent all la w level) (places level (swept head all p la w)) (swept_in head all p la w level)
+-- so are those of them that are kept
 
-pub standing_current : (head : Head) (all : List Event) (p la w : ℕ) (level : Level) → AreCurrent all la w level (places level (standing head all p la w))
-standing_current head all p la w level = all_in (IsCurrent all la w level) (places level (standing head all p la w)) (standing_in head all p la w level)
+pub swept_current : (keep : Place → Bool) (head : Head) (all : List Event) (p la w : ℕ) (level : Level) → AreCurrent all la w level (filter keep (places level (swept head all p la w)))
+swept_current keep head all p la w level =
+    let xs : List Place = places level (swept head all p la w) in
+    all_in (IsCurrent all la w level) (filter keep xs) (λ x i. swept_in head all p la w level x (in_filtered keep x xs i).0)
 
-pub standing_ready : (head : Head) (all : List Event) (p la w : ℕ) (level : Level) → AreReady all la w level (places level (standing head all p la w))
-standing_ready head all p la w level =
-    all_in (λ x. (length x.moments ≤ 3) × IsCurrent all la w level x) (places level (standing head all p la w)) (λ x i.
-    let few : length x.moments ≤ 3 = short head all p la x.pcid w Four (root_at head all p (next_or w x.moments)) x.moments level x.from ((standing_sound head all p la w).places level x i) in
-    (few, standing_in head all p la w level x i))
+pub standing_current : (keep : Place → Bool) (head : Head) (all : List Event) (p la w : ℕ) (level : Level) → AreCurrent all la w level (filter keep (places level (standing head all p la w)))
+standing_current keep head all p la w level =
+    let xs : List Place = places level (standing head all p la w) in
+    all_in (IsCurrent all la w level) (filter keep xs) (λ x i. standing_in head all p la w level x (in_filtered keep x xs i).0)
+
+pub standing_ready : (keep : Place → Bool) (head : Head) (all : List Event) (p la w : ℕ) (level : Level) → AreReady all la w level (filter keep (places level (standing head all p la w)))
+standing_ready keep head all p la w level =
+    let xs : List Place = places level (standing head all p la w) in
+    all_in (λ x. (length x.moments ≤ 3) × IsCurrent all la w level x) (filter keep xs) (λ x i.
+    let there = (in_filtered keep x xs i).0 in
+    let few : length x.moments ≤ 3 = short head all p la x.pcid w Four (root_at head all p (next_or w x.moments)) x.moments level x.from ((standing_sound head all p la w).places level x there) in
+    (few, standing_in head all p la w level x there))

@@ -19,7 +19,7 @@ event_by sorts.Invlpg p flags first second = Invlpg p first
 event_by sorts.Invpcid p flags first second = Invpcid p flags second first
 event_by sorts.MovCr4Pge p flags first second = MovCr4Pge p (flags == 1)
 
--- an error code and a PCID have 16 bits
+-- an error code and a PCID are kept in 16 bits, of which a PCID has 12
 abbrev pub Fits : Sort → ℕ → Type 0
 Fits sorts.Write second = Unit {0}
 Fits sorts.Answer second = Unit {0}

@@ -4,6 +4,7 @@ pub mod Found
 pub mod Law
 pub mod Exact
 pub mod Held
+pub mod Ways
 pub mod Swept
 pub mod Last
 pub mod Thinned

@@ -6,14 +6,16 @@ ghost use Rattle.std.specs.List.{list_any};
 ghost use Rattle.pg_search.specs.Sweep.{same_place, same_made, moments_to, moments_of, covers};
 ghost use Rattle.pg_search.specs.Sweep.{with_new, with_each, entry_at};
 ghost use Rattle.pg_search.specs.Found.{next_useful};
-ghost use Rattle.pg_search.specs.Sweep.{table_by, next_table, next_leaf, next_place, next_made};
+ghost use Rattle.pg_search.specs.Sweep.{table_by, next_table, next_leaf, next_made};
 ghost use Rattle.pg_search.specs.Held.{trail_of, place_of, made_from, IsNow, AreCurrent, AreReady};
+ghost use Rattle.pg_search.specs.Ways.{next_led};
 
 use crate::fresh::are_as_fresh;
 use crate::held::{Found, HeldFound, HeldSpot, Spot};
 use crate::now::Now;
 use crate::seen::Seen;
 use crate::sought::{Sought, is_useful};
+use crate::ways::Ways;
 use pg_entry::{Entry, Kind, Level, classify, combine, dirty, table_of};
 use pg_event::{Header, Moments, Parent, below, entry_address, may_cache, translation_key};
 use pg_machine::Translation;
@@ -161,11 +163,12 @@ fn put_found(into: &mut Vec<HeldFound>, found: Found) -> Result<(), AllocError>
     Ok(())
 }
 
-/// Puts in the table that is read now from a spot, if it leads to one.
+/// Puts in the table that is read now from a spot, if it leads to one that a walk may go on in.
 fn add_spot(
     into: &mut Vec<HeldSpot>,
     history: &Seen<'_>,
     now: Now,
+    ways: &Ways,
     level: Level,
     spot: Spot,
 ) -> Result<(), AllocError>
@@ -176,13 +179,16 @@ fn add_spot(
     requires current { AreCurrent history.now.events now.la now.moment (below level)
         into.old.items }
     ensures { OnOk result (into.new.items ≡ with_new same_place moments_to into.old.items
-        (next_place history.now.head history.now.events now.p now.la now.moment level
+        (next_led history.now.head history.now.events ways.now now.p now.la now.moment level
         (place_of spot))) }
 {
     let Spot { pcid, trail, .. } = spot;
     let Some(from) = next_table(history.header(), now, level, spot) else {
         return Ok(());
     };
+    if !ways.lead(below(level), from.table) {
+        return Ok(());
+    }
     let next = Spot {
         from,
         pcid,
@@ -192,11 +198,12 @@ fn add_spot(
     put_spot(into, next)
 }
 
-/// Puts in the tables that are read now from spots.
+/// Puts in the tables that are read now from spots and that a walk may go on in.
 pub(crate) fn add_spots(
     into: &mut Vec<HeldSpot>,
     history: &Seen<'_>,
     now: Now,
+    ways: &Ways,
     level: Level,
     spots: &[HeldSpot],
 ) -> Result<(), AllocError>
@@ -205,11 +212,11 @@ pub(crate) fn add_spots(
     requires current { AreCurrent history.now.events now.la now.moment (below level)
         into.old.items }
     ensures { OnOk result (into.new.items ≡ with_each same_place moments_to
-        (next_place history.now.head history.now.events now.p now.la now.moment level)
+        (next_led history.now.head history.now.events ways.now now.p now.la now.moment level)
         spots.now into.old.items) }
 {
     for x in spots {
-        add_spot(into, history, now, level, x.get())?;
+        add_spot(into, history, now, ways, level, x.get())?;
     }
     Ok(())
 }

@@ -4,10 +4,11 @@ ghost use Rattle.std.specs.Prelude.{IfOk, IfSome, IfNone};
 ghost use Rattle.pg_entry.specs.declared.Level.TheVariants.{Four, Three, Two, One};
 ghost use Rattle.pg_event.specs.Form.{broken_rule, processor_of};
 ghost use Rattle.pg_search.specs.Sweep.{entry_at, moments_of, read_at, standing};
-ghost use Rattle.pg_search.specs.Found.{is_useful, gives, finds, found_in, found_access};
+ghost use Rattle.pg_search.specs.Found.{gives, finds, found_in, found_access};
 ghost use Rattle.pg_search.specs.Found.{found_assist, found, IsPick};
 ghost use Rattle.pg_search.specs.Held.{place_of, IsNow, AreReady};
 ghost use Rattle.pg_search.specs.Swept.{IsSweep};
+ghost use Rattle.pg_search.specs.Ways.{number_of};
 ghost use Rattle.pg_search.specs.Law.{names_moments, AreWitness, WitnessedBy, AreFreshest};
 ghost use Rattle.pg_search.specs.Law.{CanBeWitnessed, RunBeginsWith};
 ghost use Rattle.pg_search.specs.Thinned.{AreFreshestOf};
@@ -100,7 +101,8 @@ pub(crate) fn best_in(
     sweep: &Sweep,
 ) -> Option<Moments>
     requires now { IsNow history.now now }
-    requires sweep { IsSweep (is_useful history.now.head sought.now) sweep.now
+    requires within { now.moment ≤ number_of sought.now }
+    requires sweep { IsSweep history.now sought.now now.la sweep.now
         (standing history.now.head history.now.events now.p now.la now.moment) }
     ensures { IsPick (found_in history.now.head history.now.events now.moment now.p now.la
         sought.now (standing history.now.head history.now.events now.p now.la now.moment)) result }
@@ -180,11 +182,13 @@ fn found_for(
 }
 
 /// Moments that witness an access or an assist as the event with this number, which need not be one
-/// of the history, or `None` where no one to four moments do. Only the events before that number
-/// say so, and of these those alone that change something: `witnessed_among_changes` is the law by
-/// which a history need not have the others.
+/// of the history, or `None` where no one to four moments do. `names_moments` tells whether an
+/// event is an access or an assist, and `pg_event::well_formed` whether it breaks a rule. Only the
+/// events before that number say so, and of these those alone that change something:
+/// `witnessed_among_changes` is the law by which a history need not have the others.
 ///
-/// Where several would do it gives the freshest, as `find_moments` does, and costs as much.
+/// Where several would do it gives the freshest, as `find_moments` does, and costs as much. It
+/// fails only where memory is refused.
 pub fn find_moments_at(
     alloc: Global,
     history: &Seen<'_>,
@@ -211,7 +215,9 @@ pub fn find_moments_at(
 /// Where several choices would do, it gives the freshest: those whose last moment is the largest,
 /// among these those whose last but one is, and so on; of two that end alike, the shorter.
 ///
-/// It takes one pass over the events up to this one. It fails only where memory is refused.
+/// It takes four passes over the events up to this one: the first three tell which tables may lead
+/// on to what the event needs, and the last goes from moment to moment. It fails only where memory
+/// is refused.
 pub fn find_moments(alloc: Global, history: &History, i: u64) -> Result<Option<Moments>, AllocError>
     requires within { i < length history.now.events }
     requires names { IfSome (slice_get history.now.events i) (λ e. names_moments e ≡ true) }

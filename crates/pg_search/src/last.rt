@@ -2,9 +2,10 @@ ghost use Rattle.std.specs.Prelude.{◌≡◌, ◌<◌, ◌≤◌, true, None, l
 ghost use Rattle.std.specs.Prelude.{IfOk, IfSome, IfNone};
 ghost use Rattle.pg_event.specs.Form.{broken_rule, processor_of};
 ghost use Rattle.pg_search.specs.Sweep.{standing};
-ghost use Rattle.pg_search.specs.Found.{is_useful, found_sought, IsPick};
+ghost use Rattle.pg_search.specs.Found.{found_sought, IsPick};
 ghost use Rattle.pg_search.specs.Held.{IsNow};
 ghost use Rattle.pg_search.specs.Swept.{IsSweep};
+ghost use Rattle.pg_search.specs.Ways.{number_of, la_of};
 ghost use Rattle.pg_search.specs.Law.{names_moments};
 ghost use Rattle.pg_search.specs.Last.{latest, IsLatestFound, IsLatestOf, IsLast};
 ghost use Rattle.pg_search.specs.Last.{HasNoLast, NoneWitness, IsLastOf};
@@ -31,7 +32,8 @@ pub struct Last {
 /// The freshest moments that give what is sought now.
 fn best_now(history: &Seen<'_>, now: Now, sought: &Sought, sweep: &Sweep) -> Option<Moments>
     requires now { IsNow history.now now }
-    requires sweep { IsSweep (is_useful history.now.head sought.now) sweep.now
+    requires within { now.moment ≤ number_of sought.now }
+    requires sweep { IsSweep history.now sought.now now.la sweep.now
         (standing history.now.head history.now.events now.p now.la now.moment) }
     ensures { IsPick (found_sought history.now.head history.now.events now.moment now.p now.la
         sought.now) result }
@@ -67,16 +69,12 @@ fn find_last(
     sought: &Sought,
 ) -> Result<Option<Last>, AllocError>
     requires processor { p < length history.now.head.processors }
+    requires asked { (la ≡ la_of sought.now) × (number ≡ number_of sought.now) }
     requires within { number ≤ length history.now.events }
     ensures { IfOk result (IsLatestFound history.now.head history.now.events p la sought.now
         number) }
 {
-    let mut sweep = Sweep {
-        threes: Vec::new(alloc),
-        twos: Vec::new(alloc),
-        ones: Vec::new(alloc),
-        made: Vec::new(alloc),
-    };
+    let mut sweep = Sweep::new(alloc, history, la, sought)?;
     let mut now = at_start(history, p, la);
     let mut last = None;
     for i in 0..number {
@@ -133,7 +131,8 @@ fn last_for(
 /// which need not be an event of the history. `None` where there is no such number.
 /// `last_among_changes` is the law by which a history need not have accesses that got their answer.
 ///
-/// It takes one pass over the events before that number. It fails only where memory is refused.
+/// It takes as many passes over the events before that number as `find_moments` takes. It fails only
+/// where memory is refused.
 pub fn last_moments_at(
     alloc: Global,
     history: &Seen<'_>,
@@ -156,7 +155,8 @@ pub fn last_moments_at(
 /// such number: then no moments would have witnessed the event anywhere before. `names_moments`
 /// tells whether an event is an access or an assist.
 ///
-/// It takes one pass over the events before this one. It fails only where memory is refused.
+/// It takes as many passes over the events before this one as `find_moments` takes. It fails only
+/// where memory is refused.
 pub fn last_moments(alloc: Global, history: &History, i: u64) -> Result<Option<Last>, AllocError>
     requires within { i < length history.now.events }
     requires names { IfSome (slice_get history.now.events i) (λ e. names_moments e ≡ true) }

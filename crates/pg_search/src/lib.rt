@@ -13,6 +13,7 @@ mod now;
 mod seen;
 mod sought;
 mod sweeper;
+mod ways;
 
 pub use bare::Bare;
 pub use finder::{find_moments, find_moments_at, names_moments};

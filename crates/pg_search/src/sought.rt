@@ -103,7 +103,7 @@ fn is_code(cfg: Cfg, access: AccessKind, cause: Cause, outcome: Outcome) -> bool
 }
 
 /// Whether what an access claims is a fault by an entry of this kind.
-fn is_fault(cfg: Cfg, claim: &Claim, kind: Kind) -> bool
+pub(crate) fn is_fault(cfg: Cfg, claim: &Claim, kind: Kind) -> bool
     ensures { result ≡ is_fault cfg claim.now kind }
 {
     match kind {

@@ -1,36 +1,62 @@
 ghost use Rattle.std.specs.Prelude.{◌≡◌, ◌<◌, ◌≤◌, ◌+◌, ◌^◌, ◌==◌, ◌&&◌, not, map, filter, length};
-ghost use Rattle.std.specs.Prelude.{Some, slice_get, OnOk, IfOk};
+ghost use Rattle.std.specs.Prelude.{ℕ, Some, slice_get, OnOk, IfOk};
 ghost use Rattle.pg_entry.specs.declared.Level.TheVariants.{Four, Three, Two};
 ghost use Rattle.pg_event.specs.Form.{processor_of};
 ghost use Rattle.pg_event.specs.Invalidation.{structure_key};
 ghost use Rattle.pg_event.specs.Invalidation.{must_drop_structure, must_drop_translation};
 ghost use Rattle.pg_event.specs.Walk.{below};
 ghost use Rattle.pg_search.specs.Sweep.{same_place, same_made, moments_to, moments_of, with_each};
-ghost use Rattle.pg_search.specs.Sweep.{next_place};
 ghost use Rattle.pg_search.specs.Sweep.{staying, staying_made, swept, standing};
 ghost use Rattle.pg_search.specs.Held.{IsNow, AreCurrent, AreReady, seen_by};
 ghost use Rattle.pg_search.specs.Swept.{IsSweep};
-ghost use Rattle.pg_search.specs.Found.{is_useful, next_useful};
+ghost use Rattle.pg_search.specs.Found.{next_useful};
+ghost use Rattle.pg_search.specs.Ways.{number_of, la_of, next_led};
 
 use crate::fill::{add_founds, add_spots};
 use crate::held::{HeldFound, HeldSpot};
 use crate::now::{Now, after, at_start, root_spot};
 use crate::seen::Seen;
 use crate::sought::Sought;
+use crate::ways::Ways;
 use pg_entry::Level;
 use pg_event::{
     Event, below, must_drop_structure, must_drop_translation, processor_of, structure_key,
 };
 use std::alloc::{AllocError, Global};
 
-/// What may stand at a moment, for one processor and address: tables to read in at each level below
-/// the root's, and translations.
+/// What may stand at a moment, for one processor and address, and is of use where something is
+/// sought: tables to read in at each level below the root's, and translations.
 #[derive(Drop)]
 pub(crate) struct Sweep {
     pub threes: Vec<HeldSpot>,
     pub twos: Vec<HeldSpot>,
     pub ones: Vec<HeldSpot>,
     pub made: Vec<HeldFound>,
+    pub ways: Ways,
+}
+
+impl Sweep {
+    /// Before the first event.
+    pub(crate) fn new(
+        alloc: Global,
+        history: &Seen<'_>,
+        la: u64,
+        sought: &Sought,
+    ) -> Result<Sweep, AllocError>
+        requires within { number_of sought.now ≤ length history.now.events }
+        requires asked { la ≡ la_of sought.now }
+        ensures { IfOk result (λ sweep. (p : ℕ) → IsSweep history.now sought.now la sweep
+            (swept history.now.head history.now.events p la 0)) }
+    {
+        let ways = Ways::to(alloc, history, la, sought)?;
+        Ok(Sweep {
+            threes: Vec::new(alloc),
+            twos: Vec::new(alloc),
+            ones: Vec::new(alloc),
+            made: Vec::new(alloc),
+            ways,
+        })
+    }
 }
 
 /// Puts in what is read now from the spots of a level: translations, and the spots below.
@@ -40,6 +66,7 @@ fn fill_level(
     history: &Seen<'_>,
     now: Now,
     sought: &Sought,
+    ways: &Ways,
     level: Level,
     spots: &[HeldSpot],
 ) -> Result<(), AllocError>
@@ -51,11 +78,11 @@ fn fill_level(
         (next_useful history.now.head history.now.events sought.now now.p now.la now.moment level)
         spots.now made.old.items) }
     ensures under { OnOk result (under.new.items ≡ with_each same_place moments_to
-        (next_place history.now.head history.now.events now.p now.la now.moment level)
+        (next_led history.now.head history.now.events ways.now now.p now.la now.moment level)
         spots.now under.old.items) }
 {
     add_founds(made, history, now, sought, level, spots)?;
-    add_spots(under, history, now, level, spots)
+    add_spots(under, history, now, ways, level, spots)
 }
 
 /// All fills of a moment, from level 4 down.
@@ -66,9 +93,10 @@ pub(crate) fn fill(
     sought: &Sought,
 ) -> Result<(), AllocError>
     requires now { IsNow history.now now }
-    requires before { IsSweep (is_useful history.now.head sought.now) sweep.old
+    requires within { now.moment ≤ number_of sought.now }
+    requires before { IsSweep history.now sought.now now.la sweep.old
         (swept history.now.head history.now.events now.p now.la now.moment) }
-    ensures { OnOk result (IsSweep (is_useful history.now.head sought.now) sweep.new
+    ensures { OnOk result (IsSweep history.now sought.now now.la sweep.new
         (standing history.now.head history.now.events now.p now.la now.moment)) }
 {
     let Sweep {
@@ -76,11 +104,12 @@ pub(crate) fn fill(
         twos,
         ones,
         made,
+        ways,
     } = sweep;
     let root = [root_spot(now)];
-    fill_level(made, threes, history, now, sought, Level::Four, &root)?;
-    fill_level(made, twos, history, now, sought, Level::Three, threes)?;
-    fill_level(made, ones, history, now, sought, Level::Two, twos)?;
+    fill_level(made, threes, history, now, sought, ways, Level::Four, &root)?;
+    fill_level(made, twos, history, now, sought, ways, Level::Three, threes)?;
+    fill_level(made, ones, history, now, sought, ways, Level::Two, twos)?;
     add_founds(made, history, now, sought, Level::One, ones)
 }
 
@@ -158,9 +187,9 @@ pub(crate) fn leave(
 )
     requires now { IsNow history.now now.now }
     requires event { slice_get history.now.events now.now.moment ≡ Some event.now }
-    requires before { IsSweep (is_useful history.now.head sought.now) sweep.old
+    requires before { IsSweep history.now sought.now now.now.la sweep.old
         (standing history.now.head history.now.events now.now.p now.now.la now.now.moment) }
-    ensures { IsSweep (is_useful history.now.head sought.now) sweep.new
+    ensures { IsSweep history.now sought.now now.now.la sweep.new
         (swept history.now.head history.now.events now.now.p now.now.la (now.now.moment + 1)) }
 {
     leave_spots(&mut sweep.threes, history, now, event, Level::Four);
@@ -169,10 +198,9 @@ pub(crate) fn leave(
     keep_founds(&mut sweep.made, now, event);
 }
 
-/// What stands at a moment, after its fills, of translations those that are of use where this is
-/// sought, and the control registers there. It takes one pass
-/// over the events before: an entry is looked up where a table or a root is new, and else changed
-/// as the events say.
+/// What stands at a moment, after its fills, and is of use where this is sought, and the control
+/// registers there. Once it is known which tables lead on it takes one pass over the events before:
+/// an entry is looked up where a table or a root is new, and else changed as the events say.
 pub(crate) fn sweep_to(
     alloc: Global,
     history: &Seen<'_>,
@@ -182,18 +210,14 @@ pub(crate) fn sweep_to(
     sought: &Sought,
 ) -> Result<(Sweep, Now), AllocError>
     requires processor { p < length history.now.head.processors }
+    requires asked { (la ≡ la_of sought.now) × (moment ≡ number_of sought.now) }
     requires within { moment ≤ length history.now.events }
-    ensures sweep { IfOk result (λ r. IsSweep (is_useful history.now.head sought.now) r.0
+    ensures sweep { IfOk result (λ r. IsSweep history.now sought.now la r.0
         (standing history.now.head history.now.events p la moment)) }
     ensures now { IfOk result (λ r. IsNow history.now r.1) }
     ensures asked { IfOk result (λ r. (r.1.p ≡ p) × (r.1.la ≡ la) × (r.1.moment ≡ moment)) }
 {
-    let mut sweep = Sweep {
-        threes: Vec::new(alloc),
-        twos: Vec::new(alloc),
-        ones: Vec::new(alloc),
-        made: Vec::new(alloc),
-    };
+    let mut sweep = Sweep::new(alloc, history, la, sought)?;
     let mut now = at_start(history, p, la);
     for i in 0..moment {
         let event = history.event_at(i);

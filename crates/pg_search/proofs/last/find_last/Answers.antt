@@ -1,14 +1,13 @@
-use Rattle.std.proofs.Common.{◌≡◌, ℕ, ◌+◌, List, ◌∙◌, ap, subst, arith}
-use Rattle.pg_search.specs.Found.{is_useful, found_sought, IsPick}
+use Rattle.std.proofs.Common.{◌≡◌, ℕ, ◌+◌, ◌≤◌, List, ◌∙◌, ap, subst, arith}
+use Rattle.pg_search.specs.Found.{found_sought, IsPick}
 use Rattle.pg_search.specs.Last.{latest, IsLatestFound}
-use Rattle.pg_search.proofs.Filling.{starts}
 use Rattle.pg_search.proofs.Lasts.{latest_more, none_latest}
+use Rattle.pg_search.specs.Ways.{number_of}
 use Rattle.pg_search.proofs.last.find_last.Goals as goal
 
 pub loop-i-init : goal.loop-i-init
 loop-i-init c = record {
-  sweep = starts (is_useful c.args.history.now.head c.args.sought.now) c.args.history.now.head c.args.history.now.events c.args.p c.args.la (record { threes = c.new.result; twos = c.new-2.result; ones = c.new-3.result; made = c.new-4.result })
-      c.new.ensures.items c.new-2.ensures.items c.new-3.ensures.items c.new-4.ensures.items;
+  sweep = c.in_ok-sweep.ensures c.args.p;
   now = c.at_start-now.ensures.now;
   p = c.at_start-now.ensures.asked.0;
   la = c.at_start-now.ensures.asked.1;
@@ -22,7 +21,10 @@ returns c =
     subst (λ (w : ℕ). IsLatestFound c.args.history.now.head c.args.history.now.events c.args.p c.args.la c.args.sought.now w c.loop-i.last) end c.loop-i.invariant.latest
 
 pub fill-requires : goal.fill-requires
-fill-requires c = let i = c.loop-i.invariant in record { now = i.now; before = rw (i.p, i.la, i.moment) i.sweep }
+fill-requires c =
+    let i = c.loop-i.invariant in
+    let within : c.loop-i.now.moment ≤ number_of c.args.sought.now = omega (arith, i.moment, c.loop-i-test.true, c.loop-i.auto.i-end, c.requires.asked.1) in
+    record { now = i.now; within = within; before = rw (i.p, i.la, i.moment) i.sweep }
 
 pub leave-requires : goal.leave-requires
 leave-requires c =

@@ -1,14 +1,12 @@
-use Rattle.std.proofs.Common.{◌≡◌, ℕ, ◌+◌, ◌∙◌, ap, subst, arith}
-use Rattle.pg_search.specs.Found.{is_useful}
+use Rattle.std.proofs.Common.{◌≡◌, ℕ, ◌+◌, ◌≤◌, ◌∙◌, ap, subst, arith}
 use Rattle.pg_search.specs.Sweep.{standing}
 use Rattle.pg_search.specs.Swept.{IsSweep}
-use Rattle.pg_search.proofs.Filling.{starts}
+use Rattle.pg_search.specs.Ways.{number_of}
 use Rattle.pg_search.proofs.sweeper.sweep_to.Goals as goal
 
 pub loop-i-init : goal.loop-i-init
 loop-i-init c = record {
-  sweep = starts (is_useful c.args.history.now.head c.args.sought.now) c.args.history.now.head c.args.history.now.events c.args.p c.args.la (record { threes = c.new.result; twos = c.new-2.result; ones = c.new-3.result; made = c.new-4.result })
-      c.new.ensures.items c.new-2.ensures.items c.new-3.ensures.items c.new-4.ensures.items;
+  sweep = c.in_ok-sweep.ensures c.args.p;
   now = c.at_start-now.ensures.now;
   p = c.at_start-now.ensures.asked.0;
   la = c.at_start-now.ensures.asked.1;
@@ -20,9 +18,9 @@ returns-clause-sweep c =
     let i = c.loop-i.invariant in
     let end : c.loop-i.i ≡ c.args.moment = omega (arith, c.loop-i-test.false, c.loop-i.auto.i-end) in
     let last : c.loop-i.now.moment ≡ c.args.moment = i.moment ∙ end in
-    subst (λ (w : ℕ). IsSweep (is_useful c.args.history.now.head c.args.sought.now) c.fill-2.new.sweep (standing c.args.history.now.head c.args.history.now.events c.args.p c.args.la w)) last
-    (subst (λ (a : ℕ). IsSweep (is_useful c.args.history.now.head c.args.sought.now) c.fill-2.new.sweep (standing c.args.history.now.head c.args.history.now.events c.args.p a c.loop-i.now.moment)) i.la
-    (subst (λ (q : ℕ). IsSweep (is_useful c.args.history.now.head c.args.sought.now) c.fill-2.new.sweep (standing c.args.history.now.head c.args.history.now.events q c.loop-i.now.la c.loop-i.now.moment)) i.p c.in_ok-fill-2.ensures))
+    subst (λ (w : ℕ). IsSweep c.args.history.now c.args.sought.now c.args.la c.fill-2.new.sweep (standing c.args.history.now.head c.args.history.now.events c.args.p c.args.la w)) last
+    (subst (λ (a : ℕ). IsSweep c.args.history.now c.args.sought.now a c.fill-2.new.sweep (standing c.args.history.now.head c.args.history.now.events c.args.p a c.loop-i.now.moment)) i.la
+    (subst (λ (q : ℕ). IsSweep c.args.history.now c.args.sought.now c.loop-i.now.la c.fill-2.new.sweep (standing c.args.history.now.head c.args.history.now.events q c.loop-i.now.la c.loop-i.now.moment)) i.p c.in_ok-fill-2.ensures))
 
 pub returns-clause-now : goal.returns-clause-now
 returns-clause-now c = c.loop-i.invariant.now
@@ -34,10 +32,16 @@ returns-clause-asked c =
     (i.p, i.la, i.moment ∙ end)
 
 pub fill-requires : goal.fill-requires
-fill-requires c = let i = c.loop-i.invariant in record { now = i.now; before = rw (i.p, i.la, i.moment) i.sweep }
+fill-requires c =
+    let i = c.loop-i.invariant in
+    let within : c.loop-i.now.moment ≤ number_of c.args.sought.now = omega (arith, i.moment, c.loop-i-test.true, c.loop-i.auto.i-end, c.requires.asked.1) in
+    record { now = i.now; within = within; before = rw (i.p, i.la, i.moment) i.sweep }
 
 pub fill-requires-2 : goal.fill-requires-2
-fill-requires-2 c = let i = c.loop-i.invariant in record { now = i.now; before = rw (i.p, i.la, i.moment) i.sweep }
+fill-requires-2 c =
+    let i = c.loop-i.invariant in
+    let within : c.loop-i.now.moment ≤ number_of c.args.sought.now = omega (arith, i.moment, c.loop-i-test.false, c.loop-i.auto.i-end, c.requires.asked.1) in
+    record { now = i.now; within = within; before = rw (i.p, i.la, i.moment) i.sweep }
 
 pub leave-requires : goal.leave-requires
 leave-requires c =

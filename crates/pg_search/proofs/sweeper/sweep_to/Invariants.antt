@@ -1,13 +1,12 @@
 use Rattle.std.proofs.Common.{◌≡◌}
 use Rattle.pg_search.specs.Sweep.{swept}
-use Rattle.pg_search.specs.Found.{is_useful}
 use Rattle.pg_search.specs.Held.{IsNow}
 use Rattle.pg_search.specs.Swept.{IsSweep}
 use Rattle.pg_search.proofs.sweeper.sweep_to.Given as goal
 
 abbrev pub invariant-loop-i : goal.invariant-loop-i
 invariant-loop-i l = record {
-  sweep : IsSweep (is_useful l.history.head l.sought) l.sweep (swept l.history.head l.history.events l.p l.la l.i);
+  sweep : IsSweep l.history l.sought l.la l.sweep (swept l.history.head l.history.events l.p l.la l.i);
   now : IsNow l.history l.now;
   p : l.now.p ≡ l.p;
   la : l.now.la ≡ l.la;
