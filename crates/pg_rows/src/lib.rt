@@ -32,6 +32,8 @@ mod namings;
 #[cfg(test)]
 mod new_headers;
 #[cfg(test)]
+mod pictures;
+#[cfg(test)]
 mod pieces;
 #[cfg(test)]
 mod plans;
