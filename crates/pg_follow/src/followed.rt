@@ -1,5 +1,7 @@
 //! A source that tells how far the reading of it has come.
 
+ghost use Rattle.std.specs.Prelude.{◌≡◌};
+
 use crate::counter::Counter;
 use itoa::Buffer;
 use pg_codec::{Failed, Sink, Source, put_all};
@@ -12,7 +14,7 @@ const EVENTS: u64 = 1_000_000;
 /// events of the record that have been pulled. Whether the sink takes the line changes nothing.
 #[derive(Drop)]
 pub struct Followed<'a, R, E> {
-    source: R,
+    pub source: R,
     errors: E,
     /// Whether it tells.
     tells: &'a Cell<bool>,
@@ -47,7 +49,9 @@ fn follow<E: Sink>(counter: &mut Counter, errors: &mut E, bytes: &[u8]) {
 
 impl<'a, R: Source, E: Sink> Followed<'a, R, E> {
     /// Of a source of which nothing was pulled. It tells once the cell is set.
-    pub fn new(source: R, errors: E, tells: &'a Cell<bool>) -> Followed<'a, R, E> {
+    pub fn new(source: R, errors: E, tells: &'a Cell<bool>) -> Followed<'a, R, E>
+        ensures source { result.source ≡ source }
+    {
         Followed {
             source,
             errors,

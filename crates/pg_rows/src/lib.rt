@@ -2,6 +2,8 @@
 #![tactic(auto)]
 
 #[cfg(test)]
+mod all_noes;
+#[cfg(test)]
 mod bent;
 #[cfg(test)]
 mod bent_scripts;
