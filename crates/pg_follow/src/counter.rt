@@ -1,6 +1,6 @@
 //! How many events the bytes of a record have, counted as they come.
 
-ghost use Rattle.std.specs.Prelude.{◌≤◌, length};
+ghost use Rattle.std.specs.Prelude.{◌<◌, ◌≤◌, length};
 
 const SEGMENT: u8 = 0x01;
 
@@ -154,9 +154,10 @@ impl Counter {
     }
 
     /// Counts on, up to the next byte that says something or the end of an event, and answers how
-    /// many bytes it took: at least one, where there are any.
+    /// many bytes it took.
     pub fn take(&mut self, bytes: &[u8]) -> usize
-        ensures { result ≤ length bytes.now }
+        ensures bound { result ≤ length bytes.now }
+        ensures some { 0 < length bytes.now → 0 < result }
     {
         let Some(byte) = bytes.first() else {
             return 0;
