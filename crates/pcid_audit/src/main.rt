@@ -3,26 +3,36 @@
 
 use pg_answers::{tell_memory, tell_text};
 use pg_codec::Watched;
-use pg_tool::pcid_audit;
+use pg_follow::Followed;
+use pg_tool::pcid_audit_followed;
+use std::cell::Cell;
 use std::env;
 use std::fs::{self, File};
-use std::io::{self, ErrorKind, Lock, Read, Write};
+use std::io::{self, ErrorKind, Lock, Read, Stderr, Write};
 use std::process::ExitCode;
 
 const MEMORY: u8 = 3;
 
 const USAGE: u8 = 64;
 
+/// What is read: it tells of its progress on standard error, by a handle of its own.
+type Input<'a, R> = Followed<'a, Watched<R>, Watched<Stderr>>;
+
 /// The file of that name, where it can be opened.
-fn open_file(rt: &HostRuntime, name: &str) -> Option<Watched<File>> {
+fn open_file<'a>(
+    rt: &HostRuntime,
+    name: &str,
+    progress: &'a Cell<bool>,
+) -> Option<Input<'a, File>> {
     match fs::open(rt, name) {
-        Ok(file) => Some(Watched::new(file)),
+        Ok(file) => Some(Followed::new(Watched::new(file), Watched::new(rt.stderr()), progress)),
         Err(_) => None,
     }
 }
 
 fn main(rt: HostRuntime) -> ExitCode {
-    let mut input = Watched::new(rt.reader());
+    let progress = Cell::new(false);
+    let mut input = Followed::new(Watched::new(rt.reader()), Watched::new(rt.stderr()), &progress);
     let mut output = Watched::new(rt.stdout());
     let mut errors = Watched::new(rt.stderr());
     let arguments = match env::args(&rt) {
@@ -50,10 +60,11 @@ fn main(rt: HostRuntime) -> ExitCode {
             return ExitCode::from(MEMORY);
         }
     }
-    ExitCode::from(pcid_audit(
+    ExitCode::from(pcid_audit_followed(
         &rt,
         &words,
-        |name: &str| open_file(&rt, name),
+        |name: &str| open_file(&rt, name, &progress),
+        &progress,
         &mut input,
         &mut output,
         &mut errors,

@@ -7,6 +7,7 @@ pub mod Upgrades
 pub mod Lines
 pub mod Texts
 pub mod Explanations
+pub mod Pictures
 pub mod Summaries
 pub mod Certificates
 pub mod Naming

@@ -1,7 +1,8 @@
 -- Where everything of a picture stands, in pixels: x to the right, y down. The picture is 1,200
--- wide. Time goes down, a row for each event and for each entry that is read: an entry stands before
--- the event with the number of its moment. At the left there is a lane for each processor, then one
--- of the walk, then the arrows, each in a column of its own, and then the boxes with their texts.
+-- wide. Time goes down, a row for each event and for each entry that is read: an entry stands
+-- before the event with the number of its moment. At the left there is a lane for each processor,
+-- then one of the walk, then the arrows, each in a column of its own, and then the boxes with their
+-- texts.
 use Rattle.std.specs.Prelude.{◌≡◌, ℕ, ◌+◌, ◌*◌, Bool, ◌||◌, ◌==◌, nat_lt, if◌then◌else◌}
 use Rattle.std.specs.Prelude.{List, [], ◌∷◌, ◌++◌, length, map, take, Option, Some, None, slice_get}
 use Rattle.std.specs.List.{count_by, list_any}
@@ -11,7 +12,7 @@ use Rattle.pg_event.specs.Heads.{Head}
 use Rattle.pg_explain.specs.declared.entry.WalkEntry.{WalkEntry}
 use Rattle.pg_explain.specs.declared.explainer.Explanation.{Explanation}
 use Rattle.pg_explain.specs.declared.finding.Finding.{Finding}
-use Rattle.pg_explain.specs.Text.{numbered_text, finding_text}
+use Rattle.pg_explain.specs.Text.{numbered_text, finding_text, entry_text}
 use Rattle.pg_picture.specs.declared.placer.Role.{Role}
 use Rattle.pg_picture.specs.declared.placer.Role.TheVariants as roles
 use Rattle.pg_picture.specs.declared.placer.Deed.TheVariants as deeds
@@ -20,7 +21,7 @@ use Rattle.pg_picture.specs.declared.placer.EventBox.{EventBox}
 use Rattle.pg_picture.specs.declared.placer.EntryBox.{EntryBox}
 use Rattle.pg_picture.specs.declared.placer.Arrow.{Arrow}
 use Rattle.pg_picture.specs.declared.placer.Layout.{Layout}
-use Rattle.pg_picture.specs.Named.{drawn, named, is_dropper, dropper_of}
+use Rattle.pg_picture.specs.Named.{drawn, named, is_dropper, is_taker, dropper_of}
 
 -- ---- rows
 
@@ -82,7 +83,8 @@ lane_x (lane ∷ lanes) p = if lane.processor == p then lane.x else lane_x lanes
 
 abbrev pub role_of : Explanation → ℕ → Role
 role_of x j = if j == x.number then roles.Bad else
-    if is_dropper x j then roles.Drops else roles.Writes
+    if is_dropper x j then roles.Drops else
+    if is_taker x j then roles.Takes else roles.Writes
 
 abbrev pub event_box :
     List Event → Explanation → List WalkEntry → List ℕ → List Lane → ℕ → EventBox
@@ -152,14 +154,25 @@ arrows finding numbers walk = arrows_from finding numbers walk 0 walk
 
 -- ---- the whole
 
-abbrev pub is_long : List ℕ → Bool
-is_long line = nat_lt 112 (length line)
+-- whether a line has more letters than this
+abbrev pub is_long : ℕ → List ℕ → Bool
+is_long most line = nat_lt most (length line)
 
--- the size of letters: of size 14 lines of 112 fit, and the longest that there may be of size 10
-abbrev pub letters : List Event → Explanation → List ℕ → ℕ
-letters events x numbers =
-    if is_long (finding_text events x.finding)
-    || list_any (λ j. is_long (numbered_text events j)) numbers then 10 else 14
+-- whether some line has more letters than there is room for, where this many fit into a box: what
+-- was found begins further left and has room for 28 more, and an entry, which is drawn a letter
+-- further in than an event, has an end of its line that is not drawn
+abbrev pub has_long : ℕ → List Event → Explanation → List WalkEntry → List ℕ → Bool
+has_long most events x walk numbers =
+    is_long (most + 28) (finding_text events x.finding)
+    || (list_any (λ j. is_long most (numbered_text events j)) numbers
+    || list_any (λ e. is_long most (entry_text e)) walk)
+
+-- the size of letters: 112 of size 14 fit into a box, 132 of size 12, and of size 10 the longest
+-- lines that there may be
+abbrev pub letters : List Event → Explanation → List WalkEntry → List ℕ → ℕ
+letters events x walk numbers =
+    if has_long 132 events x walk numbers then 10 else
+    if has_long 112 events x walk numbers then 12 else 14
 
 -- the height of a picture: that of all rows
 abbrev pub height : List ℕ → List WalkEntry → ℕ
@@ -169,7 +182,7 @@ height numbers walk = row_top (length numbers + length walk)
 -- the numbers of the events
 pub record IsLaid (head : Head) (events : List Event) (x : Explanation) (walk : List WalkEntry)
     (numbers : List ℕ) (l : Layout) : Type 0 where
-  pub letters : l.letters ≡ letters events x numbers
+  pub letters : l.letters ≡ letters events x walk numbers
   pub height : l.height ≡ height numbers walk
   pub lanes : l.lanes.items ≡ lanes head events numbers
   pub boxes : l.events.items ≡ event_boxes events x walk numbers l.lanes.items

@@ -67,16 +67,18 @@ taker None None = None
 taker None (Some last) = Some last.number
 taker (Some ws) last = None
 
--- whether an event drops what the bad one rests on
 abbrev pub is_dropper : Explanation → ℕ → Bool
-is_dropper x j = is_at j (dropper x.finding) || is_at j (taker x.other x.last)
+is_dropper x j = is_at j (dropper x.finding)
+
+abbrev pub is_taker : Explanation → ℕ → Bool
+is_taker x j = is_at j (taker x.other x.last)
 
 -- whether an event wrote one of these entries
 abbrev pub is_writer : List WalkEntry → ℕ → Bool
 is_writer walk j = list_any (λ e. is_at j e.writer) walk
 
 abbrev pub is_named : Explanation → List WalkEntry → ℕ → Bool
-is_named x walk j = j == x.number || (is_dropper x j || is_writer walk j)
+is_named x walk j = j == x.number || (is_dropper x j || (is_taker x j || is_writer walk j))
 
 -- the numbers of these events that are named, where the first has this number
 abbrev pub named_from : Explanation → List WalkEntry → ℕ → List Event → List ℕ

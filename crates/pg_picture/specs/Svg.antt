@@ -125,6 +125,7 @@ walk_lane_text foot = line_text 148 foot (codes "#7a5") ++ (label_text 148 ++ co
 abbrev pub style_of : Role → List ℕ
 style_of roles.Bad = codes "fill='#fde8e8' stroke='#c22' stroke-width='2'"
 style_of roles.Drops = codes "fill='#fff3dc' stroke='#c80'"
+style_of roles.Takes = codes "fill='#f3ecfa' stroke='#7a4fa3'"
 style_of roles.Writes = codes "fill='#eef3fa' stroke='#1f5fa8'"
 
 -- what begins a row: its box, whose corners are round by so much, and a dot in a lane with a line
@@ -156,6 +157,27 @@ abbrev pub entry_boxes_text : List EntryBox → List ℕ
 entry_boxes_text [] = []
 entry_boxes_text (b ∷ bs) = entry_box_text b ++ entry_boxes_text bs
 
+-- ---- what colours mean, above the boxes
+
+abbrev pub key_text : ℕ → List ℕ → List ℕ → List ℕ
+key_text x style meaning =
+    codes "<g transform='translate(" ++ (decimal x
+    ++ (codes " 98)'><rect width='12' height='12' " ++ (style
+    ++ (codes "/><text x='18' y='10' font-size='11'>" ++ (meaning ++ codes "</text></g>\n")))))
+
+-- of those that made the entries, and of the entries
+abbrev pub made_keys : List ℕ
+made_keys =
+    key_text 216 (style_of roles.Writes) (codes "wrote an entry")
+    ++ key_text 345 entry_style (codes "an entry, at its moment")
+
+-- and of those that took them away, and of the event that is not proved
+abbrev pub taken_keys : List ℕ
+taken_keys =
+    key_text 535 (style_of roles.Drops) (codes "an entry had to go by it")
+    ++ (key_text 732 (style_of roles.Takes) (codes "took the last moments")
+    ++ key_text 909 (style_of roles.Bad) (codes "the bad event"))
+
 -- ---- arrows
 
 abbrev pub pen_of : Deed → List ℕ
@@ -182,6 +204,9 @@ head_text events x l =
 abbrev pub lanes_of : Layout → List ℕ
 lanes_of l = lanes_text l.height l.lanes.items ++ walk_lane_text l.height
 
+abbrev pub keys_text : List ℕ
+keys_text = made_keys ++ taken_keys
+
 abbrev pub things_text : List Event → Layout → List ℕ
 things_text events l =
     event_boxes_text events l.events.items ++ (entry_boxes_text l.entries.items
@@ -189,7 +214,7 @@ things_text events l =
 
 abbrev pub svg_text : List Event → Explanation → Layout → List ℕ
 svg_text events x l =
-    head_text events x l ++ (lanes_of l ++ (things_text events l ++ codes "</svg>\n"))
+    head_text events x l ++ (lanes_of l ++ (keys_text ++ (things_text events l ++ codes "</svg>\n")))
 
 -- this is the picture of an explanation
 abbrev pub IsPicture : Head → List Event → Explanation → List ℕ → Type 0

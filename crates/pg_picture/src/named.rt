@@ -3,7 +3,7 @@
 ghost use Rattle.std.specs.Prelude.{◌≡◌, ◌<◌, ◌≤◌, ◌^◌, length, IfOk};
 ghost use Rattle.pg_event.specs.Wants.{is_table};
 ghost use Rattle.pg_picture.specs.Named.{down_to_end, drawn, is_at, dropper, drop_at, dropper_of};
-ghost use Rattle.pg_picture.specs.Named.{taker, is_dropper, is_writer, is_named, named};
+ghost use Rattle.pg_picture.specs.Named.{taker, is_dropper, is_taker, is_writer, is_named, named};
 
 use pg_entry::{Kind, Level};
 use pg_event::{Event, Moments};
@@ -117,12 +117,18 @@ fn taker(other: Option<Moments>, last: Option<Last>) -> Option<u32>
     }
 }
 
-/// Whether an event drops what the bad one rests on.
+/// Whether an entry had to go by this event.
 pub(crate) fn is_dropper(explanation: &Explanation, number: u32) -> bool
     ensures { result ≡ is_dropper explanation.now number }
 {
     is_at(number, dropper(explanation.finding))
-        || is_at(number, taker(explanation.other, explanation.last))
+}
+
+/// Whether no moments prove the bad event behind this one.
+pub(crate) fn is_taker(explanation: &Explanation, number: u32) -> bool
+    ensures { result ≡ is_taker explanation.now number }
+{
+    is_at(number, taker(explanation.other, explanation.last))
 }
 
 /// Whether an event wrote one of these entries.
@@ -140,7 +146,10 @@ fn is_writer(walk: &[WalkEntry], number: u32) -> bool
 fn is_named(explanation: &Explanation, walk: &[WalkEntry], number: u32) -> bool
     ensures { result ≡ is_named explanation.now walk.now number }
 {
-    number == explanation.number || is_dropper(explanation, number) || is_writer(walk, number)
+    number == explanation.number
+        || is_dropper(explanation, number)
+        || is_taker(explanation, number)
+        || is_writer(walk, number)
 }
 
 /// The numbers of the events that an explanation names, ascending, where these are the entries that

@@ -12,8 +12,8 @@ ghost use Rattle.pg_picture.specs.Svg.{things_text, svg_text, IsPicture};
 
 use crate::placer::{Arrow, EntryBox, EventBox, Lane, Layout, lay_out};
 use crate::shapes::{
-    push_arrow, push_escaped, push_lane, push_marker, push_placed, push_row, push_walk_lane,
-    style_of,
+    ENTRY_STYLE, push_arrow, push_escaped, push_keys, push_lane, push_marker, push_placed,
+    push_row, push_walk_lane, style_of,
 };
 use pg_check::History;
 use pg_event::{Event, Moments};
@@ -165,7 +165,7 @@ fn push_entry_box(alloc: Global, text: &mut String, drawn: &EntryBox) -> Result<
 {
     let mut line = String::new(alloc);
     push_entry(&mut line, &drawn.entry)?;
-    push_row(text, "fill='#eef7e8' stroke='#7a5'", 148, drawn.y, 12)?;
+    push_row(text, ENTRY_STYLE, 148, drawn.y, 12)?;
     push_placed(text, 232, 16, line.as_str())?;
     text.push_str("</g>\n")
 }
@@ -244,6 +244,7 @@ fn svg_text(
     let mut text = String::new(alloc);
     push_head(alloc, &mut text, events, explanation, layout)?;
     push_all_lanes(&mut text, layout)?;
+    push_keys(&mut text)?;
     push_things(alloc, &mut text, events, layout)?;
     text.push_str("</svg>\n")?;
     Ok(text)
@@ -265,8 +266,8 @@ pub fn picture_text(
     svg_text(alloc, history.events(), explanation, &layout)
 }
 
-/// The picture of what stands behind the reason of an event that is not witnessed. `Err` is for want
-/// of memory alone.
+/// The picture of what stands behind the reason of an event that is not witnessed. `Err` is for
+/// want of memory alone.
 pub fn draw(alloc: Global, history: &History, number: u64) -> Result<String, AllocError>
     requires within { number < length history.now.events }
     requires bad { ¬ Witnessed history.now.head history.now.events number }

@@ -2,17 +2,17 @@
 
 ghost use Rattle.std.specs.Prelude.{◌≡◌, ◌+◌, ◌<◌, ◌≤◌, ◌^◌, ◌++◌, length, IfOk, OnOk};
 ghost use Rattle.std.specs.List.{list_any};
-ghost use Rattle.pg_explain.specs.Text.{numbered_text, finding_text};
+ghost use Rattle.pg_explain.specs.Text.{numbered_text, finding_text, entry_text};
 ghost use Rattle.pg_picture.specs.Layout.{processor_at, takes_part, lanes, lane_x, role_of};
 ghost use Rattle.pg_picture.specs.Layout.{event_box, event_boxes, entry_boxes, write_arrow};
-ghost use Rattle.pg_picture.specs.Layout.{drop_arrow, arrows_to, arrows, is_long, letters};
-ghost use Rattle.pg_picture.specs.Layout.{IsLaid, IsLayout};
+ghost use Rattle.pg_picture.specs.Layout.{drop_arrow, arrows_to, arrows, is_long, has_long};
+ghost use Rattle.pg_picture.specs.Layout.{letters, IsLaid, IsLayout};
 
-use crate::named::{drawn, dropper_of, is_dropper, named};
+use crate::named::{drawn, dropper_of, is_dropper, is_taker, named};
 use crate::rows::{entry_top, event_top, height};
 use pg_check::History;
 use pg_event::{Event, processor_of};
-use pg_explain::{Explanation, Finding, WalkEntry, push_finding, push_numbered};
+use pg_explain::{Explanation, Finding, WalkEntry, push_entry, push_finding, push_numbered};
 use std::alloc::{AllocError, Global};
 
 /// What an event is to the bad one.
@@ -20,8 +20,10 @@ use std::alloc::{AllocError, Global};
 pub enum Role {
     /// It is the bad event.
     Bad,
-    /// It drops what the bad event rests on.
+    /// An entry that the bad event reads had to go by it.
     Drops,
+    /// No moments prove the bad event behind it.
+    Takes,
     /// It wrote an entry that the bad event reads.
     Writes,
 }
@@ -146,6 +148,8 @@ fn role_of(explanation: &Explanation, number: u32) -> Role
         Role::Bad
     } else if is_dropper(explanation, number) {
         Role::Drops
+    } else if is_taker(explanation, number) {
+        Role::Takes
     } else {
         Role::Writes
     }
@@ -300,26 +304,108 @@ fn arrows(
     Ok(found)
 }
 
-/// Whether a line has more letters than fit in the greater size.
-fn is_long(line: &str) -> bool
-    ensures { result ≡ is_long line.now }
+/// How many letters of size 14 fit into a box, of a monospaced font with letters of 0.602 times
+/// their size.
+const LARGE: usize = 112;
+
+/// How many of size 12 do.
+const MIDDLE: usize = 132;
+
+/// How many more fit into the line of what was found, which begins further left.
+const OUTDENT: usize = 28;
+
+/// Whether a line has more letters than this.
+fn is_long(line: &str, most: usize) -> bool
+    ensures { result ≡ is_long most line.now }
 {
-    line.len() > 112
+    line.len() > most
+}
+
+fn is_long_finding(
+    alloc: Global,
+    events: &[Event],
+    finding: Finding,
+    most: usize,
+) -> Result<bool, AllocError>
+    ensures { IfOk result (λ found. found ≡ is_long most (finding_text events.now finding)) }
+{
+    let mut line = String::new(alloc);
+    push_finding(&mut line, events, finding)?;
+    Ok(is_long(line.as_str(), most))
+}
+
+fn is_long_event(
+    alloc: Global,
+    events: &[Event],
+    number: u32,
+    most: usize,
+) -> Result<bool, AllocError>
+    ensures { IfOk result (λ found. found ≡ is_long most (numbered_text events.now number)) }
+{
+    let mut line = String::new(alloc);
+    push_numbered(&mut line, events, number)?;
+    Ok(is_long(line.as_str(), most))
+}
+
+fn is_long_entry(alloc: Global, entry: &WalkEntry, most: usize) -> Result<bool, AllocError>
+    ensures { IfOk result (λ found. found ≡ is_long most (entry_text entry.now)) }
+{
+    let mut line = String::new(alloc);
+    push_entry(&mut line, entry)?;
+    Ok(is_long(line.as_str(), most))
 }
 
 /// Whether the line of one of the events with these numbers is long.
-fn has_long(alloc: Global, events: &[Event], numbers: &[u32]) -> Result<bool, AllocError>
+fn has_long_event(
+    alloc: Global,
+    events: &[Event],
+    numbers: &[u32],
+    most: usize,
+) -> Result<bool, AllocError>
     ensures { IfOk result (λ found. found
-        ≡ list_any (λ j. is_long (numbered_text events.now j)) numbers.now) }
+        ≡ list_any (λ j. is_long most (numbered_text events.now j)) numbers.now) }
 {
     for number in numbers {
-        let mut line = String::new(alloc);
-        push_numbered(&mut line, events, *number)?;
-        if is_long(line.as_str()) {
+        if is_long_event(alloc, events, *number, most)? {
             return Ok(true);
         }
     }
     Ok(false)
+}
+
+/// Whether the line of one of these entries is long.
+fn has_long_entry(alloc: Global, walk: &[WalkEntry], most: usize) -> Result<bool, AllocError>
+    ensures { IfOk result (λ found. found
+        ≡ list_any (λ e. is_long most (entry_text e)) walk.now) }
+{
+    for entry in walk {
+        if is_long_entry(alloc, entry, most)? {
+            return Ok(true);
+        }
+    }
+    Ok(false)
+}
+
+/// Whether some line has more letters than there is room for, where so many fit into a box.
+fn has_long(
+    alloc: Global,
+    events: &[Event],
+    explanation: &Explanation,
+    walk: &[WalkEntry],
+    numbers: &[u32],
+    most: usize,
+) -> Result<bool, AllocError>
+    requires { most ≤ 132 }
+    ensures { IfOk result (λ found. found
+        ≡ has_long most events.now explanation.now walk.now numbers.now) }
+{
+    if is_long_finding(alloc, events, explanation.finding, most + OUTDENT)? {
+        return Ok(true);
+    }
+    if has_long_event(alloc, events, numbers, most)? {
+        return Ok(true);
+    }
+    has_long_entry(alloc, walk, most)
 }
 
 /// The size of letters.
@@ -327,18 +413,17 @@ fn letters(
     alloc: Global,
     events: &[Event],
     explanation: &Explanation,
+    walk: &[WalkEntry],
     numbers: &[u32],
 ) -> Result<u64, AllocError>
     ensures { IfOk result (λ size. size
-        ≡ letters events.now explanation.now numbers.now) }
+        ≡ letters events.now explanation.now walk.now numbers.now) }
 {
-    let mut finding = String::new(alloc);
-    push_finding(&mut finding, events, explanation.finding)?;
-    if is_long(finding.as_str()) {
+    if has_long(alloc, events, explanation, walk, numbers, MIDDLE)? {
         return Ok(10);
     }
-    if has_long(alloc, events, numbers)? {
-        Ok(10)
+    if has_long(alloc, events, explanation, walk, numbers, LARGE)? {
+        Ok(12)
     } else {
         Ok(14)
     }
@@ -361,7 +446,7 @@ fn laid(
     let events = history.events();
     let lanes = lanes(alloc, history, numbers)?;
     Ok(Layout {
-        letters: letters(alloc, events, explanation, numbers)?,
+        letters: letters(alloc, events, explanation, walk, numbers)?,
         height: height(numbers, walk),
         events: event_boxes(alloc, events, explanation, walk, numbers, &lanes)?,
         entries: entry_boxes(alloc, walk, numbers)?,

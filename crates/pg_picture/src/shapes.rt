@@ -3,8 +3,8 @@
 ghost use Rattle.std.specs.Prelude.{◌≡◌, ◌++◌, OnOk, string_bytes};
 ghost use Rattle.pg_picture.specs.Svg.{escape, escaped, place_text, placed_text, marker_text};
 ghost use Rattle.pg_picture.specs.Svg.{line_text, label_text, lane_text, walk_lane_text};
-ghost use Rattle.pg_picture.specs.Svg.{style_of, row_text};
-ghost use Rattle.pg_picture.specs.Svg.{pen_of, arrow_text};
+ghost use Rattle.pg_picture.specs.Svg.{style_of, row_text, key_text, made_keys, taken_keys};
+ghost use Rattle.pg_picture.specs.Svg.{keys_text, pen_of, arrow_text};
 
 use crate::placer::{Arrow, Deed, Lane, Role};
 use std::alloc::AllocError;
@@ -106,8 +106,46 @@ pub(crate) fn style_of(role: Role) -> &'static str
     match role {
         Role::Bad => "fill='#fde8e8' stroke='#c22' stroke-width='2'",
         Role::Drops => "fill='#fff3dc' stroke='#c80'",
+        Role::Takes => "fill='#f3ecfa' stroke='#7a4fa3'",
         Role::Writes => "fill='#eef3fa' stroke='#1f5fa8'",
     }
+}
+
+pub(crate) const ENTRY_STYLE: &str = "fill='#eef7e8' stroke='#7a5'";
+
+/// Appends what a style of boxes means.
+fn push_key(text: &mut String, x: u64, style: &str, meaning: &str) -> Result<(), AllocError>
+    ensures { OnOk result (string_bytes text.new
+        ≡ string_bytes text.old ++ key_text x style.now meaning.now) }
+{
+    writeln!(
+        text,
+        "<g transform='translate({x} 98)'><rect width='12' height='12' {style}/>\
+            <text x='18' y='10' font-size='11'>{meaning}</text></g>"
+    )
+}
+
+fn push_made_keys(text: &mut String) -> Result<(), AllocError>
+    ensures { OnOk result (string_bytes text.new ≡ string_bytes text.old ++ made_keys) }
+{
+    push_key(text, 216, style_of(Role::Writes), "wrote an entry")?;
+    push_key(text, 345, ENTRY_STYLE, "an entry, at its moment")
+}
+
+fn push_taken_keys(text: &mut String) -> Result<(), AllocError>
+    ensures { OnOk result (string_bytes text.new ≡ string_bytes text.old ++ taken_keys) }
+{
+    push_key(text, 535, style_of(Role::Drops), "an entry had to go by it")?;
+    push_key(text, 732, style_of(Role::Takes), "took the last moments")?;
+    push_key(text, 909, style_of(Role::Bad), "the bad event")
+}
+
+/// Appends what the colours of boxes mean.
+pub(crate) fn push_keys(text: &mut String) -> Result<(), AllocError>
+    ensures { OnOk result (string_bytes text.new ≡ string_bytes text.old ++ keys_text) }
+{
+    push_made_keys(text)?;
+    push_taken_keys(text)
 }
 
 /// Appends what begins a row: its box, whose corners are round by so much, and a dot in a lane.

@@ -18,7 +18,8 @@ use Rattle.clap.proofs.OnLiterals.{clap_on_literals}
 use Rattle.pg_plan.specs.declared.request.Plan.{Plan}
 use Rattle.pg_plan.specs.declared.request.Command.{Command}
 use Rattle.pg_plan.specs.declared.request.Selection.{Selection}
-use Rattle.pg_plan.specs.Commands.{AreAsked, AreFrom1To64, Asks, AsksOnly, file_in, named_file, IsAsked, IsNumberIn, IsPlanOf, IsSelectionOf, command_line, command_word, faults, is_on}
+use Rattle.pg_plan.specs.declared.request.Telling.{Telling}
+use Rattle.pg_plan.specs.Commands.{AreAsked, AreFrom1To64, Asks, AsksOnly, file_in, named_file, IsAsked, IsNumberIn, IsPlanOf, IsSelectionOf, IsTellingOf, command_line, command_word, faults, is_on}
 use Rattle.pg_plan.specs.Values.{AreHexDigits, IsAddressIn, IsCpuIn, IsOptional, IsPageIn}
 
 is_plain : is_simple_and_free command_line ≡ true
@@ -181,25 +182,29 @@ not_read P none x p = let e : None ≡ Some x = (none x).1 p in absurd cc
 pub no_selection : (rows : List Row) → ((asked : Selection) → IsSelectionOf rows asked → ⊥) → Reads None (IsSelectionOf rows)
 no_selection rows none asked = (λ e. absurd cc, λ h. absurd (none asked h))
 
-abbrev made : Command → ℕ → Bool → Bool → Selection → Plan
-made command checkers single bytes selection = record { command = command; checkers = checkers; single = single; bytes = bytes; selection = selection }
+abbrev made : Command → ℕ → Bool → Bool → Selection → Telling → Bool → Plan
+made command checkers single bytes selection telling progress = record { command = command; checkers = checkers; single = single; bytes = bytes; selection = selection; telling = telling; progress = progress }
 
-same_plan : (plan other : Plan) → plan.command ≡ other.command → plan.checkers ≡ other.checkers → plan.single ≡ other.single → plan.bytes ≡ other.bytes → plan.selection ≡ other.selection → plan ≡ other
-same_plan plan other a b c d e =
-    ap (λ v. made v plan.checkers plan.single plan.bytes plan.selection) a
-    ∙ ap (λ v. made other.command v plan.single plan.bytes plan.selection) b
-    ∙ ap (λ v. made other.command other.checkers v plan.bytes plan.selection) c
-    ∙ ap (λ v. made other.command other.checkers other.single v plan.selection) d
-    ∙ ap (λ v. made other.command other.checkers other.single other.bytes v) e
+same_plan : (plan other : Plan) → plan.command ≡ other.command → plan.checkers ≡ other.checkers → plan.single ≡ other.single → plan.bytes ≡ other.bytes → plan.selection ≡ other.selection → plan.telling ≡ other.telling → plan.progress ≡ other.progress → plan ≡ other
+same_plan plan other a b c d e f g =
+    ap (λ v. made v plan.checkers plan.single plan.bytes plan.selection plan.telling plan.progress) a
+    ∙ ap (λ v. made other.command v plan.single plan.bytes plan.selection plan.telling plan.progress) b
+    ∙ ap (λ v. made other.command other.checkers v plan.bytes plan.selection plan.telling plan.progress) c
+    ∙ ap (λ v. made other.command other.checkers other.single v plan.selection plan.telling plan.progress) d
+    ∙ ap (λ v. made other.command other.checkers other.single other.bytes v plan.telling plan.progress) e
+    ∙ ap (λ v. made other.command other.checkers other.single other.bytes other.selection v plan.progress) f
+    ∙ ap (λ v. made other.command other.checkers other.single other.bytes other.selection other.telling v) g
 
 -- a plan that was made of what the rows say is theirs, and no other is
 pub plan_is : (found : Option (Text × List Row)) (name : Text) (rows : List Row) (plan : Plan) → found ≡ Some (name, rows)
     → ((c : Command) → (Some plan.command ≡ Some c) ↔ (name ≡ command_word c))
     → ((n : ℕ) → (Some plan.checkers ≡ Some n) ↔ AreAsked (first_of (codes "checkers") rows) n)
     → Reads (Some plan.selection) (IsSelectionOf rows)
+    → Reads (Some plan.telling) (IsTellingOf rows)
     → plan.single ≡ is_on (first_of (codes "single") rows) → plan.bytes ≡ is_on (first_of (codes "bytes") rows)
+    → plan.progress ≡ is_on (first_of (codes "progress") rows)
     → (other : Plan) → (Some plan ≡ Some other) ↔ IsPlanOf found other
-plan_is found name rows plan found_is commands counts events single_is bytes_is other = (there, back)
+plan_is found name rows plan found_is commands counts events tellings single_is bytes_is progress_is other = (there, back)
   where
     there : Some plan ≡ Some other → IsPlanOf found other
     there e =
@@ -210,6 +215,8 @@ plan_is found name rows plan found_is commands counts events single_is bytes_is 
           single = single_is;
           bytes = bytes_is;
           selection = (events plan.selection).0 refl;
+          telling = (tellings plan.telling).0 refl;
+          progress = progress_is;
         })
 
     back : IsPlanOf found other → Some plan ≡ Some other
@@ -220,7 +227,9 @@ plan_is found name rows plan found_is commands counts events single_is bytes_is 
         let selection_is = some_is plan.selection other.selection ((events other.selection).1 (subst (λ r. IsSelectionOf r other.selection) (sym both.1) h.selection)) in
         let alone : plan.single ≡ other.single = single_is ∙ ap (λ r. is_on (first_of (codes "single") r)) both.1 ∙ sym h.single in
         let written : plan.bytes ≡ other.bytes = bytes_is ∙ ap (λ r. is_on (first_of (codes "bytes") r)) both.1 ∙ sym h.bytes in
-        ap (λ x. Some x) (same_plan plan other command_is checkers_is alone written selection_is)
+        let telling_is = some_is plan.telling other.telling ((tellings other.telling).1 (subst (λ r. IsTellingOf r other.telling) (sym both.1) h.telling)) in
+        let meanwhile : plan.progress ≡ other.progress = progress_is ∙ ap (λ r. is_on (first_of (codes "progress") r)) both.1 ∙ sym h.progress in
+        ap (λ x. Some x) (same_plan plan other command_is checkers_is alone written selection_is telling_is meanwhile)
 
 -- rows of which a number is refused have no plan
 pub no_plan : (found : Option (Text × List Row)) (name : Text) (rows : List Row) → found ≡ Some (name, rows)

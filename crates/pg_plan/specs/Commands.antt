@@ -15,11 +15,12 @@ use Rattle.pg_plan.specs.declared.request.Command.TheVariants.{Check, Certify, R
 use Rattle.pg_plan.specs.declared.request.Command.TheVariants.{Explain, Show, Upgrade}
 use Rattle.pg_plan.specs.declared.request.Plan.{Plan}
 use Rattle.pg_plan.specs.declared.request.Selection.{Selection}
+use Rattle.pg_plan.specs.declared.request.Telling.{Telling}
 use Rattle.pg_plan.specs.declared.request.Usage.{Usage}
 use Rattle.pg_plan.specs.declared.request.Usage.TheVariants.{Help, Version, Fault, Memory}
 pub use Rattle.clap.specs.Walk.{texts}
 pub use Rattle.pg_plan.specs.Values.{AreAsked, AreFrom1To64, IsAsked, IsNumberIn, IsAddressIn}
-pub use Rattle.pg_plan.specs.Values.{IsCpuIn, IsPageIn, IsOptional}
+pub use Rattle.pg_plan.specs.Values.{IsCpuIn, IsPageIn, IsOptional, IsTelling}
 
 abbrev pub command_word : Command → List ℕ
 command_word Check = codes "check"
@@ -55,21 +56,27 @@ file_rule = record (new_rule (codes "file")) { action = Some Set; value_names = 
 abbrev pub with_file : App → App
 with_file line = with_rule line file_rule
 
--- a command with no option
-abbrev pub plain_line : Text → App
-plain_line name = with_file (new_app name)
-
-abbrev pub check_line : App
-check_line = with_file (with_rule (new_app (command_word Check)) checkers_rule)
-
 -- `--` and a name
 abbrev pub switch_rule : Text → Rule
 switch_rule name = record (new_rule name) { long = Some name; action = Some SetTrue }
 
+-- `--progress`, and a file's name behind it
+abbrev pub with_progress : App → App
+with_progress line = with_file (with_rule line (switch_rule (codes "progress")))
+
+-- a command with no option of its own
+abbrev pub plain_line : Text → App
+plain_line name = with_progress (new_app name)
+
+abbrev pub check_line : App
+check_line =
+    let line = with_rule (new_app (command_word Check)) checkers_rule in
+    with_progress (with_rule line (switch_rule (codes "all")))
+
 abbrev pub certify_line : App
 certify_line =
     let line = with_rule (new_app (command_word Certify)) checkers_rule in
-    with_file (with_rule line (switch_rule (codes "bytes")))
+    with_progress (with_rule line (switch_rule (codes "bytes")))
 
 abbrev pub run_line : App
 run_line =
@@ -115,6 +122,21 @@ show_line =
     let line = with_rule filter_line (number_rule (codes "from")) in
     with_file (with_rule line (number_rule (codes "to")))
 
+-- a number from 1 to 1,000,000 behind `--most`
+abbrev pub most_rule : Rule
+most_rule = record (new_rule (codes "most")) {
+  long = Some (codes "most");
+  action = Some Set;
+  value_names = 1;
+  parser = Some (parsers.Signed (pos 1) (pos 1000000));
+}
+
+abbrev pub explain_line : App
+explain_line =
+    let all = with_rule (new_app (command_word Explain)) (switch_rule (codes "all")) in
+    let most = with_rule all most_rule in
+    with_progress (with_rule most (switch_rule (codes "svg")))
+
 -- the commands that judge a record
 abbrev pub judging_line : App
 judging_line = with_subcommand (with_subcommand bare_line check_line.top) certify_line.top
@@ -128,8 +150,7 @@ running_line =
 -- and those that say more of a record
 abbrev pub telling_line : App
 telling_line =
-    with_subcommand (with_subcommand running_line (plain_line (command_word Explain)).top)
-    show_line.top
+    with_subcommand (with_subcommand running_line explain_line.top) show_line.top
 
 abbrev pub command_line : App
 command_line = with_subcommand telling_line (plain_line (command_word Upgrade)).top
@@ -153,6 +174,13 @@ pub record IsSelectionOf (rows : List Row) (asked : Selection) : Type 0 where
   pub page : IsOptional IsPageIn (first_of (codes "page") rows) asked.page
   pub word : IsOptional IsAddressIn (first_of (codes "word") rows) asked.word
 
+-- this is what options ask to be told of bad events
+abbrev pub IsTellingOf : List Row → Telling → Type 0
+IsTellingOf rows =
+    let all = is_on (first_of (codes "all") rows) in
+    let svg = is_on (first_of (codes "svg") rows) in
+    IsTelling all svg (first_of (codes "most") rows)
+
 -- this is the plan of a command and its options
 pub record IsPlanOf (found : Option (Text × List Row)) (plan : Plan) : Type 0 where
   pub rows : List Row
@@ -161,6 +189,8 @@ pub record IsPlanOf (found : Option (Text × List Row)) (plan : Plan) : Type 0 w
   pub single : plan.single ≡ is_on (first_of (codes "single") rows)
   pub bytes : plan.bytes ≡ is_on (first_of (codes "bytes") rows)
   pub selection : IsSelectionOf rows plan.selection
+  pub telling : IsTellingOf rows plan.telling
+  pub progress : plan.progress ≡ is_on (first_of (codes "progress") rows)
 
 -- the file of a name: none for `-`, which is standard input
 abbrev pub named_file : Option Text → Option Text

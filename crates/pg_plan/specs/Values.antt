@@ -1,9 +1,11 @@
 -- What the values of options spell.
-use Rattle.std.specs.Prelude.{◌≡◌, ℕ, ◌≤◌, ◌<◌, ◌^◌, true, List, ◌++◌, length}
+use Rattle.std.specs.Prelude.{◌≡◌, ℕ, ◌≤◌, ◌<◌, ◌^◌, Bool, true, false, List, ◌++◌, length}
 use Rattle.std.specs.Prelude.{Option, Some, None, codes}
 use Rattle.std.specs.Str.Parse.{IsNumeral, digits_value}
 use Rattle.clap.specs.Walk.{Text}
 use Rattle.pg_event.specs.Form.{is_canonical}
+use Rattle.pg_plan.specs.declared.request.Telling.{Telling}
+use Rattle.pg_plan.specs.declared.request.Telling.TheVariants.{First, All, Picture}
 
 abbrev pub AreFrom1To64 : ℕ → Type 0
 AreFrom1To64 n = (1 ≤ n) × (n ≤ 64)
@@ -16,6 +18,14 @@ IsNumberIn text n = IsNumeral 10 text × (digits_value 10 text ≡ n) × (n < 2 
 abbrev pub AreAsked : Option Text → ℕ → Type 0
 AreAsked None n = n ≡ 1
 AreAsked (Some text) n = IsNumberIn text n × AreFrom1To64 n
+
+abbrev pub IsFrom1ToAMillion : ℕ → Type 0
+IsFrom1ToAMillion n = (1 ≤ n) × (n ≤ 1000000)
+
+-- so many explanations: 100 where no number is given, and else what its digits say
+abbrev pub IsMost : Option Text → ℕ → Type 0
+IsMost None n = n ≡ 100
+IsMost (Some text) n = IsNumberIn text n × IsFrom1ToAMillion n
 
 -- this event number: another one where none is given, and else what its digits say
 abbrev pub IsAsked : ℕ → Option Text → ℕ → Type 0
@@ -45,3 +55,10 @@ IsOptional IsIn None None = Unit {0}
 IsOptional IsIn None (Some n) = ⊥
 IsOptional IsIn (Some text) None = ⊥
 IsOptional IsIn (Some text) (Some n) = IsIn text n
+
+-- What is told of bad events, where `--all` and `--svg` are given or not, and `--most` with this
+-- text or not: so many at most have to do with all alone, and all are not drawn.
+abbrev pub IsTelling : Bool → Bool → Option Text → Telling → Type 0
+IsTelling all svg most First = (all ≡ false) × (svg ≡ false) × (most ≡ None)
+IsTelling all svg most (All n) = (all ≡ true) × (svg ≡ false) × IsMost most n
+IsTelling all svg most Picture = (all ≡ false) × (svg ≡ true) × (most ≡ None)

@@ -6,4 +6,4 @@ mod request;
 mod values;
 
 pub use planner::plan;
-pub use request::{Command, Invocation, Plan, Selection, Usage};
+pub use request::{Command, Invocation, Plan, Selection, Telling, Usage};

@@ -10,6 +10,7 @@ ghost use Rattle.pg_plan.specs.Commands.{judging_line, running_line, telling_lin
 ghost use Rattle.pg_plan.specs.Commands.{file_rule, file_in, named_file, plain_line, with_file};
 ghost use Rattle.pg_plan.specs.Commands.{checkers_rule, number_rule, switch_rule, command_line};
 ghost use Rattle.pg_plan.specs.Commands.{cpu_rule, address_rule, filter_line};
+ghost use Rattle.pg_plan.specs.Commands.{most_rule, explain_line, with_progress, IsTellingOf};
 ghost use Rattle.pg_plan.specs.Commands.{command_word, AreFrom1To64, is_on, IsSelectionOf};
 ghost use Rattle.pg_plan.specs.Commands.{Asks, AsksOnly, IsPlanOf};
 ghost use Rattle.pg_plan.specs.Commands.{AsksHelp, AsksVersion, NamesHelp, NamesVersion};
@@ -17,9 +18,10 @@ ghost use Rattle.pg_plan.specs.Commands.{IsHelp, IsVersion, IsFault};
 ghost use Rattle.pg_plan.specs.declared.request.Command.{Command as Asked};
 ghost use Rattle.pg_plan.specs.declared.request.Plan.{Plan as Planned};
 ghost use Rattle.pg_plan.specs.declared.request.Selection.{Selection as Selected};
+ghost use Rattle.pg_plan.specs.declared.request.Telling.{Telling as Told};
 
-use crate::request::{Command, Invocation, Plan, Selection, Usage};
-use crate::values::{checkers_of, cpu_of, number_of, page_of, word_of};
+use crate::request::{Command, Invocation, Plan, Selection, Telling, Usage};
+use crate::values::{checkers_of, cpu_of, number_of, page_of, telling_of, word_of};
 use clap::error::ErrorKind;
 use clap::{Arg, ArgAction, ArgMatches, Command as CommandLine, Error, value_parser};
 use std::alloc::{AllocError, Global};
@@ -85,6 +87,25 @@ const WORD: &str = "word";
 
 const WORD_ABOUT: &str = "The physical address of a word: its writes and assists are written";
 
+const ALL: &str = "all";
+
+const SUMMARY_ABOUT: &str = "Write a summary of all bad events behind the report";
+
+const ALL_ABOUT: &str = "Explain each bad event, and write a summary behind";
+
+const MOST: &str = "most";
+
+const MOST_ABOUT: &str =
+    "With --all: how many bad events are explained at most, from 1 to 1000000; 100 where left out";
+
+const SVG: &str = "svg";
+
+const SVG_ABOUT: &str = "Draw the first bad event, as an SVG in the place of the text";
+
+const PROGRESS: &str = "progress";
+
+const PROGRESS_ABOUT: &str = "Tell on standard error of each million events that were read";
+
 const FROM: &str = "from";
 
 const FROM_ABOUT: &str = "The number of the first event that is written; 0 where left out";
@@ -103,6 +124,10 @@ const PAST_EVENTS: u32 = 4_294_967_295;
 
 const NO_NUMBER: &str = "error: a number is given by digits alone, an address by 0x and 1 to 16 \
     hexadecimal digits,\n  and a page by an address that is canonical\n\n\
+    For more information, try '--help'.\n";
+
+const NO_TELLING: &str = "error: --most goes with --all alone, by digits alone, and --svg without \
+    it\n\n\
     For more information, try '--help'.\n";
 
 fn bare_line<'a>(alloc: Global) -> CommandLine<'a>
@@ -140,28 +165,6 @@ fn with_file<'a>(alloc: Global, line: CommandLine<'a>) -> Result<CommandLine<'a>
     line.arg(file)
 }
 
-/// A command with no option.
-fn plain_line<'a>(
-    alloc: Global,
-    name: &'a str,
-    about: &'a str,
-) -> Result<CommandLine<'a>, AllocError>
-    ensures line { IfOk result (λ line. app_of line ≡ plain_line name.entry.now) }
-    ensures local { IfOk result (λ line. (fields_of line).has_globals ≡ false) }
-{
-    with_file(alloc, CommandLine::new(alloc, name).about(about))
-}
-
-fn check_line<'a>(alloc: Global) -> Result<CommandLine<'a>, AllocError>
-    ensures line { IfOk result (λ line. app_of line ≡ check_line) }
-    ensures local { IfOk result (λ line. (fields_of line).has_globals ≡ false) }
-{
-    let line = CommandLine::new(alloc, CHECK)
-        .about(CHECK_ABOUT)
-        .arg(checkers_option(alloc))?;
-    with_file(alloc, line)
-}
-
 fn switch<'a>(alloc: Global, name: &'a str, about: &'a str) -> Arg<'a>
     ensures rule { rule_of result ≡ switch_rule name.entry.now }
     ensures local { result.global ≡ false }
@@ -172,6 +175,39 @@ fn switch<'a>(alloc: Global, name: &'a str, about: &'a str) -> Arg<'a>
         .action(ArgAction::SetTrue)
 }
 
+/// The command with `--progress` and a file's name behind its options.
+fn with_progress<'a>(alloc: Global, line: CommandLine<'a>) -> Result<CommandLine<'a>, AllocError>
+    requires { (fields_of line).has_globals ≡ false }
+    ensures line { IfOk result (λ r. app_of r ≡ with_progress (app_of line.entry)) }
+    ensures local { IfOk result (λ r. (fields_of r).has_globals ≡ false) }
+{
+    let line = line.arg(switch(alloc, PROGRESS, PROGRESS_ABOUT))?;
+    with_file(alloc, line)
+}
+
+/// A command with no option of its own.
+fn plain_line<'a>(
+    alloc: Global,
+    name: &'a str,
+    about: &'a str,
+) -> Result<CommandLine<'a>, AllocError>
+    ensures line { IfOk result (λ line. app_of line ≡ plain_line name.entry.now) }
+    ensures local { IfOk result (λ line. (fields_of line).has_globals ≡ false) }
+{
+    with_progress(alloc, CommandLine::new(alloc, name).about(about))
+}
+
+fn check_line<'a>(alloc: Global) -> Result<CommandLine<'a>, AllocError>
+    ensures line { IfOk result (λ line. app_of line ≡ check_line) }
+    ensures local { IfOk result (λ line. (fields_of line).has_globals ≡ false) }
+{
+    let line = CommandLine::new(alloc, CHECK)
+        .about(CHECK_ABOUT)
+        .arg(checkers_option(alloc))?
+        .arg(switch(alloc, ALL, SUMMARY_ABOUT))?;
+    with_progress(alloc, line)
+}
+
 fn certify_line<'a>(alloc: Global) -> Result<CommandLine<'a>, AllocError>
     ensures line { IfOk result (λ line. app_of line ≡ certify_line) }
     ensures local { IfOk result (λ line. (fields_of line).has_globals ≡ false) }
@@ -180,7 +216,7 @@ fn certify_line<'a>(alloc: Global) -> Result<CommandLine<'a>, AllocError>
         .about(CERTIFY_ABOUT)
         .arg(checkers_option(alloc))?
         .arg(switch(alloc, BYTES, FOUND_ABOUT))?;
-    with_file(alloc, line)
+    with_progress(alloc, line)
 }
 
 fn run_line<'a>(alloc: Global) -> Result<CommandLine<'a>, AllocError>
@@ -255,6 +291,31 @@ fn show_line<'a>(alloc: Global) -> Result<CommandLine<'a>, AllocError>
     with_file(alloc, line)
 }
 
+/// How many are explained, behind `--most`.
+fn most_option<'a>(alloc: Global) -> Arg<'a>
+    ensures rule { rule_of result ≡ most_rule }
+    ensures local { result.global ≡ false }
+{
+    Arg::new(alloc, MOST)
+        .long(MOST)
+        .value_name("N")
+        .help(MOST_ABOUT)
+        .action(ArgAction::Set)
+        .value_parser(value_parser!(u32).range(1..=1_000_000))
+}
+
+fn explain_line<'a>(alloc: Global) -> Result<CommandLine<'a>, AllocError>
+    ensures line { IfOk result (λ line. app_of line ≡ explain_line) }
+    ensures local { IfOk result (λ line. (fields_of line).has_globals ≡ false) }
+{
+    let line = CommandLine::new(alloc, EXPLAIN)
+        .about(EXPLAIN_ABOUT)
+        .arg(switch(alloc, ALL, ALL_ABOUT))?
+        .arg(most_option(alloc))?
+        .arg(switch(alloc, SVG, SVG_ABOUT))?;
+    with_progress(alloc, line)
+}
+
 /// The commands that judge a record.
 fn judging_line<'a>(alloc: Global) -> Result<CommandLine<'a>, AllocError>
     ensures { IfOk result (λ line. app_of line ≡ judging_line) }
@@ -278,7 +339,7 @@ fn telling_line<'a>(alloc: Global) -> Result<CommandLine<'a>, AllocError>
     ensures { IfOk result (λ line. app_of line ≡ telling_line) }
 {
     running_line(alloc)?
-        .subcommand(plain_line(alloc, EXPLAIN, EXPLAIN_ABOUT)?)?
+        .subcommand(explain_line(alloc)?)?
         .subcommand(show_line(alloc)?)
 }
 
@@ -353,6 +414,16 @@ fn selection_of(own: &ArgMatches<'_>) -> Option<Selection>
     })
 }
 
+/// What the options ask to be told of bad events.
+fn telling_in(own: &ArgMatches<'_>) -> Option<Telling>
+    ensures { (telling : Told) → (result ≡ Some telling)
+        ↔ IsTellingOf (rows_of (found_of own.now)) telling }
+{
+    let all = is_on(own.get_str(ALL));
+    let svg = is_on(own.get_str(SVG));
+    telling_of(all, svg, own.get_str(MOST))
+}
+
 /// What the matches ask for.
 fn plan_of(matches: &ArgMatches<'_>) -> Option<Plan>
     ensures { (plan : Planned) → (result ≡ Some plan)
@@ -362,12 +433,15 @@ fn plan_of(matches: &ArgMatches<'_>) -> Option<Plan>
     let command = command_of(name)?;
     let checkers = checkers_of(own.get_str(CHECKERS))?;
     let selection = selection_of(own)?;
+    let telling = telling_in(own)?;
     Some(Plan {
         command,
         checkers,
         single: is_on(own.get_str(SINGLE)),
         bytes: is_on(own.get_str(BYTES)),
         selection,
+        telling,
+        progress: is_on(own.get_str(PROGRESS)),
     })
 }
 
@@ -390,10 +464,18 @@ fn file_of<'a>(matches: &ArgMatches<'a>) -> Option<&'a str>
     named_file(own.get_str(FILE))
 }
 
-fn no_number(alloc: Global) -> Usage
+/// What is wrong with the words where `clap` takes them.
+fn wrong_with(matches: &ArgMatches<'_>) -> &'static str {
+    match matches.subcommand() {
+        Some((_, own)) if telling_in(own).is_none() => NO_TELLING,
+        _ => NO_NUMBER,
+    }
+}
+
+fn fault(alloc: Global, text: &str) -> Usage
     ensures { IsFault result ⊎ (result ≡ Usage.Memory) }
 {
-    match String::from_str(alloc, NO_NUMBER) {
+    match String::from_str(alloc, text) {
         Ok(text) => Usage::Fault(text),
         Err(_) => Usage::Memory,
     }
@@ -421,7 +503,7 @@ pub fn plan<'a>(alloc: Global, words: &'a [&'a str]) -> Result<Invocation<'a>, U
                 plan,
                 file: file_of(&matches),
             }),
-            None => Err(no_number(alloc)),
+            None => Err(fault(alloc, wrong_with(&matches))),
         },
         Err(error) => Err(usage_of(alloc, error)),
     }

@@ -35,6 +35,18 @@ pub struct Selection {
     pub word: Option<u64>,
 }
 
+/// What is told of bad events.
+#[derive(Clone, Copy, Debug, PartialEq, Eq)]
+pub enum Telling {
+    /// `check` names the first, and `explain` says what stands behind it.
+    First,
+    /// All are judged, and summed up. So many of them at most, 1 to 1,000,000, `explain` explains,
+    /// which is 100 where the words say nothing.
+    All(u32),
+    /// `explain` draws the first. No other command is asked for this.
+    Picture,
+}
+
 /// What the words of a command line ask for.
 #[derive(Clone, Copy, Debug, PartialEq, Eq)]
 pub struct Plan {
@@ -49,6 +61,10 @@ pub struct Plan {
     pub bytes: bool,
     /// Which events `show` writes.
     pub selection: Selection,
+    /// What `check` and `explain` tell of bad events.
+    pub telling: Telling,
+    /// Whether all commands but `run` and `show` tell meanwhile how many events they have read.
+    pub progress: bool,
 }
 
 /// What the words of a command line ask for, and of which file.

@@ -2,9 +2,11 @@
 
 ghost use Rattle.std.specs.Prelude.{◌≡◌, ◌≢◌, ◌↔◌, ◌++◌, ℕ, List, Option, Some, codes};
 ghost use Rattle.std.specs.Prelude.{option_map, MatchOption};
+ghost use Rattle.pg_plan.specs.declared.request.Telling.{Telling as Asked};
 ghost use Rattle.pg_plan.specs.Values.{IsNumberIn, AreAsked, IsAsked, AreHexDigits, IsAddressIn};
-ghost use Rattle.pg_plan.specs.Values.{IsCpuIn, IsPageIn, IsOptional};
+ghost use Rattle.pg_plan.specs.Values.{IsCpuIn, IsMost, IsPageIn, IsOptional, IsTelling};
 
+use crate::request::Telling;
 use pg_event::is_canonical;
 
 /// The number that a text spells by digits alone.
@@ -30,6 +32,41 @@ pub(crate) fn checkers_of(text: Option<&str>) -> Option<u16>
         return None;
     }
     Some(checkers as u16)
+}
+
+/// So many, if the text spells their number by digits alone.
+fn most_of(text: Option<&str>) -> Option<u32>
+    ensures { (n : ℕ) → (result ≡ Some n) ↔ IsMost (option_map (λ s. s.now) text.entry) n }
+{
+    let Some(text) = text else {
+        return Some(100);
+    };
+    let most = number_in(text)?;
+    if most < 1 || most > 1_000_000 {
+        return None;
+    }
+    Some(most)
+}
+
+/// What is told of bad events, where `--all` and `--svg` are given or not, and `--most` with this
+/// text.
+pub(crate) fn telling_of(all: bool, svg: bool, most: Option<&str>) -> Option<Telling>
+    ensures { (telling : Asked) → (result ≡ Some telling)
+        ↔ IsTelling all svg (option_map (λ s. s.now) most.entry) telling }
+{
+    if all && svg {
+        return None;
+    }
+    if all {
+        return Some(Telling::All(most_of(most)?));
+    }
+    if most.is_some() {
+        return None;
+    }
+    if svg {
+        return Some(Telling::Picture);
+    }
+    Some(Telling::First)
 }
 
 /// The event number that the text spells by digits alone, and `other` where there is no text.

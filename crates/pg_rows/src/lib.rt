@@ -2,6 +2,8 @@
 #![tactic(auto)]
 
 #[cfg(test)]
+mod all_noes;
+#[cfg(test)]
 mod bent;
 #[cfg(test)]
 mod bent_scripts;
@@ -31,6 +33,8 @@ mod many_lines;
 mod namings;
 #[cfg(test)]
 mod new_headers;
+#[cfg(test)]
+mod pictures;
 #[cfg(test)]
 mod pieces;
 #[cfg(test)]

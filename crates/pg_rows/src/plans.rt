@@ -1,4 +1,4 @@
-use pg_plan::{Command, Invocation, Plan, Selection, Usage, plan};
+use pg_plan::{Command, Invocation, Plan, Selection, Telling, Usage, plan};
 use std::alloc::Global;
 use std::test::Fail;
 
@@ -18,10 +18,12 @@ const BARE: Plan = Plan {
     single: false,
     bytes: false,
     selection: EVERY,
+    telling: Telling::First,
+    progress: false,
 };
 
 /// Command lines and their plans.
-const PLANNED: [(&[&str], Plan); 20] = [
+const PLANNED: [(&[&str], Plan); 26] = [
     (&["check"], BARE),
     (
         &["certify"],
@@ -192,6 +194,55 @@ const PLANNED: [(&[&str], Plan); 20] = [
             ..BARE
         },
     ),
+    (
+        &["check", "--all"],
+        Plan {
+            telling: Telling::All(100),
+            ..BARE
+        },
+    ),
+    (
+        &["explain", "--most=01000000", "--all"],
+        Plan {
+            command: Command::Explain,
+            telling: Telling::All(1_000_000),
+            ..BARE
+        },
+    ),
+    (
+        &["explain", "--svg", "--progress"],
+        Plan {
+            command: Command::Explain,
+            telling: Telling::Picture,
+            progress: true,
+            ..BARE
+        },
+    ),
+    (
+        &["check", "--progress", "--all", "--checkers", "2"],
+        Plan {
+            checkers: 2,
+            telling: Telling::All(100),
+            progress: true,
+            ..BARE
+        },
+    ),
+    (
+        &["run-of", "--progress"],
+        Plan {
+            command: Command::RunOf,
+            progress: true,
+            ..BARE
+        },
+    ),
+    (
+        &["upgrade", "--progress"],
+        Plan {
+            command: Command::Upgrade,
+            progress: true,
+            ..BARE
+        },
+    ),
 ];
 
 #[test]
@@ -228,7 +279,7 @@ fn names_of_files(rt: HostRuntime) -> Result<(), Fail> {
 }
 
 /// Command lines that are refused.
-const FAULTS: [&[&str]; 29] = [
+const FAULTS: [&[&str]; 46] = [
     &[],
     &["judge"],
     &["check", "one", "two"],
@@ -258,6 +309,23 @@ const FAULTS: [&[&str]; 29] = [
     &["show", "--word", "0X10"],
     &["show", "--word", "0xg"],
     &["explain", "--page", "0x5000"],
+    &["check", "--most", "3"],
+    &["certify", "--all"],
+    &["explain", "--all", "--most", "0"],
+    &["explain", "--all", "--most", "1000001"],
+    &["explain", "--all", "--most", "+2"],
+    &["explain", "--all", "--most", "two"],
+    &["explain", "--all", "--most", ""],
+    &["explain", "--all", "--most", "-1"],
+    &["explain", "--most", "3"],
+    &["explain", "--svg", "--most", "3"],
+    &["explain", "--svg", "--all"],
+    &["explain", "--svg", "--svg"],
+    &["certify", "--svg"],
+    &["check", "--svg"],
+    &["show", "--progress"],
+    &["run", "--progress"],
+    &["check", "--progress=2"],
 ];
 
 /// What is no number, for each option that takes one.

@@ -1,7 +1,7 @@
 use crate::row::run_all;
 use crate::{
-    certificates, explanations, headers, invalidations, lines, many_lines, refusals, rights, runs,
-    spliced, versions, walks,
+    all_noes, certificates, explanations, headers, invalidations, lines, many_lines, pictures,
+    refusals, rights, runs, spliced, versions, walks,
 };
 use std::test::Fail;
 
@@ -28,7 +28,9 @@ fn records_explained(rt: HostRuntime) -> Result<(), Fail> {
     run_all(&rt, &explanations::WALKS)?;
     run_all(&rt, &explanations::CACHED)?;
     run_all(&rt, &explanations::ANSWERS)?;
-    run_all(&rt, &explanations::FLAGS)
+    run_all(&rt, &explanations::FLAGS)?;
+    run_all(&rt, &pictures::ROWS)?;
+    run_all(&rt, &all_noes::ROWS)
 }
 
 #[test]

@@ -8,6 +8,8 @@ use Rattle.pg_plan.specs.declared.request.Command.{Command}
 use Rattle.pg_plan.specs.declared.request.Command.TheVariants.{Check, Certify, Run, RunOf}
 use Rattle.pg_plan.specs.declared.request.Command.TheVariants.{Explain, Show, Upgrade}
 use Rattle.pg_plan.specs.declared.request.Plan.{Plan}
+use Rattle.pg_plan.specs.declared.request.Telling.{Telling}
+use Rattle.pg_plan.specs.declared.request.Telling.TheVariants.{First, All, Picture}
 use Rattle.pg_plan.specs.declared.request.Usage.{Usage}
 use Rattle.pg_plan.specs.declared.request.Usage.TheVariants.{Help, Version, Fault, Memory}
 use Rattle.pg_plan.specs.Commands.{Asks, AsksNone, AsksHelp, AsksVersion, NamesHelp}
@@ -19,9 +21,11 @@ use Rattle.pg_answers.specs.Explanations.{ExplainsRecord}
 use Rattle.pg_tool.specs.Guests.{RunsGuest}
 use Rattle.pg_answers.specs.Lines.{ShowsRecord, filter_of}
 use Rattle.pg_answers.specs.Naming.{NamesRecord}
+use Rattle.pg_answers.specs.Pictures.{DrawsRecord}
 use Rattle.pg_answers.specs.Refusals.{StaysSame, Tells, refusal_line, memory_line, unopened_line}
 use Rattle.pg_answers.specs.Status.{Checks, ShowsRun}
 use Rattle.pg_answers.specs.Streams.{Streams}
+use Rattle.pg_answers.specs.Summaries.{ChecksAll, ExplainsAll}
 use Rattle.pg_answers.specs.Upgrades.{Upgrades}
 
 -- 0 where the text was written, and 2 where the output failed
@@ -58,13 +62,27 @@ abbrev pub CertifiesBy : ℕ → Bool → Streams → ℕ → Type 0
 CertifiesBy checkers false = CertifiesRecord checkers
 CertifiesBy checkers true = NamesRecord
 
+-- by so many checkers the record's report; or that with a summary of all bad events (and a picture
+-- is asked of `explain` alone)
+abbrev pub ChecksBy : ℕ → Telling → Streams → ℕ → Type 0
+ChecksBy checkers First = Checks checkers
+ChecksBy checkers (All most) = ChecksAll
+ChecksBy checkers Picture = Checks checkers
+
+-- what stands behind the first bad event; or behind so many at most, with that summary; or behind
+-- the first as a picture
+abbrev pub ExplainsBy : Telling → Streams → ℕ → Type 0
+ExplainsBy First = ExplainsRecord
+ExplainsBy (All most) = ExplainsAll most
+ExplainsBy Picture = DrawsRecord
+
 -- what a plan's command does
 abbrev pub DoesCommand : Command → Plan → Streams → ℕ → Type 0
-DoesCommand Check plan s status = Checks plan.checkers s status
+DoesCommand Check plan s status = ChecksBy plan.checkers plan.telling s status
 DoesCommand Certify plan s status = CertifiesBy plan.checkers plan.bytes s status
 DoesCommand Run plan s status = RunsGuest plan.single plan.bytes s status
 DoesCommand RunOf plan s status = ShowsRun s status
-DoesCommand Explain plan s status = ExplainsRecord s status
+DoesCommand Explain plan s status = ExplainsBy plan.telling s status
 DoesCommand Show plan s status = ShowsRecord (filter_of plan) s status
 DoesCommand Upgrade plan s status = Upgrades s status
 

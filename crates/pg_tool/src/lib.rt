@@ -8,5 +8,5 @@ mod guests;
 mod program;
 
 pub use guest_error::GuestError;
-pub use pg_plan::{Command, Invocation, Plan, Usage, plan};
-pub use program::{pcid_audit, run};
+pub use pg_plan::{Command, Invocation, Plan, Telling, Usage, plan};
+pub use program::{pcid_audit, pcid_audit_followed, run};

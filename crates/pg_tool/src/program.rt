@@ -4,7 +4,8 @@ ghost use Rattle.std.specs.Prelude.{◌≡◌};
 ghost use Rattle.pg_plan.specs.Commands.{AreFrom1To64, texts};
 ghost use Rattle.pg_pool.specs.Rounds.{AreCheckers};
 ghost use Rattle.pg_report.specs.Changes.{filled};
-ghost use Rattle.pg_tool.specs.Answers.{Answers, CertifiesBy, Does, DoesNamed, GivesText, opens};
+ghost use Rattle.pg_tool.specs.Answers.{Answers, CertifiesBy, ChecksBy, ExplainsBy, Does};
+ghost use Rattle.pg_tool.specs.Answers.{DoesNamed, GivesText, opens};
 ghost use Rattle.pg_tool.specs.Guests.{guest_error_status, run_error_status};
 ghost use Rattle.pg_tool.specs.Guests.{RunsGuest, TellsGuest};
 ghost use Rattle.pg_answers.specs.Streams.{streams};
@@ -14,15 +15,16 @@ use crate::guest_error::GuestError;
 use crate::guest_refusals::tell_guest;
 use crate::guests::run_script;
 use pg_answers::{
-    MEMORY, REFUSED, USAGE, YES, certify, check, explain, filter_of, name_moments, run_of, show,
-    tell, tell_memory, tell_text, upgrade,
+    MEMORY, REFUSED, USAGE, YES, certify, check, check_all, draw, explain, explain_all, filter_of,
+    name_moments, run_of, show, tell, tell_memory, tell_text, upgrade,
 };
 use pg_codec::{Sink, Source, put_all};
-use pg_plan::{Command, Plan, Usage, plan};
+use pg_plan::{Command, Plan, Telling, Usage, plan};
 use pg_report::AuditError;
 use pg_runner::RunError;
 use pg_script::{ScriptError, ScriptRefusal};
-use std::alloc::AllocGlobal;
+use std::alloc::{AllocGlobal, Global};
+use std::cell::Cell;
 use std::sync::Wait;
 use std::thread::Threads;
 
@@ -117,6 +119,42 @@ fn certify_by<T: AllocGlobal + Threads + Wait + Sync, R: Source, O: Sink, E: Sin
     }
 }
 
+/// Judges the record on `input`, and writes its report, or that and a summary of all bad events.
+fn check_by<T: AllocGlobal + Threads + Wait + Sync, R: Source, O: Sink, E: Sink>(
+    rt: &T,
+    plan: Plan,
+    input: &mut R,
+    output: &mut O,
+    errors: &mut E,
+) -> u8
+    requires { AreCheckers plan.checkers }
+    ensures { ChecksBy plan.checkers plan.telling (streams R.Source O.Sink E.Sink
+        (input.old, output.old, errors.old) (input.new, output.new, errors.new)) result }
+{
+    match plan.telling {
+        Telling::First | Telling::Picture => check(rt, plan.checkers, input, output, errors),
+        Telling::All(_) => check_all(rt.alloc(), input, output, errors),
+    }
+}
+
+/// Explains bad events of the record on `input`: the first, as text or drawn, or all up to so many.
+fn explain_by<R: Source, O: Sink, E: Sink>(
+    alloc: Global,
+    plan: Plan,
+    input: &mut R,
+    output: &mut O,
+    errors: &mut E,
+) -> u8
+    ensures { ExplainsBy plan.telling (streams R.Source O.Sink E.Sink
+        (input.old, output.old, errors.old) (input.new, output.new, errors.new)) result }
+{
+    match plan.telling {
+        Telling::First => explain(alloc, input, output, errors),
+        Telling::All(most) => explain_all(alloc, most, input, output, errors),
+        Telling::Picture => draw(alloc, input, output, errors),
+    }
+}
+
 /// Does what a plan says.
 fn perform<T: AllocGlobal + Threads + Wait + Sync, R: Source, O: Sink, E: Sink>(
     rt: &T,
@@ -130,11 +168,11 @@ fn perform<T: AllocGlobal + Threads + Wait + Sync, R: Source, O: Sink, E: Sink>(
         (input.old, output.old, errors.old) (input.new, output.new, errors.new)) result }
 {
     match plan.command {
-        Command::Check => check(rt, plan.checkers, input, output, errors),
+        Command::Check => check_by(rt, plan, input, output, errors),
         Command::Certify => certify_by(rt, plan, input, output, errors),
         Command::Run => run(rt, plan, input, output, errors),
         Command::RunOf => run_of(rt.alloc(), input, output, errors),
-        Command::Explain => explain(rt.alloc(), input, output, errors),
+        Command::Explain => explain_by(rt.alloc(), plan, input, output, errors),
         Command::Show => show(rt.alloc(), filter_of(plan), input, output, errors),
         Command::Upgrade => upgrade(rt.alloc(), input, output, errors),
     }
@@ -164,7 +202,53 @@ fn perform_on<
 
 /// The whole program, over any streams: the words after its name, what opens a file, what it reads
 /// where the words name none, and what it writes to. It gives the exit status, which is 64 where
-/// the words are no command of it, and 66 where the file can't be opened.
+/// the words are no command of it, and 66 where the file can't be opened. The cell is set, before
+/// anything is read or opened, where the words ask for progress: telling of it is up to who made
+/// what is read.
+pub fn pcid_audit_followed<
+    'a,
+    T: AllocGlobal + Threads + Wait + Sync,
+    F: Fn(&str) -> Option<S>,
+    S: Source + Drop,
+    R: Source,
+    O: Sink,
+    E: Sink,
+>(
+    rt: &T,
+    words: &'a [&'a str],
+    opener: F,
+    progress: &Cell<bool>,
+    input: &mut R,
+    output: &mut O,
+    errors: &mut E,
+) -> u8
+    requires { F.IsAlwaysCallable opener }
+    ensures { Answers (texts words.now) (opens F.Fn S.Source opener) (input.new ≡ input.old)
+        (streams R.Source O.Sink E.Sink
+        (input.old, output.old, errors.old) (input.new, output.new, errors.new)) result }
+{
+    match plan(rt.alloc(), words) {
+        Ok(asked) => {
+            progress.set(asked.plan.progress);
+            match asked.file {
+                None => perform(rt, asked.plan, input, output, errors),
+                Some(name) => perform_on(rt, asked.plan, name, opener, output, errors),
+            }
+        }
+        Err(Usage::Help(text)) => give_text(text.as_str(), output, errors),
+        Err(Usage::Version(text)) => give_text(text.as_str(), output, errors),
+        Err(Usage::Fault(text)) => {
+            tell_text(errors, text.as_str());
+            USAGE
+        }
+        Err(Usage::Memory) => {
+            tell_memory(errors);
+            MEMORY
+        }
+    }
+}
+
+/// The whole program over streams that tell of no progress.
 pub fn pcid_audit<
     'a,
     T: AllocGlobal + Threads + Wait + Sync,
@@ -179,20 +263,5 @@ pub fn pcid_audit<
         (streams R.Source O.Sink E.Sink
         (input.old, output.old, errors.old) (input.new, output.new, errors.new)) result }
 {
-    match plan(rt.alloc(), words) {
-        Ok(asked) => match asked.file {
-            None => perform(rt, asked.plan, input, output, errors),
-            Some(name) => perform_on(rt, asked.plan, name, opener, output, errors),
-        },
-        Err(Usage::Help(text)) => give_text(text.as_str(), output, errors),
-        Err(Usage::Version(text)) => give_text(text.as_str(), output, errors),
-        Err(Usage::Fault(text)) => {
-            tell_text(errors, text.as_str());
-            USAGE
-        }
-        Err(Usage::Memory) => {
-            tell_memory(errors);
-            MEMORY
-        }
-    }
+    pcid_audit_followed(rt, words, opener, &Cell::new(false), input, output, errors)
 }

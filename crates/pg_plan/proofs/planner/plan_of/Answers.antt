@@ -6,7 +6,7 @@ use Rattle.clap.specs.Walk.{Row, Text, first_of, rows_of}
 use Rattle.clap.specs.declared.parser.matches.ArgMatches.TheViews.{out-ArgMatches}
 use Rattle.clap.proofs.WalkLemmas.{first_value-rows}
 use Rattle.pg_plan.specs.declared.request.Plan.{Plan}
-use Rattle.pg_plan.specs.Commands.{AreAsked, IsPlanOf, IsSelectionOf, is_on}
+use Rattle.pg_plan.specs.Commands.{AreAsked, IsPlanOf, IsSelectionOf, IsTellingOf, is_on}
 use Rattle.pg_plan.proofs.Parses.{joined, no_plan, not_asked, not_read, plan_is}
 use Rattle.pg_plan.proofs.planner.plan_of.Goals as goal
 
@@ -29,6 +29,14 @@ returns-in_err-selection c = λ plan.
     let planned = no_plan (subcommand_rows_of c.args.matches.now) c.in_ok-name.name.now rows found_is (λ p h is. not_read (IsSelectionOf rows) c.in_err-selection.ensures p.selection (subst (λ r. IsSelectionOf r p.selection) is h.selection)) plan in
     subst (λ (o : Option Plan). (o ≡ Some plan) ↔ IsPlanOf (subcommand_rows_of c.args.matches.now) plan) (sym c.from_residual-in_err-selection.ensures) planned
 
+pub returns-in_err-telling : goal.returns-in_err-telling
+returns-in_err-telling c = λ plan.
+    let found = found_of c.in_ok-name.own.now in
+    let rows : List Row = rows_of found in
+    let found_is = joined (out-ArgMatches c.args.matches.now).subcommand c.in_ok-name.name.now rows c.in_ok-name.ensures.rows c.in_ok-name.ensures.name in
+    let planned = no_plan (subcommand_rows_of c.args.matches.now) c.in_ok-name.name.now rows found_is (λ p h is. not_read (IsTellingOf rows) c.in_err-telling.ensures p.telling (subst (λ r. IsTellingOf r p.telling) is h.telling)) plan in
+    subst (λ (o : Option Plan). (o ≡ Some plan) ↔ IsPlanOf (subcommand_rows_of c.args.matches.now) plan) (sym c.from_residual-in_err-telling.ensures) planned
+
 pub returns : goal.returns
 returns c = λ plan.
     let found = found_of c.in_ok-name.own.now in
@@ -40,4 +48,5 @@ returns c = λ plan.
     λ n. subst (λ (o : Option Text). (Some checkers ≡ Some n) ↔ AreAsked o n) checkers_is (c.in_ok-checkers.ensures n) in
     let single = c.is_on.ensures ∙ ap is_on (c.get_str-2.ensures ∙ first_value-rows found (codes "single")) in
     let bytes = c.is_on-2.ensures ∙ ap is_on (c.get_str-3.ensures ∙ first_value-rows found (codes "bytes")) in
-    plan_is (subcommand_rows_of c.args.matches.now) c.in_ok-name.name.now rows _ found_is c.in_ok-command.ensures counts c.in_ok-selection.ensures single bytes plan
+    let progress = c.is_on-3.ensures ∙ ap is_on (c.get_str-4.ensures ∙ first_value-rows found (codes "progress")) in
+    plan_is (subcommand_rows_of c.args.matches.now) c.in_ok-name.name.now rows _ found_is c.in_ok-command.ensures counts c.in_ok-selection.ensures c.in_ok-telling.ensures single bytes progress plan

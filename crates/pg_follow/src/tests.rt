@@ -1,0 +1,93 @@
+use crate::counter::Counter;
+use std::alloc::AllocError;
+use std::test::Fail;
+
+/// Adds what is said, and so many zeros behind it.
+fn put(bytes: &mut Vec<u8>, said: &[u8], zeros: usize) -> Result<(), AllocError> {
+    for byte in said {
+        bytes.push(*byte)?;
+    }
+    for _ in 0..zeros {
+        bytes.push(0)?;
+    }
+    Ok(())
+}
+
+/// An event of each kind: its tag, what follows the processor and says more, and how many bytes
+/// there are in all but the processor.
+fn put_events(bytes: &mut Vec<u8>, width: usize) -> Result<(), AllocError> {
+    put(bytes, b"\x10", width + 16)?;
+    put(bytes, b"\x11", width + 9)?;
+    put(bytes, b"\x00", 8)?;
+    put(bytes, b"\x04", 16)?;
+    put(bytes, b"\x11", width + 9)?;
+    put(bytes, b"\x01", 2)?;
+    put(bytes, b"\x01", 4)?;
+    put(bytes, b"\x12", width + 8)?;
+    put(bytes, b"\x13", width + 8)?;
+    put(bytes, b"\x14", width + 11)?;
+    put(bytes, b"\x15", width + 1)
+}
+
+/// How many events, and in how many bytes the last of them ends.
+fn counted(bytes: &[u8], piece: usize) -> (u64, u64) {
+    let mut counter = Counter::new();
+    let mut found = (0, 0);
+    let mut at = 0;
+    for _ in 0..bytes.len() {
+        let end = (at + piece).min(bytes.len());
+        if at >= end {
+            return found;
+        }
+        let before = counter.events();
+        at += counter.take(&bytes[at..end]);
+        if counter.events() != before {
+            found = (counter.events(), counter.bytes());
+        }
+    }
+    found
+}
+
+#[test]
+fn events_of_version_1(rt: HostRuntime) -> Result<(), Fail> {
+    let mut bytes = Vec::new(rt.alloc());
+    put(&mut bytes, b"PGRECORD\x01\x00\x28\x03\x02", 4 + 18)?;
+    put(&mut bytes, b"\x01\x00\x00\x00\x00\x07\x00\x00\x00", 0)?;
+    put_events(&mut bytes, 1)?;
+    put(&mut bytes, b"\x01\x01\x00\x00\x00\x01\x00\x00\x00", 0)?;
+    put(&mut bytes, b"\x15", 2)?;
+    let end = bytes.len() as u64;
+    put(&mut bytes, b"\x02\x08\x00\x00\x00", 0)?;
+    for piece in [1, 2, 7, 1000] {
+        assert_eq!(&rt; counted(&bytes, piece), (8, end));
+    }
+    Ok(())
+}
+
+#[test]
+fn events_of_version_2(rt: HostRuntime) -> Result<(), Fail> {
+    let mut bytes = Vec::new(rt.alloc());
+    put(&mut bytes, b"PGRECORD\x02\x00\x28\x03\x01\x01", 4 + 9 * 257)?;
+    put(&mut bytes, b"\x01\x00\x00\x00\x00\x08\x00\x00\x00", 0)?;
+    put_events(&mut bytes, 2)?;
+    put(&mut bytes, b"\x16", 2 + 17)?;
+    put(&mut bytes, b"\x02", 8)?;
+    let end = bytes.len() as u64;
+    put(&mut bytes, b"\x02\x08\x00\x00\x00", 0)?;
+    for piece in [1, 2, 7, 1000] {
+        assert_eq!(&rt; counted(&bytes, piece), (8, end));
+    }
+    Ok(())
+}
+
+#[test]
+fn bytes_that_are_no_record(rt: HostRuntime) -> Result<(), Fail> {
+    let mut bytes = Vec::new(rt.alloc());
+    put(&mut bytes, b"PGRECORD\x01\x00\x28\x03\x00", 4)?;
+    put(&mut bytes, b"\x01\x00\x00\x00\x00\x02\x00\x00\x00", 0)?;
+    put(&mut bytes, b"\x15", 2)?;
+    let end = bytes.len() as u64;
+    put(&mut bytes, b"\x99\x15\x00\x00\x15\x00\x00", 0)?;
+    assert_eq!(&rt; counted(&bytes, 3), (1, end));
+    Ok(())
+}
