@@ -11,7 +11,7 @@ use Rattle.pg_chain.specs.Standing.{InEachRun}
 abbrev pub IsWord : Past → Word → Type 0
 IsWord past word =
     InEachRun past (λ head events. (w : ℕ) → word.span.from ≤ w → w ≤ word.span.to →
-        mem_at events w word.address ≡ word.span.value)
+    mem_at events w word.address ≡ word.span.value)
 
 -- a processor has its control registers at each moment of their span, and its table lies within the
 -- physical addresses

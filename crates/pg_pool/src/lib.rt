@@ -3,16 +3,16 @@
 
 mod auditor;
 mod checker;
-mod close;
 mod checkers;
+mod close;
 mod deal;
 mod error;
 mod gate;
 mod hand;
 mod judge;
-mod rounds;
 mod placing;
 mod round;
+mod rounds;
 mod rule;
 mod seat;
 mod steps;

@@ -6,8 +6,8 @@ ghost use Rattle.pg_pool.specs.Verdicts.{Found, verdicts_of};
 ghost use Rattle.pg_pool.specs.Work.{IsDone};
 
 use crate::checker::Done;
-use crate::close::close_round;
 use crate::checkers::run_checkers;
+use crate::close::close_round;
 use crate::deal::open_round;
 use crate::error::PoolError;
 use crate::gate::Gate;

@@ -9,9 +9,9 @@ ghost use Rattle.pg_report.specs.Audits.{WritesText, IsAudit};
 
 use crate::crew::Crew;
 use crate::error::AuditError;
-use crate::whole_record::judge_record;
 use crate::judging_by::judge_record_by;
 use crate::report::{Report, Verdict, verdict_of};
+use crate::whole_record::judge_record;
 use pg_check::{History, first_bad};
 use pg_codec::{Sink, Source, put_all};
 use pg_pool::{Gate, OpenGate};

@@ -14,8 +14,8 @@ ghost use Rattle.pg_report.specs.Judging.{BeginsSegment, IsMovedOn, JudgesRecord
 use crate::crew::Crew;
 use crate::error::AuditError;
 use crate::intake::{MOST_CHUNKS, audit_error, read_header_up_to};
-use crate::whole_record::report_of_judged;
 use crate::report::Report;
+use crate::whole_record::report_of_judged;
 use pg_check::Judged;
 use pg_codec::{RecordReader, Source};
 use pg_event::{Event, Version};

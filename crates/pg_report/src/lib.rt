@@ -5,15 +5,15 @@ mod auditor;
 mod crew;
 mod error;
 mod intake;
-mod whole_record;
 mod judging_by;
 mod merger;
 mod report;
+mod whole_record;
 
 pub use auditor::{audit, audit_one, audit_watched, report_of, write_report, write_text};
 pub use crew::Crew;
 pub use error::{AuditError, MergeError, rule_number};
 pub use intake::{read_old_record, read_record};
-pub use whole_record::{judge_record, report_of_judged};
 pub use merger::merge;
 pub use report::{Report, Verdict, reason_name, reason_number};
+pub use whole_record::{judge_record, report_of_judged};

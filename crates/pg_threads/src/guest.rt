@@ -7,9 +7,9 @@ ghost use Rattle.pg_runner.specs.Runs.{record_of};
 ghost use Rattle.pg_threads.specs.Guests.{IsGuestRun};
 ghost use Rattle.pg_threads.specs.Live.{IsWant};
 
-use crate::processor_threads::run_processors;
 use crate::ending::ended;
 use crate::lookout::Lookout;
+use crate::processor_threads::run_processors;
 use crate::watched::Watched;
 use pg_board::Board;
 use pg_pool::{Gate, OpenGate};

@@ -1,11 +1,11 @@
 //! Runs of guest scripts whose processors carry their instructions out in threads.
 #![tactic(auto)]
 
-mod processor_threads;
 mod ending;
 mod guest;
 mod lookout;
 mod processor;
+mod processor_threads;
 mod same;
 mod segments;
 mod watched;
