@@ -32,7 +32,11 @@ fn open_file<'a>(
 
 fn main(rt: HostRuntime) -> ExitCode {
     let progress = Cell::new(false);
-    let mut input = Followed::new(Watched::new(rt.reader()), Watched::new(rt.stderr()), &progress);
+    let mut input = Followed::new(
+        Watched::new(rt.reader()),
+        Watched::new(rt.stderr()),
+        &progress,
+    );
     let mut output = Watched::new(rt.stdout());
     let mut errors = Watched::new(rt.stderr());
     let arguments = match env::args(&rt) {
