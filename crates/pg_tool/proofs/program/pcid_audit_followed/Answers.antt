@@ -7,7 +7,7 @@ use Rattle.pg_tool.specs.Answers.{GivesUsage, opens}
 use Rattle.pg_answers.specs.Refusals.{Tells}
 use Rattle.pg_answers.specs.Streams.{Streams, streams}
 use Rattle.pg_tool.proofs.Asked.{does_asked, does_named, gives_same}
-use Rattle.pg_tool.proofs.program.pcid_audit.Goals as goal
+use Rattle.pg_tool.proofs.program.pcid_audit_followed.Goals as goal
 
 pub returns-in-None : goal.returns-in-None
 returns-in-None g c =
