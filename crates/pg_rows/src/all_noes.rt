@@ -94,7 +94,10 @@ bad events: 2
     Row {
         name: "no_noes_summed_up",
         words: &["check", "--all"],
-        input: &["50475245434f5244010028030110000000011000000000000001", "0200000000"],
+        input: &[
+            "50475245434f5244010028030110000000011000000000000001",
+            "0200000000",
+        ],
         output: "verdict: yes
 events: 0
 segments: 0
@@ -106,7 +109,10 @@ bad events: 0
     Row {
         name: "all_noes_of_a_truncated_record",
         words: &["explain", "--all", "--progress"],
-        input: &["50475245434f5244010028030110000000011000000000000001", "02000000"],
+        input: &[
+            "50475245434f5244010028030110000000011000000000000001",
+            "02000000",
+        ],
         output: "",
         line: "pcid-audit: refused 8 truncated\n",
         status: 2,
