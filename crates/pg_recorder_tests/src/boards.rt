@@ -1,14 +1,17 @@
-use crate::processors::{TWO, read_of};
+ghost use Rattle.std.specs.Prelude.{◌≡◌};
+
+use crate::processors::{ANSWERED, TWO};
+use crate::written::{receipt_of, script_of};
 use pg_board::Board;
-use pg_event::Outcome;
 use pg_guest::Advance;
-use pg_progress::{Counts, Progress};
+use pg_progress::{Counts, Progress, Publisher};
 use pg_script::Script;
+use std::alloc::{AllocError, Global};
 use std::test::Fail;
 
 /// A page mapped, read, taken away, read from what is cached, invalidated and read again by
 /// processor 0, and read by processor 1.
-const SCRIPT: &[u8] = b"pcid-guest 1
+pub(crate) const STALE: &[u8] = b"pcid-guest 1
 machine 40 wp nxe
 segment 16
 cpu 0x1001 1
@@ -42,30 +45,54 @@ fn turn_both(board: &mut Board<'_>) -> bool {
     false
 }
 
+/// Whether a board is of its script, before its last turn and behind it, and has no full segment.
+fn is_carried_out(
+    alloc: Global,
+    board: &mut Board<'_>,
+    script: &Script,
+) -> Result<bool, AllocError> {
+    let begins = board.is_of(script);
+    let ends = turn_both(board);
+    let is_full = board.take_sealed(alloc)?.is_some();
+    Ok((begins, ends, is_full, board.is_of(script)) == (true, true, false, true))
+}
+
+/// How many events a script has, if it is carried out so.
+fn events_of(
+    alloc: Global,
+    script: &Script,
+    publisher: Publisher,
+    progress: &Progress,
+) -> Result<Option<u64>, AllocError>
+    requires { publisher.word ≡ progress.now }
+{
+    let mut board = Board::new(alloc, script, publisher, progress)?;
+    let is_right = is_carried_out(alloc, &mut board, script)?;
+    Ok(is_right.then_some(board.finish().world.len()))
+}
+
+/// What a reader sees before the first turn and behind the last, and how many events there are then,
+/// if the script was carried out.
+fn counts_of(alloc: Global, script: &Script) -> Result<(Counts, Counts, Option<u64>), Fail> {
+    let (progress, publisher, mut seats) = Progress::open(alloc, 1)?;
+    let mut seat = seats.pop().ok_or("no reader")?;
+    let before = progress.read(&mut seat);
+    let events = events_of(alloc, script, publisher, &progress)?;
+    Ok((before, progress.read(&mut seat), events))
+}
+
 #[test]
 fn counts_after_the_last_turn(rt: HostRuntime) -> Result<(), Fail> {
-    let script = Script::read(rt.alloc(), SCRIPT)?;
-    let (progress, publisher, mut seats) = Progress::open(rt.alloc(), 1)?;
-    let Some(mut seat) = seats.pop() else {
-        return Err(Fail::from("no reader"));
-    };
+    let script = script_of(rt.alloc(), STALE)?;
     let none = Counts {
         events: 0,
         segments: 0,
     };
-    assert_eq!(rt; progress.read(&mut seat), none);
-    let mut board = Board::new(rt.alloc(), &script, publisher, &progress)?;
-    assert!(rt; board.is_of(&script));
-    assert!(rt; turn_both(&mut board));
-    assert!(rt; board.take_sealed(rt.alloc())?.is_none());
-    assert!(rt; board.is_of(&script));
-    let finished = board.finish();
-    let counts = Counts {
+    let all = Counts {
         events: 10,
         segments: 1,
     };
-    assert_eq!(rt; progress.read(&mut seat), counts);
-    assert_eq!(rt; finished.world.len(), 10);
+    assert!(rt; counts_of(rt.alloc(), &script)? == (none, all, Some(10)));
     Ok(())
 }
 
@@ -81,14 +108,23 @@ fn last_turn(board: &mut Board<'_>, turns: &[u16]) -> Option<Advance> {
     last
 }
 
+/// The last answer of these turns, and how many events there are then.
+fn turned(
+    alloc: Global,
+    script: &Script,
+    turns: &[u16],
+) -> Result<(Option<Advance>, u64), AllocError> {
+    let (progress, publisher, _seats) = Progress::open(alloc, 0)?;
+    let mut board = Board::new(alloc, script, publisher, &progress)?;
+    let last = last_turn(&mut board, turns);
+    Ok((last, board.finish().world.len()))
+}
+
 #[test]
 fn ten_turns_of_two_processors(rt: HostRuntime) -> Result<(), Fail> {
-    let script = Script::read(rt.alloc(), TWO)?;
-    let (progress, publisher, _seats) = Progress::open(rt.alloc(), 0)?;
-    let mut board = Board::new(rt.alloc(), &script, publisher, &progress)?;
-    let last = last_turn(&mut board, &[0, 0, 0, 0, 0, 0, 0, 1, 0, 0]);
-    let answered = read_of(5, Outcome::Page(0xa123), [4, 4, 4, 5])?;
-    assert!(rt; last == Some(Advance::Done(answered)));
-    assert!(rt; board.finish().world.len() == 6);
+    let script = script_of(rt.alloc(), TWO)?;
+    let turns = [0, 0, 0, 0, 0, 0, 0, 1, 0, 0];
+    let answered = Advance::Done(receipt_of(5, &ANSWERED).ok_or("no moments")?);
+    assert!(rt; turned(rt.alloc(), &script, &turns)? == (Some(answered), 6));
     Ok(())
 }

@@ -19,3 +19,5 @@ mod threads;
 mod witnessed;
 #[cfg(test)]
 mod worlds;
+#[cfg(test)]
+mod written;

@@ -1,6 +1,7 @@
-use pg_report::Verdict;
+use crate::threads::is_accepted;
+use crate::written::script_of;
 use pg_runner::{RunError, run_single};
-use pg_script::Script;
+use pg_world::Receipt;
 use std::test::Fail;
 
 /// A page read, taken away, read from what is cached, invalidated and read again.
@@ -21,26 +22,30 @@ cpu 0x1001 1
 1 pge 0
 ";
 
+/// Whether the first of two processors recorded 13 events, and the last one's first is event 13.
+fn are_of_two(transcripts: &[Vec<Receipt>]) -> bool {
+    let (Some(first), Some(last)) = (transcripts.first(), transcripts.last()) else {
+        return false;
+    };
+    let moment = last.first().map(|receipt| receipt.moment);
+    (transcripts.len(), first.len(), moment) == (2, 13, Some(13))
+}
+
 #[test]
 fn every_line_on_one_thread(rt: HostRuntime) -> Result<(), Fail> {
-    let script = Script::read(rt.alloc(), SCRIPT)?;
+    let script = script_of(rt.alloc(), SCRIPT)?;
     let run = run_single(rt.alloc(), &script)?;
-    assert_eq!(rt; run.report.verdict, Verdict::Yes);
     // Four assists set accessed flags before the first read.
-    assert_eq!(rt; run.report.events, 14);
-    assert_eq!(rt; run.report.segments, 1);
-    assert_eq!(rt; run.trace.events.len(), 14);
-    assert_eq!(rt; run.transcripts.len(), 2);
-    let first = run.transcripts.first().ok_or("no transcript")?;
-    assert_eq!(rt; first.len(), 13);
-    let last = run.transcripts.last().ok_or("no transcript")?;
-    assert_eq!(rt; last.first().map(|receipt| receipt.moment), Some(13));
+    let is_right = is_accepted(run.report, 14, 1)
+        && run.trace.events.len() == 14
+        && are_of_two(&run.transcripts);
+    assert!(rt; is_right);
     Ok(())
 }
 
 #[test]
 fn errors_by_number_and_name(rt: HostRuntime) -> Result<(), Fail> {
-    assert_eq!(rt; RunError::Checkers.number(), 3);
-    assert_eq!(rt; RunError::Thread.name(), "thread refused");
+    assert!(rt; RunError::Checkers.number() == 3);
+    assert!(rt; RunError::Thread.name() == "thread refused");
     Ok(())
 }

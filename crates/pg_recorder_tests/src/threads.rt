@@ -1,41 +1,22 @@
 ghost use Rattle.pg_event.specs.Spelling.{IsRecord};
 ghost use Rattle.pg_runner.specs.Runs.{record_of};
 
-use pg_codec::{Failed, Sink, Watched, write_record};
-use pg_event::{Event, Moments, Outcome, Record};
+use crate::boards::STALE;
+use crate::written::{Written, event_of, receipt_of, script_of};
+use pg_codec::{Watched, write_record};
+use pg_event::{Outcome, Record};
 use pg_pool::{Gate, OpenGate};
 use pg_report::{Report, Verdict};
 use pg_runner::{RunError, RunResult};
-use pg_script::Script;
 use pg_threads::{run_guest, run_guest_watched};
 use pg_world::Receipt;
-use std::alloc::AllocGlobal;
-use std::process::Abort;
+use std::alloc::Global;
 use std::sync::atomic::{AtomicU64, Ordering};
 use std::test::Fail;
 use std::thread;
 
 /// How often a waiting thread yields before a test fails.
 const TURNS: u32 = 10_000_000;
-
-/// A page mapped, read, taken away, read from what is cached, invalidated and read again by
-/// processor 0, and read by processor 1.
-const SCRIPT: &[u8] = b"pcid-guest 1
-machine 40 wp nxe
-segment 16
-cpu 0x1001 1
-cpu 0x1001 1
-0 write 0x1000 0x2007
-0 write 0x2000 0x3007
-0 write 0x3000 0x4007
-0 write 0x4028 0x9007
-0 read 0x5123 user
-0 write 0x4028 0x0
-0 read 0x5123 user
-0 invlpg 0x5000
-0 read 0x5123 user
-1 read 0x5123 user
-";
 
 /// Whether a flag is raised in time.
 fn is_raised(flag: &AtomicU64) -> bool {
@@ -81,85 +62,84 @@ impl Gate for OtherFirst {
 }
 
 /// Processor 1's read, before anything was written.
-fn fault_of_one() -> Event {
-    Event::Access {
-        p: 1,
-        flags: 4,
-        la: 0x5123,
-        outcome: Outcome::Fault(4),
-        moments: Moments::first(0),
-    }
+const FAULT_OF_ONE: Written = Written::Read {
+    p: 1,
+    la: 0x5123,
+    outcome: Outcome::Fault(4),
+    at: &[0],
+};
+
+/// Whether a report is a yes, with these counts.
+pub(crate) fn is_accepted(report: Report, events: u64, segments: u64) -> bool {
+    report
+        == Report {
+            verdict: Verdict::Yes,
+            events,
+            segments,
+        }
 }
 
-fn expect_report<T: Abort>(rt: &T, report: Report, events: u64, segments: u64) {
-    assert_eq!(rt; report.verdict, Verdict::Yes);
-    assert_eq!(rt; report.events, events);
-    assert_eq!(rt; report.segments, segments);
-}
-
-/// Writes a record.
-fn write_trace<O: Sink>(output: &mut O, trace: &Record) -> Result<(), Failed>
+/// How many bytes a record has.
+fn size_of(alloc: Global, trace: &Record) -> Option<usize>
     requires { IsRecord (record_of trace.now) }
 {
-    write_record(output, &trace.header, &trace.events)
+    let mut sink = Watched::new(Vec::new(alloc));
+    write_record(&mut sink, &trace.header, &trace.events).ok()?;
+    Some(sink.inner.len())
 }
 
-/// Its fault is the first event, and the record has as many bytes as these ten events spell.
-fn expect_fault_first<T: AllocGlobal + Abort>(rt: &T, trace: &Record) -> Result<(), Fail>
+/// Whether its fault is the first event, and the record has as many bytes as these ten events spell.
+fn is_fault_first(alloc: Global, trace: &Record) -> bool
     requires { IsRecord (record_of trace.now) }
 {
-    let first = trace.events.first().ok_or("no event")?;
-    assert_eq!(rt; *first, fault_of_one());
-    let mut sink = Watched::new(Vec::new(rt.alloc()));
-    assert!(rt; write_trace(&mut sink, trace).is_ok());
-    assert_eq!(rt; sink.inner.len(), 273);
-    Ok(())
+    let first = trace.events.first().copied();
+    first.is_some() && first == event_of(&FAULT_OF_ONE) && size_of(alloc, trace) == Some(273)
 }
 
-/// Nine receipts of processor 0, and the fault's of processor 1.
-fn expect_receipts<T: Abort>(rt: &T, transcripts: &[Vec<Receipt>]) -> Result<(), Fail> {
-    assert_eq!(rt; transcripts.len(), 2);
-    let own = transcripts.first().ok_or("no transcript")?;
-    assert_eq!(rt; own.len(), 9);
-    let other = transcripts.last().ok_or("no transcript")?;
-    assert_eq!(rt; other.len(), 1);
-    let receipt = other.first().ok_or("no receipt")?;
-    assert_eq!(rt; receipt.moment, 0);
-    assert_eq!(rt; receipt.event, fault_of_one());
-    Ok(())
+/// Whether there are nine receipts of processor 0, and the fault's of processor 1.
+fn are_nine_and_fault(transcripts: &[Vec<Receipt>]) -> bool {
+    let (Some(own), Some(other)) = (transcripts.first(), transcripts.last()) else {
+        return false;
+    };
+    let fault = receipt_of(0, &FAULT_OF_ONE);
+    (transcripts.len(), own.len(), other.len()) == (2, 9, 1)
+        && fault.is_some()
+        && other.first().copied() == fault
 }
 
-fn expect_other_first<T: AllocGlobal + Abort>(rt: &T, run: &RunResult) -> Result<(), Fail>
+/// Whether the fault of processor 1 is the first of all ten events.
+fn is_other_first(alloc: Global, run: &RunResult) -> bool
     requires { IsRecord (record_of run.now.trace) }
 {
-    expect_report(rt, run.report, 10, 1);
-    expect_fault_first(rt, &run.trace)?;
-    expect_receipts(rt, &run.transcripts)
+    is_accepted(run.report, 10, 1)
+        && is_fault_first(alloc, &run.trace)
+        && are_nine_and_fault(&run.transcripts)
 }
 
 #[test]
 fn both_run_at_the_same_time(rt: HostRuntime) -> Result<(), Fail> {
-    let script = Script::read(rt.alloc(), SCRIPT)?;
+    let script = script_of(rt.alloc(), STALE)?;
     let gate = OtherFirst {
         came: AtomicU64::new(0),
         left: AtomicU64::new(0),
         failed: AtomicU64::new(0),
     };
     let run = run_guest(&rt, rt.alloc(), &script, 2, &gate)?;
-    assert_eq!(rt; gate.failed.load(Ordering::SeqCst), 0);
-    expect_other_first(&rt, &run)
+    let is_right = gate.failed.load(Ordering::SeqCst) == 0 && is_other_first(rt.alloc(), &run);
+    assert!(rt; is_right);
+    Ok(())
 }
 
 #[test]
 fn numbers_of_checkers(rt: HostRuntime) -> Result<(), Fail> {
-    let script = Script::read(rt.alloc(), SCRIPT)?;
-    for checkers in [0, 65] {
-        let refused = run_guest(&rt, rt.alloc(), &script, checkers, &OpenGate);
-        assert_eq!(rt; refused.err(), Some(RunError::Checkers));
-    }
-    for checkers in [1, 64] {
-        let run = run_guest(&rt, rt.alloc(), &script, checkers, &OpenGate)?;
-        expect_report(&rt, run.report, 10, 1);
+    let script = script_of(rt.alloc(), STALE)?;
+    for checkers in [0, 1, 64, 65] {
+        let run = run_guest(&rt, rt.alloc(), &script, checkers, &OpenGate);
+        let is_right = match run {
+            Ok(run) => matches!(checkers, 1 | 64) && is_accepted(run.report, 10, 1),
+            Err(error) => matches!(checkers, 0 | 65) && error == RunError::Checkers,
+        };
+        assert!(rt; is_right, "{checkers}");
     }
     Ok(())
 }
@@ -216,7 +196,7 @@ impl<'a> Gate for Tells<'a> {
 
 #[test]
 fn judged_while_a_processor_runs(rt: HostRuntime) -> Result<(), Fail> {
-    let script = Script::read(rt.alloc(), SEGMENTS)?;
+    let script = script_of(rt.alloc(), SEGMENTS)?;
     let judged = AtomicU64::new(0);
     let gate = LastWaits {
         judged: &judged,
@@ -224,7 +204,7 @@ fn judged_while_a_processor_runs(rt: HostRuntime) -> Result<(), Fail> {
     };
     let tells = Tells { judged: &judged };
     let run = run_guest_watched(&rt, rt.alloc(), &script, 1, &gate, &tells)?;
-    assert_eq!(rt; gate.failed.load(Ordering::SeqCst), 0);
-    expect_report(&rt, run.report, 9, 5);
+    let is_right = gate.failed.load(Ordering::SeqCst) == 0 && is_accepted(run.report, 9, 5);
+    assert!(rt; is_right);
     Ok(())
 }

@@ -1,3 +1,4 @@
+use crate::written::script_of;
 use pg_board::Board;
 use pg_check::{History, check_event};
 use pg_event::{Event, well_formed};
@@ -78,30 +79,25 @@ fn turn_all(board: &mut Board<'_>, history: &mut History) -> Result<bool, Fail> 
     Ok(false)
 }
 
+/// The same from the start of a script.
+fn run(alloc: Global, script: &Script, history: &mut History) -> Result<bool, Fail> {
+    let (progress, publisher, _seats) = Progress::open(alloc, 0)?;
+    let mut board = Board::new(alloc, script, publisher, &progress)?;
+    turn_all(&mut board, history)
+}
+
 /// How many events a script of one processor has, if all went so.
 fn events_of(alloc: Global, script: &Script) -> Result<Option<u64>, Fail> {
     let mut history = History::new(alloc, script.header().clone()?)?;
-    let (progress, publisher, _seats) = Progress::open(alloc, 0)?;
-    let mut board = Board::new(alloc, script, publisher, &progress)?;
-    if turn_all(&mut board, &mut history)? {
-        Ok(Some(history.len()))
-    } else {
-        Ok(None)
-    }
+    let is_witnessed = run(alloc, script, &mut history)?;
+    Ok(is_witnessed.then_some(history.len()))
 }
 
 #[test]
 fn every_event_after_each_turn(rt: HostRuntime) -> Result<(), Fail> {
-    let script = Script::read(rt.alloc(), STALE)?;
-    let events = events_of(rt.alloc(), &script)?;
-    assert!(rt; events == Some(9));
-    Ok(())
-}
-
-#[test]
-fn every_assist_after_each_turn(rt: HostRuntime) -> Result<(), Fail> {
-    let script = Script::read(rt.alloc(), ASSISTED)?;
-    let events = events_of(rt.alloc(), &script)?;
-    assert!(rt; events == Some(13));
+    for (text, events) in [(STALE, 9), (ASSISTED, 13)] {
+        let script = script_of(rt.alloc(), text)?;
+        assert!(rt; events_of(rt.alloc(), &script)? == Some(events), "{events}");
+    }
     Ok(())
 }

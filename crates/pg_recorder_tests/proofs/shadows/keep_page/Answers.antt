@@ -1,4 +1,4 @@
-use Rattle.std.proofs.Common.{◌≡◌, ◌^◌, ◌≤◌, refl, arith}
+use Rattle.std.proofs.Common.{◌^◌, ◌≤◌, refl, arith}
 use lib.Pow.{pow_mono}
 use Rattle.pg_shadow.specs.Held.{seen}
 use Rattle.pg_recorder_tests.proofs.shadows.keep_page.Goals as goal
