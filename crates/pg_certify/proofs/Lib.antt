@@ -2,4 +2,5 @@ mod Gathered
 mod Founds
 mod Meaning
 mod Shares
-mod Windows
+pub mod Windows
+mod Accounts

@@ -24,7 +24,7 @@ use Rattle.pg_certify.proofs.Founds.{named, found_witness}
 use Rattle.pg_certify.proofs.Gathered.{there_within}
 use Rattle.pg_certify.proofs.Meaning.{certified_where_each_can}
 
-there_more : (xs more : List Event) (n : ℕ) → n < length xs → slice_get (xs ++ more) n ≡ slice_get xs n
+pub there_more : (xs more : List Event) (n : ℕ) → n < length xs → slice_get (xs ++ more) n ≡ slice_get xs n
 there_more [] more n lt = absurd (omega (arith, lt))
 there_more (x ∷ xs) more zero lt = refl
 there_more (x ∷ xs) more (suc n) lt = there_more xs more n (omega (arith, lt))
@@ -101,7 +101,7 @@ take_past (x ∷ xs) more k =
     let n : length (x ∷ xs) + k ≡ suc (length xs + k) = omega arith in
     ap (λ n. take n (x ∷ xs ++ more)) n ∙ ap (λ ys. x ∷ ys) (take_past xs more k)
 
-there_past : (xs more : List Event) (k : ℕ) → slice_get (xs ++ more) (length xs + k) ≡ slice_get more k
+pub there_past : (xs more : List Event) (k : ℕ) → slice_get (xs ++ more) (length xs + k) ≡ slice_get more k
 there_past [] more k = let n : 0 + k ≡ k = omega arith in ap (slice_get more) n
 there_past (x ∷ xs) more k =
     let n : length (x ∷ xs) + k ≡ suc (length xs + k) = omega arith in

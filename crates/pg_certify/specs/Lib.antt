@@ -1,3 +1,4 @@
 pub mod Certified
 pub mod Shares
 pub mod Windows
+pub mod Accounts

@@ -14,7 +14,7 @@ use crate::hints::Hints;
 use crate::kept::Kept;
 use crate::window::{Denied, first_denied_among};
 use pg_event::{Event, Header};
-use pg_search::witnessed_among_changes;
+use pg_search::{Bare, witnessed_among_changes};
 use std::alloc::{AllocError, Global};
 use std::marker::Model;
 
@@ -52,6 +52,21 @@ impl Certifying {
             count: 0,
             denied: None,
         })
+    }
+
+    /// The settings of the run.
+    pub fn header(&self) -> &Header
+        ensures header { result.now ≡ self.now.kept.head }
+        ensures head { IsHead self.now.kept.head }
+    {
+        self.kept.header()
+    }
+
+    /// The events that are kept.
+    pub fn kept(&self) -> &[Bare]
+        ensures { result.now ≡ self.now.kept.events }
+    {
+        self.kept.events()
     }
 
     /// Takes what judging so many events came to.

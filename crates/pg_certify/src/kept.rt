@@ -83,6 +83,13 @@ impl Kept {
         self.events.len()
     }
 
+    /// The events that are kept.
+    pub(crate) fn events(&self) -> &[Bare]
+        ensures { result.now ≡ self.now.events }
+    {
+        self.events.as_slice()
+    }
+
     /// What is kept, as a search sees it.
     pub(crate) fn seen(&self) -> Seen<'_>
         ensures { result ≡ self.now }

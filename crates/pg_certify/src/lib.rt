@@ -3,6 +3,7 @@
 //! the guesses fail all moments are searched.
 #![tactic(auto)]
 
+mod account;
 mod case;
 mod certifier;
 mod certifying;
@@ -11,14 +12,17 @@ mod guesses;
 mod hints;
 mod kept;
 mod laws;
+mod numbering;
 mod recent;
 mod share;
 mod walk;
 mod window;
 
+pub use account::Accounting;
 pub use certifier::{Certified, certify, first_denied};
 pub use certifying::Certifying;
 pub use crew::{CertifyError, first_denied_by};
 pub use laws::{
     certified_events_run, certified_exactly_where_a_run_exists, denied_events_have_no_run,
 };
+pub use numbering::{Numbered, Numbering, kept_whole};

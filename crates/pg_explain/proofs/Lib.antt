@@ -5,3 +5,4 @@ pub mod Reasons
 pub mod Filters
 pub mod Judged
 pub mod Counts
+mod PutBack

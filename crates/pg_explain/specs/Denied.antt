@@ -19,7 +19,7 @@ use Rattle.pg_search.specs.Last.{IsLast, HasNoLast}
 use Rattle.pg_explain.specs.declared.entry.WalkEntry.{WalkEntry}
 use Rattle.pg_explain.specs.declared.denial.Denial.{Denial}
 use Rattle.pg_explain.specs.Given.{given_now}
-use Rattle.pg_explain.specs.Lasts.{taken_text}
+use Rattle.pg_explain.specs.Lasts.{taken_by, taken_in}
 use Rattle.pg_explain.specs.Line.{access_text, outcome_text, assist_text, event_text}
 use Rattle.pg_explain.specs.Names.{level_number}
 use Rattle.pg_explain.specs.Text.{held_text, writer_text}
@@ -66,9 +66,8 @@ abbrev pub claim_at : ℕ → Option Event → List ℕ
 claim_at number None = []
 claim_at number (Some e) = claim_line number e
 
-abbrev pub claimed_text : List Event → ℕ → List ℕ
-claimed_text events number =
-    codes "event: " ++ (claim_at number (slice_get events number) ++ codes "\n")
+abbrev pub claimed_text : ℕ → Option Event → List ℕ
+claimed_text number event = codes "event: " ++ (claim_at number event ++ codes "\n")
 
 abbrev pub now_level_text : Level → List ℕ
 now_level_text level = codes "now: level " ++ (decimal (level_number level) ++ codes " ")
@@ -87,8 +86,12 @@ abbrev pub given_text : Option Outcome → List ℕ
 given_text None = []
 given_text (Some outcome) = codes "now: would give " ++ (outcome_text outcome ++ codes "\n")
 
--- the text of what stands behind an event, where these are the events of its run
+-- the text of what stands behind this event, where this one took its last moments away
+abbrev pub denial_text_by : Option Event → Option Event → Denial → List ℕ
+denial_text_by event taken x =
+    claimed_text x.number event
+    ++ (now_walk_text x.walk.items ++ (given_text x.given ++ taken_by taken x.last))
+
+-- the same, where these are the events of its run
 abbrev pub denial_text : List Event → Denial → List ℕ
-denial_text events x =
-    claimed_text events x.number
-    ++ (now_walk_text x.walk.items ++ (given_text x.given ++ taken_text events x.last))
+denial_text events x = denial_text_by (slice_get events x.number) (taken_in events x.last) x

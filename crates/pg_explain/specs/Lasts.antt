@@ -3,10 +3,10 @@
 --     last: moment M by W ..; taken by LINE   the number, the freshest moments that would have, and
 --                                             the event there, behind which it never was
 --     last: never                             where there is none
-use Rattle.std.specs.Prelude.{ℕ, List, ◌++◌, Option, Some, None, codes, decimal}
+use Rattle.std.specs.Prelude.{ℕ, List, ◌++◌, Option, Some, None, codes, decimal, slice_get}
 use Rattle.pg_event.specs.declared.event.Event.{Event}
 use Rattle.pg_search.specs.declared.last.Last.{Last}
-use Rattle.pg_explain.specs.Line.{numbered_text, numbers_text}
+use Rattle.pg_explain.specs.Line.{line_at, numbers_text}
 
 abbrev pub by_text : List ℕ → List ℕ
 by_text ws = codes " by" ++ numbers_text ws
@@ -14,11 +14,21 @@ by_text ws = codes " by" ++ numbers_text ws
 abbrev pub last_moments_text : Last → List ℕ
 last_moments_text last = codes "last: moment " ++ (decimal last.number ++ by_text last.moments)
 
-abbrev pub last_seen_text : List Event → Last → List ℕ
-last_seen_text events last =
+-- where the event there is this
+abbrev pub last_seen_by : Option Event → Last → List ℕ
+last_seen_by taken last =
     last_moments_text last
-    ++ (codes "; taken by " ++ (numbered_text events last.number ++ codes "\n"))
+    ++ (codes "; taken by " ++ (line_at last.number taken ++ codes "\n"))
+
+abbrev pub taken_by : Option Event → Option Last → List ℕ
+taken_by taken None = codes "last: never\n"
+taken_by taken (Some last) = last_seen_by taken last
+
+-- the event behind which it never was, where there is one
+abbrev pub taken_in : List Event → Option Last → Option Event
+taken_in events None = None
+taken_in events (Some last) = slice_get events last.number
 
 abbrev pub taken_text : List Event → Option Last → List ℕ
 taken_text events None = codes "last: never\n"
-taken_text events (Some last) = last_seen_text events last
+taken_text events (Some last) = last_seen_by (slice_get events last.number) last

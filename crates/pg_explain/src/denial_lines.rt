@@ -1,13 +1,13 @@
 //! The text of what stands behind an event that no moments witness.
 
-ghost use Rattle.std.specs.Prelude.{◌≡◌, ◌++◌, IfOk, OnOk, string_bytes, slice_get};
+ghost use Rattle.std.specs.Prelude.{◌≡◌, ◌++◌, IfOk, OnOk, string_bytes};
 ghost use Rattle.pg_explain.specs.Denied.{claim_text, claimed_text, now_entry_text, now_walk_text};
 ghost use Rattle.pg_explain.specs.Denied.{claim_line, claim_at, now_level_text, given_text};
-ghost use Rattle.pg_explain.specs.Denied.{denial_text};
+ghost use Rattle.pg_explain.specs.Denied.{denial_text, denial_text_by};
 
 use crate::denial::Denial;
 use crate::entry::WalkEntry;
-use crate::last_lines::push_taken;
+use crate::last_lines::{event_at, push_taken_by, taken_in};
 use crate::line::{push_access, push_assist, push_deed, push_outcome};
 use crate::names::level_number;
 use crate::walk_finding::is_table;
@@ -60,24 +60,24 @@ fn push_claim_line(text: &mut String, number: u32, event: &Event) -> Result<(), 
     push_claim(text, event)
 }
 
-/// The same of the event with this number, where there is one.
-fn push_claim_at(text: &mut String, events: &[Event], number: u32) -> Result<(), AllocError>
-    ensures { OnOk result (string_bytes text.new
-        ≡ string_bytes text.old ++ claim_at number (slice_get events.now number)) }
+/// The same of an event, where there is one.
+fn push_claim_at(text: &mut String, number: u32, event: Option<Event>) -> Result<(), AllocError>
+    ensures { OnOk result
+        (string_bytes text.new ≡ string_bytes text.old ++ claim_at number event) }
 {
-    match events.get(number as usize) {
-        Some(event) => push_claim_line(text, number, event),
+    match event {
+        Some(event) => push_claim_line(text, number, &event),
         None => Ok(()),
     }
 }
 
 /// Appends the event of this number, as it is shown, without the moments that it names.
-fn push_claimed(text: &mut String, events: &[Event], number: u32) -> Result<(), AllocError>
+fn push_claimed(text: &mut String, number: u32, event: Option<Event>) -> Result<(), AllocError>
     ensures { OnOk result
-        (string_bytes text.new ≡ string_bytes text.old ++ claimed_text events.now number) }
+        (string_bytes text.new ≡ string_bytes text.old ++ claimed_text number event) }
 {
     text.push_str("event: ")?;
-    push_claim_at(text, events, number)?;
+    push_claim_at(text, number, event)?;
     text.push_str("\n")
 }
 
@@ -133,15 +133,28 @@ fn push_given(text: &mut String, given: Option<Outcome>) -> Result<(), AllocErro
     }
 }
 
-/// The text of what stands behind an event that no moments witness, where these are the events of
-/// its run. `Err` is for want of memory alone.
+/// The text of what stands behind an event that no moments witness, where `taken` is the event that
+/// took its last moments away, if it had some. `Err` is for want of memory alone.
+pub fn denial_text_by(
+    alloc: Global,
+    event: Option<Event>,
+    taken: Option<Event>,
+    denial: &Denial,
+) -> Result<String, AllocError>
+    ensures { IfOk result (λ t. string_bytes t ≡ denial_text_by event taken denial.now) }
+{
+    let mut text = String::new(alloc);
+    push_claimed(&mut text, denial.number, event)?;
+    push_now_walk(&mut text, &denial.walk)?;
+    push_given(&mut text, denial.given)?;
+    push_taken_by(&mut text, taken, denial.last)?;
+    Ok(text)
+}
+
+/// The same, where these are the events of its run.
 pub fn denial_text(alloc: Global, events: &[Event], denial: &Denial) -> Result<String, AllocError>
     ensures { IfOk result (λ t. string_bytes t ≡ denial_text events.now denial.now) }
 {
-    let mut text = String::new(alloc);
-    push_claimed(&mut text, events, denial.number)?;
-    push_now_walk(&mut text, &denial.walk)?;
-    push_given(&mut text, denial.given)?;
-    push_taken(&mut text, events, denial.last)?;
-    Ok(text)
+    let event = event_at(events, denial.number);
+    denial_text_by(alloc, event, taken_in(events, denial.last), denial)
 }

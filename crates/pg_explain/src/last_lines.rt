@@ -1,10 +1,11 @@
 //! The text of when an event would last have been witnessed.
 
-ghost use Rattle.std.specs.Prelude.{◌≡◌, ◌++◌, OnOk, string_bytes};
-ghost use Rattle.pg_explain.specs.Lasts.{by_text, last_moments_text, last_seen_text, taken_text};
+ghost use Rattle.std.specs.Prelude.{◌≡◌, ◌++◌, OnOk, slice_get, string_bytes};
+ghost use Rattle.pg_explain.specs.Lasts.{by_text, last_moments_text, last_seen_by};
+ghost use Rattle.pg_explain.specs.Lasts.{taken_by, taken_in, taken_text};
+ghost use Rattle.pg_explain.specs.Line.{line_at};
 
-use crate::finding_text::push_numbered;
-use crate::line::push_numbers;
+use crate::line::{push_event, push_numbers};
 use pg_event::{Event, Moments};
 use pg_search::Last;
 use std::alloc::AllocError;
@@ -30,18 +31,64 @@ pub fn push_last_moments(text: &mut String, last: &Last) -> Result<(), AllocErro
     Ok(())
 }
 
-/// The same with the event that took that away.
-fn push_last_seen(text: &mut String, events: &[Event], last: &Last) -> Result<(), AllocError>
+/// The event with this number.
+pub(crate) fn event_at(events: &[Event], number: u32) -> Option<Event>
+    ensures { result ≡ slice_get events.now number }
+{
+    match events.get(number as usize) {
+        Some(event) => Some(*event),
+        None => None,
+    }
+}
+
+/// The event that took the last moments away.
+pub(crate) fn taken_in(events: &[Event], last: Option<Last>) -> Option<Event>
+    ensures { result ≡ taken_in events.now last }
+{
+    match last {
+        None => None,
+        Some(last) => event_at(events, last.number),
+    }
+}
+
+/// Appends the line of an event with this number, where there is one.
+fn push_line_at(text: &mut String, number: u32, event: Option<Event>) -> Result<(), AllocError>
     ensures { OnOk result
-        (string_bytes text.new ≡ string_bytes text.old ++ last_seen_text events.now last.now) }
+        (string_bytes text.new ≡ string_bytes text.old ++ line_at number event) }
+{
+    match event {
+        None => Ok(()),
+        Some(event) => push_event(text, number as u64, &event),
+    }
+}
+
+/// The same with the event that took that away.
+fn push_last_seen(text: &mut String, taken: Option<Event>, last: &Last) -> Result<(), AllocError>
+    ensures { OnOk result
+        (string_bytes text.new ≡ string_bytes text.old ++ last_seen_by taken last.now) }
 {
     push_last_moments(text, last)?;
     text.push_str("; taken by ")?;
-    push_numbered(text, events, last.number)?;
+    push_line_at(text, last.number, taken)?;
     text.push_str("\n")
 }
 
 /// Appends when an event would last have been witnessed, and what took that away.
+pub(crate) fn push_taken_by(
+    text: &mut String,
+    taken: Option<Event>,
+    last: Option<Last>,
+) -> Result<(), AllocError>
+    ensures { OnOk result
+        (string_bytes text.new ≡ string_bytes text.old ++ taken_by taken last) }
+{
+    match last {
+        None => text.push_str("last: never\n"),
+        Some(last) => push_last_seen(text, taken, &last),
+    }
+}
+
+/// The same, where these are the events of its run.
 pub(crate) fn push_taken(
     text: &mut String,
     events: &[Event],
@@ -52,6 +99,6 @@ pub(crate) fn push_taken(
 {
     match last {
         None => text.push_str("last: never\n"),
-        Some(last) => push_last_seen(text, events, &last),
+        Some(last) => push_last_seen(text, event_at(events, last.number), &last),
     }
 }

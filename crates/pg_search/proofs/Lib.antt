@@ -14,7 +14,7 @@ mod Complete
 mod Picks
 mod Answered
 mod Lasts
-mod Thinned
+pub mod Thinned
 mod ThinnedWitness
 mod ThinnedFresh
 mod AnsweredAt

@@ -1,0 +1,97 @@
+//! A run that is certified as it is read, and what the explanation of a no needs beside.
+
+ghost use Rattle.std.specs.Prelude.{◌≡◌, ◌+◌, ◌-◌, ◌<◌, ◌≤◌, ◌^◌, [], ◌++◌, List, length};
+ghost use Rattle.std.specs.Prelude.{IfOk, IfSome, OnOk, slice_get};
+ghost use Rattle.pg_event.specs.declared.event.Event.{Event};
+ghost use Rattle.pg_event.specs.Heads.{Head};
+ghost use Rattle.pg_event.specs.Spelling.{IsHead};
+ghost use Rattle.pg_certify.specs.Accounts.{IsAccount, MayComeNext};
+
+use crate::certifying::Certifying;
+use crate::numbering::Numbering;
+use pg_event::{Event, Header};
+use std::alloc::{AllocError, Global};
+use std::marker::Model;
+
+/// What is known of a run so far, the numbers of the events that are kept, and the event that no
+/// moments witness, where there is one.
+#[derive(Drop)]
+pub struct Accounting {
+    certifying: Certifying,
+    numbering: Numbering,
+    event: Option<Event>,
+}
+
+impl Model for Accounting {
+    ghost use Rattle.pg_certify.specs.Accounts.{Account};
+
+    ghost Value = { Account };
+
+    ghost view = { λ a. record { findings = a.certifying; numbers = a.numbering; event = a.event } };
+}
+
+/// The event of a window that is denied, where the window's first event has this number.
+fn event_of(denied: Option<u64>, first: u64, window: &[Event]) -> Option<Event>
+    ensures { IfSome denied (λ n. result ≡ slice_get window.now (n - first)) }
+{
+    match denied {
+        None => None,
+        Some(n) => match window.get(n.saturating_sub(first) as usize) {
+            Some(event) => Some(*event),
+            None => None,
+        },
+    }
+}
+
+impl Accounting {
+    /// A run with no event yet. Fails where memory is refused.
+    pub fn new(alloc: Global, header: Header) -> Result<Accounting, AllocError>
+        requires { IsHead header }
+        ensures { IfOk result (λ account. IsAccount account header []) }
+    {
+        let certifying = Certifying::new(alloc, header)?;
+        Ok(Accounting {
+            certifying,
+            numbering: Numbering::new(alloc),
+            event: None,
+        })
+    }
+
+    /// Takes the events that come next, and judges them, unless an event before them is denied.
+    /// Fails where memory is refused; after that it is not to be used.
+    pub fn window(&mut self, events: &[Event]) -> Result<(), AllocError>
+        requires { MayComeNext self.old events.now }
+        ensures { (head : Head) (before : List Event) → IsAccount self.old head before →
+            OnOk result (IsAccount self.new head (before ++ events.now)) }
+    {
+        let first = self.certifying.len();
+        let was = self.certifying.settle();
+        self.numbering.note_all(events)?;
+        self.certifying.window(events)?;
+        if was.is_none() {
+            self.event = event_of(self.certifying.settle(), first, events);
+        }
+        Ok(())
+    }
+
+    /// What is known of the run.
+    pub fn certifying(&self) -> &Certifying
+        ensures { result.now ≡ self.now.findings }
+    {
+        &self.certifying
+    }
+
+    /// The numbers of the events that are kept.
+    pub fn numbering(&self) -> &Numbering
+        ensures { result.now ≡ self.now.numbers }
+    {
+        &self.numbering
+    }
+
+    /// The event that is denied.
+    pub fn event(&self) -> Option<Event>
+        ensures { result ≡ self.now.event }
+    {
+        self.event
+    }
+}

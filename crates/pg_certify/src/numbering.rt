@@ -1,0 +1,154 @@
+//! The numbers of the events that are kept, and what else is told of them.
+
+ghost use Rattle.std.specs.Prelude.{◌≡◌, ◌+◌, ◌<◌, ◌^◌, [], ◌++◌, List, length, OnOk};
+ghost use Rattle.pg_event.specs.declared.event.Event.{Event};
+ghost use Rattle.pg_certify.specs.Accounts.{is_placeholder, is_named, whole_of, with_number};
+ghost use Rattle.pg_certify.specs.Accounts.{with_named, noted, IsNumbering, KeptWhole};
+ghost use Rattle.pg_search.specs.Bare.{bare};
+
+use crate::kept::changes_something;
+use pg_event::{Event, Moments, Outcome};
+use pg_search::Bare;
+use std::alloc::{AllocError, Global};
+use std::marker::Model;
+
+/// An event with its number.
+#[derive(Clone, Copy)]
+pub struct Numbered {
+    pub number: u32,
+    pub event: Event,
+}
+
+/// The numbers of those events of a run that change something, and whole those of them that name
+/// moments other than one placeholder 0, since a line that tells of one shows its moments.
+#[derive(Drop)]
+pub struct Numbering {
+    numbers: Vec<u32>,
+    named: Vec<Numbered>,
+    count: u64,
+}
+
+impl Model for Numbering {
+    ghost use Rattle.pg_certify.specs.Accounts.{Numbers};
+
+    ghost Value = { Numbers };
+
+    ghost view = { λ n. record {
+      numbers = n.numbers.items;
+      named = n.named.items;
+      count = n.count;
+    } };
+}
+
+fn is_placeholder(moments: &Moments) -> bool
+    ensures { result ≡ is_placeholder moments.now }
+{
+    match (moments.get(1), moments.get(0)) {
+        (Some(_), _) => false,
+        (None, None) => false,
+        (None, Some(first)) => first == 0,
+    }
+}
+
+fn is_named(event: &Event) -> bool
+    ensures { result ≡ is_named event.now }
+{
+    match event {
+        Event::Access {
+            outcome,
+            moments,
+            ..
+        } => match *outcome {
+            Outcome::Page(_) => false,
+            Outcome::Fault(_) => !is_placeholder(moments),
+        },
+        Event::Assist { moments, .. } => !is_placeholder(moments),
+        Event::Write { .. }
+        | Event::MovCr3 { .. }
+        | Event::Invlpg { .. }
+        | Event::Invpcid { .. }
+        | Event::MovCr4Pge { .. } => false,
+    }
+}
+
+fn push_number(numbers: &mut Vec<u32>, number: u32, event: &Event) -> Result<(), AllocError>
+    ensures { OnOk result (numbers.new.items ≡ with_number numbers.old.items number event.now) }
+{
+    if changes_something(event) {
+        numbers.push(number)?;
+    }
+    Ok(())
+}
+
+fn push_named(named: &mut Vec<Numbered>, number: u32, event: &Event) -> Result<(), AllocError>
+    ensures { OnOk result (named.new.items ≡ with_named named.old.items number event.now) }
+{
+    if is_named(event) {
+        named.push(Numbered {
+            number,
+            event: *event,
+        })?;
+    }
+    Ok(())
+}
+
+impl Numbering {
+    pub(crate) fn new(alloc: Global) -> Numbering
+        ensures { IsNumbering result [] }
+    {
+        Numbering {
+            numbers: Vec::new(alloc),
+            named: Vec::new(alloc),
+            count: 0,
+        }
+    }
+
+    fn note(&mut self, event: &Event) -> Result<(), AllocError>
+        requires { self.old.count + 1 < 2 ^ 32 }
+        ensures { OnOk result (self.new ≡ noted self.old event.now) }
+    {
+        let number = self.count as u32;
+        push_number(&mut self.numbers, number, event)?;
+        push_named(&mut self.named, number, event)?;
+        self.count += 1;
+        Ok(())
+    }
+
+    /// Takes the events that come next. After an error it may have some of them, and is not to be
+    /// used.
+    pub(crate) fn note_all(&mut self, events: &[Event]) -> Result<(), AllocError>
+        requires { self.old.count + length events.now < 2 ^ 32 }
+        ensures { (before : List Event) → IsNumbering self.old before →
+            OnOk result (IsNumbering self.new (before ++ events.now)) }
+    {
+        for event in events {
+            self.note(event)?;
+        }
+        Ok(())
+    }
+
+    /// The numbers in their order.
+    pub fn numbers(&self) -> &[u32]
+        ensures { result.now ≡ self.now.numbers }
+    {
+        self.numbers.as_slice()
+    }
+
+    /// The event with this number, of which the other is what is kept. `kept_whole` is the law.
+    pub fn whole(&self, number: u32, kept: &Event) -> Event
+        ensures { result ≡ whole_of self.now.named number (bare kept.now) }
+    {
+        for named in &self.named {
+            if named.number == number {
+                return named.event;
+            }
+        }
+        Bare::new(kept).event()
+    }
+}
+
+/// Of what is kept of an event the numbering tells all of it. It does nothing: its contract is the
+/// law.
+pub fn kept_whole()
+    ensures { KeptWhole }
+{}
