@@ -14,4 +14,6 @@ mod merging;
 #[cfg(test)]
 mod rounds;
 #[cfg(test)]
+mod scans;
+#[cfg(test)]
 mod written;

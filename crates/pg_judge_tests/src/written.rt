@@ -8,6 +8,7 @@ use std::alloc::{AllocError, Global};
 use std::test::Fail;
 
 /// An event. Moments are written out, level 4 first.
+#[derive(Drop)]
 pub(crate) enum Written {
     /// A processor writes a word.
     Write(u16, u64, u64),
@@ -130,7 +131,7 @@ pub(crate) fn started(
 /// Adds an event.
 pub(crate) fn add(history: &mut History, written: &Written) -> Result<(), Fail> {
     let event = event_of(written).ok_or("moments")?;
-    if history.len() >= 100 {
+    if history.len() >= 100_000 {
         return Err(Fail::from("full"));
     }
     match well_formed(history.header(), &event) {
