@@ -8,7 +8,7 @@ use std::test::Fail;
 use std::thread::Threads;
 
 /// Linear 0x5000 is mapped to physical 0x9000, and 0x6000 to 0xa000.
-const MAPPED: [Written; 5] = [
+pub(crate) const MAPPED: [Written; 5] = [
     Written::Write(0, 0x1000, 0x2007),
     Written::Write(0, 0x2000, 0x3007),
     Written::Write(0, 0x3000, 0x4007),
@@ -19,7 +19,7 @@ const MAPPED: [Written; 5] = [
 /// Eight events: the leaf of 0x5000 is cleared and set anew, and two processors read the old page
 /// meanwhile, and other pages. No event but these INVLPG drops anything. Reads name no moments but
 /// a placeholder.
-const TURN: [Written; 8] = [
+pub(crate) const TURN: [Written; 8] = [
     Written::Write(0, 0x4028, 0),
     Written::Access {
         p: 0,
@@ -61,7 +61,7 @@ const TURN: [Written; 8] = [
 ];
 
 /// A read of a page that no walk gives.
-const DENIED: [Written; 1] = [Written::Access {
+pub(crate) const DENIED: [Written; 1] = [Written::Access {
     p: 1,
     flags: READ,
     la: 0x5123,
@@ -70,7 +70,7 @@ const DENIED: [Written; 1] = [Written::Access {
 }];
 
 /// Another one, of another page.
-const OTHER_DENIED: [Written; 1] = [Written::Access {
+pub(crate) const OTHER_DENIED: [Written; 1] = [Written::Access {
     p: 1,
     flags: READ,
     la: 0x6123,

@@ -14,4 +14,6 @@ mod searches;
 #[cfg(test)]
 mod summaries;
 #[cfg(test)]
+mod windows;
+#[cfg(test)]
 mod written;
