@@ -15,7 +15,8 @@ fn put(bytes: &mut Vec<u8>, said: &[u8], zeros: usize) -> Result<(), AllocError>
 
 /// An event of each kind: its tag, what follows the processor and says more, and how many bytes
 /// there are in all but the processor.
-fn put_events(bytes: &mut Vec<u8>, width: usize) -> Result<(), AllocError> {
+fn put_events(bytes: &mut Vec<u8>, width: u8) -> Result<(), AllocError> {
+    let width = width as usize;
     put(bytes, b"\x10", width + 16)?;
     put(bytes, b"\x11", width + 9)?;
     put(bytes, b"\x00", 8)?;
@@ -33,14 +34,11 @@ fn put_events(bytes: &mut Vec<u8>, width: usize) -> Result<(), AllocError> {
 fn counted(bytes: &[u8], piece: usize) -> (u64, u64) {
     let mut counter = Counter::new();
     let mut found = (0, 0);
-    let mut at = 0;
+    let mut rest = bytes;
     for _ in 0..bytes.len() {
-        let end = (at + piece).min(bytes.len());
-        if at >= end {
-            return found;
-        }
         let before = counter.events();
-        at += counter.take(&bytes[at..end]);
+        let taken = counter.take(&rest[..rest.len().min(piece)]);
+        rest = &rest[taken..];
         if counter.events() != before {
             found = (counter.events(), counter.bytes());
         }
