@@ -14,6 +14,9 @@ struct Step {
     found: Option<&'static [u32]>,
 }
 
+/// MOV to CR3 with bit 63 flushes nothing.
+const NO_FLUSH: u64 = 1 << 63;
+
 /// How memory is at first, and steps in one history.
 struct Case {
     name: &'static str,
@@ -66,7 +69,7 @@ const READ_ABSENT: Written = Written::Access {
     at: &[0],
 };
 
-const CASES: [Case; 8] = [
+const CASES: [Case; 9] = [
     Case {
         name: "fresh walk",
         version: Version::One,
@@ -98,6 +101,33 @@ const CASES: [Case; 8] = [
             },
             Step {
                 events: &[INVLPG, READ_PAGE],
+                found: None,
+            },
+        ],
+    },
+    // PCID 1 has the old page until event 4 loads PCID 2, under which the leaf is changed, and may
+    // use it once it is loaded again: unless it was invalidated meanwhile.
+    Case {
+        name: "stale leaf of a PCID that is loaded again",
+        version: Version::One,
+        before: &MAPPED,
+        steps: &[
+            Step {
+                events: &[
+                    Written::Cr3(0, NO_FLUSH + 0x1002),
+                    Written::Write(0, 0x4028, 0x8007),
+                    Written::Cr3(0, NO_FLUSH + 0x1001),
+                    READ_PAGE,
+                ],
+                found: Some(&[4, 4, 4, 4]),
+            },
+            Step {
+                events: &[
+                    Written::Cr3(0, NO_FLUSH + 0x1002),
+                    Written::Invpcid(0, 1, 1, 0),
+                    Written::Cr3(0, NO_FLUSH + 0x1001),
+                    READ_PAGE,
+                ],
                 found: None,
             },
         ],

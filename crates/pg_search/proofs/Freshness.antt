@@ -1,7 +1,7 @@
 -- Of two lists of moments one is as fresh as the other, and so on along three.
 use Rattle.std.proofs.Common.{◌≡◌, ℕ, ◌<◌, ◌++◌, ◌∙◌, Bool, true, false, ◌&&◌, ◌||◌, ◌==◌, nat_lt, List, [], ◌∷◌, reverse, refl, ap, sym, inl, inr, ◌⊎◌, ⊎_elim, arith, Option, Some, None, IfSome}
 use Rattle.std.proofs.lemmas.Bool.{cases_Bool, eqb-true, eq-eqb, ltb-true, lt-ltb}
-use Rattle.std.proofs.lemmas.List.{reverse-append}
+use Rattle.std.proofs.lemmas.List.{reverse-append, reverse-reverse}
 use Rattle.pg_search.specs.Freshness.{is_as_fresh, is_as_fresh_back, IsAsFresh}
 
 -- the same, as a relation
@@ -84,6 +84,21 @@ fresh_trans ws us vs h k = back_of (reverse ws) (reverse vs) (back_trans (revers
 
 pub fresh_total : (ws us : List ℕ) → is_as_fresh ws us ≡ false → is_as_fresh us ws ≡ true
 fresh_total ws us h = back_of (reverse us) (reverse ws) (back_total (reverse ws) (reverse us) h)
+
+back_same : (ws us : List ℕ) → IsFreshBack ws us → IsFreshBack us ws → ws ≡ us
+back_same [] [] h k = refl
+back_same [] (u ∷ us) h k = absurd k
+back_same (w ∷ ws) [] h k = absurd h
+back_same (w ∷ ws) (u ∷ us) (inl a) (inl b) = absurd (omega (arith, a, b))
+back_same (w ∷ ws) (u ∷ us) (inl a) (inr b) = absurd (omega (arith, a, b.0))
+back_same (w ∷ ws) (u ∷ us) (inr a) (inl b) = absurd (omega (arith, a.0, b))
+back_same (w ∷ ws) (u ∷ us) (inr a) (inr b) = ap (λ x. x ∷ ws) a.0 ∙ ap (λ xs. u ∷ xs) (back_same ws us a.1 b.1)
+
+-- two lists of which each is as fresh as the other are one
+pub fresh_same : (ws us : List ℕ) → is_as_fresh ws us ≡ true → is_as_fresh us ws ≡ true → ws ≡ us
+fresh_same ws us h k =
+    let back : reverse ws ≡ reverse us = back_same (reverse ws) (reverse us) (back_is (reverse ws) (reverse us) h) (back_is (reverse us) (reverse ws) k) in
+    sym (reverse-reverse ws) ∙ ap (λ (xs : List ℕ). reverse xs) back ∙ reverse-reverse us
 
 -- with the same moment more
 pub fresh_more : (ws us : List ℕ) (w : ℕ) → is_as_fresh ws us ≡ true → is_as_fresh (ws ++ w ∷ []) (us ++ w ∷ []) ≡ true

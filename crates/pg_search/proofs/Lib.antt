@@ -4,6 +4,10 @@ mod Swept
 mod Stepping
 mod Sound
 mod Ready
+mod Settled
+mod Alike
+mod Keeping
+mod Parking
 mod Filling
 mod Leading
 mod Reached
@@ -12,6 +16,7 @@ mod Runs
 mod Found
 mod Complete
 mod Picks
+mod Serving
 mod Answered
 mod Lasts
 pub mod Thinned

@@ -10,11 +10,8 @@ use Rattle.pg_run_of.proofs.Kept.{in_filtered}
 use Rattle.pg_run_of.proofs.Standing.{in-filter}
 use Rattle.pg_search.specs.Freshness.{is_as_fresh}
 use Rattle.pg_search.specs.Sweep.{if_kept, with_new, with_each}
+use Rattle.pg_search.specs.Swept.{Has, IsServed}
 use Rattle.pg_search.proofs.Freshness.{fresh_refl, fresh_trans, fresh_total}
-
--- an element with this key, whose moments are as fresh as these
-abbrev pub Has : {X K : Type 0} → (X → K) → (X → List ℕ) → List X → K → List ℕ → Type 0
-Has {X = X} key moments xs k ws = (x : X) × IsIn x xs × (key x ≡ k) × (is_as_fresh (moments x) ws ≡ true)
 
 pub in_left : {X : Type 0} (x : X) (xs ys : List X) → IsIn x xs → IsIn x (xs ++ ys)
 in_left x [] ys h = absurd h
@@ -133,6 +130,54 @@ has_each same moments key tells give x y (z ∷ zs) xs (inl s) e =
     has_stays same moments key tells give (key x) (moments x) zs (with_new same moments xs (give z)) (has_new same moments key tells x xs (give z) (ap give s ∙ e))
 has_each same moments key tells give x y (z ∷ zs) xs (inr h) e = has_each same moments key tells give x y zs (with_new same moments xs (give z)) h e
 
+-- the same by a relation: what one of the list stands for keeps one that does
+
+-- what is the same is related, both ways, where it is as things are
+abbrev pub Relates : {X : Type 0} → (X → X → Bool) → (X → Type 0) → (X → X → Type 0) → Type 0
+Relates {X = X} same P alike = (a b : X) → P a → P b → same a b ≡ true → alike a b × alike b a
+
+-- the relation goes on along three
+abbrev pub GoesOn : {X : Type 0} → (X → X → Type 0) → Type 0
+GoesOn {X = X} alike = (a b c : X) → alike a b → alike b c → alike a c
+
+module _ {X : Type 0} (same : X → X → Bool) (P : X → Type 0) (moments : X → List ℕ) (alike : X → X → Type 0) where
+  served_new : Relates same P alike → GoesOn alike → (y : X) (xs : List X) (o : Option X) → ((x : X) → IsIn x xs → P x) → ((x : X) → o ≡ Some x → P x) → IsServed alike moments xs y →
+      IsServed alike moments (with_new same moments xs o) y
+  served_new relates goes y xs None are new h = h
+  served_new relates goes y xs (Some z) are new h =
+      let rest : List X = filter (λ v. not (same v z)) xs in
+      new_is same moments z xs (λ zs. IsServed alike moments zs y) (λ _. h)
+      (λ none. elim (cases_Bool (same h.0 z)) as (λ _. IsServed alike moments (rest ++ z ∷ []) y) [
+        | inl t ↦
+            let older : is_as_fresh (moments h.0) (moments z) ≡ false = sym (ap (λ b. b && is_as_fresh (moments h.0) (moments z)) t) ∙ none_in (Covers same moments z) h.0 xs none h.1 in
+            (z, in_right z rest (z ∷ []) (inl refl), goes z h.0 y (relates h.0 z (are h.0 h.1) (new z refl) t).1 h.2, fresh_trans (moments z) (moments h.0) (moments y) (fresh_total (moments h.0) (moments z) older) h.3)
+        | inr f ↦ (h.0, in_left h.0 rest (z ∷ []) (in-filter (λ v. not (same v z)) h.0 xs h.1 (ap not f)), h.2, h.3)
+      ])
+
+  are_new : (xs : List X) (o : Option X) → ((x : X) → IsIn x xs → P x) → ((x : X) → o ≡ Some x → P x) → (x : X) → IsIn x (with_new same moments xs o) → P x
+  are_new xs o are new x i = elim (in_new same moments x xs o i) as (λ _. P x) [ inl a ↦ are x a | inr e ↦ new x e ]
+
+  pub served_stays : {Y : Type 0} → Relates same P alike → GoesOn alike → (give : Y → Option X) → ((y : Y) (x : X) → give y ≡ Some x → P x) → (y : X) (ys : List Y) (xs : List X) → ((x : X) → IsIn x xs → P x) → IsServed alike moments xs y →
+      IsServed alike moments (with_each same moments give ys xs) y
+  served_stays relates goes give gives y [] xs are h = h
+  served_stays relates goes give gives y (z ∷ zs) xs are h =
+      served_stays relates goes give gives y zs (with_new same moments xs (give z)) (are_new xs (give z) are (gives z)) (served_new relates goes y xs (give z) are (gives z) h)
+
+  serves_new : Relates same P alike → ((x : X) → alike x x) → (x : X) (xs : List X) (o : Option X) → ((x : X) → IsIn x xs → P x) → P x → o ≡ Some x → IsServed alike moments (with_new same moments xs o) x
+  serves_new relates itself x xs o are new e =
+      let rest : List X = filter (λ z. not (same z x)) xs in
+      rw e (new_is same moments x xs (λ zs. IsServed alike moments zs x)
+      (λ some. let y = any_in (Covers same moments x) xs some in let parts = and_parts (same y.0 x) (is_as_fresh (moments y.0) (moments x)) y.2 in (y.0, y.1, (relates y.0 x (are y.0 y.1) new parts.0).0, parts.1))
+      (λ _. (x, in_right x rest (x ∷ []) (inl refl), itself x, fresh_refl (moments x))))
+
+  pub serves_each : {Y : Type 0} → Relates same P alike → GoesOn alike → ((x : X) → alike x x) → (give : Y → Option X) → ((y : Y) (x : X) → give y ≡ Some x → P x) → (x : X) (y : Y) (ys : List Y) (xs : List X) → ((x : X) → IsIn x xs → P x) →
+      IsIn y ys → give y ≡ Some x → IsServed alike moments (with_each same moments give ys xs) x
+  serves_each relates goes itself give gives x y [] xs are h e = absurd h
+  serves_each relates goes itself give gives x y (z ∷ zs) xs are (inl s) e =
+      let here : give z ≡ Some x = ap give s ∙ e in
+      served_stays relates goes give gives x zs (with_new same moments xs (give z)) (are_new xs (give z) are (gives z)) (serves_new relates itself x xs (give z) are (gives z x here) here)
+  serves_each relates goes itself give gives x y (z ∷ zs) xs are (inr h) e = serves_each relates goes itself give gives x y zs (with_new same moments xs (give z)) (are_new xs (give z) are (gives z)) h e
+
 -- those of a list that are kept
 
 pub kept_within : {X : Type 0} (test keep : X → Bool) (xs : List X) → ((x : X) → test x ≡ true → keep x ≡ true) → filter test (filter keep xs) ≡ filter test xs
@@ -219,6 +264,23 @@ pub kept_each : {X Y : Type 0} (same : X → X → Bool) (moments : X → List �
 kept_each same moments keep alike give [] xs = refl
 kept_each same moments keep alike give (y ∷ ys) xs =
     kept_each same moments keep alike give ys (with_new same moments xs (give y)) ∙ ap (with_each same moments (λ z. if_kept keep (give z)) ys) (kept_new same moments keep alike xs (give y))
+
+pub kept_passes : {X : Type 0} (keep : X → Bool) (o : Option X) (x : X) → if_kept keep o ≡ Some x → keep x ≡ true
+kept_passes keep None x h = absurd (cc)
+kept_passes keep (Some y) x h =
+    elim (cases_Bool (keep y)) as (λ _. keep x ≡ true) [
+      | inl k ↦ let same : y ≡ x = (some_is y x (sym (ap (λ b. cond b (Some y) None) k) ∙ h)) in sym (ap keep same) ∙ k
+      | inr n ↦ absurd (none_some x (sym (ap (λ b. cond b (Some y) None) n) ∙ h))
+    ]
+  where
+    none_some : {X : Type 0} (x : X) → None ≡ Some x → ⊥
+    none_some x e = cc
+
+    some_is : {X : Type 0} (y x : X) → Some y ≡ Some x → y ≡ x
+    some_is y x e = cc
+
+pub kept_some : {X : Type 0} (keep : X → Bool) (o : Option X) (x : X) → o ≡ Some x → keep x ≡ true → if_kept keep o ≡ Some x
+kept_some keep o x e k = ap (if_kept keep) e ∙ ap (λ b. cond b (Some x) None) k
 
 pub kept_given : {X : Type 0} (keep : X → Bool) (o : Option X) (x : X) → if_kept keep o ≡ Some x → o ≡ Some x
 kept_given keep None x h = h

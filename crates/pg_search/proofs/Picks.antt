@@ -6,7 +6,7 @@ use Rattle.std.proofs.lemmas.List.{take_more}
 use Rattle.pg_machine.specs.Machine.{IsIn}
 use Rattle.pg_search.specs.Found.{IsPick}
 use Rattle.pg_search.specs.Freshness.{is_as_fresh, IsAsFresh}
-use Rattle.pg_search.proofs.Freshness.{fresh_refl, fresh_trans}
+use Rattle.pg_search.proofs.Freshness.{fresh_refl, fresh_trans, fresh_same}
 use Rattle.pg_search.proofs.Lists.{in_left, in_right, in_either}
 
 -- one of two picks that is as fresh as both, and none only where both are, is a pick of both lists
@@ -74,3 +74,18 @@ pick_passed f test xs i x a lt at t p =
     let none : one_if f test x ≡ [] = ap (λ b. cond b (f x ∷ []) []) t in
     let same = passed_more f test xs i x lt at ∙ ap (λ zs. map f (filter test (take i xs)) ++ zs) none ∙ append_none (map f (filter test (take i xs))) in
     subst (λ zs. IsPick zs a) (sym same) p
+
+-- of two lists, each of which has for each of the other one that is as fresh, a pick of one is one of the other
+abbrev AreServed : List (List ℕ) → List (List ℕ) → Type 0
+AreServed xs ys = (y : List ℕ) → IsIn y ys → (x : List ℕ) × IsIn x xs × (is_as_fresh x y ≡ true)
+
+pub pick_served : (xs ys : List (List ℕ)) (r : Option (List ℕ)) → AreServed xs ys → AreServed ys xs → IsPick xs r → IsPick ys r
+pick_served xs [] None h k p = refl
+pick_served xs (y ∷ ys) None h k p = absurd (subst (IsIn (h y (inl refl)).0) p (h y (inl refl)).1)
+pick_served xs ys (Some r) h k p =
+    let y = k r p.0 in
+    let x = h y.0 y.1 in
+    let same : y.0 ≡ r = fresh_same y.0 r y.2 (fresh_trans r x.0 y.0 (p.1 x.0 x.1) x.2) in (
+      subst (λ (z : List ℕ). IsIn z ys) same y.1,
+      λ z i. let u = h z i in fresh_trans r u.0 z (p.1 u.0 u.1) u.2,
+    )

@@ -27,8 +27,9 @@ use Rattle.pg_run_of.proofs.Walks.{no_table_below}
 use Rattle.pg_run_of.proofs.Chains.{Holds, reading_at}
 use Rattle.pg_search.specs.Sweep.{Place, Made, Standing, places, with_each, same_place, same_made, moments_to, moments_of, place_at, read_at, next_place, made_by, next_made, filled, stays, renewed, staying, left, swept, standing}
 use Rattle.pg_search.proofs.Freshness.{fresh_more, fresh_trans}
-use Rattle.pg_search.proofs.Lists.{Has, in_map, has_each, has_stays}
-use Rattle.pg_search.proofs.Swept.{swept_more, place_key, made_key, place_tells, made_tells, each_stays}
+use Rattle.pg_search.specs.Swept.{Has, place_key}
+use Rattle.pg_search.proofs.Lists.{in_map, has_each, has_stays}
+use Rattle.pg_search.proofs.Swept.{swept_more, made_key, place_tells, made_tells, each_stays}
 
 -- a place of this PCID in this table stands at moment w, with moments as fresh as these; a
 -- translation does
@@ -140,7 +141,7 @@ fills_leaf head all p la w One pcid from frame shift g ws h alike leaf cached =
 
 -- what no event takes out stays
 
-keeps : (head : Head) (all : List Event) (p la w : ℕ) (up : Level) (pcid : ℕ) (from : Parent) (ws : List ℕ) (xs : List Place) → Has place_key moments_to xs (pcid, from) ws →
+pub keeps : (head : Head) (all : List Event) (p la w : ℕ) (up : Level) (pcid : ℕ) (from : Parent) (ws : List ℕ) (xs : List Place) → Has place_key moments_to xs (pcid, from) ws →
     stays head all p (λ c e. must_drop_structure c e (structure_key pcid up la)) w ≡ true → Has place_key moments_to (staying head all p la w up xs) (pcid, from) ws
 keeps head all p la w up pcid from ws xs h stay =
     let x : Place = h.0 in

@@ -1,5 +1,5 @@
 -- Places have the entries of their moment, and so few moments that a walk may read in them.
-use Rattle.std.proofs.Common.{◌≡◌, ℕ, zero, suc, ◌<◌, ◌≤◌, List, [], ◌∷◌, refl, sym, subst, arith, length, get_or, inl, inr, Bool, Some}
+use Rattle.std.proofs.Common.{◌≡◌, ℕ, zero, suc, ◌<◌, ◌≤◌, List, [], ◌∷◌, refl, sym, subst, arith, length, get_or, inl, inr, Bool, true, Some}
 use Rattle.std.specs.Prelude.{filter}
 use Rattle.std.specs.List.{AllByRecursion}
 use Rattle.pg_entry.specs.declared.Level.{Level}
@@ -11,20 +11,19 @@ use Rattle.pg_event.specs.Values.{control_at}
 use Rattle.pg_event.specs.Invalidation.{structure_key, must_drop_structure}
 use Rattle.pg_event.specs.Walk.{below}
 use Rattle.pg_machine.specs.Machine.{IsIn}
-use Rattle.pg_run_of.specs.Plan.{root_at}
-use Rattle.pg_run_of.proofs.Chains.{next_or, short}
-use Rattle.pg_run_of.proofs.Kept.{in_filtered}
 use Rattle.pg_search.specs.Sweep.{Place, Standing, places, nothing, if_kept, with_each, same_place, entry_at, place_at, next_table, read_at, next_place, stays, renewed, staying, left, swept, standing, moments_to}
+use Rattle.pg_search.specs.declared.sought.Sought.{Sought}
+use Rattle.pg_search.specs.declared.ways.Ways.{Ways}
 use Rattle.pg_search.specs.Held.{AreCurrent, AreReady}
+use Rattle.pg_search.specs.Swept.{depth, AreTables}
 use Rattle.pg_search.proofs.Lists.{in_each, in_mapped, kept_given, option_given}
 use Rattle.pg_search.proofs.Swept.{swept_none, swept_more}
-use Rattle.pg_search.proofs.Sound.{standing_sound}
 
-all_in : (P : Place → Type 0) (xs : List Place) → ((x : Place) → IsIn x xs → P x) → AllByRecursion P xs
+pub all_in : (P : Place → Type 0) (xs : List Place) → ((x : Place) → IsIn x xs → P x) → AllByRecursion P xs
 all_in P [] h = tt
 all_in P (x ∷ xs) h = (h x (inl refl), all_in P xs (λ y i. h y (inr i)))
 
-in_all : (P : Place → Type 0) (xs : List Place) → AllByRecursion P xs → (x : Place) → IsIn x xs → P x
+pub in_all : (P : Place → Type 0) (xs : List Place) → AllByRecursion P xs → (x : Place) → IsIn x xs → P x
 in_all P [] h x i = absurd i
 in_all P (y ∷ ys) h x (inl e) = subst P e h.0
 in_all P (y ∷ ys) h x (inr i) = in_all P ys h.1 x i
@@ -41,7 +40,7 @@ IsCurrent all la w level x = x.word ≡ entry_at all la w level x.from
 abbrev Current : List Event → ℕ → ℕ → Level → List Place → Type 0
 Current all la w level xs = (x : Place) → IsIn x xs → IsCurrent all la w level x
 
-gives_current : (head : Head) (all : List Event) (p la w : ℕ) (level : Level) (y x : Place) → next_place head all p la w level y ≡ Some x → IsCurrent all la w (below level) x
+pub gives_current : (head : Head) (all : List Event) (p la w : ℕ) (level : Level) (y x : Place) → next_place head all p la w level y ≡ Some x → IsCurrent all la w (below level) x
 gives_current head all p la w level y x h =
     let make : Parent → Place = place_at all la w (below level) y.pcid (read_at w y) in
     let gave = option_given make (next_table head (control_at head all p w).pcid level y (entry_at all la w level y.from)) x h in
@@ -55,23 +54,23 @@ each_in head all p la w level ys xs here x h =
       | inr m ↦ gives_current head all p la w level m.0 x m.2
     ]
 
-each_in_kept : (keep : Place → Bool) (head : Head) (all : List Event) (p la w : ℕ) (level : Level) (ys xs : List Place) → Current all la w (below level) xs →
-    Current all la w (below level) (with_each same_place moments_to (λ y. if_kept keep (next_place head all p la w level y)) ys xs)
-each_in_kept keep head all p la w level ys xs here x h =
-    elim (in_each same_place moments_to (λ y. if_kept keep (next_place head all p la w level y)) x ys xs h) [
+pub each_in_kept : (same : Place → Place → Bool) (keep : Place → Bool) (head : Head) (all : List Event) (p la w : ℕ) (level : Level) (ys xs : List Place) → Current all la w (below level) xs →
+    Current all la w (below level) (with_each same moments_to (λ y. if_kept keep (next_place head all p la w level y)) ys xs)
+each_in_kept same keep head all p la w level ys xs here x h =
+    elim (in_each same moments_to (λ y. if_kept keep (next_place head all p la w level y)) x ys xs h) [
       | inl a ↦ here x a
       | inr m ↦ gives_current head all p la w level m.0 x (kept_given keep (next_place head all p la w level m.0) x m.2)
     ]
 
-pub each_current : (keep : Place → Bool) (head : Head) (all : List Event) (p la w : ℕ) (level : Level) (ys xs : List Place) → AreCurrent all la w (below level) xs →
-    AreCurrent all la w (below level) (with_each same_place moments_to (λ y. if_kept keep (next_place head all p la w level y)) ys xs)
-each_current keep head all p la w level ys xs h =
-    all_in (IsCurrent all la w (below level)) (with_each same_place moments_to (λ y. if_kept keep (next_place head all p la w level y)) ys xs)
-    (each_in_kept keep head all p la w level ys xs (in_all (IsCurrent all la w (below level)) xs h))
+pub each_current : (same : Place → Place → Bool) (keep : Place → Bool) (head : Head) (all : List Event) (p la w : ℕ) (level : Level) (ys xs : List Place) → AreCurrent all la w (below level) xs →
+    AreCurrent all la w (below level) (with_each same moments_to (λ y. if_kept keep (next_place head all p la w level y)) ys xs)
+each_current same keep head all p la w level ys xs h =
+    all_in (IsCurrent all la w (below level)) (with_each same moments_to (λ y. if_kept keep (next_place head all p la w level y)) ys xs)
+    (each_in_kept same keep head all p la w level ys xs (in_all (IsCurrent all la w (below level)) xs h))
 
 -- what an event leaves is
 
-stay_current : (head : Head) (all : List Event) (p la w : ℕ) (up : Level) (xs : List Place) → Current all la (suc w) (below up) (staying head all p la w up xs)
+pub stay_current : (head : Head) (all : List Event) (p la w : ℕ) (up : Level) (xs : List Place) → Current all la (suc w) (below up) (staying head all p la w up xs)
 stay_current head all p la w up xs x h =
     let test : Place → Bool = λ x. stays head all p (λ c e. must_drop_structure c e (structure_key x.pcid up la)) w in
     let m = in_mapped (renewed all la (suc w) (below up)) x (filter test xs) h in
@@ -101,22 +100,14 @@ standing_in head all p la w Three x h = each_in head all p la w Four (standing h
 standing_in head all p la w Two x h = each_in head all p la w Three (standing head all p la w).threes (swept head all p la w).twos (swept_in head all p la w Two) x h
 standing_in head all p la w One x h = each_in head all p la w Two (standing head all p la w).twos (swept head all p la w).ones (swept_in head all p la w One) x h
 
--- so are those of them that are kept
+-- so are those that are kept
 
-pub swept_current : (keep : Place → Bool) (head : Head) (all : List Event) (p la w : ℕ) (level : Level) → AreCurrent all la w level (filter keep (places level (swept head all p la w)))
-swept_current keep head all p la w level =
-    let xs : List Place = places level (swept head all p la w) in
-    all_in (IsCurrent all la w level) (filter keep xs) (λ x i. swept_in head all p la w level x (in_filtered keep x xs i).0)
+pub kept_current : (all : List Event) (la w : ℕ) (level : Level) (xs : List Place) → Current all la w level xs → AreCurrent all la w level xs
+kept_current all la w level xs h = all_in (IsCurrent all la w level) xs h
 
-pub standing_current : (keep : Place → Bool) (head : Head) (all : List Event) (p la w : ℕ) (level : Level) → AreCurrent all la w level (filter keep (places level (standing head all p la w)))
-standing_current keep head all p la w level =
-    let xs : List Place = places level (standing head all p la w) in
-    all_in (IsCurrent all la w level) (filter keep xs) (λ x i. standing_in head all p la w level x (in_filtered keep x xs i).0)
-
-pub standing_ready : (keep : Place → Bool) (head : Head) (all : List Event) (p la w : ℕ) (level : Level) → AreReady all la w level (filter keep (places level (standing head all p la w)))
-standing_ready keep head all p la w level =
-    let xs : List Place = places level (standing head all p la w) in
-    all_in (λ x. (length x.moments ≤ 3) × IsCurrent all la w level x) (filter keep xs) (λ x i.
-    let there = (in_filtered keep x xs i).0 in
-    let few : length x.moments ≤ 3 = short head all p la x.pcid w Four (root_at head all p (next_or w x.moments)) x.moments level x.from ((standing_sound head all p la w).places level x there) in
-    (few, standing_in head all p la w level x there))
+pub kept_ready : (events : List Event) (sought : Sought) (these : Ways) (la w : ℕ) (level : Level) (pcid : ℕ) (all kept : List Place) → depth level ≤ 3 → AreTables events sought these la w level pcid true all kept → Current events la w level kept →
+    AreReady events la w level kept
+kept_ready events sought these la w level pcid all kept deep h now =
+    all_in (λ x. (length x.moments ≤ 3) × IsCurrent events la w level x) kept (λ x i.
+    let few : length x.moments ≤ depth level = (h.each x i).few in
+    (omega (arith, few, deep), now x i))

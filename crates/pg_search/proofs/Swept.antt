@@ -1,7 +1,7 @@
 -- The sweep from one moment to the next, and keys of what it keeps.
-use Rattle.std.proofs.Common.{◌≡◌, ℕ, suc, ◌+◌, ◌-◌, ◌<◌, ◌≤◌, Bool, List, refl, ap, ◌∙◌, true, false, arith}
+use Rattle.std.proofs.Common.{◌≡◌, ℕ, zero, suc, ◌+◌, ◌-◌, ◌<◌, ◌≤◌, Bool, ◌||◌, List, refl, ap, sym, ◌∙◌, true, false, inl, inr, arith}
 use Rattle.std.specs.Prelude.{slice_get}
-use Rattle.std.proofs.lemmas.Bool.{and_parts, eqb-true, not-true, not_from_false}
+use Rattle.std.proofs.lemmas.Bool.{cases_Bool, and_parts, eqb-true, not-true, not_from_false}
 use Rattle.pg_entry.specs.declared.Level.{Level}
 use Rattle.pg_entry.specs.declared.Level.TheVariants.{Four, Three, Two, One}
 use Rattle.pg_event.specs.declared.control.Control.{Control}
@@ -14,9 +14,10 @@ use Rattle.pg_event.specs.Walk.{below}
 use Rattle.pg_event.specs.Witness.{any_from, takes_out, survives}
 use Rattle.pg_machine.specs.declared.step.Translation.{Translation}
 use Rattle.pg_machine.proofs.Same.{same_bool, translation_same}
-use Rattle.pg_run_of.proofs.Kept.{any_more}
+use Rattle.pg_run_of.proofs.Kept.{any_more, survives_none}
 use Rattle.pg_run_of.proofs.Standing.{none_from}
-use Rattle.pg_search.specs.Sweep.{Place, Made, nothing, same_place, same_made, stays, left, standing, swept}
+use Rattle.pg_search.specs.Sweep.{Made, nothing, same_place, same_made, stays, left, standing, swept}
+use Rattle.pg_search.specs.Swept.{place_key}
 use Rattle.pg_search.proofs.Lists.{Tells}
 
 pub swept_none : (head : Head) (all : List Event) (p la : ℕ) → swept head all p la 0 ≡ nothing
@@ -26,10 +27,6 @@ swept_none head all p la = refl
 pub swept_more : (head : Head) (all : List Event) (p la w : ℕ) → swept head all p la (suc w) ≡ left head all p la w (standing head all p la w)
 unfolding swept
 swept_more head all p la w = refl
-
--- a place but for its moments and its entry
-abbrev pub place_key : Place → ℕ × Parent
-place_key x = (x.pcid, x.from)
 
 abbrev pub made_key : Made → Translation
 made_key x = x.translation
@@ -93,3 +90,41 @@ pub each_stays : (head : Head) (all : List Event) (p : ℕ) (test : Control → 
 each_stays head all p test from to w h low high =
     let takes : ℕ → Bool = λ j. takes_out p test (control_at head all p j) (slice_get all j) in
     not_from_false _ (none_from takes from (to - from) w (not-true _ h) low (omega arith))
+
+-- survival up to a first drop
+
+any_within : (test : ℕ → Bool) (from n m : ℕ) → m ≤ n → any_from test from n ≡ false → any_from test from m ≡ false
+any_within test from n zero low h = refl
+any_within test from zero (suc m) low h = absurd (omega (arith, low))
+any_within test from (suc n) (suc m) low h =
+    let parts = or_none (test from) (any_from test (from + 1) n) h in
+    rw parts.0 (any_within test (from + 1) n m (omega (arith, low)) parts.1)
+  where
+    or_none : (a b : Bool) → (a || b) ≡ false → (a ≡ false) × (b ≡ false)
+    or_none true b h = absurd (apart h)
+      where
+        apart : true ≡ false → ⊥
+        apart e = cc
+    or_none false b h = (refl, h)
+
+pub survives_within : (head : Head) (all : List Event) (p : ℕ) (test : Control → Event → Bool) (from to more : ℕ) → to ≤ more → survives head all p test from more ≡ true → survives head all p test from to ≡ true
+survives_within head all p test from to more low h =
+    let takes : ℕ → Bool = λ j. takes_out p test (control_at head all p j) (slice_get all j) in
+    not_from_false _ (any_within takes from (more - from) (to - from) (omega (arith, low)) (not-true _ h))
+
+-- what a drop takes out has not survived it
+pub dropped_at : (head : Head) (all : List Event) (p : ℕ) (test : Control → Event → Bool) (from first to : ℕ) → from ≤ first → first < to → survives head all p test first (first + 1) ≡ false →
+    survives head all p test from to ≡ false
+dropped_at head all p test from first to low high h =
+    elim (cases_Bool (survives head all p test from to)) as (λ _. survives head all p test from to ≡ false) [
+      | inl t ↦
+          let stay = each_stays head all p test from to first t low high in
+          let now : survives head all p test first first ≡ true = survives_none head all p test first in
+          let more : survives head all p test first (suc first) ≡ true = more_survives head all p test first first (omega arith) stay now in
+          let next : suc first ≡ first + 1 = omega arith in
+          absurd (apart (sym (ap (survives head all p test first) next) ∙ more) h)
+      | inr f ↦ f
+    ]
+  where
+    apart : {b : Bool} → b ≡ true → b ≡ false → ⊥
+    apart h k = cc

@@ -8,7 +8,7 @@ use Rattle.pg_event.specs.Values.{written, control_at}
 use Rattle.pg_event.specs.Walk.{entry_address, root_of}
 use Rattle.pg_event.specs.declared.event.Event.{Event}
 use Rattle.pg_search.specs.declared.held.Spot.{Spot}
-use Rattle.pg_search.specs.declared.held.Found.{Found}
+use Rattle.pg_search.specs.declared.held.FoundTranslation.{FoundTranslation}
 use Rattle.pg_search.specs.declared.now.Now.{Now}
 use Rattle.pg_search.specs.Sweep.{Place, Made, entry_at}
 
@@ -20,7 +20,7 @@ abbrev pub place_of : Spot → Place
 place_of s =
     record { from = s.from; pcid = s.pcid; moments = trail_of s.trail; word = s.word }
 
-abbrev pub made_from : Found → Made
+abbrev pub made_from : FoundTranslation → Made
 made_from f = record { translation = f.translation; moments = f.moments }
 
 -- the processor is there, the control registers are those of the moment, and so is the entry that

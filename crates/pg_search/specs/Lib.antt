@@ -5,6 +5,7 @@ pub mod Law
 pub mod Exact
 pub mod Held
 pub mod Ways
+pub mod Lasting
 pub mod Swept
 pub mod Last
 pub mod Thinned

@@ -1,5 +1,5 @@
--- Which tables may lead a walk on to what is sought: what is read in another gives nothing of use, so
--- that a sweep need not have it.
+-- Which tables may lead a walk on to what is sought: what is read in another gives nothing of use,
+-- so that a sweep need not have it.
 use Rattle.std.specs.Prelude.{◌≡◌, ℕ, suc, ◌+◌, ◌≤◌, ◌%◌, ◌^◌, ◌⊎◌, Bool, true, false, nat_eq}
 use Rattle.std.specs.Prelude.{◌==◌, ◌&&◌, ◌||◌, List, Option, Some, None}
 use Rattle.std.specs.HashSet.{contains}

@@ -1,20 +1,23 @@
 ghost use Rattle.std.specs.Prelude.{◌≡◌, ◌<◌, ◌≤◌, ◌+◌, ◌^◌, not, [], ◌∷◌, ◌++◌, length, filter};
 ghost use Rattle.std.specs.Prelude.{Some, None, option_map, OnOk, IfSome};
-ghost use Rattle.pg_entry.specs.Kinds.{kind_of};
+ghost use Rattle.pg_entry.specs.Kinds.{kind_of, IsPageShift};
 ghost use Rattle.pg_event.specs.Walk.{below};
 ghost use Rattle.std.specs.List.{list_any};
-ghost use Rattle.pg_search.specs.Sweep.{same_place, same_made, moments_to, moments_of, covers};
+ghost use Rattle.pg_search.specs.Sweep.{moments_to, moments_of, covers};
 ghost use Rattle.pg_search.specs.Sweep.{with_new, with_each, entry_at};
 ghost use Rattle.pg_search.specs.Found.{next_useful};
+ghost use Rattle.pg_search.specs.Swept.{same_scope};
+ghost use Rattle.pg_search.specs.Lasting.{is_final, same_way};
 ghost use Rattle.pg_search.specs.Sweep.{table_by, next_table, next_leaf, next_made};
 ghost use Rattle.pg_search.specs.Held.{trail_of, place_of, made_from, IsNow, AreCurrent, AreReady};
 ghost use Rattle.pg_search.specs.Ways.{next_led};
 
 use crate::fresh::are_as_fresh;
-use crate::held::{Found, HeldFound, HeldSpot, Spot};
+use crate::held::{FoundTranslation, HeldFound, HeldSpot, Spot};
+use crate::lasting::Lasting;
 use crate::now::Now;
 use crate::seen::Seen;
-use crate::sought::{Sought, is_useful};
+use crate::sought::{Sought, is_named_in, is_useful};
 use crate::ways::Ways;
 use pg_entry::{Entry, Kind, Level, classify, combine, dirty, table_of};
 use pg_event::{Header, Moments, Parent, below, entry_address, may_cache, translation_key};
@@ -79,19 +82,44 @@ fn word_in(spots: &[HeldSpot], history: &Seen<'_>, now: Now, level: Level, from:
     history.value_at(now.moment, entry_address(from.table, level, now.la))
 }
 
-fn same_place(a: &Spot, b: &Spot) -> bool
-    ensures { result ≡ same_place (place_of a.now) (place_of b.now) }
+/// Whether the entry of a spot stays as it is, and is not the one that an assist names.
+fn is_final(lasting: &Lasting, sought: &Sought, now: &Now, level: Level, spot: &Spot) -> bool
+    requires { spot.now.from.table < 2 ^ 52 }
+    ensures { result ≡ is_final lasting.now sought.now now.now.la now.now.moment level
+        (place_of spot.now) }
+{
+    let word = entry_address(spot.from.table, level, now.la);
+    lasting.is_settled(word, now.moment) && !is_named_in(sought, level, spot)
+}
+
+/// Whether a walk goes on alike in two spots of a level.
+fn same_way(lasting: &Lasting, sought: &Sought, now: &Now, level: Level, a: &Spot, b: &Spot) -> bool
+    requires first { a.now.from.table < 2 ^ 52 }
+    requires second { b.now.from.table < 2 ^ 52 }
+    ensures { result ≡ same_way lasting.now sought.now now.now.la now.now.moment level
+        (place_of a.now) (place_of b.now) }
 {
     let (x, y) = (a.from.rights, b.from.rights);
     a.pcid == b.pcid
-        && a.from.table == b.from.table
+        && (a.from.table == b.from.table
+            || (a.word == b.word
+                && (is_final(lasting, sought, now, level, a)
+                    && is_final(lasting, sought, now, level, b))))
         && (x.write == y.write && x.user == y.user && x.xd == y.xd)
 }
 
-fn same_made(a: &Found, b: &Found) -> bool
-    ensures { result ≡ same_made (made_from a.now) (made_from b.now) }
+/// Whether a translation may be used for the address wherever another may, and is dropped where
+/// that one is.
+fn same_scope(a: &FoundTranslation, b: &FoundTranslation) -> bool
+    ensures { result ≡ same_scope (made_from a.now) (made_from b.now) }
 {
-    a.translation == b.translation
+    let (s, t) = (a.translation.key, b.translation.key);
+    let same_owner = if s.global {
+        t.global
+    } else {
+        !t.global && s.pcid == t.pcid
+    };
+    same_owner && s.shift == t.shift && s.number == t.number
 }
 
 /// The moments that lead to a spot.
@@ -104,61 +132,88 @@ fn trail(spot: &Spot) -> &[u32]
     }
 }
 
-/// Whether a spot is the same as another, and its moments are as fresh.
-fn covers_spot(a: &Spot, b: &Spot) -> bool
-    ensures { result ≡ covers same_place moments_to (place_of a.now) (place_of b.now) }
+/// Whether a walk goes on in a spot as in another, whose moments are no fresher.
+fn covers_spot(
+    lasting: &Lasting,
+    sought: &Sought,
+    now: &Now,
+    level: Level,
+    a: &Spot,
+    b: &Spot,
+) -> bool
+    requires first { a.now.from.table < 2 ^ 52 }
+    requires second { b.now.from.table < 2 ^ 52 }
+    ensures { result ≡ covers (same_way lasting.now sought.now now.now.la now.now.moment level)
+        moments_to (place_of a.now) (place_of b.now) }
 {
-    same_place(a, b) && are_as_fresh(trail(a), trail(b))
+    same_way(lasting, sought, now, level, a, b) && are_as_fresh(trail(a), trail(b))
 }
 
-fn is_spot_covered(spots: &[HeldSpot], spot: &Spot) -> bool
-    ensures { result
-        ≡ list_any (λ x. covers same_place moments_to x (place_of spot.now)) spots.now }
+fn is_spot_covered(
+    lasting: &Lasting,
+    sought: &Sought,
+    now: &Now,
+    level: Level,
+    spots: &[HeldSpot],
+    spot: &Spot,
+) -> bool
+    requires { spot.now.from.table < 2 ^ 52 }
+    ensures { result ≡ list_any
+        (λ x. covers (same_way lasting.now sought.now now.now.la now.now.moment level) moments_to x
+        (place_of spot.now)) spots.now }
 {
-    spots.iter().any(|x| covers_spot(&x.get(), spot))
+    spots.iter().any(|x| covers_spot(lasting, sought, now, level, &x.get(), spot))
 }
 
-/// Puts a spot in the place of one that is the same but for its moments, unless that has moments as
-/// fresh.
-fn put_spot(into: &mut Vec<HeldSpot>, spot: Spot) -> Result<(), AllocError>
+/// Puts a spot in the place of those in which a walk goes on alike, unless one of them has moments
+/// as fresh.
+fn put_spot(
+    into: &mut Vec<HeldSpot>,
+    lasting: &Lasting,
+    sought: &Sought,
+    now: &Now,
+    level: Level,
+    spot: Spot,
+) -> Result<(), AllocError>
     requires { spot.from.table < 2 ^ 52 }
     ensures { OnOk result (into.new.items
-        ≡ with_new same_place moments_to into.old.items (Some (place_of spot))) }
+        ≡ with_new (same_way lasting.now sought.now now.now.la now.now.moment level) moments_to
+        into.old.items (Some (place_of spot))) }
 {
-    if is_spot_covered(into, &spot) {
+    if is_spot_covered(lasting, sought, now, level, into, &spot) {
         return Ok(());
     }
-    into.retain(|x| !same_place(&x.get(), &spot));
+    into.retain(|x| !same_way(lasting, sought, now, level, &x.get(), &spot));
     into.push(HeldSpot::new(spot))?;
     Ok(())
 }
 
-/// Whether a translation is the same as another, and its moments are as fresh.
-fn covers_found(a: &Found, b: &Found) -> bool
-    ensures { result ≡ covers same_made moments_of (made_from a.now) (made_from b.now) }
+/// Whether a translation serves wherever another does, and its moments are as fresh.
+fn covers_found(a: &FoundTranslation, b: &FoundTranslation) -> bool
+    ensures { result ≡ covers same_scope moments_of (made_from a.now) (made_from b.now) }
 {
-    same_made(a, b) && are_as_fresh(a.moments.as_slice(), b.moments.as_slice())
+    same_scope(a, b) && are_as_fresh(a.moments.as_slice(), b.moments.as_slice())
 }
 
-fn is_found_covered(made: &[HeldFound], found: &Found) -> bool
+fn is_found_covered(made: &[HeldFound], found: &FoundTranslation) -> bool
     ensures { result
-        ≡ list_any (λ x. covers same_made moments_of x (made_from found.now)) made.now }
+        ≡ list_any (λ x. covers same_scope moments_of x (made_from found.now)) made.now }
 {
     made.iter().any(|x| covers_found(&x.get(), found))
 }
 
-/// Puts a translation in the place of one that is the same but for its moments, unless that has
-/// moments as fresh.
-fn put_found(into: &mut Vec<HeldFound>, found: Found) -> Result<(), AllocError>
-    requires size { found.translation.key.shift ≤ 30 }
+/// Puts a translation that is of use in the place of one that serves where it does, unless that has
+/// moments as fresh. Both give what is sought, so that they need not have the same page.
+fn put_found(into: &mut Vec<HeldFound>, found: FoundTranslation) -> Result<(), AllocError>
+    requires size { IsPageShift found.translation.key.shift }
     requires within { found.translation.frame < 2 ^ 52 }
     ensures { OnOk result (into.new.items
-        ≡ with_new same_made moments_of into.old.items (Some (made_from found))) }
+        ≡ with_new same_scope moments_of into.old.items (Some (made_from found))) }
 {
     if is_found_covered(into, &found) {
         return Ok(());
     }
-    into.retain(|x| !same_made(&x.get(), &found));
+    into.retain(|x| !same_scope(&x.get(), &found));
     into.push(HeldFound::new(found))?;
     Ok(())
 }
@@ -168,7 +223,9 @@ fn add_spot(
     into: &mut Vec<HeldSpot>,
     history: &Seen<'_>,
     now: Now,
+    sought: &Sought,
     ways: &Ways,
+    lasting: &Lasting,
     level: Level,
     spot: Spot,
 ) -> Result<(), AllocError>
@@ -178,7 +235,8 @@ fn add_spot(
         ≡ entry_at history.now.events now.la now.moment level spot.from }
     requires current { AreCurrent history.now.events now.la now.moment (below level)
         into.old.items }
-    ensures { OnOk result (into.new.items ≡ with_new same_place moments_to into.old.items
+    ensures { OnOk result (into.new.items ≡ with_new
+        (same_way lasting.now sought.now now.la now.moment (below level)) moments_to into.old.items
         (next_led history.now.head history.now.events ways.now now.p now.la now.moment level
         (place_of spot))) }
 {
@@ -195,7 +253,7 @@ fn add_spot(
         trail: Some(next_moments(trail, now.moment)),
         word: word_in(into, history, now, below(level), from),
     };
-    put_spot(into, next)
+    put_spot(into, lasting, sought, &now, below(level), next)
 }
 
 /// Puts in the tables that are read now from spots and that a walk may go on in.
@@ -203,7 +261,9 @@ pub(crate) fn add_spots(
     into: &mut Vec<HeldSpot>,
     history: &Seen<'_>,
     now: Now,
+    sought: &Sought,
     ways: &Ways,
+    lasting: &Lasting,
     level: Level,
     spots: &[HeldSpot],
 ) -> Result<(), AllocError>
@@ -211,12 +271,13 @@ pub(crate) fn add_spots(
     requires ready { AreReady history.now.events now.la now.moment level spots.now }
     requires current { AreCurrent history.now.events now.la now.moment (below level)
         into.old.items }
-    ensures { OnOk result (into.new.items ≡ with_each same_place moments_to
+    ensures { OnOk result (into.new.items ≡ with_each
+        (same_way lasting.now sought.now now.la now.moment (below level)) moments_to
         (next_led history.now.head history.now.events ways.now now.p now.la now.moment level)
         spots.now into.old.items) }
 {
     for x in spots {
-        add_spot(into, history, now, ways, level, x.get())?;
+        add_spot(into, history, now, sought, ways, lasting, level, x.get())?;
     }
     Ok(())
 }
@@ -226,6 +287,7 @@ fn next_leaf(header: &Header, now: Now, level: Level, spot: Spot) -> Option<Tran
     requires width { (36 ≤ header.now.cfg.m) × (header.now.cfg.m ≤ 52) }
     ensures leaf { result
         ≡ next_leaf header.now now.control now.la level (place_of spot) spot.word }
+    ensures shift { IfSome result (λ t. IsPageShift t.key.shift) }
     ensures size { IfSome result (λ t. t.key.shift ≤ 30) }
     ensures within { IfSome result (λ t. t.frame < 2 ^ 52) }
 {
@@ -264,7 +326,7 @@ fn add_found(
     requires few { length (trail_of spot.trail) ≤ 3 }
     requires word { spot.word
         ≡ entry_at history.now.events now.la now.moment level spot.from }
-    ensures { OnOk result (into.new.items ≡ with_new same_made moments_of into.old.items
+    ensures { OnOk result (into.new.items ≡ with_new same_scope moments_of into.old.items
         (next_useful history.now.head history.now.events sought.now now.p now.la now.moment level
         (place_of spot))) }
 {
@@ -273,7 +335,7 @@ fn add_found(
         return Ok(());
     };
     let moments = next_moments(trail, now.moment);
-    let found = Found {
+    let found = FoundTranslation {
         translation,
         moments,
     };
@@ -294,7 +356,7 @@ pub(crate) fn add_founds(
 ) -> Result<(), AllocError>
     requires now { IsNow history.now now }
     requires ready { AreReady history.now.events now.la now.moment level spots.now }
-    ensures { OnOk result (into.new.items ≡ with_each same_made moments_of
+    ensures { OnOk result (into.new.items ≡ with_each same_scope moments_of
         (next_useful history.now.head history.now.events sought.now now.p now.la now.moment level)
         spots.now into.old.items) }
 {

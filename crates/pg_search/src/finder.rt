@@ -102,16 +102,16 @@ pub(crate) fn best_in(
 ) -> Option<Moments>
     requires now { IsNow history.now now }
     requires within { now.moment ≤ number_of sought.now }
-    requires sweep { IsSweep history.now sought.now now.la sweep.now
-        (standing history.now.head history.now.events now.p now.la now.moment) }
+    requires sweep { IsSweep history.now sought.now now.p now.la now.moment now.control.pcid
+        sweep.now (standing history.now.head history.now.events now.p now.la now.moment) }
     ensures { IsPick (found_in history.now.head history.now.events now.moment now.p now.la
         sought.now (standing history.now.head history.now.events now.p now.la now.moment)) result }
 {
     let root = [root_spot(now)];
     let four = best_at(history, now, sought, Level::Four, &root);
-    let three = best_at(history, now, sought, Level::Three, &sweep.threes);
-    let two = best_at(history, now, sought, Level::Two, &sweep.twos);
-    let one = best_at(history, now, sought, Level::One, &sweep.ones);
+    let three = best_at(history, now, sought, Level::Three, &sweep.kept.threes);
+    let two = best_at(history, now, sought, Level::Two, &sweep.kept.twos);
+    let one = best_at(history, now, sought, Level::One, &sweep.kept.ones);
     fresher(four, fresher(three, fresher(two, one)))
 }
 
@@ -127,7 +127,7 @@ fn find_access(
 {
     let sought = Sought::Fault(claim);
     let (sweep, now) = sweep_to(alloc, history, claim.p, claim.la, claim.number, &sought)?;
-    let made = best_made(history.header(), now.control.pcid, &claim, &sweep.made);
+    let made = best_made(history.header(), now.control.pcid, &claim, &sweep.kept.made);
     let word = best_in(history, now, &sought, &sweep);
     Ok(fresher(made, word))
 }
@@ -215,9 +215,9 @@ pub fn find_moments_at(
 /// Where several choices would do, it gives the freshest: those whose last moment is the largest,
 /// among these those whose last but one is, and so on; of two that end alike, the shorter.
 ///
-/// It takes four passes over the events up to this one: the first three tell which tables may lead
-/// on to what the event needs, and the last goes from moment to moment. It fails only where memory
-/// is refused.
+/// It takes five passes over the events up to this one: four tell which tables may lead on to what
+/// the event needs, and which of them do so alike, and the last goes from moment to moment. It
+/// fails only where memory is refused.
 pub fn find_moments(alloc: Global, history: &History, i: u64) -> Result<Option<Moments>, AllocError>
     requires within { i < length history.now.events }
     requires names { IfSome (slice_get history.now.events i) (λ e. names_moments e ≡ true) }

@@ -1,4 +1,5 @@
 ghost use Rattle.std.specs.Prelude.{◌≡◌, ◌<◌, ◌≤◌, ◌^◌};
+ghost use Rattle.pg_entry.specs.Kinds.{IsPageShift};
 ghost use Rattle.pg_event.specs.Values.{written};
 ghost use Rattle.pg_event.specs.Walk.{entry_address};
 ghost use Rattle.pg_search.specs.Held.{place_of, made_from};
@@ -21,7 +22,7 @@ pub(crate) struct Spot {
 
 /// A translation, and the moments that made it.
 #[derive(Clone, Copy, PartialEq, Eq)]
-pub(crate) struct Found {
+pub(crate) struct FoundTranslation {
     pub translation: Translation,
     pub moments: Moments,
 }
@@ -82,6 +83,13 @@ impl HeldSpot {
         self.0
     }
 
+    /// Puts in the entry that the walk would read now.
+    pub(crate) fn set_word(&mut self, word: u64)
+        ensures { self.new ≡ record self.old { word = word } }
+    {
+        self.0.word = word;
+    }
+
     /// Changes the entry as an event does, where the spot is at this level.
     pub(crate) fn see(&mut self, level: Level, la: u64, event: &Event)
         ensures { self.new ≡ record self.old {
@@ -93,12 +101,13 @@ impl HeldSpot {
     }
 }
 
-/// A translation whose page is at a physical address, and of at most 1 GByte.
+/// A translation whose page is at a physical address, and of a size that pages have.
 #[derive(Drop)]
-pub(crate) struct HeldFound(Found);
+pub(crate) struct HeldFound(FoundTranslation);
 
 impl Model for HeldFound {
-    ghost use Rattle.std.specs.Prelude.{◌<◌, ◌≤◌, ◌^◌};
+    ghost use Rattle.std.specs.Prelude.{◌<◌, ◌^◌};
+    ghost use Rattle.pg_entry.specs.Kinds.{IsPageShift};
     ghost use Rattle.pg_search.specs.Sweep.{Made};
     ghost use Rattle.pg_search.specs.Held.{made_from};
 
@@ -107,20 +116,21 @@ impl Model for HeldFound {
     ghost view = { λ h. made_from h.0 };
 
     ghost invariant = { λ h.
-        (h.0.translation.key.shift ≤ 30) × (h.0.translation.frame < 2 ^ 52) };
+        IsPageShift h.0.translation.key.shift × (h.0.translation.frame < 2 ^ 52) };
 }
 
 impl HeldFound {
-    pub(crate) fn new(found: Found) -> HeldFound
-        requires size { found.translation.key.shift ≤ 30 }
+    pub(crate) fn new(found: FoundTranslation) -> HeldFound
+        requires size { IsPageShift found.translation.key.shift }
         requires within { found.translation.frame < 2 ^ 52 }
         ensures { result ≡ made_from found }
     {
         HeldFound(found)
     }
 
-    pub(crate) fn get(&self) -> Found
+    pub(crate) fn get(&self) -> FoundTranslation
         ensures value { made_from result ≡ self.now }
+        ensures shift { IsPageShift result.translation.key.shift }
         ensures size { result.translation.key.shift ≤ 30 }
         ensures within { result.translation.frame < 2 ^ 52 }
     {

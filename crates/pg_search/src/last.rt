@@ -12,10 +12,10 @@ ghost use Rattle.pg_search.specs.Last.{HasNoLast, NoneWitness, IsLastOf};
 
 use crate::finder::{best_in, best_made};
 use crate::fresh::fresher;
-use crate::now::{Now, after, at_start};
+use crate::now::{Now, at_start};
 use crate::seen::Seen;
 use crate::sought::Sought;
-use crate::sweeper::{Sweep, fill, leave};
+use crate::sweeper::{Sweep, fill, step};
 use pg_check::History;
 use pg_event::{Event, Moments, claim_of, update_of};
 use std::alloc::{AllocError, Global};
@@ -33,15 +33,15 @@ pub struct Last {
 fn best_now(history: &Seen<'_>, now: Now, sought: &Sought, sweep: &Sweep) -> Option<Moments>
     requires now { IsNow history.now now }
     requires within { now.moment ≤ number_of sought.now }
-    requires sweep { IsSweep history.now sought.now now.la sweep.now
-        (standing history.now.head history.now.events now.p now.la now.moment) }
+    requires sweep { IsSweep history.now sought.now now.p now.la now.moment now.control.pcid
+        sweep.now (standing history.now.head history.now.events now.p now.la now.moment) }
     ensures { IsPick (found_sought history.now.head history.now.events now.moment now.p now.la
         sought.now) result }
 {
     let word = best_in(history, now, sought, sweep);
     match sought {
         Sought::Fault(claim) => {
-            let made = best_made(history.header(), now.control.pcid, claim, &sweep.made);
+            let made = best_made(history.header(), now.control.pcid, claim, &sweep.kept.made);
             fresher(made, word)
         }
         Sought::Word(_) => word,
@@ -81,8 +81,7 @@ fn find_last(
         let event = history.event_at(i);
         fill(&mut sweep, history, now, sought)?;
         last = latest(last, now.moment, best_now(history, now, sought, &sweep));
-        leave(&mut sweep, history, &now, sought, &event);
-        now = after(history, now, &event);
+        now = step(alloc, &mut sweep, history, now, sought, &event)?;
     }
     Ok(last)
 }
@@ -131,8 +130,8 @@ fn last_for(
 /// which need not be an event of the history. `None` where there is no such number.
 /// `last_among_changes` is the law by which a history need not have accesses that got their answer.
 ///
-/// It takes as many passes over the events before that number as `find_moments` takes. It fails only
-/// where memory is refused.
+/// It takes as many passes over the events before that number as `find_moments` takes. It fails
+/// only where memory is refused.
 pub fn last_moments_at(
     alloc: Global,
     history: &Seen<'_>,

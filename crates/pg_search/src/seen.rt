@@ -1,15 +1,22 @@
 //! What a search sees of a run.
 
-ghost use Rattle.std.specs.Prelude.{◌≡◌, ◌<◌, ◌^◌, length, Some, slice_get};
+ghost use Rattle.std.specs.Prelude.{◌≡◌, ◌<◌, ◌≤◌, ◌^◌, false, length, Some, slice_get};
+ghost use Rattle.pg_entry.specs.Kinds.{IsPageShift};
 ghost use Rattle.pg_event.specs.Spelling.{IsHead};
 ghost use Rattle.pg_event.specs.Values.{mem_at, control_at};
+ghost use Rattle.pg_event.specs.Invalidation.{structure_key, translation_key};
+ghost use Rattle.pg_event.specs.Invalidation.{must_drop_structure, must_drop_translation};
+ghost use Rattle.pg_event.specs.Witness.{survives};
+ghost use Rattle.pg_inval.specs.Drops.{IsTableLevel};
 ghost use Rattle.pg_chain.specs.Standing.{IsPast};
 ghost use Rattle.pg_search.specs.Seen.{IsSeen};
 
 use crate::bare::Bare;
 use pg_chain::Past;
 use pg_check::{History, Memo, Stretch};
+use pg_entry::Level;
 use pg_event::{Control, Event, Header};
+use pg_timeline::Probes;
 use std::marker::Model;
 
 /// The events of a run, as somebody has kept them.
@@ -96,6 +103,50 @@ impl<'a> Seen<'a> {
         ensures root { result.root < 2 ^ 52 }
     {
         self.past.control_at(p, moment)
+    }
+
+    /// Whether the paging-structure-cache entry that a level gives for an address under a PCID
+    /// survives on a processor from one moment up to, not with, another.
+    pub(crate) fn structure_survives(
+        &self,
+        p: u16,
+        pcid: u16,
+        level: Level,
+        la: u64,
+        from: u32,
+        to: u32,
+    ) -> bool
+        requires { IsTableLevel level }
+        ensures { let key = structure_key pcid level la in
+            result ≡ survives self.now.head self.now.events p (λ c e. must_drop_structure c e key)
+            from to }
+    {
+        self.past.structure_survives(p, pcid, level, la, from, to)
+    }
+
+    /// Whether a translation of an address, of one PCID alone, survives on a processor from one
+    /// moment up to, not with, another.
+    pub(crate) fn translation_survives(
+        &self,
+        p: u16,
+        pcid: u16,
+        shift: u8,
+        la: u64,
+        from: u32,
+        to: u32,
+    ) -> bool
+        requires shift { IsPageShift shift }
+        requires order { from ≤ to }
+        ensures { let key = translation_key pcid shift false la in
+            result ≡ survives self.now.head self.now.events p (λ c e. must_drop_translation c e key)
+            from to }
+    {
+        let mut probes = Probes::new();
+        let past = self.past;
+        match past.first_drop_of_translation(p, pcid, shift, la, false, from, &mut probes) {
+            Some(first) => first >= to,
+            None => true,
+        }
     }
 
     /// A memo for judging by this run, with room for so many walks, up to a limit.

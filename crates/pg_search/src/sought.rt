@@ -7,9 +7,10 @@ ghost use Rattle.pg_event.specs.Wants.{is_wanted, may_dirty};
 ghost use Rattle.pg_event.specs.Witness.{failing_leaf, is_done_write};
 ghost use Rattle.pg_search.specs.Found.{is_none, is_answered, gives, is_code, is_fault};
 ghost use Rattle.pg_search.specs.Found.{is_claimed, is_useful, is_sought};
-ghost use Rattle.pg_search.specs.Held.{made_from};
+ghost use Rattle.pg_search.specs.Held.{made_from, place_of};
+ghost use Rattle.pg_search.specs.Lasting.{is_named};
 
-use crate::held::{Found, HeldFound, Spot};
+use crate::held::{FoundTranslation, HeldFound, Spot};
 use pg_entry::{
     AccessKind, Cause, Cfg, Entry, Kind, Level, Rights, allowed, classify, combine, error_code,
     page_offset,
@@ -82,7 +83,7 @@ pub(crate) fn gives(header: &Header, pcid: u16, claim: &Claim, x: &HeldFound) ->
 }
 
 /// Whether a translation is of use where this is sought.
-pub(crate) fn is_useful(header: &Header, sought: &Sought, found: &Found) -> bool
+pub(crate) fn is_useful(header: &Header, sought: &Sought, found: &FoundTranslation) -> bool
     requires size { found.now.translation.key.shift ≤ 30 }
     requires within { found.now.translation.frame < 2 ^ 52 }
     ensures { result ≡ is_useful header.now sought.now (made_from found.now) }
@@ -110,6 +111,17 @@ pub(crate) fn is_fault(cfg: Cfg, claim: &Claim, kind: Kind) -> bool
         Kind::Absent => is_code(cfg, claim.kind, Cause::Absent, claim.outcome),
         Kind::Reserved => is_code(cfg, claim.kind, Cause::Reserved, claim.outcome),
         Kind::Table { .. } | Kind::Leaf { .. } => false,
+    }
+}
+
+/// Whether the entry for the address in a table at a level is the one that an assist names.
+pub(crate) fn is_named_in(sought: &Sought, level: Level, spot: &Spot) -> bool
+    requires { spot.now.from.table < 2 ^ 52 }
+    ensures { result ≡ is_named sought.now level (place_of spot.now) }
+{
+    match sought {
+        Sought::Fault(_) => false,
+        Sought::Word(update) => { update.word == entry_address(spot.from.table, level, update.la) }
     }
 }
 

@@ -5,34 +5,37 @@ ghost use Rattle.pg_event.specs.Form.{processor_of};
 ghost use Rattle.pg_event.specs.Invalidation.{structure_key};
 ghost use Rattle.pg_event.specs.Invalidation.{must_drop_structure, must_drop_translation};
 ghost use Rattle.pg_event.specs.Walk.{below};
-ghost use Rattle.pg_search.specs.Sweep.{same_place, same_made, moments_to, moments_of, with_each};
+ghost use Rattle.pg_search.specs.Sweep.{moments_to, moments_of, with_each};
 ghost use Rattle.pg_search.specs.Sweep.{staying, staying_made, swept, standing};
 ghost use Rattle.pg_search.specs.Held.{IsNow, AreCurrent, AreReady, seen_by};
-ghost use Rattle.pg_search.specs.Swept.{IsSweep};
+ghost use Rattle.pg_search.specs.Swept.{same_scope, IsSweep};
 ghost use Rattle.pg_search.specs.Found.{next_useful};
+ghost use Rattle.pg_search.specs.Lasting.{same_way};
 ghost use Rattle.pg_search.specs.Ways.{number_of, la_of, next_led};
 
 use crate::fill::{add_founds, add_spots};
 use crate::held::{HeldFound, HeldSpot};
+use crate::lasting::Lasting;
 use crate::now::{Now, after, at_start, root_spot};
+use crate::parked::{Kept, Parked, change_pcid};
 use crate::seen::Seen;
 use crate::sought::Sought;
-use crate::ways::Ways;
+use crate::ways::{Ways, number_of};
 use pg_entry::Level;
 use pg_event::{
     Event, below, must_drop_structure, must_drop_translation, processor_of, structure_key,
 };
 use std::alloc::{AllocError, Global};
+use std::collections::HashMap;
 
 /// What may stand at a moment, for one processor and address, and is of use where something is
-/// sought: tables to read in at each level below the root's, and translations.
+/// sought: what it may use now, and by their PCIDs what it may use when they are loaded again.
 #[derive(Drop)]
 pub(crate) struct Sweep {
-    pub threes: Vec<HeldSpot>,
-    pub twos: Vec<HeldSpot>,
-    pub ones: Vec<HeldSpot>,
-    pub made: Vec<HeldFound>,
+    pub kept: Kept,
+    pub parked: HashMap<u16, Parked>,
     pub ways: Ways,
+    pub lasting: Lasting,
 }
 
 impl Sweep {
@@ -45,16 +48,16 @@ impl Sweep {
     ) -> Result<Sweep, AllocError>
         requires within { number_of sought.now ≤ length history.now.events }
         requires asked { la ≡ la_of sought.now }
-        ensures { IfOk result (λ sweep. (p : ℕ) → IsSweep history.now sought.now la sweep
-            (swept history.now.head history.now.events p la 0)) }
+        ensures { IfOk result (λ sweep. (p pcid : ℕ) → IsSweep history.now sought.now p la 0 pcid
+            sweep (swept history.now.head history.now.events p la 0)) }
     {
         let ways = Ways::to(alloc, history, la, sought)?;
+        let lasting = Lasting::to(alloc, history, &ways, number_of(sought))?;
         Ok(Sweep {
-            threes: Vec::new(alloc),
-            twos: Vec::new(alloc),
-            ones: Vec::new(alloc),
-            made: Vec::new(alloc),
+            kept: Kept::new(alloc),
+            parked: HashMap::new(alloc),
             ways,
+            lasting,
         })
     }
 }
@@ -67,6 +70,7 @@ fn fill_level(
     now: Now,
     sought: &Sought,
     ways: &Ways,
+    lasting: &Lasting,
     level: Level,
     spots: &[HeldSpot],
 ) -> Result<(), AllocError>
@@ -74,15 +78,16 @@ fn fill_level(
     requires ready { AreReady history.now.events now.la now.moment level spots.now }
     requires current { AreCurrent history.now.events now.la now.moment (below level)
         under.old.items }
-    ensures made { OnOk result (made.new.items ≡ with_each same_made moments_of
+    ensures made { OnOk result (made.new.items ≡ with_each same_scope moments_of
         (next_useful history.now.head history.now.events sought.now now.p now.la now.moment level)
         spots.now made.old.items) }
-    ensures under { OnOk result (under.new.items ≡ with_each same_place moments_to
+    ensures under { OnOk result (under.new.items ≡ with_each
+        (same_way lasting.now sought.now now.la now.moment (below level)) moments_to
         (next_led history.now.head history.now.events ways.now now.p now.la now.moment level)
         spots.now under.old.items) }
 {
     add_founds(made, history, now, sought, level, spots)?;
-    add_spots(under, history, now, ways, level, spots)
+    add_spots(under, history, now, sought, ways, lasting, level, spots)
 }
 
 /// All fills of a moment, from level 4 down.
@@ -94,22 +99,57 @@ pub(crate) fn fill(
 ) -> Result<(), AllocError>
     requires now { IsNow history.now now }
     requires within { now.moment ≤ number_of sought.now }
-    requires before { IsSweep history.now sought.now now.la sweep.old
-        (swept history.now.head history.now.events now.p now.la now.moment) }
-    ensures { OnOk result (IsSweep history.now sought.now now.la sweep.new
-        (standing history.now.head history.now.events now.p now.la now.moment)) }
+    requires before { IsSweep history.now sought.now now.p now.la now.moment now.control.pcid
+        sweep.old (swept history.now.head history.now.events now.p now.la now.moment) }
+    ensures { OnOk result (IsSweep history.now sought.now now.p now.la now.moment now.control.pcid
+        sweep.new (standing history.now.head history.now.events now.p now.la now.moment)) }
 {
     let Sweep {
+        kept,
+        ways,
+        lasting,
+        ..
+    } = sweep;
+    let Kept {
         threes,
         twos,
         ones,
         made,
-        ways,
-    } = sweep;
+    } = kept;
     let root = [root_spot(now)];
-    fill_level(made, threes, history, now, sought, ways, Level::Four, &root)?;
-    fill_level(made, twos, history, now, sought, ways, Level::Three, threes)?;
-    fill_level(made, ones, history, now, sought, ways, Level::Two, twos)?;
+    fill_level(
+        made,
+        threes,
+        history,
+        now,
+        sought,
+        ways,
+        lasting,
+        Level::Four,
+        &root,
+    )?;
+    fill_level(
+        made,
+        twos,
+        history,
+        now,
+        sought,
+        ways,
+        lasting,
+        Level::Three,
+        threes,
+    )?;
+    fill_level(
+        made,
+        ones,
+        history,
+        now,
+        sought,
+        ways,
+        lasting,
+        Level::Two,
+        twos,
+    )?;
     add_founds(made, history, now, sought, Level::One, ones)
 }
 
@@ -177,25 +217,52 @@ fn leave_spots(
     see_event(spots, below(above), now.la, event);
 }
 
-/// What an event leaves.
-pub(crate) fn leave(
-    sweep: &mut Sweep,
-    history: &Seen<'_>,
-    now: &Now,
-    sought: &Sought,
-    event: &Event,
-)
+/// What an event leaves of what is kept, and of what is parked, which it need not look at.
+fn leave(sweep: &mut Sweep, history: &Seen<'_>, now: &Now, sought: &Sought, event: &Event)
     requires now { IsNow history.now now.now }
     requires event { slice_get history.now.events now.now.moment ≡ Some event.now }
-    requires before { IsSweep history.now sought.now now.now.la sweep.old
+    requires before { IsSweep history.now sought.now now.now.p now.now.la now.now.moment
+        now.now.control.pcid sweep.old
         (standing history.now.head history.now.events now.now.p now.now.la now.now.moment) }
-    ensures { IsSweep history.now sought.now now.now.la sweep.new
+    ensures { IsSweep history.now sought.now now.now.p now.now.la (now.now.moment + 1)
+        now.now.control.pcid sweep.new
         (swept history.now.head history.now.events now.now.p now.now.la (now.now.moment + 1)) }
 {
-    leave_spots(&mut sweep.threes, history, now, event, Level::Four);
-    leave_spots(&mut sweep.twos, history, now, event, Level::Three);
-    leave_spots(&mut sweep.ones, history, now, event, Level::Two);
-    keep_founds(&mut sweep.made, now, event);
+    leave_spots(&mut sweep.kept.threes, history, now, event, Level::Four);
+    leave_spots(&mut sweep.kept.twos, history, now, event, Level::Three);
+    leave_spots(&mut sweep.kept.ones, history, now, event, Level::Two);
+    keep_founds(&mut sweep.kept.made, now, event);
+}
+
+/// What an event leaves, under the PCID that is loaded after it, and the processor then.
+pub(crate) fn step(
+    alloc: Global,
+    sweep: &mut Sweep,
+    history: &Seen<'_>,
+    now: Now,
+    sought: &Sought,
+    event: &Event,
+) -> Result<Now, AllocError>
+    requires now { IsNow history.now now }
+    requires event { slice_get history.now.events now.moment ≡ Some event.now }
+    requires room { now.moment + 1 < 2 ^ 32 }
+    requires before { IsSweep history.now sought.now now.p now.la now.moment now.control.pcid
+        sweep.old (standing history.now.head history.now.events now.p now.la now.moment) }
+    ensures sweep { IfOk result (λ next. IsSweep history.now sought.now next.p next.la next.moment
+        next.control.pcid sweep.new
+        (swept history.now.head history.now.events next.p next.la next.moment)) }
+    ensures now { IfOk result (λ next. IsNow history.now next) }
+    ensures asked { IfOk result (λ next. (next.p ≡ now.p) × (next.la ≡ now.la)
+        × (next.moment ≡ now.moment + 1)) }
+{
+    leave(sweep, history, &now, sought, event);
+    let next = after(history, now, event);
+    let before = now.control.pcid;
+    if next.control.pcid != before {
+        let Sweep { kept, parked, .. } = sweep;
+        change_pcid(alloc, kept, parked, history, before, &next)?;
+    }
+    Ok(next)
 }
 
 /// What stands at a moment, after its fills, and is of use where this is sought, and the control
@@ -212,8 +279,8 @@ pub(crate) fn sweep_to(
     requires processor { p < length history.now.head.processors }
     requires asked { (la ≡ la_of sought.now) × (moment ≡ number_of sought.now) }
     requires within { moment ≤ length history.now.events }
-    ensures sweep { IfOk result (λ r. IsSweep history.now sought.now la r.0
-        (standing history.now.head history.now.events p la moment)) }
+    ensures sweep { IfOk result (λ r. IsSweep history.now sought.now p la moment
+        r.1.control.pcid r.0 (standing history.now.head history.now.events p la moment)) }
     ensures now { IfOk result (λ r. IsNow history.now r.1) }
     ensures asked { IfOk result (λ r. (r.1.p ≡ p) × (r.1.la ≡ la) × (r.1.moment ≡ moment)) }
 {
@@ -222,8 +289,7 @@ pub(crate) fn sweep_to(
     for i in 0..moment {
         let event = history.event_at(i);
         fill(&mut sweep, history, now, sought)?;
-        leave(&mut sweep, history, &now, sought, &event);
-        now = after(history, now, &event);
+        now = step(alloc, &mut sweep, history, now, sought, &event)?;
     }
     fill(&mut sweep, history, now, sought)?;
     Ok((sweep, now))

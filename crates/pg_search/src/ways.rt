@@ -1,12 +1,15 @@
 //! Which tables may lead a walk on to what is sought. One processor may use thousands of tables
-//! without a flush, and few of them lead to the page that an access claims: the sweep has no others.
+//! without a flush, and few of them lead to the page that an access claims: the sweep has no
+//! others.
 
-ghost use Rattle.std.specs.Prelude.{◌≡◌, ◌<◌, ◌≤◌, ◌&&◌, ◌||◌, ◌^◌, false, nat_eq, length, IfOk, OnOk};
+ghost use Rattle.std.specs.Prelude.{◌≡◌, ◌<◌, ◌≤◌, ◌&&◌, ◌||◌, ◌^◌, false, nat_eq};
+ghost use Rattle.std.specs.Prelude.{length, IfOk, OnOk};
 ghost use Rattle.std.specs.HashSet.{contains};
 ghost use Rattle.pg_entry.specs.declared.Kind.TheVariants.{Absent};
 ghost use Rattle.pg_entry.specs.Kinds.{kind_of, IsSmallLeaf};
 ghost use Rattle.pg_search.specs.Ways.{number_of, la_of, is_page, is_end, is_of_use, leads};
 ghost use Rattle.pg_search.specs.Ways.{IsChange, IsNoted, IsLeftOut, HasWord, AreWays};
+ghost use Rattle.pg_search.specs.Lasting.{watches, watches_all};
 
 use crate::seen::Seen;
 use crate::sought::{Sought, is_fault};
@@ -86,7 +89,7 @@ fn is_of_use(
 }
 
 /// The word that an event changes, and what it has after it.
-fn changed(history: &Seen<'_>, number: u32) -> Option<(u64, u64)>
+pub(crate) fn changed(history: &Seen<'_>, number: u32) -> Option<(u64, u64)>
     requires { number < length history.now.events }
     ensures { IsChange history.now.events number result }
 {
@@ -190,6 +193,31 @@ impl Ways {
             twos,
             ones,
         })
+    }
+
+    /// Whether all tables may lead on.
+    pub(crate) fn watch_all(&self) -> bool
+        ensures { result ≡ watches_all self.now }
+    {
+        match self {
+            Ways::All => true,
+            Ways::By { .. } => false,
+        }
+    }
+
+    /// Whether a table that may lead on has its entry in a word.
+    pub(crate) fn watch(&self, word: u64) -> bool
+        ensures { result ≡ watches self.now word }
+    {
+        match self {
+            Ways::All => true,
+            Ways::By {
+                threes,
+                twos,
+                ones,
+                ..
+            } => threes.contains(&word) || (twos.contains(&word) || ones.contains(&word)),
+        }
     }
 
     /// Whether a walk may go on in a table that is read at a level.
