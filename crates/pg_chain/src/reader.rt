@@ -163,6 +163,7 @@ impl<'a> Reader<'a> {
     }
 
     /// The control registers of a processor at a moment, where they are kept.
+    #[inline(always)]
     fn known_control(&self, p: u16, moment: u32) -> Option<Control>
         ensures run { InEachRun self.now (λ head events.
             IfSome result (λ c. c ≡ control_at head events p moment)) }
@@ -200,6 +201,7 @@ impl<'a> Reader<'a> {
     }
 
     /// The control registers of a processor just before the event with this number.
+    #[inline(always)]
     pub fn control_at(&mut self, p: u16, moment: u32) -> Control
         requires { p < processor_count self.old }
         ensures past { self.new ≡ self.old }

@@ -1,5 +1,5 @@
 -- How long the translation lasts that a walk gives.
-use Rattle.std.specs.Prelude.{◌≡◌, ℕ, ◌≤◌, not, ◌&&◌, List, Option}
+use Rattle.std.specs.Prelude.{◌≡◌, ℕ, ◌≤◌, ◌-◌, Bool, not, ◌&&◌, List, Option}
 use Rattle.std.specs.Prelude.{Result, Ok, Err}
 use Rattle.std.specs.Prelude.{MatchResult, MatchOption}
 use Rattle.pg_entry.specs.declared.Kind.{Kind}
@@ -12,10 +12,20 @@ use Rattle.pg_event.specs.Heads.{Head}
 use Rattle.pg_event.specs.Values.{control_at}
 use Rattle.pg_event.specs.Invalidation.{translation_key, must_drop_translation}
 use Rattle.pg_event.specs.declared.keys.TranslationKey.{TranslationKey}
-use Rattle.pg_event.specs.Witness.{survives}
+use Rattle.pg_event.specs.Witness.{any_from, survives}
 use Rattle.pg_inval.specs.Lists.{IsFirstDrop}
 use Rattle.pg_chain.specs.Walked.{chain_of}
 use Rattle.pg_check.specs.declared.lasting.Lasting.{Lasting}
+
+-- no event from one moment up to, not with, another passes a test: what only such an event drops
+-- outlives them
+abbrev pub outlives : (ℕ → Bool) → ℕ → ℕ → Bool
+outlives test from to = not (any_from test from (to - from))
+
+-- the first event from a moment up to, not with, another that passes a test, in the form of
+-- `IsDroppedAt`, so that a `survives` fits in
+abbrev pub IsFirstToPass : (ℕ → Bool) → ℕ → ℕ → Option ℕ → Type 0
+IsFirstToPass test from to first = IsFirstDrop (λ a b. not (outlives test a b)) from to first
 
 -- the first event from a moment up to, not with, another that drops a translation
 abbrev pub IsDroppedAt : Head → List Event → ℕ → TranslationKey → ℕ → ℕ → Option ℕ → Type 0

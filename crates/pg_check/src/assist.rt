@@ -7,13 +7,13 @@ ghost use Rattle.pg_chain.specs.Walked.{reading_of};
 ghost use Rattle.pg_check.specs.Ends.{failing_marks};
 
 use crate::walk::walk;
-use pg_chain::{Chain, Past, Step};
+use pg_chain::{Chain, EntryRead, Past};
 use pg_entry::{Cfg, Entry, classify};
 use pg_event::{Moments, Reason, Update, Want, may_dirty};
 
 /// Whether an entry that is read last is the one that an assist names, at its own event, and may be
 /// made dirty where the assist does so.
-fn is_updated(cfg: Cfg, update: &Update, end: Step) -> bool
+fn is_updated(cfg: Cfg, update: &Update, end: EntryRead) -> bool
     requires { (36 ≤ cfg.m) × (cfg.m ≤ 52) }
     ensures { result ≡ is_updated cfg update.now (reading_of end) }
 {

@@ -1,14 +1,12 @@
 //! Walks by moments, and how long the translations last that they give.
 
-ghost use Rattle.std.specs.Prelude.{◌≡◌, ◌&&◌, ◌<◌, ◌≤◌, ◌-◌, ◌^◌, ℕ, Bool, not, List};
+ghost use Rattle.std.specs.Prelude.{◌≡◌, ◌&&◌, ◌<◌, ◌≤◌, ◌-◌, ◌^◌, ℕ, Bool, List};
 ghost use Rattle.std.specs.Prelude.{IfOk, IsTrue};
 ghost use Rattle.pg_event.specs.declared.event.Event.{Event};
 ghost use Rattle.pg_event.specs.Heads.{Head};
 ghost use Rattle.pg_event.specs.Values.{control_at};
-ghost use Rattle.pg_event.specs.Witness.{any_from};
-ghost use Rattle.pg_inval.specs.Lists.{IsFirstDrop};
 ghost use Rattle.pg_chain.specs.Standing.{IsPast, processor_count};
-ghost use Rattle.pg_check.specs.Lasting.{IsLasting, IsAsked, IsWalk};
+ghost use Rattle.pg_check.specs.Lasting.{IsLasting, IsAsked, IsWalk, IsFirstToPass};
 
 use pg_chain::{Chain, Reader, chain_by, kind_at};
 use pg_entry::Kind;
@@ -18,12 +16,12 @@ use pg_event::{Moments, Reason, Want};
 #[derive(Clone, Copy, PartialEq, Eq, Debug)]
 pub struct Lasting {
     pub chain: Chain,
-    /// Whether the translation is global.
-    pub global: bool,
     /// Up to this event, not with it, it was looked up when the translation had to go.
     pub asked: u32,
     /// The first event from the last reading on at which it had to go, if one of those is.
     pub dropped: Option<u32>,
+    /// Whether the translation is global.
+    pub global: bool,
 }
 
 /// Whether a translation that a leaf gives is global: the leaf's bit 8 is set, and CR4.PGE was when
@@ -75,8 +73,7 @@ pub fn is_asked(walk: &Lasting, number: u32) -> bool
 /// The first event from one on at which something was dropped, if that lies below another.
 fn if_below(first: Option<u32>, to: u32) -> Option<u32>
     ensures { (test : ℕ → Bool) (from : ℕ) →
-        IsFirstDrop (λ a b. not (not (any_from test a (b - a)))) from (2 ^ 32 - 1) first →
-        IsFirstDrop (λ a b. not (not (any_from test a (b - a)))) from to result }
+        IsFirstToPass test from (2 ^ 32 - 1) first → IsFirstToPass test from to result }
 {
     match first {
         Some(number) => if number < to { first } else { None },
@@ -116,6 +113,7 @@ pub fn asked_up_to(reader: &mut Reader<'_>, p: u16, la: u64, walk: Lasting, to: 
 
 /// The walk of an access by its moments, and how long its translation lasts, or the least of the
 /// reasons `Entry`, `Context` and `StructureDropped`.
+#[inline(always)]
 pub fn lasting_walk(
     reader: &mut Reader<'_>,
     number: u32,

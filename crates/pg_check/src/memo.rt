@@ -12,7 +12,7 @@ ghost use Rattle.pg_check.specs.Remembered.{HasWalk, HaveWalks, IsWithin, walk_i
 
 use crate::lasting::{Lasting, asked_up_to, is_asked, lasting_walk};
 use crate::walk::is_in_order;
-use pg_chain::{Chain, Past, Reader, Step};
+use pg_chain::{Chain, EntryRead, Past, Reader};
 use pg_entry::{Level, Rights};
 use pg_event::{Control, Moments, Reason, Want};
 use std::alloc::Global;
@@ -45,7 +45,7 @@ fn walk_in(slot: &Slot) -> Lasting
         chain: Chain {
             pcid: slot.pcid,
             tables: slot.tables,
-            end: Step {
+            end: EntryRead {
                 level: slot.level,
                 address: slot.address,
                 value: slot.value,

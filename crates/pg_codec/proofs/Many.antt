@@ -62,3 +62,23 @@ starts_are_many m = record { none = λ k bytes. refl; more = λ k n bytes. refl 
 pub events_are_many : (head : Head) → IsMany (event_at head) (events_at head)
 unfolding events_at
 events_are_many head = record { none = λ k bytes. refl; more = λ k n bytes. refl }
+
+behind : (front : List ℕ) (n : ℕ) (first : Part ℕ) → with_front front (first >>= λ x. numbers_at n x.1 >>= λ others. Ok (x.0 ∷ others.0, others.1))
+    ≡ (first >>= λ x. with_front (front ++ x.0 ∷ []) (numbers_at n x.1))
+behind front n (Ok x) = regroup front x.0 (numbers_at n x.1)
+behind front n (Err e) = refl
+
+-- numbers behind a front are one, and then the others behind that
+pub one_by_one : (front : List ℕ) (n : ℕ) (bytes : List ℕ) → with_front front (numbers_at (suc n) bytes) ≡ (number_at w32 bytes >>= λ x. with_front (front ++ x.0 ∷ []) (numbers_at n x.1))
+unfolding numbers_at
+one_by_one front n bytes = behind front n (number_at w32 bytes)
+
+pub then_others : (front : List ℕ) (n : ℕ) (bytes : List ℕ) (x : ℕ) (rest : List ℕ) → number_at w32 bytes ≡ Ok (x, rest) → with_front front (numbers_at (suc n) bytes) ≡ with_front (front ++ x ∷ []) (numbers_at n rest)
+then_others front n bytes x rest h = one_by_one front n bytes ∙ ap (λ r. r >>= λ y. with_front (front ++ y.0 ∷ []) (numbers_at n y.1)) h
+
+pub first_refused : (front : List ℕ) (n : ℕ) (bytes : List ℕ) (e : Refusal) → number_at w32 bytes ≡ Err e → with_front front (numbers_at (suc n) bytes) ≡ Err e
+first_refused front n bytes e h = one_by_one front n bytes ∙ ap (λ r. r >>= λ y. with_front (front ++ y.0 ∷ []) (numbers_at n y.1)) h
+
+pub no_more : (front : List ℕ) (bytes : List ℕ) → with_front front (numbers_at 0 bytes) ≡ Ok (front, bytes)
+unfolding numbers_at
+no_more front bytes = ap (λ xs. Ok (xs, bytes)) (append-nil front)

@@ -83,19 +83,47 @@ pub(crate) fn outcome_of(bytes: &[u8]) -> Result<(Outcome, &[u8]), Refusal>
     Ok((Outcome::Fault(code), rest))
 }
 
-/// So many moments, behind those that were read.
+/// One moment more, behind those that were read. A call, or a loop, would have the list of moments
+/// written to memory and read again for each of them.
+#[inline(always)]
+fn one_more(front: Moments, bytes: &[u8]) -> Result<(Moments, &[u8]), Refusal>
+    requires { length front + 1 ≤ 4 }
+    ensures { Gives (λ x. (x.0, x.1.now)) result (with_front front (numbers_at 1 bytes.now)) }
+{
+    let (moment, rest) = u32_of(bytes)?;
+    Ok((front.with(moment).unwrap(), rest))
+}
+
+#[inline(always)]
+fn two_more(front: Moments, bytes: &[u8]) -> Result<(Moments, &[u8]), Refusal>
+    requires { length front + 2 ≤ 4 }
+    ensures { Gives (λ x. (x.0, x.1.now)) result (with_front front (numbers_at 2 bytes.now)) }
+{
+    let (moment, rest) = u32_of(bytes)?;
+    one_more(front.with(moment).unwrap(), rest)
+}
+
+#[inline(always)]
+fn three_more(front: Moments, bytes: &[u8]) -> Result<(Moments, &[u8]), Refusal>
+    requires { length front + 3 ≤ 4 }
+    ensures { Gives (λ x. (x.0, x.1.now)) result (with_front front (numbers_at 3 bytes.now)) }
+{
+    let (moment, rest) = u32_of(bytes)?;
+    two_more(front.with(moment).unwrap(), rest)
+}
+
+/// So many moments, behind the first.
 fn more_moments(front: Moments, count: u8, bytes: &[u8]) -> Result<(Moments, &[u8]), Refusal>
-    requires { length front + count ≤ 4 }
+    requires room { length front + count ≤ 4 }
+    requires few { count ≤ 3 }
     ensures { Gives (λ x. (x.0, x.1.now)) result (with_front front (numbers_at count bytes.now)) }
 {
-    let mut moments = front;
-    let mut rest = bytes;
-    for _ in 0..count {
-        let (moment, after) = u32_of(rest)?;
-        moments = moments.with(moment).unwrap();
-        rest = after;
+    match count {
+        0 => Ok((front, bytes)),
+        1 => one_more(front, bytes),
+        2 => two_more(front, bytes),
+        _ => three_more(front, bytes),
     }
-    Ok((moments, rest))
 }
 
 fn numbers_of(count: u8, bytes: &[u8]) -> Result<(Moments, &[u8]), Refusal>

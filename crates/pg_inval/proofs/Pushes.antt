@@ -12,7 +12,7 @@ use Rattle.pg_timeline.proofs.Timelines.{AreBelow-push, AreBelow-weaker, end_of-
 use Rattle.pg_inval.specs.declared.key.DropKey.{DropKey}
 use Rattle.pg_inval.specs.Keys.{is_same_key, has_key}
 use Rattle.pg_inval.specs.Lists.{Moments, has_among, AreDistinct, ArePushed, AreSame}
-use Rattle.pg_inval.proofs.SameKey.{same_key}
+use Rattle.pg_inval.specs.SameKey.{same_key}
 
 abbrev stamp : ℕ → Stamp Unit
 stamp moment = record { moment = moment; value = tt }

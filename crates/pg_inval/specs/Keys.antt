@@ -13,7 +13,8 @@ use Rattle.pg_event.specs.declared.keys.StructureKey.{StructureKey}
 use Rattle.pg_event.specs.declared.keys.TranslationKey.{TranslationKey}
 use Rattle.pg_event.specs.Invalidation.{level_shift, structure_key, translation_key, changes_pge}
 use Rattle.pg_inval.specs.declared.key.DropKey.{DropKey}
-use Rattle.pg_inval.specs.declared.key.DropKey.TheVariants.{NotGlobal, Globals, StructuresOf, Structure}
+use Rattle.pg_inval.specs.declared.key.DropKey.TheVariants.{NotGlobal, Globals}
+use Rattle.pg_inval.specs.declared.key.DropKey.TheVariants.{StructuresOf, Structure}
 use Rattle.pg_inval.specs.declared.key.DropKey.TheVariants.{LocalsOf, Local, Global}
 use Rattle.pg_inval.specs.contracts.key.DropKeyPartialEq.TheImpl as impl
 

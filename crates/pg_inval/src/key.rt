@@ -1,14 +1,16 @@
 ghost use Rattle.std.specs.Prelude.{◌≡◌};
 ghost use Rattle.pg_inval.specs.Keys.{structure_at, local_at, global_at, structure_keys};
 ghost use Rattle.pg_inval.specs.Keys.{translation_keys};
+ghost use Rattle.pg_inval.specs.Hashed.{numbered, owner_of, number_of, hashed, hashed-alike};
 
 use arrayvec::ArrayVec;
 use pg_event::{StructureKey, TranslationKey, level_shift};
+use std::hash::{Hash, Hasher};
 
 /// What an event drops on a processor: all cached entries of a kind, those of a PCID, or those that
 /// would be used for an address. An entry is dropped by the events of a few of these keys, and an
 /// event has a few of them, so that neither has to be searched for among all others.
-#[derive(Clone, Copy, PartialEq, Eq, Hash, Debug)]
+#[derive(Clone, Copy, PartialEq, Eq, Debug)]
 pub(crate) enum DropKey {
     /// All entries that are not global: each paging-structure-cache entry is one.
     NotGlobal {
@@ -48,6 +50,56 @@ pub(crate) enum DropKey {
         p: u16,
         number: u64,
     },
+}
+
+/// A number of a kind of key, a PCID and a processor: each has its own where PCIDs are below 4,096.
+fn numbered(kind: u16, pcid: u16, p: u16) -> u64
+    ensures { result ≡ numbered kind pcid p }
+{
+    (kind as u64 * 4_096 + pcid as u64) * 65_536 + p as u64
+}
+
+impl DropKey {
+    /// A number of its kind, its PCID and its processor.
+    fn owner(&self) -> u64
+        ensures { result ≡ owner_of self.now }
+    {
+        match *self {
+            DropKey::NotGlobal { p } => numbered(0, 0, p),
+            DropKey::Globals { p } => numbered(1, 0, p),
+            DropKey::StructuresOf { p, pcid } => numbered(2, pcid, p),
+            DropKey::Structure { p, pcid, .. } => numbered(3, pcid, p),
+            DropKey::LocalsOf { p, pcid } => numbered(4, pcid, p),
+            DropKey::Local { p, pcid, .. } => numbered(5, pcid, p),
+            DropKey::Global { p, .. } => numbered(6, 0, p),
+        }
+    }
+
+    /// The number of its region or page.
+    fn number(&self) -> u64
+        ensures { result ≡ number_of self.now }
+    {
+        match *self {
+            DropKey::NotGlobal { .. }
+            | DropKey::Globals { .. }
+            | DropKey::StructuresOf { .. }
+            | DropKey::LocalsOf { .. } => 0,
+            DropKey::Structure { prefix, .. } => prefix,
+            DropKey::Local { number, .. } | DropKey::Global { number, .. } => number,
+        }
+    }
+}
+
+/// By one number for all of its fields: a derived hash takes one step for each. Keys of one number
+/// that differ in their shift alone have the same.
+impl Hash for DropKey {
+    ghost hash_input = { hashed };
+
+    ghost respects_eq = { hashed-alike };
+
+    fn hash<H: Hasher>(&self, state: &mut H) {
+        state.write_u128((self.number() as u128) * 0x1_0000_0000_0000_0000 + self.owner() as u128);
+    }
 }
 
 impl Default for DropKey {

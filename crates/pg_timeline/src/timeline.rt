@@ -84,8 +84,8 @@ fn count_between<V: Copy>(
     low
 }
 
-/// How many stamps lie below a moment, where these first ones do. The last stamp is looked at first:
-/// most look-ups ask of a moment after it.
+/// How many stamps lie below a moment, where these first ones do. The last stamp is looked at
+/// first: most look-ups ask of a moment after it.
 fn count_after<V: Copy>(stamps: &[Stamp<V>], from: usize, moment: u32, probes: &mut Probes) -> usize
     requires rising { IsRising stamps.now }
     requires low { from ≤ count_below moment stamps.now }

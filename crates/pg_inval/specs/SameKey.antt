@@ -1,24 +1,30 @@
 -- Keys that are the same by the derived `==` are equal.
-use Rattle.std.proofs.Common.{◌≡◌, ℕ, Bool, true, false, ◌&&◌, nat_eq, refl, ap, sym, ◌∙◌}
+use Rattle.std.proofs.Common.{◌≡◌, ℕ, true, ◌&&◌, nat_eq, ap, ◌∙◌}
 use Rattle.std.proofs.lemmas.Bool.{eqb-true, and_parts, false≢true}
 use Rattle.pg_inval.specs.declared.key.DropKey.{DropKey}
-use Rattle.pg_inval.specs.declared.key.DropKey.TheVariants.{NotGlobal, Globals, StructuresOf, Structure, LocalsOf, Local, Global}
+use Rattle.pg_inval.specs.declared.key.DropKey.TheVariants.{NotGlobal, Globals}
+use Rattle.pg_inval.specs.declared.key.DropKey.TheVariants.{StructuresOf, Structure}
+use Rattle.pg_inval.specs.declared.key.DropKey.TheVariants.{LocalsOf, Local, Global}
 use Rattle.pg_inval.specs.Keys.{is_same_key}
 
 one : (make : ℕ → DropKey) (a b : ℕ) → nat_eq a b ≡ true → make a ≡ make b
 one make a b h = ap make (eqb-true a b h)
 
-two : (make : ℕ → ℕ → DropKey) (a b c d : ℕ) → (nat_eq a b && nat_eq c d) ≡ true → make a c ≡ make b d
+two : (make : ℕ → ℕ → DropKey) (a b c d : ℕ) → (nat_eq a b && nat_eq c d) ≡ true
+    → make a c ≡ make b d
 two make a b c d h =
     let parts = and_parts (nat_eq a b) (nat_eq c d) h in
     ap (λ x. make x c) (eqb-true a b parts.0) ∙ ap (make b) (eqb-true c d parts.1)
 
-three : (make : ℕ → ℕ → ℕ → DropKey) (a b c d e f : ℕ) → (nat_eq a b && (nat_eq c d && nat_eq e f)) ≡ true → make a c e ≡ make b d f
+three : (make : ℕ → ℕ → ℕ → DropKey) (a b c d e f : ℕ)
+    → (nat_eq a b && (nat_eq c d && nat_eq e f)) ≡ true → make a c e ≡ make b d f
 three make a b c d e f h =
     let parts = and_parts (nat_eq a b) (nat_eq c d && nat_eq e f) h in
     ap (λ x. make x c e) (eqb-true a b parts.0) ∙ two (make b) c d e f parts.1
 
-four : (make : ℕ → ℕ → ℕ → ℕ → DropKey) (a b c d e f g k : ℕ) → (nat_eq a b && (nat_eq c d && (nat_eq e f && nat_eq g k))) ≡ true → make a c e g ≡ make b d f k
+four : (make : ℕ → ℕ → ℕ → ℕ → DropKey) (a b c d e f g k : ℕ)
+    → (nat_eq a b && (nat_eq c d && (nat_eq e f && nat_eq g k))) ≡ true
+    → make a c e g ≡ make b d f k
 four make a b c d e f g k h =
     let parts = and_parts (nat_eq a b) (nat_eq c d && (nat_eq e f && nat_eq g k)) h in
     ap (λ x. make x c e g) (eqb-true a b parts.0) ∙ three (make b) c d e f g k parts.1
