@@ -4,3 +4,5 @@ pub mod Upgraded
 pub mod GivenTexts
 pub mod Bad
 pub mod Named
+pub mod Accounted
+pub mod Told

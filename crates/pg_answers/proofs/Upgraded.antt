@@ -1,31 +1,27 @@
 -- The same events in a record of version 2, and what is written for them.
 use Rattle.std.proofs.Common.{◌≡◌, ℕ, Bool, true, false, cond, ltb, List, [], ◌∷◌, ◌++◌, length, Option, Some, None, Ok, Err, IfOk, IfSome, refl, sym, ap, subst, ◌∙◌, append_assoc, arith, inr}
-use Rattle.std.specs.Prelude.{Result, IsErrAnd}
-use Rattle.std.specs.Result.{IsErr}
+use Rattle.std.specs.Prelude.{Result}
 use Rattle.std.specs.List.{AllByRecursion}
 use Rattle.std.specs.Int.{w32}
 use Rattle.pg_event.specs.declared.refusal.Refusal.TheVariants as refusals
 use Rattle.pg_event.specs.declared.event.Event.{Event}
 use Rattle.pg_event.specs.declared.event.Event.TheVariants.{Write, Access, Assist, MovCr3, Invlpg, Invpcid, MovCr4Pge}
-use Rattle.pg_event.specs.declared.event.Malformed.{Malformed}
 use Rattle.pg_event.specs.declared.event.Malformed.TheVariants as rules
 use Rattle.pg_event.specs.declared.version.Version.{Version}
 use Rattle.pg_event.specs.declared.version.Version.TheVariants as versions
 use Rattle.pg_event.specs.Heads.{Head, most_processors}
-use Rattle.pg_event.specs.Form.{broken_rule, breaks_assist, breaks_word_address, breaks_linear_address, processor_of}
+use Rattle.pg_event.specs.Form.{broken_rule, breaks_assist, breaks_word_address, breaks_linear_address}
 use Rattle.pg_event.specs.Witness.{first_bad}
 use Rattle.pg_event.specs.Spelling.{Recorded, Spells, IsHead, IsRecord, record_bytes, header_bytes, segments_bytes, end_bytes}
 use Rattle.pg_event.specs.Reading.{byte_at, number_at, is_between, magic_at, version_at, processor_at, starts_at, header_at}
 use Rattle.pg_event.proofs.Fields.{from_bind, from_passing, ok_bind, ok_is}
 use Rattle.pg_event.proofs.Headers.{header_again, most_processors_le}
 use Rattle.pg_codec.specs.Parts.{version_said, is_two}
-use Rattle.pg_run_of.specs.Law.{HasRun}
 use Rattle.pg_run_of.proofs.Whole.{accepted_records_run}
 use Rattle.pg_report.specs.declared.report.Report.{Report}
-use Rattle.pg_report.specs.declared.report.Verdict.TheVariants.{Yes}
 use Rattle.pg_report.specs.declared.error.AuditError.{AuditError}
 use Rattle.pg_report.specs.declared.error.AuditError.TheVariants as errors
-use Rattle.pg_report.specs.Changes.{Change, Works, AddsNothing}
+use Rattle.pg_report.specs.Changes.{Change, Works}
 use Rattle.pg_report.specs.Intake.{ReadsRecord, TellsDevice}
 use Rattle.pg_report.specs.Text.{report_of}
 use Rattle.pg_report.specs.Audits.{WritesText, SpellsOne, TellsFailures}

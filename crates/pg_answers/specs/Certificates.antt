@@ -29,12 +29,11 @@ pub record IsDeniedRecord (r : Recorded) (n : ℕ) : Type 0 where
   pub before : HasRunButMoments r.head (take n r.events)
 
 -- the report of a yes
+abbrev pub yes_report : ℕ → ℕ → Report
+yes_report events segments = record { verdict = Yes; events = events; segments = segments }
+
 abbrev pub certified_report : Recorded → Report
-certified_report r = record {
-  verdict = Yes;
-  events = length r.events;
-  segments = segment_count r;
-}
+certified_report r = yes_report (length r.events) (segment_count r)
 
 -- the report of a no at event n
 abbrev pub denied_head : ℕ → List ℕ

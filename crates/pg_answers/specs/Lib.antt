@@ -9,5 +9,6 @@ pub mod Texts
 pub mod Explanations
 pub mod Pictures
 pub mod Summaries
+pub mod Accounts
 pub mod Certificates
 pub mod Naming

@@ -1,9 +1,9 @@
 -- What the program says on standard error where it gives no answer.
-use Rattle.std.specs.Prelude.{◌≡◌, ◌⊎◌, ℕ, List, [], ◌++◌, Result, Ok, Err, codes, decimal}
-use Rattle.pg_event.specs.declared.refusal.Refusal.{Refusal}
+use Rattle.std.specs.Prelude.{◌⊎◌, ℕ, List, [], ◌++◌, Result, Ok, Err, codes, decimal}
 use Rattle.pg_event.specs.declared.refusal.Refusal.TheVariants as refusals
 use Rattle.pg_report.specs.declared.error.AuditError.{AuditError}
-use Rattle.pg_report.specs.declared.error.AuditError.TheVariants.{Refused, Device, Memory, Thread, Checkers}
+use Rattle.pg_report.specs.declared.error.AuditError.TheVariants.{Refused, Device, Memory}
+use Rattle.pg_report.specs.declared.error.AuditError.TheVariants.{Thread, Checkers}
 use Rattle.pg_report.specs.Changes.{Change, Fails, Works, Adds, AddsSome, AddsNothing}
 use Rattle.pg_report.specs.Numbers.{rule_number, error_number, error_name}
 

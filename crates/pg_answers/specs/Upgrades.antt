@@ -1,5 +1,5 @@
 -- What `upgrade` answers: the version 2 record of a version 1 record's events, and its report.
-use Rattle.std.specs.Prelude.{◌≡◌, ℕ, List, Option, Some, Result, Ok, Err, ◌⊎◌, IfSome}
+use Rattle.std.specs.Prelude.{◌≡◌, ℕ, List, Some, Result, Ok, Err, ◌⊎◌, IfSome}
 use Rattle.std.specs.Prelude.{string_bytes}
 use Rattle.pg_event.specs.declared.version.Version.TheVariants as versions
 use Rattle.pg_event.specs.Spelling.{Recorded, record_bytes}

@@ -1,6 +1,6 @@
 //! Whether some run of the machine has a record's events, whatever moments they name.
 
-ghost use Rattle.std.specs.Prelude.{◌≡◌, ◌<◌, true, length, IfOk, IfSome, IfNone, slice_get};
+ghost use Rattle.std.specs.Prelude.{◌≡◌, ◌<◌, ◌++◌, true, length, IfOk, IfSome, IfNone, slice_get};
 ghost use Rattle.std.specs.Prelude.{string_bytes};
 ghost use Rattle.pg_certify.specs.Certified.{IsDenied, CanBeCertified};
 ghost use Rattle.pg_pool.specs.Rounds.{AreCheckers};
@@ -8,34 +8,40 @@ ghost use Rattle.pg_search.specs.Law.{names_moments};
 ghost use Rattle.pg_report.specs.Audits.{WritesText};
 ghost use Rattle.pg_report.specs.Changes.{drawn, filled};
 ghost use Rattle.pg_report.specs.Intake.{TellsDevice};
-ghost use Rattle.pg_event.specs.Spelling.{segment_count};
+ghost use Rattle.pg_event.specs.Spelling.{Recorded};
+ghost use Rattle.pg_certify.specs.Accounts.{IsAccount};
 ghost use Rattle.pg_report.specs.Text.{report_text, counts_text};
 ghost use Rattle.pg_answers.specs.Certificates.{CertifiesRecord, IsCertificateOf, IsDenialText};
-ghost use Rattle.pg_answers.specs.Certificates.{certificate_status, certified_report};
-ghost use Rattle.pg_answers.specs.Certificates.{denied_head, denied_report};
+ghost use Rattle.pg_answers.specs.Accounts.{IsDeniedAccount};
+ghost use Rattle.pg_answers.specs.Certificates.{certificate_status, yes_report, denied_head};
 ghost use Rattle.pg_answers.specs.Streams.{streams};
 ghost use Rattle.pg_answers.specs.Texts.{IsTextGivenBy};
 
+use crate::accounts::read_account;
+use crate::denials::told_of;
 use crate::refusals::tell_error;
 use crate::shown::CertificateText;
 use crate::statuses::error_status;
-use pg_certify::{CertifyError, certified_events_run, denied_events_have_no_run, first_denied_by};
+use pg_certify::{
+    Accounting, CertifyError, certified_events_run, denied_events_have_no_run, first_denied_by,
+};
 use pg_check::History;
 use pg_codec::{Sink, Source};
+use pg_event::Event;
 use pg_explain::{denial_text, deny};
 use pg_report::{AuditError, Report, Verdict, read_record, write_text};
 use std::alloc::{AllocError, AllocGlobal, Global};
 use std::sync::Wait;
 use std::thread::Threads;
 
-/// The report of a yes.
-fn yes_text(alloc: Global, history: &History) -> Result<String, AllocError>
-    ensures { IfOk result (λ t. string_bytes t ≡ report_text (certified_report history.now)) }
+/// The report of a yes, of a record with so many events and segments.
+fn yes_text(alloc: Global, events: u64, segments: u64) -> Result<String, AllocError>
+    ensures { IfOk result (λ t. string_bytes t ≡ report_text (yes_report events segments)) }
 {
     let report = Report {
         verdict: Verdict::Yes,
-        events: history.len(),
-        segments: history.segments(),
+        events,
+        segments,
     };
     report.text(alloc)
 }
@@ -46,21 +52,18 @@ fn no_head(alloc: Global, event: u64) -> Result<String, AllocError>
     format!(in alloc; "verdict: no\nevent: {event}\nreason: 14 no moments\n")
 }
 
-fn counts_of(alloc: Global, history: &History) -> Result<String, AllocError>
-    ensures { IfOk result (λ t. string_bytes t
-        ≡ counts_text (length history.now.events) (segment_count history.now)) }
+fn counts_of(alloc: Global, events: u64, segments: u64) -> Result<String, AllocError>
+    ensures { IfOk result (λ t. string_bytes t ≡ counts_text events segments) }
 {
-    let events = history.len();
-    let segments = history.segments();
     format!(in alloc; "events: {events}\nsegments: {segments}\n")
 }
 
 /// The report of a no.
-fn no_report(alloc: Global, history: &History, event: u64) -> Result<String, AllocError>
-    ensures { IfOk result (λ t. string_bytes t ≡ denied_report history.now event) }
+fn no_report(alloc: Global, event: u64, events: u64, segments: u64) -> Result<String, AllocError>
+    ensures { IfOk result (λ t. string_bytes t ≡ denied_head event ++ counts_text events segments) }
 {
     let mut text = no_head(alloc, event)?;
-    let counts = counts_of(alloc, history)?;
+    let counts = counts_of(alloc, events, segments)?;
     text.push_str(counts.as_str())?;
     Ok(text)
 }
@@ -71,7 +74,7 @@ pub(crate) fn no_text(alloc: Global, history: &History, event: u64) -> Result<St
     requires names { IfSome (slice_get history.now.events event) (λ e. names_moments e ≡ true) }
     ensures { IfOk result (λ t. IsDenialText history.now event (string_bytes t)) }
 {
-    let mut text = no_report(alloc, history, event)?;
+    let mut text = no_report(alloc, event, history.len(), history.segments())?;
     let denial = deny(alloc, history, event)?;
     let told = denial_text(alloc, history.events(), &denial)?;
     text.push_str(told.as_str())?;
@@ -95,7 +98,7 @@ fn certificate_of(
     let _events = history.events();
     match denied {
         None => {
-            let text = yes_text(alloc, history)?;
+            let text = yes_text(alloc, history.len(), history.segments())?;
             Ok(CertificateText { denied: None, text })
         }
         Some(event) => {
@@ -105,6 +108,50 @@ fn certificate_of(
                 text,
             })
         }
+    }
+}
+
+/// The report of a no, and what stands behind it, by what is known of the record.
+fn denied_text(
+    alloc: Global,
+    account: &Accounting,
+    number: u64,
+    event: &Event,
+) -> Result<String, AllocError>
+    requires { (r : Recorded) × IsDeniedAccount account.now r number event.now }
+    ensures { (r : Recorded) → IsDeniedAccount account.now r number event.now →
+        IfOk result (λ t. IsDenialText r number (string_bytes t)) }
+{
+    let certifying = account.certifying();
+    let mut text = no_report(alloc, number, certifying.len(), certifying.segments())?;
+    let told = told_of(alloc, account, number, event)?;
+    text.push_str(told.as_str())?;
+    Ok(text)
+}
+
+/// What certifying a record came to, by what is known of it, with its text.
+fn certificate_by(alloc: Global, account: &Accounting) -> Result<CertificateText, AllocError>
+    requires { (r : Recorded) × IsAccount account.now r.head r.events }
+    ensures { (r : Recorded) → IsAccount account.now r.head r.events →
+        IfOk result (λ told. IsCertificateOf r told.denied (string_bytes told.text)) }
+{
+    certified_events_run();
+    denied_events_have_no_run();
+    let certifying = account.certifying();
+    match (certifying.settle(), account.event()) {
+        (None, _) => {
+            let text = yes_text(alloc, certifying.len(), certifying.segments())?;
+            Ok(CertificateText { denied: None, text })
+        }
+        (Some(number), Some(event)) => {
+            let text = denied_text(alloc, account, number, &event)?;
+            Ok(CertificateText {
+                denied: Some(number),
+                text,
+            })
+        }
+        // The event that is denied is kept.
+        (Some(_), None) => unreachable!(),
     }
 }
 
@@ -124,8 +171,9 @@ fn give_certificate<O: Sink>(
     }
 }
 
-/// Reads a record, and writes whether it can be certified. Nothing is written before that is known.
-fn write_certificate<T: AllocGlobal + Threads + Wait + Sync, R: Source, O: Sink>(
+/// Reads a record, has so many checkers judge it, and writes whether it can be certified. Nothing
+/// is written before that is known.
+fn write_by_checkers<T: AllocGlobal + Threads + Wait + Sync, R: Source, O: Sink>(
     rt: &T,
     checkers: u16,
     input: &mut R,
@@ -146,6 +194,43 @@ fn write_certificate<T: AllocGlobal + Threads + Wait + Sync, R: Source, O: Sink>
     };
     let told = certificate_of(rt.alloc(), &history, denied)?;
     give_certificate(output, told)
+}
+
+/// Certifies a record as it is read, and writes whether it can be certified. Nothing is written
+/// before that is known.
+fn write_as_read<R: Source, O: Sink>(
+    alloc: Global,
+    input: &mut R,
+    output: &mut O,
+) -> Result<Option<u64>, AuditError>
+    ensures { IsTextGivenBy IsCertificateOf 1
+        (drawn R.Source input.old input.new) (filled O.Sink output.old output.new) result }
+{
+    let account = match read_account(alloc, input) {
+        Ok(account) => account,
+        Err(error) => return Err(error),
+    };
+    let told = certificate_by(alloc, &account)?;
+    give_certificate(output, told)
+}
+
+/// Writes whether a record can be certified. One checker certifies it as it is read; several share
+/// the events of one that was read whole.
+fn write_certificate<T: AllocGlobal + Threads + Wait + Sync, R: Source, O: Sink>(
+    rt: &T,
+    checkers: u16,
+    input: &mut R,
+    output: &mut O,
+) -> Result<Option<u64>, AuditError>
+    requires { AreCheckers checkers }
+    ensures { IsTextGivenBy IsCertificateOf checkers
+        (drawn R.Source input.old input.new) (filled O.Sink output.old output.new) result }
+{
+    if checkers == 1 {
+        write_as_read(rt.alloc(), input, output)
+    } else {
+        write_by_checkers(rt, checkers, input, output)
+    }
 }
 
 fn certificate_status(answer: Result<Option<u64>, AuditError>) -> u8

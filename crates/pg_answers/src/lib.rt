@@ -1,8 +1,10 @@
 //! What each command answers of a record, over any streams.
 #![tactic(auto)]
 
+mod accounts;
 mod certificates;
 mod checks;
+mod denials;
 mod explanations;
 mod lines;
 mod naming;

@@ -34,8 +34,8 @@ fn pictured(alloc: Global, history: &History) -> Result<ToldText, AllocError>
     }
 }
 
-/// Reads a record, and writes the picture of its first bad event, or the report of a yes. Nothing is
-/// written before that is ready.
+/// Reads a record, and writes the picture of its first bad event, or the report of a yes. Nothing
+/// is written before that is ready.
 fn write_picture<R: Source, O: Sink>(
     alloc: Global,
     input: &mut R,

@@ -27,7 +27,11 @@ impl Model for Accounting {
 
     ghost Value = { Account };
 
-    ghost view = { λ a. record { findings = a.certifying; numbers = a.numbering; event = a.event } };
+    ghost view = { λ a. record {
+      findings = a.certifying;
+      numbers = a.numbering;
+      event = a.event;
+    } };
 }
 
 /// The event of a window that is denied, where the window's first event has this number.

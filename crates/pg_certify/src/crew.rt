@@ -14,13 +14,16 @@ use std::alloc::{AllocError, Global};
 use std::sync::Wait;
 use std::thread;
 use std::thread::{Promise, Threads};
+use thiserror::Error;
 
 /// Why several checkers came to no answer.
-#[derive(Clone, Copy, Debug, PartialEq, Eq)]
+#[derive(Clone, Copy, Debug, PartialEq, Eq, Error)]
 pub enum CertifyError {
     /// Memory ran out.
+    #[error("memory ran out")]
     Memory,
     /// A thread was refused, and no checker was refused memory.
+    #[error("a thread was refused")]
     Thread,
 }
 

@@ -6,15 +6,15 @@ use std::collections::HashMap;
 
 /// An event of a key, and where the one before it stands.
 #[derive(Clone, Copy)]
-pub(crate) struct Step {
+pub(crate) struct RecentEvent {
     pub event: u32,
     before: u32,
 }
 
-/// It is the place of no step.
+/// It is the place of no event.
 const NO_PLACE: u32 = u32::MAX;
 
-/// So many steps are gone back at most, from one number to another.
+/// So many events are gone back at most, from one number to another.
 const MOST_STEPS: usize = 64;
 
 /// The events of keys: where the last of each stands, and eight bytes for each event. Where memory
@@ -22,7 +22,7 @@ const MOST_STEPS: usize = 64;
 #[derive(Drop)]
 pub(crate) struct Recent {
     last: HashMap<u64, u32>,
-    steps: Vec<Step>,
+    steps: Vec<RecentEvent>,
 }
 
 impl Recent {
@@ -33,7 +33,7 @@ impl Recent {
         }
     }
 
-    fn step_at(&self, place: u32) -> Option<Step> {
+    fn step_at(&self, place: u32) -> Option<RecentEvent> {
         match self.steps.get(place as usize) {
             Some(step) => Some(*step),
             None => None,
@@ -49,12 +49,12 @@ impl Recent {
     }
 
     /// The last event of a key.
-    pub(crate) fn last(&self, key: u64) -> Option<Step> {
+    pub(crate) fn last(&self, key: u64) -> Option<RecentEvent> {
         self.step_at(self.place_of(key))
     }
 
     /// The event of the same key before another.
-    pub(crate) fn before(&self, step: Step) -> Option<Step> {
+    pub(crate) fn before(&self, step: RecentEvent) -> Option<RecentEvent> {
         self.step_at(step.before)
     }
 
@@ -62,7 +62,7 @@ impl Recent {
     pub(crate) fn note(&mut self, event: u32, key: u64) {
         let place = self.steps.len();
         let before = self.place_of(key);
-        if place < NO_PLACE as usize && self.steps.push(Step { event, before }).is_ok() {
+        if place < NO_PLACE as usize && self.steps.push(RecentEvent { event, before }).is_ok() {
             let _refused = self.last.insert(key, place as u32).is_err();
         }
     }

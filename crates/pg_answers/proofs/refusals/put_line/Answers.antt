@@ -1,6 +1,5 @@
 use Rattle.std.proofs.Common.{codes}
 use Rattle.std.proofs.lemmas.Result.{err_from_is_err_and}
-use Rattle.pg_codec.proofs.Written.{puts_same}
 use Rattle.pg_codec.proofs.Segments.{puts_then, puts_fails}
 use Rattle.pg_answers.specs.Refusals.{refusal_text}
 use Rattle.pg_answers.proofs.refusals.put_line.Goals as goal

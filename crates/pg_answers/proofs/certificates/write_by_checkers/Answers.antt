@@ -5,7 +5,7 @@ use Rattle.pg_certify.specs.declared.crew.CertifyError.{CertifyError}
 use Rattle.pg_certify.specs.declared.crew.CertifyError.TheVariants.{Thread}
 use Rattle.pg_answers.specs.Certificates.{IsCertificateOf}
 use Rattle.pg_answers.proofs.GivenTexts.{reading_fails, thread_fails, text_told}
-use Rattle.pg_answers.proofs.certificates.write_certificate.Goals as goal
+use Rattle.pg_answers.proofs.certificates.write_by_checkers.Goals as goal
 
 -- a refused thread is told only where that may be
 is_refused : (r : Result (Option ℕ) CertifyError) (e : CertifyError) → r ≡ Err e → e ≡ Thread → r ≢ Err Thread → ⊥

@@ -1,0 +1,63 @@
+-- A record that is certified as it is read: what was read of it, and what is known of that.
+use Rattle.std.specs.Prelude.{◌≡◌, ℕ, List, ◌++◌, Option, Some, None, Result, Ok, Err}
+use Rattle.std.specs.Prelude.{IfSome, slice_get, option_map}
+use Rattle.pg_event.specs.declared.event.Event.{Event}
+use Rattle.pg_event.specs.declared.version.Version.TheVariants.{Two}
+use Rattle.pg_event.specs.Heads.{Head}
+use Rattle.pg_event.specs.Spelling.{Recorded}
+use Rattle.pg_check.specs.Kept.{AreWellFormed}
+use Rattle.pg_codec.specs.declared.stage.Stage.{Stage}
+use Rattle.pg_codec.specs.declared.stream.Source.{Ghosts}
+use Rattle.pg_certify.specs.Accounts.{Account, IsAccount, Numbers, whole_of}
+use Rattle.pg_explain.specs.declared.denial.Denial.{Denial}
+use Rattle.pg_explain.specs.Denied.{IsDenialOf, denial_text}
+use Rattle.pg_search.specs.declared.last.Last.{Last}
+use Rattle.pg_search.specs.Bare.{bare}
+use Rattle.pg_report.specs.declared.error.AuditError.{AuditError}
+use Rattle.pg_report.specs.Going.{IsGoing}
+use Rattle.pg_report.specs.Intake.{ReadsRecord}
+
+-- the account is that of what was read, but for a window
+pub record IsAccounting {R : Type 0} (g : Ghosts R) (start : Option (List ℕ)) (f : ℕ)
+    (at : List ℕ × R) (stage : Stage) (a : Account) (window : List Event)
+    (segments : ℕ) : Type 0 where
+  pub before : List Event
+  pub known : IsAccount a a.findings.kept.head before
+  pub well : AreWellFormed a.findings.kept.head window
+  pub going : IsGoing g Two start f at stage
+      (record { head = a.findings.kept.head; events = before ++ window }) segments
+
+-- of these events the account has the first, and the others wait
+pub record IsAccountedTo (a : Account) (head : Head) (events waiting : List Event) : Type 0 where
+  pub before : List Event
+  pub known : IsAccount a head before
+  pub all : events ≡ before ++ waiting
+  pub well : AreWellFormed head waiting
+
+-- it is the account of the record that was left, all of it
+abbrev pub IsAccountOfAll : Option (List ℕ) → Account → Type 0
+IsAccountOfAll left a =
+    (r : Recorded) × IsAccount a r.head r.events
+    × IfSome left (λ bytes. ReadsRecord Two bytes (Ok r))
+
+abbrev pub ReadsAccount : Option (List ℕ) → Result Account AuditError → Type 0
+ReadsAccount left (Ok a) = IsAccountOfAll left a
+ReadsAccount left (Err e) = IfSome left (λ bytes. ReadsRecord Two bytes (Err e))
+
+-- what is told of the event behind which another was never witnessed, by what is kept of it
+abbrev pub taken_told : Numbers → List Event → Option Last → Option Last → Option Event
+taken_told n changes None last = None
+taken_told n changes (Some among) None = None
+taken_told n changes (Some among) (Some last) =
+    option_map (λ e. whole_of n.named last.number (bare e)) (slice_get changes among.number)
+
+-- what stands behind event n, and its text
+abbrev pub IsDenialTold : Recorded → ℕ → List ℕ → Type 0
+IsDenialTold r n text =
+    (x : Denial) × IsDenialOf r.head r.events n x × (text ≡ denial_text r.events x)
+
+-- it is the account of a record of which event n, this one, is denied
+pub record IsDeniedAccount (a : Account) (r : Recorded) (n : ℕ) (e : Event) : Type 0 where
+  pub known : IsAccount a r.head r.events
+  pub denied : a.findings.denied ≡ Some n
+  pub there : slice_get r.events n ≡ Some e
