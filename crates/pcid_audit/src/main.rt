@@ -3,8 +3,8 @@
 
 use pg_answers::{tell_memory, tell_text};
 use pg_codec::Watched;
-use pg_follow::Followed;
-use pg_tool::pcid_audit_followed;
+use pg_follow::{Followed, Teller};
+use pg_tool::{Followers, pcid_audit_followed};
 use std::cell::Cell;
 use std::env;
 use std::fs::{self, File};
@@ -64,11 +64,15 @@ fn main(rt: HostRuntime) -> ExitCode {
             return ExitCode::from(MEMORY);
         }
     }
+    let followers = Followers {
+        reading: &progress,
+        onlooker: Teller::new(Watched::new(rt.stderr())),
+    };
     ExitCode::from(pcid_audit_followed(
         &rt,
         &words,
         |name: &str| open_file(&rt, name, &progress),
-        &progress,
+        followers,
         &mut input,
         &mut output,
         &mut errors,

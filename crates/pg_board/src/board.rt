@@ -115,8 +115,8 @@ impl<'a> Board<'a> {
         self.world.header()
     }
 
-    /// One turn of processor `p`, after which the counts of the record are stored. It is never stopped
-    /// because the record is finished.
+    /// One turn of processor `p`, after which the counts of the record are stored. It is never
+    /// stopped because the record is finished.
     pub fn turn(&mut self, p: u16) -> Advance
         requires { p < length self.old.processors }
         ensures turn { IsCoreRun self.old.world (map seen self.old.processors)

@@ -3,12 +3,9 @@
 ghost use Rattle.std.specs.Prelude.{◌≡◌};
 
 use crate::counter::Counter;
-use itoa::Buffer;
-use pg_codec::{Failed, Sink, Source, put_all};
+use crate::line::{is_due, put_line};
+use pg_codec::{Failed, Sink, Source};
 use std::cell::Cell;
-
-/// It tells of each so many events.
-const EVENTS: u64 = 1_000_000;
 
 /// A source that gives what another gives and, while it is asked to, tells a sink of each million
 /// events of the record that have been pulled. Whether the sink takes the line changes nothing.
@@ -21,16 +18,6 @@ pub struct Followed<'a, R, E> {
     counter: Counter,
 }
 
-/// Writes the line of so many events in so many bytes.
-fn put_line<E: Sink>(errors: &mut E, events: u64, bytes: u64) -> Result<(), Failed> {
-    let mut buffer = Buffer::new();
-    put_all(errors, b"pcid-audit: ")?;
-    put_all(errors, buffer.format(events).as_bytes())?;
-    put_all(errors, b" events, ")?;
-    put_all(errors, buffer.format(bytes).as_bytes())?;
-    put_all(errors, b" bytes\n")
-}
-
 /// Counts on, and tells of each million events.
 fn follow<E: Sink>(counter: &mut Counter, errors: &mut E, bytes: &[u8]) {
     let mut at = 0;
@@ -41,8 +28,8 @@ fn follow<E: Sink>(counter: &mut Counter, errors: &mut E, bytes: &[u8]) {
         let before = counter.events();
         at += counter.take(&bytes[at..]);
         let events = counter.events();
-        if events != before && events % EVENTS == 0 {
-            let _ = put_line(errors, events, counter.bytes());
+        if is_due(before, events) {
+            let _ = put_line(errors, events, counter.bytes(), b"bytes");
         }
     }
 }

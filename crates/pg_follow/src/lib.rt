@@ -1,10 +1,13 @@
-//! How far the reading of a record has come, told while it is read.
+//! How far the reading of a record has come, and how far a run, told meanwhile.
 #![tactic(auto)]
 
 mod counter;
 mod followed;
+mod line;
+mod teller;
 #[cfg(test)]
 mod tests;
 
 pub use counter::Counter;
 pub use followed::Followed;
+pub use teller::Teller;

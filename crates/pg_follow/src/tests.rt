@@ -1,5 +1,11 @@
+ghost use Rattle.std.specs.Prelude.{◌≡◌};
+ghost use Rattle.pg_progress.specs.Seats.{counts};
+
 use crate::counter::Counter;
-use std::alloc::AllocError;
+use crate::teller::Teller;
+use pg_codec::Watched;
+use pg_progress::{Counts, Onlooker};
+use std::alloc::{AllocError, Global};
 use std::test::Fail;
 
 /// Adds what is said, and so many zeros behind it.
@@ -87,5 +93,38 @@ fn bytes_that_are_no_record(rt: HostRuntime) -> Result<(), Fail> {
     let end = bytes.len() as u64;
     put(&mut bytes, b"\x99\x15\x00\x00\x15\x00\x00", 0)?;
     assert_eq!(&rt; counted(&bytes, 3), (1, end));
+    Ok(())
+}
+
+fn at(events: u32, segments: u32) -> Counts
+    ensures { result ≡ counts events segments }
+{
+    Counts { events, segments }
+}
+
+/// A teller that saw a run come to its end, by looks that missed most of it.
+fn told(alloc: Global) -> Teller<Watched<Vec<u8>>> {
+    let mut teller = Teller::new(Watched::new(Vec::new(alloc)));
+    teller.see(at(0, 0));
+    teller.see(at(999_999, 3));
+    teller.see(at(1_000_000, 3));
+    teller.see(at(1_000_001, 4));
+    teller.see(at(1_999_999, 7));
+    teller.see(at(4_200_000, 8));
+    teller.see(at(4_200_000, 8));
+    teller.see(at(4_294_967_295, 4_294_967_295));
+    teller
+}
+
+/// The lines of the looks that were the first behind a million events.
+const TOLD: &[u8] = b"pcid-audit: 1000000 events, 3 segments
+pcid-audit: 4200000 events, 8 segments
+pcid-audit: 4294967295 events, 4294967295 segments
+";
+
+#[test]
+fn lines_of_a_run(rt: HostRuntime) -> Result<(), Fail> {
+    let teller = told(rt.alloc());
+    assert!(rt; teller.errors.inner.as_slice() == TOLD);
     Ok(())
 }

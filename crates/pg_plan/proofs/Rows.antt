@@ -286,6 +286,10 @@ asks_progress : Asks (codes "check" ∷ codes "--progress" ∷ []) (record bare 
 unfolding clap_on_literals
 asks_progress = (refl, record { rows = options (subcommand_of command_line (codes "check" ∷ codes "--progress" ∷ [])); command = refl; checkers = refl; single = refl; bytes = refl; selection = record { from = refl; to = refl; cpu = tt; page = tt; word = tt }; telling = (refl, refl, refl); progress = refl }, refl)
 
+asks_progress_of_run : Asks (codes "run" ∷ codes "--progress" ∷ []) (record bare { command = Run; progress = true }) None
+unfolding clap_on_literals
+asks_progress_of_run = (refl, record { rows = options (subcommand_of command_line (codes "run" ∷ codes "--progress" ∷ [])); command = refl; checkers = refl; single = refl; bytes = refl; selection = record { from = refl; to = refl; cpu = tt; page = tt; word = tt }; telling = (refl, refl, refl); progress = refl }, refl)
+
 progress_of_show : Gives (codes "show" ∷ codes "--progress" ∷ []) (UnknownArgument ∷ [])
 unfolding clap_on_literals
 progress_of_show = refl

@@ -82,7 +82,7 @@ abbrev pub run_line : App
 run_line =
     let line = with_rule (new_app (command_word Run)) checkers_rule in
     let single = with_rule line (switch_rule (codes "single")) in
-    with_file (with_rule single (switch_rule (codes "bytes")))
+    with_progress (with_rule single (switch_rule (codes "bytes")))
 
 -- an event number behind `--` and a name
 abbrev pub number_rule : Text → Rule

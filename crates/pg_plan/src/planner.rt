@@ -106,6 +106,9 @@ const PROGRESS: &str = "progress";
 
 const PROGRESS_ABOUT: &str = "Tell on standard error of each million events that were read";
 
+const RECORDED_ABOUT: &str =
+    "Tell on standard error of each million events that were recorded; not with --single";
+
 const FROM: &str = "from";
 
 const FROM_ABOUT: &str = "The number of the first event that is written; 0 where left out";
@@ -126,8 +129,8 @@ const NO_NUMBER: &str = "error: a number is given by digits alone, an address by
     hexadecimal digits,\n  and a page by an address that is canonical\n\n\
     For more information, try '--help'.\n";
 
-const NO_TELLING: &str = "error: --most goes with --all alone, by digits alone, and --svg without \
-    it\n\n\
+const NO_TELLING: &str = "error: --most goes with --all alone, by digits alone, and --svg goes \
+    without --all\n\n\
     For more information, try '--help'.\n";
 
 fn bare_line<'a>(alloc: Global) -> CommandLine<'a>
@@ -176,12 +179,16 @@ fn switch<'a>(alloc: Global, name: &'a str, about: &'a str) -> Arg<'a>
 }
 
 /// The command with `--progress` and a file's name behind its options.
-fn with_progress<'a>(alloc: Global, line: CommandLine<'a>) -> Result<CommandLine<'a>, AllocError>
+fn with_progress<'a>(
+    alloc: Global,
+    line: CommandLine<'a>,
+    about: &'a str,
+) -> Result<CommandLine<'a>, AllocError>
     requires { (fields_of line).has_globals ≡ false }
     ensures line { IfOk result (λ r. app_of r ≡ with_progress (app_of line.entry)) }
     ensures local { IfOk result (λ r. (fields_of r).has_globals ≡ false) }
 {
-    let line = line.arg(switch(alloc, PROGRESS, PROGRESS_ABOUT))?;
+    let line = line.arg(switch(alloc, PROGRESS, about))?;
     with_file(alloc, line)
 }
 
@@ -194,7 +201,11 @@ fn plain_line<'a>(
     ensures line { IfOk result (λ line. app_of line ≡ plain_line name.entry.now) }
     ensures local { IfOk result (λ line. (fields_of line).has_globals ≡ false) }
 {
-    with_progress(alloc, CommandLine::new(alloc, name).about(about))
+    with_progress(
+        alloc,
+        CommandLine::new(alloc, name).about(about),
+        PROGRESS_ABOUT,
+    )
 }
 
 fn check_line<'a>(alloc: Global) -> Result<CommandLine<'a>, AllocError>
@@ -205,7 +216,7 @@ fn check_line<'a>(alloc: Global) -> Result<CommandLine<'a>, AllocError>
         .about(CHECK_ABOUT)
         .arg(checkers_option(alloc))?
         .arg(switch(alloc, ALL, SUMMARY_ABOUT))?;
-    with_progress(alloc, line)
+    with_progress(alloc, line, PROGRESS_ABOUT)
 }
 
 fn certify_line<'a>(alloc: Global) -> Result<CommandLine<'a>, AllocError>
@@ -216,7 +227,7 @@ fn certify_line<'a>(alloc: Global) -> Result<CommandLine<'a>, AllocError>
         .about(CERTIFY_ABOUT)
         .arg(checkers_option(alloc))?
         .arg(switch(alloc, BYTES, FOUND_ABOUT))?;
-    with_progress(alloc, line)
+    with_progress(alloc, line, PROGRESS_ABOUT)
 }
 
 fn run_line<'a>(alloc: Global) -> Result<CommandLine<'a>, AllocError>
@@ -228,7 +239,7 @@ fn run_line<'a>(alloc: Global) -> Result<CommandLine<'a>, AllocError>
         .arg(checkers_option(alloc))?
         .arg(switch(alloc, SINGLE, SINGLE_ABOUT))?
         .arg(switch(alloc, BYTES, BYTES_ABOUT))?;
-    with_file(alloc, line)
+    with_progress(alloc, line, RECORDED_ABOUT)
 }
 
 /// An event number behind `--` and a name.
@@ -313,7 +324,7 @@ fn explain_line<'a>(alloc: Global) -> Result<CommandLine<'a>, AllocError>
         .arg(switch(alloc, ALL, ALL_ABOUT))?
         .arg(most_option(alloc))?
         .arg(switch(alloc, SVG, SVG_ABOUT))?;
-    with_progress(alloc, line)
+    with_progress(alloc, line, PROGRESS_ABOUT)
 }
 
 /// The commands that judge a record.

@@ -63,7 +63,8 @@ pub struct Plan {
     pub selection: Selection,
     /// What `check` and `explain` tell of bad events.
     pub telling: Telling,
-    /// Whether all commands but `run` and `show` tell meanwhile how many events they have read.
+    /// Whether all commands but `show` tell meanwhile how many events they have read, or `run` has
+    /// recorded, where it does not keep to one thread.
     pub progress: bool,
 }
 

@@ -2,6 +2,7 @@
 #![tactic(auto)]
 
 mod counts;
+mod onlooker;
 mod progress;
 mod publisher;
 mod reader;
@@ -9,6 +10,7 @@ mod rule;
 mod seen;
 
 pub use counts::Counts;
+pub use onlooker::{Nobody, Onlooker};
 pub use progress::Progress;
 pub use publisher::Publisher;
 pub use reader::ReadSeat;

@@ -71,8 +71,8 @@ fn events_of(
     Ok(is_right.then_some(board.finish().world.len()))
 }
 
-/// What a reader sees before the first turn and behind the last, and how many events there are then,
-/// if the script was carried out.
+/// What a reader sees before the first turn and behind the last, and how many events there are
+/// then, if the script was carried out.
 fn counts_of(alloc: Global, script: &Script) -> Result<(Counts, Counts, Option<u64>), Fail> {
     let (progress, publisher, mut seats) = Progress::open(alloc, 1)?;
     let mut seat = seats.pop().ok_or("no reader")?;

@@ -84,7 +84,8 @@ fn ten_turns(alloc: Global, script: &Script) -> Result<Option<Ten>, AllocError> 
     Ok(Some((last, lengths_of(&guests))))
 }
 
-/// The same ten turns by one call: the last answer, and how many events the last processor recorded.
+/// The same ten turns by one call: the last answer, and how many events the last processor
+/// recorded.
 fn ten_driven(
     alloc: Global,
     script: &Script,

@@ -88,7 +88,8 @@ fn size_of(alloc: Global, trace: &Record) -> Option<usize>
     Some(sink.inner.len())
 }
 
-/// Whether its fault is the first event, and the record has as many bytes as these ten events spell.
+/// Whether its fault is the first event, and the record has as many bytes as these ten events
+/// spell.
 fn is_fault_first(alloc: Global, trace: &Record) -> bool
     requires { IsRecord (record_of trace.now) }
 {

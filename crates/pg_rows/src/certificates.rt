@@ -22,7 +22,7 @@ pub const FRESH_WALK: Row = Row {
     status: 0,
 };
 
-pub const ROWS: [Row; 18] = [
+pub const ROWS: [Row; 19] = [
     FRESH_WALK,
     Row {
         name: "certified_stale_leaf",
@@ -92,6 +92,43 @@ pub const ROWS: [Row; 18] = [
             now: level 1 [0x4028] = 0x0 absent, written by event 4\n\
             now: would give fault 0x4 (user)\n\
             last: moment 5 by 4 4 4 4; taken by 5 cpu 0 invlpg 0x5000\n",
+        line: "",
+        status: 1,
+    },
+    Row {
+        // Reads change nothing: the numbers of the entries' writers are not their ranks. The fault
+        // that takes the last moments away is told with the moments that it names.
+        name: "denied_behind_reads_and_a_fault_in_segments_of_two",
+        words: &["certify"],
+        input: &[
+            "50475245434f5244010028030102000000011000000000000001",
+            "010000000002000000",
+            "100000100000000000000720000000000000",
+            "100000200000000000000730000000000000",
+            "010100000002000000",
+            "100000300000000000000740000000000000",
+            "100028400000000000000790000000000000",
+            "010200000002000000",
+            "11000423510000000000000023910000000000000100000000",
+            "100028400000000000000000000000000000",
+            "010300000002000000",
+            "11000423510000000000000104000406000000060000000600000006000000",
+            "11000423510000000000000023910000000000000100000000",
+            "0208000000",
+        ],
+        output: "verdict: no\n\
+            event: 7\n\
+            reason: 14 no moments\n\
+            events: 8\n\
+            segments: 4\n\
+            event: 7 cpu 0 user read 0x5123 -> 0x9123\n\
+            now: level 4 [0x1000] = 0x2007 table, written by event 0\n\
+            now: level 3 [0x2000] = 0x3007 table, written by event 1\n\
+            now: level 2 [0x3000] = 0x4007 table, written by event 2\n\
+            now: level 1 [0x4028] = 0x0 absent, written by event 5\n\
+            now: would give fault 0x4 (user)\n\
+            last: moment 6 by 5 5 5 5; taken by 6 cpu 0 user read 0x5123 -> fault 0x4 (user) \
+            moments 6 6 6 6\n",
         line: "",
         status: 1,
     },

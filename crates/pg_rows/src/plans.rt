@@ -23,7 +23,7 @@ const BARE: Plan = Plan {
 };
 
 /// Command lines and their plans.
-const PLANNED: [(&[&str], Plan); 26] = [
+const PLANNED: [(&[&str], Plan); 27] = [
     (&["check"], BARE),
     (
         &["certify"],
@@ -236,6 +236,14 @@ const PLANNED: [(&[&str], Plan); 26] = [
         },
     ),
     (
+        &["run", "--progress"],
+        Plan {
+            command: Command::Run,
+            progress: true,
+            ..BARE
+        },
+    ),
+    (
         &["upgrade", "--progress"],
         Plan {
             command: Command::Upgrade,
@@ -324,7 +332,7 @@ const FAULTS: [&[&str]; 46] = [
     &["certify", "--svg"],
     &["check", "--svg"],
     &["show", "--progress"],
-    &["run", "--progress"],
+    &["run", "--progress=2"],
     &["check", "--progress=2"],
 ];
 

@@ -9,7 +9,7 @@ ghost use Rattle.pg_runner.specs.Runs.{record_of};
 ghost use Rattle.pg_threads.specs.Live.{IsWant};
 ghost use Rattle.pg_threads.specs.Guests.{IsGuestRun, HaveToldAll, StayBut};
 
-use crate::watched::Watched;
+use crate::live_judging::LiveJudging;
 use pg_board::{Board, Finished};
 use pg_guest::Advance;
 use pg_home::Stop;
@@ -79,7 +79,7 @@ fn result_of<R: Threads + Wait + Sync, H: Gate>(
     crew: &Crew<'_, R, H>,
     script: &Script,
     board: Board<'_>,
-    watched: &mut Watched,
+    judging: &mut LiveJudging,
 ) -> Result<RunResult, RunError>
     requires script { IsRunOf script.now board.world board.processors }
     requires ended { HaveToldAll (map seen board.processors) }
@@ -95,7 +95,7 @@ fn result_of<R: Threads + Wait + Sync, H: Gate>(
         publisher: _,
     } = board.finish();
     let trace = world.into_record();
-    let report = match watched.report(crew, &trace) {
+    let report = match judging.report(crew, &trace) {
         Ok(report) => report,
         Err(e) => return Err(e),
     };
@@ -128,14 +128,14 @@ pub(crate) fn ended<R: Threads + Wait + Sync, H: Gate>(
     crew: &Crew<'_, R, H>,
     script: &Script,
     mut board: Board<'_>,
-    watched: &mut Watched,
+    judging: &mut LiveJudging,
 ) -> Result<RunResult, RunError>
     ensures ok { IfOk result (λ run. IsGuestRun script.now run) }
     ensures formed { IfOk result (λ run. IsRecord (record_of run.trace)) }
     ensures err { IfErr result IsWant }
 {
     match told_all(&mut board, script) {
-        Ok(true) => result_of(crew, script, board, watched),
+        Ok(true) => result_of(crew, script, board, judging),
         Ok(false) => anew(crew.alloc, script),
         Err(e) => Err(e),
     }

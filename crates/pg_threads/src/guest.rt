@@ -3,17 +3,18 @@
 ghost use Rattle.std.specs.Prelude.{◌≡◌, ◌⊎◌, ◌↔◌, IfOk, IfErr, Err};
 ghost use Rattle.pg_event.specs.Spelling.{IsRecord};
 ghost use Rattle.pg_pool.specs.Rounds.{AreCheckers};
+ghost use Rattle.pg_progress.specs.Seats.{counts};
 ghost use Rattle.pg_runner.specs.Runs.{record_of};
 ghost use Rattle.pg_threads.specs.Guests.{IsGuestRun};
 ghost use Rattle.pg_threads.specs.Live.{IsWant};
 
 use crate::ending::ended;
+use crate::live_judging::LiveJudging;
 use crate::lookout::Lookout;
 use crate::processor_threads::run_processors;
-use crate::watched::Watched;
 use pg_board::Board;
 use pg_pool::{Gate, OpenGate};
-use pg_progress::{Progress, Publisher};
+use pg_progress::{Nobody, Onlooker, Progress, Publisher};
 use pg_report::Crew;
 use pg_runner::{RunError, RunResult};
 use pg_script::Script;
@@ -22,19 +23,19 @@ use std::sync::{Mutex, Wait};
 use std::thread::Threads;
 
 /// What is judged before anything is recorded.
-fn nothing_watched(alloc: Global, script: &Script) -> Result<Watched, AllocError> {
-    Watched::new(alloc, script.header().clone()?)
+fn nothing_judged(alloc: Global, script: &Script) -> Result<LiveJudging, AllocError> {
+    LiveJudging::new(alloc, script.header().clone()?)
 }
 
 /// A run whose progress was opened.
-fn run_seen<'a, R: Threads + Wait + Sync, G: Gate, H: Gate>(
+fn run_seen<'a, R: Threads + Wait + Sync, G: Gate, H: Gate, O: Onlooker>(
     crew: &Crew<'_, R, H>,
     script: &Script,
     gate: &G,
     progress: &'a Progress,
     publisher: Publisher,
-    lookout: &mut Lookout<'a>,
-    watched: &mut Watched,
+    lookout: &mut Lookout<'a, O>,
+    judging: &mut LiveJudging,
 ) -> Result<RunResult, RunError>
     requires { publisher.word ≡ progress.now }
     ensures ok { IfOk result (λ run. IsGuestRun script.now run) }
@@ -43,28 +44,30 @@ fn run_seen<'a, R: Threads + Wait + Sync, G: Gate, H: Gate>(
 {
     let board = Board::new(crew.alloc, script, publisher, progress)?;
     let shared = Mutex::new(board);
-    match run_processors(crew, &shared, script, gate, lookout, watched) {
-        Ok(()) => ended(crew, script, shared.into_inner(), watched),
+    match run_processors(crew, &shared, script, gate, lookout, judging) {
+        Ok(()) => ended(crew, script, shared.into_inner(), judging),
         Err(e) => Err(e),
     }
 }
 
-/// The run with these checkers.
-fn run_by<R: Threads + Wait + Sync, G: Gate, H: Gate>(
+/// The run with these checkers and this onlooker.
+fn run_by<R: Threads + Wait + Sync, G: Gate, H: Gate, O: Onlooker + Drop>(
     crew: &Crew<'_, R, H>,
     script: &Script,
     gate: &G,
+    onlooker: O,
 ) -> Result<RunResult, RunError>
+    requires { O.told onlooker ≡ counts 0 0 }
     ensures ok { IfOk result (λ run. IsGuestRun script.now run) }
     ensures formed { IfOk result (λ run. IsRecord (record_of run.trace)) }
     ensures err { IfErr result IsWant }
 {
-    let mut watched = nothing_watched(crew.alloc, script)?;
+    let mut judging = nothing_judged(crew.alloc, script)?;
     let (progress, publisher, mut seats) = Progress::open(crew.alloc, 1)?;
     let Some(seat) = seats.pop() else {
         unreachable!()
     };
-    let mut lookout = Lookout::new(&progress, seat);
+    let mut lookout = Lookout::new(&progress, seat, onlooker);
     run_seen(
         crew,
         script,
@@ -72,26 +75,31 @@ fn run_by<R: Threads + Wait + Sync, G: Gate, H: Gate>(
         &progress,
         publisher,
         &mut lookout,
-        &mut watched,
+        &mut judging,
     )
 }
 
 /// Runs a script, each processor in a thread of its own, and has its segments judged by checkers
 /// while the processors run. These share their record and its memory under one lock, and take it
 /// for one turn at a time. Each instruction goes through the gate, with the number of its processor
-/// and its own, and each segment's judging through that of the checkers.
+/// and its own, and each segment's judging through that of the checkers. The calling thread lets
+/// the onlooker see the counts of events and sealed segments, each time that it looks for segments
+/// to be judged, and once more when the processors' threads have ended, unless memory or a thread
+/// was refused. It was told nothing before.
 ///
 /// Fails where the number of checkers is none of 1 to 64, before all else. Else it fails once all
 /// threads that were started have ended, by the lowest number that there is, where memory or a
 /// thread was refused.
-pub fn run_guest_watched<R: Threads + Wait + Sync, G: Gate, H: Gate>(
+pub fn run_guest_followed<R: Threads + Wait + Sync, G: Gate, H: Gate, O: Onlooker + Drop>(
     rt: &R,
     alloc: Global,
     script: &Script,
     checkers: u32,
     gate: &G,
     checkers_gate: &H,
+    onlooker: O,
 ) -> Result<RunResult, RunError>
+    requires { O.told onlooker ≡ counts 0 0 }
     ensures ok { IfOk result (λ run. IsGuestRun script.now run) }
     ensures formed { IfOk result (λ run. IsRecord (record_of run.trace)) }
     ensures checkers { (result ≡ Err RunError.Checkers) ↔ (¬ AreCheckers checkers) }
@@ -106,10 +114,27 @@ pub fn run_guest_watched<R: Threads + Wait + Sync, G: Gate, H: Gate>(
         checkers,
         gate: checkers_gate,
     };
-    run_by(&crew, script, gate)
+    run_by(&crew, script, gate, onlooker)
 }
 
-/// The same, with nothing round the checkers' work.
+/// The same, with no onlooker.
+pub fn run_guest_watched<R: Threads + Wait + Sync, G: Gate, H: Gate>(
+    rt: &R,
+    alloc: Global,
+    script: &Script,
+    checkers: u32,
+    gate: &G,
+    checkers_gate: &H,
+) -> Result<RunResult, RunError>
+    ensures ok { IfOk result (λ run. IsGuestRun script.now run) }
+    ensures formed { IfOk result (λ run. IsRecord (record_of run.trace)) }
+    ensures checkers { (result ≡ Err RunError.Checkers) ↔ (¬ AreCheckers checkers) }
+    ensures err { IfErr result (λ e. (e ≡ RunError.Checkers) ⊎ IsWant e) }
+{
+    run_guest_followed(rt, alloc, script, checkers, gate, checkers_gate, Nobody)
+}
+
+/// The same, and with nothing round the checkers' work either.
 pub fn run_guest<R: Threads + Wait + Sync, G: Gate>(
     rt: &R,
     alloc: Global,

@@ -3,11 +3,11 @@
 
 mod ending;
 mod guest;
+mod live_judging;
 mod lookout;
 mod processor;
 mod processor_threads;
 mod same;
 mod segments;
-mod watched;
 
-pub use guest::{run_guest, run_guest_watched};
+pub use guest::{run_guest, run_guest_followed, run_guest_watched};

@@ -1,37 +1,48 @@
 //! The calling thread, while processors run.
 
 ghost use Rattle.std.specs.Prelude.{◌≡◌, IfErr};
+ghost use Rattle.pg_progress.specs.Seats.{IsNotBelow};
 ghost use Rattle.pg_threads.specs.Live.{IsWant};
 
+use crate::live_judging::LiveJudging;
 use crate::segments::take_segments;
-use crate::watched::Watched;
 use crossbeam_utils::Backoff;
 use pg_board::Board;
 use pg_pool::Gate;
-use pg_progress::{Counts, Progress, ReadSeat};
+use pg_progress::{Counts, Onlooker, Progress, ReadSeat};
 use pg_report::Crew;
 use pg_runner::RunError;
 use std::sync::atomic::{AtomicU64, Ordering};
 use std::sync::{Mutex, Wait};
 use std::thread::Threads;
 
-/// Where the calling thread sees how far the processors have come, without their lock.
+/// Where the calling thread sees how far the processors have come, without their lock, and lets an
+/// onlooker see it. The onlooker was told no more than was read.
 #[derive(Drop)]
-pub(crate) struct Lookout<'a> {
+pub(crate) struct Lookout<'a, O: Onlooker> {
     progress: &'a Progress,
     seat: ReadSeat,
+    onlooker: O,
     ghost own: { seat.word ≡ progress.now },
+    ghost told: { IsNotBelow (O.told onlooker) seat.last },
 }
 
-impl<'a> Lookout<'a> {
-    pub(crate) fn new(progress: &'a Progress, seat: ReadSeat) -> Lookout<'a>
-        requires { seat.word ≡ progress.now }
+impl<'a, O: Onlooker> Lookout<'a, O> {
+    pub(crate) fn new(progress: &'a Progress, seat: ReadSeat, onlooker: O) -> Lookout<'a, O>
+        requires own { seat.word ≡ progress.now }
+        requires told { O.told onlooker ≡ seat.last }
     {
-        Lookout { progress, seat }
+        Lookout {
+            progress,
+            seat,
+            onlooker,
+        }
     }
 
     fn look(&mut self) -> Counts {
-        self.progress.read(&mut self.seat)
+        let counts = self.progress.read(&mut self.seat);
+        self.onlooker.see(counts);
+        counts
     }
 }
 
@@ -39,39 +50,40 @@ impl<'a> Lookout<'a> {
 fn judge_round<R: Threads + Wait + Sync, H: Gate>(
     crew: &Crew<'_, R, H>,
     shared: &Mutex<Board<'_>>,
-    watched: &mut Watched,
+    judging: &mut LiveJudging,
 ) -> Result<(), RunError>
     ensures { IfErr result IsWant }
 {
-    let Some(header) = watched.header() else {
+    let Some(header) = judging.header() else {
         return Ok(());
     };
     let events = take_segments(crew.rt, crew.alloc, shared, header)?;
-    watched.more(crew, &events)
+    judging.more(crew, &events)
 }
 
-/// Judges segments as they are sealed, until so many threads have ended. After an error there is no
-/// further round.
-pub(crate) fn watch<R: Threads + Wait + Sync, H: Gate>(
+/// Judges segments as they are sealed, until so many threads have ended, and looks once more then.
+/// After an error there is no further round, and no further look.
+pub(crate) fn watch<R: Threads + Wait + Sync, H: Gate, O: Onlooker>(
     crew: &Crew<'_, R, H>,
     shared: &Mutex<Board<'_>>,
-    lookout: &mut Lookout<'_>,
+    lookout: &mut Lookout<'_, O>,
     ended: &AtomicU64,
     started: u64,
-    watched: &mut Watched,
+    judging: &mut LiveJudging,
 ) -> Result<(), RunError>
     ensures { IfErr result IsWant }
 {
     let backoff = Backoff::new();
     let mut taken = 0;
     for _ in crew.rt.forever() {
-        if ended.load(Ordering::SeqCst) >= started {
+        let is_over = ended.load(Ordering::SeqCst) >= started;
+        let segments = lookout.look().segments;
+        if is_over {
             return Ok(());
         }
-        let segments = lookout.look().segments;
         if segments > taken {
             taken = segments;
-            if let Err(e) = judge_round(crew, shared, watched) {
+            if let Err(e) = judge_round(crew, shared, judging) {
                 return Err(e);
             }
             backoff.reset();

@@ -3,11 +3,12 @@
 ghost use Rattle.std.specs.Prelude.{◌≡◌, ◌≢◌, ◌⊎◌, ◌↔◌, true, Err, IfErr, length};
 ghost use Rattle.pg_threads.specs.Live.{IsWant};
 
+use crate::live_judging::LiveJudging;
 use crate::lookout::{Lookout, watch};
 use crate::processor::run_processor;
-use crate::watched::Watched;
 use pg_board::Board;
 use pg_pool::Gate;
+use pg_progress::Onlooker;
 use pg_report::Crew;
 use pg_runner::RunError;
 use pg_script::Script;
@@ -67,13 +68,13 @@ fn processor_count(script: &Script) -> u16
 /// Lets each processor of a script carry its instructions out in a thread of its own, if it has
 /// any, and judges what they seal. All threads that were started are joined before it answers, also
 /// where a thread was refused.
-fn run_all<R: Threads + Wait + Sync, G: Gate, H: Gate>(
+fn run_all<R: Threads + Wait + Sync, G: Gate, H: Gate, O: Onlooker>(
     crew: &Crew<'_, R, H>,
     shared: &Mutex<Board<'_>>,
     script: &Script,
     gate: &G,
-    lookout: &mut Lookout<'_>,
-    watched: &mut Watched,
+    lookout: &mut Lookout<'_, O>,
+    judging: &mut LiveJudging,
 ) -> Met {
     let rt = crew.rt;
     let ended = AtomicU64::new(0);
@@ -98,7 +99,7 @@ fn run_all<R: Threads + Wait + Sync, G: Gate, H: Gate>(
             }
         }
         let started = handles.len();
-        let live = watch(crew, shared, lookout, ended, started as u64, watched);
+        let live = watch(crew, shared, lookout, ended, started as u64, judging);
         let mut refused = false;
         for handle in handles {
             refused = handle.join(rt) || refused;
@@ -110,17 +111,17 @@ fn run_all<R: Threads + Wait + Sync, G: Gate, H: Gate>(
 /// Runs all processors of a script, each that has instructions in a thread of its own, and judges
 /// what they seal. It answers once all threads have ended, and by want of memory
 /// where there was that as well as a refused thread.
-pub(crate) fn run_processors<R: Threads + Wait + Sync, G: Gate, H: Gate>(
+pub(crate) fn run_processors<R: Threads + Wait + Sync, G: Gate, H: Gate, O: Onlooker>(
     crew: &Crew<'_, R, H>,
     shared: &Mutex<Board<'_>>,
     script: &Script,
     gate: &G,
-    lookout: &mut Lookout<'_>,
-    watched: &mut Watched,
+    lookout: &mut Lookout<'_, O>,
+    judging: &mut LiveJudging,
 ) -> Result<(), RunError>
     ensures { IfErr result IsWant }
 {
-    match run_all(crew, shared, script, gate, lookout, watched) {
+    match run_all(crew, shared, script, gate, lookout, judging) {
         Met::Nothing => Ok(()),
         Met::NoMemory => Err(RunError::Memory),
         Met::NoThread => Err(RunError::Thread),

@@ -1,11 +1,14 @@
 //! Runs of guest scripts, from a script's bytes to its record or that record's report.
 
-ghost use Rattle.std.specs.Prelude.{◌≡◌, IfOk, IfErr};
+ghost use Rattle.std.specs.Prelude.{◌≡◌, ◌≢◌, ◌⊎◌, IfOk, IfErr, Err};
 ghost use Rattle.pg_event.specs.Spelling.{IsRecord, record_bytes};
 ghost use Rattle.pg_pool.specs.Rounds.{AreCheckers};
+ghost use Rattle.pg_progress.specs.Seats.{counts};
 ghost use Rattle.pg_report.specs.Changes.{drawn, filled};
 ghost use Rattle.pg_report.specs.Text.{report_text};
 ghost use Rattle.pg_runner.specs.Runs.{record_of};
+ghost use Rattle.pg_threads.specs.Guests.{IsGuestRun as IsThreadsRun};
+ghost use Rattle.pg_threads.specs.Live.{IsWant};
 ghost use Rattle.pg_tool.specs.Guests.{IsGuestRun, IsResultBy, StopsBy, TakesScript, WritesAnswer};
 
 use crate::guest_error::GuestError;
@@ -13,10 +16,11 @@ use pg_codec::{IntakeError, Sink, Source, pull_all, put_all, write_record};
 use pg_event::Record;
 use pg_plan::Plan;
 use pg_pool::OpenGate;
+use pg_progress::Onlooker;
 use pg_report::Report;
 use pg_runner::{RunError, RunResult, run_single};
 use pg_script::Script;
-use pg_threads::run_guest;
+use pg_threads::{run_guest, run_guest_followed};
 use std::alloc::{AllocGlobal, Global};
 use std::sync::Wait;
 use std::thread::Threads;
@@ -65,14 +69,39 @@ fn write_trace<O: Sink>(output: &mut O, trace: &Record) -> Result<(), GuestError
     }
 }
 
-/// A run of a script by the calling thread alone, or by a thread for each processor, whose record
-/// so many checkers judge.
-fn run_by<T: AllocGlobal + Threads + Wait + Sync>(
+/// A run of a script by a thread for each processor, whose record so many checkers judge. The
+/// onlooker sees how far it has come where the plan asks for that.
+fn run_by_threads<T: AllocGlobal + Threads + Wait + Sync, P: Onlooker + Drop>(
     rt: &T,
     plan: Plan,
     script: &Script,
+    onlooker: P,
 ) -> Result<RunResult, RunError>
-    requires { AreCheckers plan.checkers }
+    requires checkers { AreCheckers plan.checkers }
+    requires onlooker { P.told onlooker ≡ counts 0 0 }
+    ensures ok { IfOk result (λ run. IsThreadsRun script.now run) }
+    ensures formed { IfOk result (λ run. IsRecord (record_of run.trace)) }
+    ensures able { result ≢ Err RunError.Checkers }
+    ensures err { IfErr result (λ e. (e ≡ RunError.Checkers) ⊎ IsWant e) }
+{
+    let alloc = rt.alloc();
+    let checkers = plan.checkers as u32;
+    if plan.progress {
+        run_guest_followed(rt, alloc, script, checkers, &OpenGate, &OpenGate, onlooker)
+    } else {
+        run_guest(rt, alloc, script, checkers, &OpenGate)
+    }
+}
+
+/// A run of a script by the calling thread alone, or by a thread for each processor.
+fn run_by<T: AllocGlobal + Threads + Wait + Sync, P: Onlooker + Drop>(
+    rt: &T,
+    plan: Plan,
+    script: &Script,
+    onlooker: P,
+) -> Result<RunResult, RunError>
+    requires checkers { AreCheckers plan.checkers }
+    requires onlooker { P.told onlooker ≡ counts 0 0 }
     ensures ok { IfOk result (λ run. IsResultBy plan.single script.now run) }
     ensures formed { IfOk result (λ run. IsRecord (record_of run.trace)) }
     ensures err { IfErr result (StopsBy plan.single) }
@@ -80,18 +109,19 @@ fn run_by<T: AllocGlobal + Threads + Wait + Sync>(
     if plan.single {
         run_single(rt.alloc(), script)
     } else {
-        run_guest(rt, rt.alloc(), script, plan.checkers as u32, &OpenGate)
+        run_by_threads(rt, plan, script, onlooker)
     }
 }
 
 /// Runs the script that `input` has left, and writes its record, or its record's report.
-pub(crate) fn run_script<T: AllocGlobal + Threads + Wait + Sync, R: Source, O: Sink>(
-    rt: &T,
-    plan: Plan,
-    input: &mut R,
-    output: &mut O,
-) -> Result<(), GuestError>
-    requires { AreCheckers plan.checkers }
+pub(crate) fn run_script<
+    T: AllocGlobal + Threads + Wait + Sync,
+    R: Source,
+    O: Sink,
+    P: Onlooker + Drop,
+>(rt: &T, plan: Plan, input: &mut R, output: &mut O, onlooker: P) -> Result<(), GuestError>
+    requires checkers { AreCheckers plan.checkers }
+    requires onlooker { P.told onlooker ≡ counts 0 0 }
     ensures { IsGuestRun plan.single plan.bytes
         (drawn R.Source input.old input.new) (filled O.Sink output.old output.new) result }
 {
@@ -99,7 +129,7 @@ pub(crate) fn run_script<T: AllocGlobal + Threads + Wait + Sync, R: Source, O: S
         Ok(script) => script,
         Err(error) => return Err(error),
     };
-    let run = match run_by(rt, plan, &script) {
+    let run = match run_by(rt, plan, &script, onlooker) {
         Ok(run) => run,
         Err(error) => return Err(GuestError::Run(error)),
     };

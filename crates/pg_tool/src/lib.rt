@@ -2,11 +2,13 @@
 #![tactic(auto)]
 
 mod files;
+mod followers;
 mod guest_error;
 mod guest_refusals;
 mod guests;
 mod program;
 
+pub use followers::Followers;
 pub use guest_error::GuestError;
 pub use pg_plan::{Command, Invocation, Plan, Telling, Usage, plan};
-pub use program::{pcid_audit, pcid_audit_followed, run};
+pub use program::{pcid_audit, pcid_audit_followed, run, run_followed};

@@ -3,6 +3,7 @@
 ghost use Rattle.std.specs.Prelude.{◌≡◌};
 ghost use Rattle.pg_plan.specs.Commands.{AreFrom1To64, texts};
 ghost use Rattle.pg_pool.specs.Rounds.{AreCheckers};
+ghost use Rattle.pg_progress.specs.Seats.{counts};
 ghost use Rattle.pg_report.specs.Changes.{filled};
 ghost use Rattle.pg_tool.specs.Answers.{Answers, CertifiesBy, ChecksBy, ExplainsBy, Does};
 ghost use Rattle.pg_tool.specs.Answers.{DoesNamed, GivesText, opens};
@@ -11,6 +12,7 @@ ghost use Rattle.pg_tool.specs.Guests.{RunsGuest, TellsGuest};
 ghost use Rattle.pg_answers.specs.Streams.{streams};
 
 use crate::files::tell_unopened;
+use crate::followers::Followers;
 use crate::guest_error::GuestError;
 use crate::guest_refusals::tell_guest;
 use crate::guests::run_script;
@@ -20,6 +22,7 @@ use pg_answers::{
 };
 use pg_codec::{Sink, Source, put_all};
 use pg_plan::{Command, Plan, Telling, Usage, plan};
+use pg_progress::{Nobody, Onlooker};
 use pg_report::AuditError;
 use pg_runner::RunError;
 use pg_script::{ScriptError, ScriptRefusal};
@@ -70,7 +73,25 @@ fn tell_run<E: Sink>(errors: &mut E, answer: Result<(), GuestError>) -> u8
 /// Runs the guest script on `input`, each of its processors in a thread, or all in this one, and
 /// writes the report of the run's record to `output`, or that record; or one line to `errors` that
 /// says why there is none. It gives the exit status: 0 a run, which is a yes, 2 refused, 3 memory
-/// or a thread.
+/// or a thread. Where the plan asks for progress, the onlooker, which was told nothing before, sees
+/// how far threads have come.
+pub fn run_followed<
+    T: AllocGlobal + Threads + Wait + Sync,
+    R: Source,
+    O: Sink,
+    E: Sink,
+    P: Onlooker + Drop,
+>(rt: &T, plan: Plan, input: &mut R, output: &mut O, errors: &mut E, onlooker: P) -> u8
+    requires checkers { AreCheckers plan.checkers }
+    requires onlooker { P.told onlooker ≡ counts 0 0 }
+    ensures { RunsGuest plan.single plan.bytes (streams R.Source O.Sink E.Sink
+        (input.old, output.old, errors.old) (input.new, output.new, errors.new)) result }
+{
+    let answer = run_script(rt, plan, input, output, onlooker);
+    tell_run(errors, answer)
+}
+
+/// The same, with no onlooker.
 pub fn run<T: AllocGlobal + Threads + Wait + Sync, R: Source, O: Sink, E: Sink>(
     rt: &T,
     plan: Plan,
@@ -82,8 +103,7 @@ pub fn run<T: AllocGlobal + Threads + Wait + Sync, R: Source, O: Sink, E: Sink>(
     ensures { RunsGuest plan.single plan.bytes (streams R.Source O.Sink E.Sink
         (input.old, output.old, errors.old) (input.new, output.new, errors.new)) result }
 {
-    let answer = run_script(rt, plan, input, output);
-    tell_run(errors, answer)
+    run_followed(rt, plan, input, output, errors, Nobody)
 }
 
 /// Gives a text that was asked for: help, or the version.
@@ -156,21 +176,23 @@ fn explain_by<R: Source, O: Sink, E: Sink>(
 }
 
 /// Does what a plan says.
-fn perform<T: AllocGlobal + Threads + Wait + Sync, R: Source, O: Sink, E: Sink>(
+fn perform<T: AllocGlobal + Threads + Wait + Sync, R: Source, O: Sink, E: Sink, P: Onlooker + Drop>(
     rt: &T,
     plan: Plan,
     input: &mut R,
     output: &mut O,
     errors: &mut E,
+    onlooker: P,
 ) -> u8
-    requires { AreFrom1To64 plan.checkers }
+    requires checkers { AreFrom1To64 plan.checkers }
+    requires onlooker { P.told onlooker ≡ counts 0 0 }
     ensures { Does plan (streams R.Source O.Sink E.Sink
         (input.old, output.old, errors.old) (input.new, output.new, errors.new)) result }
 {
     match plan.command {
         Command::Check => check_by(rt, plan, input, output, errors),
         Command::Certify => certify_by(rt, plan, input, output, errors),
-        Command::Run => run(rt, plan, input, output, errors),
+        Command::Run => run_followed(rt, plan, input, output, errors, onlooker),
         Command::RunOf => run_of(rt.alloc(), input, output, errors),
         Command::Explain => explain_by(rt.alloc(), plan, input, output, errors),
         Command::Show => show(rt.alloc(), filter_of(plan), input, output, errors),
@@ -185,14 +207,16 @@ fn perform_on<
     S: Source + Drop,
     O: Sink,
     E: Sink,
->(rt: &T, plan: Plan, name: &str, opener: F, output: &mut O, errors: &mut E) -> u8
+    P: Onlooker + Drop,
+>(rt: &T, plan: Plan, name: &str, opener: F, output: &mut O, errors: &mut E, onlooker: P) -> u8
     requires checkers { AreFrom1To64 plan.checkers }
     requires opener { F.IsAlwaysCallable opener }
+    requires onlooker { P.told onlooker ≡ counts 0 0 }
     ensures { DoesNamed (opens F.Fn S.Source opener) plan name.now
         (filled O.Sink output.old output.new) (filled E.Sink errors.old errors.new) result }
 {
     match opener(name) {
-        Some(mut file) => perform(rt, plan, &mut file, output, errors),
+        Some(mut file) => perform(rt, plan, &mut file, output, errors, onlooker),
         None => {
             tell_unopened(errors, name);
             UNOPENED
@@ -200,11 +224,16 @@ fn perform_on<
     }
 }
 
+/// Whether what is read is a record whose reading is to be told of: `run` reads a script.
+fn tells_of_reading(plan: Plan) -> bool {
+    plan.progress && plan.command != Command::Run
+}
+
 /// The whole program, over any streams: the words after its name, what opens a file, what it reads
 /// where the words name none, and what it writes to. It gives the exit status, which is 64 where
-/// the words are no command of it, and 66 where the file can't be opened. The cell is set, before
-/// anything is read or opened, where the words ask for progress: telling of it is up to who made
-/// what is read.
+/// the words are no command of it, and 66 where the file can't be opened. Where the words ask for
+/// progress the followers, which were told nothing before, come to know how far a record was read,
+/// or a run has come: telling of it is up to who made them.
 pub fn pcid_audit_followed<
     'a,
     T: AllocGlobal + Threads + Wait + Sync,
@@ -213,26 +242,29 @@ pub fn pcid_audit_followed<
     R: Source,
     O: Sink,
     E: Sink,
+    P: Onlooker + Drop,
 >(
     rt: &T,
     words: &'a [&'a str],
     opener: F,
-    progress: &Cell<bool>,
+    followers: Followers<'_, P>,
     input: &mut R,
     output: &mut O,
     errors: &mut E,
 ) -> u8
-    requires { F.IsAlwaysCallable opener }
+    requires opener { F.IsAlwaysCallable opener }
+    requires onlooker { P.told followers.onlooker ≡ counts 0 0 }
     ensures { Answers (texts words.now) (opens F.Fn S.Source opener) (input.new ≡ input.old)
         (streams R.Source O.Sink E.Sink
         (input.old, output.old, errors.old) (input.new, output.new, errors.new)) result }
 {
+    let Followers { reading, onlooker } = followers;
     match plan(rt.alloc(), words) {
         Ok(asked) => {
-            progress.set(asked.plan.progress);
+            reading.set(tells_of_reading(asked.plan));
             match asked.file {
-                None => perform(rt, asked.plan, input, output, errors),
-                Some(name) => perform_on(rt, asked.plan, name, opener, output, errors),
+                None => perform(rt, asked.plan, input, output, errors, onlooker),
+                Some(name) => perform_on(rt, asked.plan, name, opener, output, errors, onlooker),
             }
         }
         Err(Usage::Help(text)) => give_text(text.as_str(), output, errors),
@@ -263,5 +295,9 @@ pub fn pcid_audit<
         (streams R.Source O.Sink E.Sink
         (input.old, output.old, errors.old) (input.new, output.new, errors.new)) result }
 {
-    pcid_audit_followed(rt, words, opener, &Cell::new(false), input, output, errors)
+    let followers = Followers {
+        reading: &Cell::new(false),
+        onlooker: Nobody,
+    };
+    pcid_audit_followed(rt, words, opener, followers, input, output, errors)
 }

@@ -9,8 +9,8 @@ pub returns-then-plan-clause-err : goal.returns-then-plan-clause-err
 returns-then-plan-clause-err g c = stopped_by_one c.args.plan.single c.run_single.result c.run_single.ensures.err
 
 pub returns-else-plan-clause-ok : goal.returns-else-plan-clause-ok
-returns-else-plan-clause-ok g c = by_many c.args.plan.single c.args.script.now c.run_guest.result c.if-plan.false c.run_guest.ensures.ok
+returns-else-plan-clause-ok g c = by_many c.args.plan.single c.args.script.now c.run_by_threads.result c.if-plan.false c.run_by_threads.ensures.ok
 
 pub returns-else-plan-clause-err : goal.returns-else-plan-clause-err
 returns-else-plan-clause-err g c =
-    stopped_by_many c.args.plan.single c.run_guest.result c.if-plan.false (λ is. c.run_guest.ensures.checkers.0 is c.requires) c.run_guest.ensures.err
+    stopped_by_many c.args.plan.single c.run_by_threads.result c.if-plan.false c.run_by_threads.ensures.able c.run_by_threads.ensures.err

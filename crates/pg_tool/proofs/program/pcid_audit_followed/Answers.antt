@@ -60,6 +60,6 @@ returns-in-Err-Fault g c =
         version = said.version_named;
         asked_help = said.help;
         asked_version = said.version;
-        gives = gives_same fault.field-0 (Fault fault.text) output errors 64 is ((Keeps-refl output.old.bytes, refl), subst (Tells errors) c.as_str-in-Err-Fault.ensures.value c.tell_text.ensures, refl);
+        gives = gives_same fault.field-0 (Fault fault.text) output errors 64 is ((Keeps-refl output.old.bytes, refl), rw is at (subst (Tells errors) c.as_str-in-Err-Fault.ensures.value c.tell_text.ensures), refl);
       };
     }

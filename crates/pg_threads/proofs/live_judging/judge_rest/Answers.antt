@@ -1,5 +1,5 @@
 use Rattle.pg_threads.proofs.WholeSegments.{rest_follows, rest_reported}
-use Rattle.pg_threads.proofs.watched.judge_rest.Goals as goal
+use Rattle.pg_threads.proofs.live_judging.judge_rest.Goals as goal
 
 pub judge-requires-clause-next : goal.judge-requires-clause-next
 judge-requires-clause-next g c = λ _ _. rest_follows c.args.judged.now c.args.all.now c.args.first.now c.requires.watched c.requires.begins c.requires.record

@@ -26,13 +26,13 @@ const TOO_MANY: usize = 4_294_967_296;
 
 /// Events of whole segments, from the first event of a run on, and what judging them found.
 #[derive(Drop)]
-pub(crate) struct Watched {
+pub(crate) struct LiveJudging {
     /// None once a round was refused.
     judged: Option<Judged>,
     events: Vec<Event>,
 }
 
-impl Model for Watched {
+impl Model for LiveJudging {
     ghost use Rattle.std.specs.Prelude.{IfSome};
     ghost use Rattle.pg_threads.specs.Live.{IsWatched, Watch};
 
@@ -108,13 +108,13 @@ fn begins(judged: &Judged, events: &[Event], trace: &Record) -> bool
     judged.header().is_same(&trace.header) && begins_with(&trace.events, events)
 }
 
-impl Watched {
+impl LiveJudging {
     /// No event yet.
-    pub(crate) fn new(alloc: Global, header: Header) -> Result<Watched, AllocError>
+    pub(crate) fn new(alloc: Global, header: Header) -> Result<LiveJudging, AllocError>
         requires { IsHead header }
     {
         let judged = Judged::new(alloc, header)?;
-        Ok(Watched {
+        Ok(LiveJudging {
             judged: Some(judged),
             events: Vec::new(alloc),
         })
@@ -130,8 +130,8 @@ impl Watched {
         }
     }
 
-    /// Judges a round of events more, whole segments, unless one was refused. After an error nothing
-    /// that was judged is used.
+    /// Judges a round of events more, whole segments, unless one was refused. After an error
+    /// nothing that was judged is used.
     pub(crate) fn more<T: Threads + Wait + Sync, H: Gate>(
         &mut self,
         crew: &Crew<'_, T, H>,

@@ -3,7 +3,7 @@ use Rattle.pg_check.specs.Judging.{IsJudged}
 use Rattle.pg_event.specs.declared.event.Event.{Event}
 use Rattle.pg_threads.specs.Live.{IsWatched}
 use Rattle.pg_threads.proofs.WholeSegments.{watched_more}
-use Rattle.pg_threads.proofs.watched.judge_more.Goals as goal
+use Rattle.pg_threads.proofs.live_judging.judge_more.Goals as goal
 
 pub returns-clause-ok : goal.returns-clause-ok
 returns-clause-ok g c =
