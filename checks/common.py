@@ -51,18 +51,27 @@ def number_in(file, pattern):
     return int(found[1]) if found else None
 
 
-def lanes():
-    """How many proofs may run side by side: one a core, as memory allows, and one at least. A
-    container may have less of both than the machine."""
-    cores, free = len(os.sched_getaffinity(0)), 1024 * number_in("/proc/meminfo", r"MemAvailable:\s+(\d+)")
-    group = "/sys/fs/cgroup/"
-    quota, period = number_in(group + "cpu.max", r"^(\d+)"), number_in(group + "cpu.max", r" (\d+)")
-    limit, held = number_in(group + "memory.max", r"^(\d+)"), number_in(group + "memory.stat", r"anon (\d+)")
-    if quota and period:
-        cores = min(cores, quota // period)
+GROUP = "/sys/fs/cgroup/"
+
+
+def lanes_of_memory():
+    """How many proofs may run side by side by the memory that is free. A container may have less of
+    it than the machine."""
+    free = 1024 * number_in("/proc/meminfo", r"MemAvailable:\s+(\d+)")
+    limit, held = number_in(GROUP + "memory.max", r"^(\d+)"), number_in(GROUP + "memory.stat", r"anon (\d+)")
     if limit and held is not None:
         free = min(free, limit - held)
-    return max(1, min(cores, free // MEMORY_OF_A_PROOF))
+    return max(1, free // MEMORY_OF_A_PROOF)
+
+
+def lanes():
+    """How many proofs may run side by side: one a core, as memory allows, and one at least. A
+    container may have fewer cores than the machine."""
+    cores = len(os.sched_getaffinity(0))
+    quota, period = number_in(GROUP + "cpu.max", r"^(\d+)"), number_in(GROUP + "cpu.max", r" (\d+)")
+    if quota and period:
+        cores = max(1, min(cores, quota // period))
+    return min(cores, lanes_of_memory())
 
 
 def libraries_of(top):

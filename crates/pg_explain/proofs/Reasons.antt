@@ -31,7 +31,7 @@ use Rattle.pg_event.specs.Walk.{Reading, readings, below, root_of}
 use Rattle.pg_event.specs.Wants.{want_of, is_wanted, is_table, uses_last, may_dirty}
 use Rattle.pg_event.specs.Witness.{any_from, takes_out, survives, is_in_order, leads_to, is_one_context, structures_survive, tables_accessed, last_or, is_done_write, failing_walk, failing_leaf, failing_fault, failing_end, failing_flags, failing_claim, failing_update, is_updated, failing_access, failing_assist, failing_event, claim_of, update_of}
 use Rattle.pg_event.specs.Witness as witness
-use Rattle.pg_chain.specs.declared.steps.Step.{Step}
+use Rattle.pg_chain.specs.declared.steps.EntryRead.{EntryRead}
 use Rattle.pg_chain.specs.Walked.{entry_read, parent_of, reading_of}
 use Rattle.pg_explain.specs.declared.dropped.CacheKey.{CacheKey}
 use Rattle.pg_explain.specs.declared.dropped.CacheKey.TheVariants as caches
@@ -343,11 +343,11 @@ assist_found head events u (w ∷ ws) first rs o some e read h =
 
 -- ---- the step that is read last
 
-last_at : (a d : Step) (xs : List Step) → reading_of (get_or (a ∷ xs) (length xs) d) ≡ last_or (reading_of a) (map reading_of xs)
+last_at : (a d : EntryRead) (xs : List EntryRead) → reading_of (get_or (a ∷ xs) (length xs) d) ≡ last_or (reading_of a) (map reading_of xs)
 last_at a d [] = refl
 last_at a d (b ∷ xs) = last_at b d xs
 
-pub last_read : (xs : List Step) (d : Step) → 1 ≤ length xs → reading_of (get_or xs (length xs - 1) d) ≡ last_of (map reading_of xs)
+pub last_read : (xs : List EntryRead) (d : EntryRead) → 1 ≤ length xs → reading_of (get_or xs (length xs - 1) d) ≡ last_of (map reading_of xs)
 last_read [] d some = absurd (omega arith)
 last_read (a ∷ xs) d some =
     let same : suc (length xs) - 1 ≡ length xs = omega arith in

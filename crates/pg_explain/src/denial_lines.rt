@@ -12,7 +12,7 @@ use crate::line::{push_access, push_assist, push_deed, push_outcome};
 use crate::names::level_number;
 use crate::walk_finding::is_table;
 use crate::walk_text::{push_held, push_writer};
-use pg_chain::Step;
+use pg_chain::EntryRead;
 use pg_entry::Level;
 use pg_event::{Event, Outcome, processor_of};
 use std::alloc::{AllocError, Global};
@@ -93,7 +93,7 @@ fn push_now_entry(text: &mut String, entry: &WalkEntry) -> Result<(), AllocError
     ensures { OnOk result
         (string_bytes text.new ≡ string_bytes text.old ++ now_entry_text entry.now) }
 {
-    let Step {
+    let EntryRead {
         level,
         address,
         value,

@@ -12,7 +12,7 @@ ghost use Rattle.pg_explain.specs.Findings.{translation_drop, foreign_finding, e
 use crate::dropped::{CacheKey, first_drop};
 use crate::finding::{Finding, Prevention, Tagged, Wish};
 use crate::walk_finding::tagged;
-use pg_chain::{Step, kind_at};
+use pg_chain::{EntryRead, kind_at};
 use pg_check::History;
 use pg_entry::{
     AccessKind, Cause, Cfg, Entry, Kind, Op, Rights, allowed, classify, error_code, page_offset,
@@ -82,7 +82,7 @@ fn leaf_finding(cfg: Cfg, claim: &Claim, rights: Rights, address: u64) -> Option
 }
 
 /// What the word of a step holds at the event.
-fn held_finding(cfg: Cfg, step: Step, value: u64) -> Finding
+fn held_finding(cfg: Cfg, step: EntryRead, value: u64) -> Finding
     requires { (36 ≤ cfg.m) × (cfg.m ≤ 52) }
     ensures { result ≡ held_finding cfg (reading_of step) value }
 {
@@ -101,7 +101,7 @@ fn fault_finding(
     claim: &Claim,
     cause: Cause,
     kind: Kind,
-    step: Step,
+    step: EntryRead,
 ) -> Option<Finding>
     ensures { result ≡ fault_finding history.now.head history.now.events claim.now cause kind
         (reading_of step) claim.now.outcome }
@@ -127,7 +127,7 @@ fn fault_finding(
     }
 }
 
-fn translation_drop(step: Step, at: Option<u32>) -> Option<Finding>
+fn translation_drop(step: EntryRead, at: Option<u32>) -> Option<Finding>
     ensures { result ≡ translation_drop step.level at }
 {
     match at {
@@ -166,7 +166,7 @@ fn page_finding(
     history: &History,
     claim: &Claim,
     pcid: u16,
-    step: Step,
+    step: EntryRead,
     frame: u64,
     shift: u8,
     global_bit: bool,
@@ -198,7 +198,7 @@ pub(crate) fn end_finding(
     history: &History,
     claim: &Claim,
     pcid: u16,
-    step: Step,
+    step: EntryRead,
 ) -> Option<Finding>
     requires { claim.now.p < length history.now.head.processors }
     ensures { result ≡ end_finding history.now.head history.now.events claim.now pcid

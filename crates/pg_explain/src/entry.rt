@@ -8,7 +8,7 @@ ghost use Rattle.pg_chain.specs.Walked.{reading_of, entry_read, parent_of};
 ghost use Rattle.pg_explain.specs.Findings.{readings_by};
 ghost use Rattle.pg_explain.specs.Walk.{writes, IsWriter, IsTold, reading_at};
 
-use pg_chain::{Step, kind_at};
+use pg_chain::{EntryRead, kind_at};
 use pg_check::History;
 use pg_entry::{Entry, Kind, Level, combine, table_of};
 use pg_event::{Event, Parent, below, entry_address, root_of};
@@ -17,7 +17,7 @@ use std::alloc::{AllocError, Global};
 /// An entry that the moments of an event name, as the walk reads it.
 #[derive(Clone, Copy, PartialEq, Eq)]
 pub struct WalkEntry {
-    pub step: Step,
+    pub step: EntryRead,
     /// The PCID of the processor at the moment.
     pub pcid: u16,
     /// What the entry is.
@@ -27,13 +27,13 @@ pub struct WalkEntry {
 }
 
 /// Reads the entry of a table for a linear address.
-fn read(history: &History, la: u64, level: Level, parent: Parent, moment: u32) -> Step
+fn read(history: &History, la: u64, level: Level, parent: Parent, moment: u32) -> EntryRead
     requires { parent.table < 2 ^ 52 }
     ensures { reading_of result ≡ entry_read (mem_at history.now.events) la level parent moment }
 {
     let address = entry_address(parent.table, level, la);
     let value = history.value_at(moment, address);
-    Step {
+    EntryRead {
         level,
         address,
         value,
@@ -43,7 +43,7 @@ fn read(history: &History, la: u64, level: Level, parent: Parent, moment: u32) -
 }
 
 /// The table that a walk goes on in after an entry.
-fn parent_after(history: &History, step: Step) -> Parent
+fn parent_after(history: &History, step: EntryRead) -> Parent
     ensures parent { result ≡ parent_of history.now.head.cfg.m (reading_of step) }
     ensures within { result.table < 2 ^ 52 }
 {
@@ -61,7 +61,7 @@ pub(crate) fn read_steps(
     p: u16,
     la: u64,
     moments: &[u32],
-) -> Result<Vec<Step>, AllocError>
+) -> Result<Vec<EntryRead>, AllocError>
     requires processor { p < length history.now.head.processors }
     requires some { 1 ≤ length moments.now }
     ensures read { IfOk result (λ steps. map reading_of steps.items
@@ -111,7 +111,7 @@ fn writer(events: &[Event], address: u64, moment: u32) -> Option<u32>
 }
 
 /// What is told of an entry that processor `p` reads.
-fn told(history: &History, p: u16, step: Step) -> WalkEntry
+fn told(history: &History, p: u16, step: EntryRead) -> WalkEntry
     requires { p < length history.now.head.processors }
     ensures told { IsTold history.now.head history.now.events p result }
     ensures step { result.step ≡ step }
@@ -129,7 +129,7 @@ pub(crate) fn tell(
     alloc: Global,
     history: &History,
     p: u16,
-    steps: &[Step],
+    steps: &[EntryRead],
 ) -> Result<Vec<WalkEntry>, AllocError>
     requires { p < length history.now.head.processors }
     ensures read { IfOk result (λ walk. map reading_at walk.items ≡ map reading_of steps.now) }

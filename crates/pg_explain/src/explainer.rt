@@ -18,7 +18,7 @@ use crate::entry::{WalkEntry, read_steps, tell};
 use crate::finding::{Finding, Tagged};
 use crate::flag_finding::{accessed_finding, flag_finding, update_finding};
 use crate::walk_finding::{Asked, tagged, walk_finding};
-use pg_chain::Step;
+use pg_chain::EntryRead;
 use pg_check::History;
 use pg_event::{Claim, Event, Moments, Update, Want, claim_of, update_of, want_of};
 use pg_search::{Last, find_moments, last_moments};
@@ -50,7 +50,7 @@ pub struct Told {
 }
 
 /// What is read last.
-fn last_step(steps: &[Step]) -> Step
+fn last_step(steps: &[EntryRead]) -> EntryRead
     requires { 1 ≤ length steps.now }
     ensures { reading_of result ≡ last_of (map reading_of steps.now) }
 {
@@ -72,7 +72,7 @@ fn claim_finding(
     claim: &Claim,
     first: Tagged,
     moments: &[u32],
-    steps: &[Step],
+    steps: &[EntryRead],
 ) -> Option<Finding>
     requires processor { claim.now.p < length history.now.head.processors }
     requires some { 1 ≤ length steps.now }
@@ -103,7 +103,7 @@ fn mark_finding(
     update: &Update,
     first: Tagged,
     moments: &[u32],
-    steps: &[Step],
+    steps: &[EntryRead],
 ) -> Option<Finding>
     requires processor { update.now.p < length history.now.head.processors }
     requires some { 1 ≤ length steps.now }

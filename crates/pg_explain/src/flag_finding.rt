@@ -7,12 +7,12 @@ ghost use Rattle.pg_explain.specs.Findings.{flag_finding, misfit_of, update_find
 
 use crate::finding::{Finding, Misfit};
 use crate::walk_finding::is_last;
-use pg_chain::Step;
+use pg_chain::EntryRead;
 use pg_entry::{AccessKind, Cfg, Entry, Kind, Rights, accessed, allowed, classify, dirty};
 use pg_event::{Claim, Update, Version, is_done_write, uses_last, want_of};
 
 /// An entry without A; the last one may be one that is only looked at.
-fn accessed_at(uses: bool, is_last: bool, step: Step) -> Option<Finding>
+fn accessed_at(uses: bool, is_last: bool, step: EntryRead) -> Option<Finding>
     ensures { result ≡ accessed_at uses is_last (reading_of step) }
 {
     if is_last && !uses || accessed(Entry(step.value)) {
@@ -26,7 +26,7 @@ fn accessed_at(uses: bool, is_last: bool, step: Step) -> Option<Finding>
 }
 
 /// The first entry that is used without A, where the last one is used or not.
-pub(crate) fn accessed_finding(uses: bool, steps: &[Step]) -> Option<Finding>
+pub(crate) fn accessed_finding(uses: bool, steps: &[EntryRead]) -> Option<Finding>
     ensures { result ≡ accessed_finding uses (map reading_of steps.now) }
 {
     for (i, step) in steps.iter().enumerate() {
@@ -37,7 +37,7 @@ pub(crate) fn accessed_finding(uses: bool, steps: &[Step]) -> Option<Finding>
     None
 }
 
-fn dirty_finding(claim: &Claim, end: Step) -> Option<Finding>
+fn dirty_finding(claim: &Claim, end: EntryRead) -> Option<Finding>
     ensures { result ≡ dirty_finding claim.now (reading_of end) }
 {
     if is_done_write(claim.kind, claim.outcome) && !dirty(Entry(end.value)) {
@@ -54,8 +54,8 @@ fn dirty_finding(claim: &Claim, end: Step) -> Option<Finding>
 pub(crate) fn flag_finding(
     version: Version,
     claim: &Claim,
-    steps: &[Step],
-    end: Step,
+    steps: &[EntryRead],
+    end: EntryRead,
 ) -> Option<Finding>
     ensures { result
         ≡ flag_finding version claim.now (map reading_of steps.now) (reading_of end) }
@@ -88,7 +88,7 @@ fn misfit_of(cfg: Cfg, access: AccessKind, rights: Rights, kind: Kind) -> Option
 }
 
 /// What of an assist does not fit the entry that is read last.
-pub(crate) fn update_finding(cfg: Cfg, update: &Update, end: Step) -> Option<Finding>
+pub(crate) fn update_finding(cfg: Cfg, update: &Update, end: EntryRead) -> Option<Finding>
     requires { (36 ≤ cfg.m) × (cfg.m ≤ 52) }
     ensures { result ≡ update_finding cfg update.now (reading_of end) }
 {

@@ -6,7 +6,7 @@ ghost use Rattle.pg_chain.specs.Walked.{reading_of};
 ghost use Rattle.pg_explain.specs.Given.{leaf_given, given_at, given_by};
 ghost use Rattle.pg_entry.specs.Kinds.{kind_of};
 
-use pg_chain::{Step, kind_at};
+use pg_chain::{EntryRead, kind_at};
 use pg_entry::{AccessKind, Cause, Cfg, Kind, Rights, allowed, error_code, page_offset};
 use pg_event::Outcome;
 
@@ -31,7 +31,7 @@ fn leaf_given(
 }
 
 /// What the entry of a step gives, unless it is a table.
-fn given_at(cfg: Cfg, access: AccessKind, la: u64, step: Step) -> Option<Outcome>
+fn given_at(cfg: Cfg, access: AccessKind, la: u64, step: EntryRead) -> Option<Outcome>
     requires { (36 ≤ cfg.m) × (cfg.m ≤ 52) }
     ensures { result
         ≡ given_at cfg access la step.rights (kind_of cfg step.level step.value) }
@@ -47,7 +47,12 @@ fn given_at(cfg: Cfg, access: AccessKind, la: u64, step: Step) -> Option<Outcome
 }
 
 /// What the first entry of a walk gives that is no table.
-pub(crate) fn given_by(cfg: Cfg, access: AccessKind, la: u64, steps: &[Step]) -> Option<Outcome>
+pub(crate) fn given_by(
+    cfg: Cfg,
+    access: AccessKind,
+    la: u64,
+    steps: &[EntryRead],
+) -> Option<Outcome>
     requires { (36 ≤ cfg.m) × (cfg.m ≤ 52) }
     ensures { result ≡ given_by cfg access la (map reading_of steps.now) }
 {

@@ -7,7 +7,7 @@ ghost use Rattle.pg_explain.specs.PutBack.{DenialsPutBack, EventsPutBack};
 
 use crate::denial::Denial;
 use crate::entry::WalkEntry;
-use pg_chain::Step;
+use pg_chain::EntryRead;
 use pg_event::Moments;
 use pg_search::{Last, last_among_changes, witnessed_among_changes};
 use std::alloc::{AllocError, Global};
@@ -50,7 +50,7 @@ fn entry_back(numbers: &[u32], number: u32, entry: &WalkEntry) -> WalkEntry
 {
     let step = entry.step;
     WalkEntry {
-        step: Step {
+        step: EntryRead {
             level: step.level,
             address: step.address,
             value: step.value,
@@ -128,7 +128,8 @@ pub fn denials_put_back()
     last_among_changes();
 }
 
-/// What is kept of an event is put back where that stands. It does nothing: its contract is the law.
+/// What is kept of an event is put back where that stands. It does nothing: its contract is the
+/// law.
 pub fn events_put_back()
     ensures { EventsPutBack }
 {}

@@ -42,8 +42,8 @@ fn push_listed(text: &mut String, name: &str, numbers: &[u32]) -> Result<(), All
     text.push_str("\n")
 }
 
-/// Appends whether other moments would do, as a line. `Err` is for want of memory alone, and may leave
-/// a part of the line.
+/// Appends whether other moments would do, as a line. `Err` is for want of memory alone, and may
+/// leave a part of the line.
 pub fn push_last(text: &mut String, deed: &str, other: Option<Moments>) -> Result<(), AllocError>
     ensures { OnOk result
         (string_bytes text.new ≡ string_bytes text.old ++ last_text deed.now other) }

@@ -13,7 +13,7 @@ ghost use Rattle.pg_explain.specs.Findings.{structure_finding, walk_finding};
 
 use crate::dropped::{CacheKey, first_drop};
 use crate::finding::{Finding, Limit, Tagged, Wish};
-use pg_chain::Step;
+use pg_chain::EntryRead;
 use pg_check::History;
 use pg_entry::{Cfg, Entry, Kind, Level, classify};
 use pg_event::{Want, below, is_wanted, structure_key};
@@ -105,7 +105,7 @@ fn is_wished(wish: Wish, kind: Kind) -> bool
     }
 }
 
-fn entry_at(cfg: Cfg, wish: Wish, step: Step) -> Option<Finding>
+fn entry_at(cfg: Cfg, wish: Wish, step: EntryRead) -> Option<Finding>
     requires { (36 ≤ cfg.m) × (cfg.m ≤ 52) }
     ensures { result ≡ entry_at cfg wish (reading_of step) }
 {
@@ -121,14 +121,14 @@ fn entry_at(cfg: Cfg, wish: Wish, step: Step) -> Option<Finding>
 }
 
 /// Whether no steps come after one.
-pub(crate) fn is_last(rest: &[Step]) -> bool
+pub(crate) fn is_last(rest: &[EntryRead]) -> bool
     ensures { result ≡ is_last (map reading_of rest.now) }
 {
     rest.is_empty()
 }
 
 /// The first entry that is not what it must be.
-fn entry_finding(cfg: Cfg, want: Want, steps: &[Step]) -> Option<Finding>
+fn entry_finding(cfg: Cfg, want: Want, steps: &[EntryRead]) -> Option<Finding>
     requires { (36 ≤ cfg.m) × (cfg.m ≤ 52) }
     ensures { result ≡ entry_finding cfg want (map reading_of steps.now) }
 {
@@ -191,8 +191,8 @@ fn structure_at(
     p: u16,
     pcid: u16,
     la: u64,
-    step: Step,
-    rest: &[Step],
+    step: EntryRead,
+    rest: &[EntryRead],
 ) -> Option<Finding>
     requires { p < length history.now.head.processors }
     ensures { result ≡ structure_at history.now.head history.now.events p pcid la
@@ -216,7 +216,7 @@ fn structure_finding(
     p: u16,
     pcid: u16,
     la: u64,
-    steps: &[Step],
+    steps: &[EntryRead],
 ) -> Option<Finding>
     requires { p < length history.now.head.processors }
     ensures { result ≡ structure_finding history.now.head history.now.events p pcid la
@@ -236,7 +236,7 @@ pub(crate) fn walk_finding(
     asked: Asked,
     first: Tagged,
     moments: &[u32],
-    steps: &[Step],
+    steps: &[EntryRead],
 ) -> Option<Finding>
     requires { asked.p < length history.now.head.processors }
     ensures { result ≡ walk_finding history.now.head history.now.events asked first moments.now

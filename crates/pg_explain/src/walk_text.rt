@@ -9,7 +9,7 @@ use crate::entry::WalkEntry;
 use crate::line::push_word;
 use crate::names::level_number;
 use crate::walk_finding::is_table;
-use pg_chain::Step;
+use pg_chain::EntryRead;
 use pg_entry::{Kind, Level};
 use std::alloc::AllocError;
 
@@ -57,13 +57,13 @@ pub(crate) fn push_writer(text: &mut String, writer: Option<u32>) -> Result<(), 
     }
 }
 
-/// Appends the line of an entry of a walk. `Err` is for want of memory alone, and may leave a part of
-/// the line.
+/// Appends the line of an entry of a walk. `Err` is for want of memory alone, and may leave a part
+/// of the line.
 pub fn push_entry(text: &mut String, entry: &WalkEntry) -> Result<(), AllocError>
     ensures { OnOk result
         (string_bytes text.new ≡ string_bytes text.old ++ entry_text entry.now) }
 {
-    let Step {
+    let EntryRead {
         level,
         address,
         value,

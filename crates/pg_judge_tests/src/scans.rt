@@ -77,8 +77,8 @@ fn moments_read(alloc: Global) -> Result<(u64, u64), Fail> {
     Ok((without, with))
 }
 
-/// Where no walk is kept, each of 10,240 reads looks up three tables and when its translation had to
-/// go; else that is looked up once for each of 512 pages.
+/// Where no walk is kept, each of 10,240 reads looks up three tables and when its translation had
+/// to go; else that is looked up once for each of 512 pages.
 #[test]
 fn pages_read_again(rt: HostRuntime) -> Result<(), Fail> {
     let (without, with) = moments_read(rt.alloc())?;

@@ -1,34 +1,23 @@
-ghost use Rattle.std.specs.Prelude.{◌≡◌, ◌≢◌, ◌<◌, ◌≤◌, ◌^◌, length, IfOk, IfErr, OnOk, OnErr};
-ghost use Rattle.std.specs.Prelude.{MatchResult, IfSome, IfNone, is_some, map, None, Some, true};
-ghost use Rattle.std.specs.Prelude.{false};
-ghost use Rattle.pg_entry.specs.Kinds.{kind_of};
-ghost use Rattle.pg_entry.specs.Permission.{joined};
+ghost use Rattle.std.specs.Prelude.{◌≡◌, ◌≢◌, ◌<◌, ◌≤◌, length, IfOk, IfErr, OnOk, OnErr};
+ghost use Rattle.std.specs.Prelude.{map, None, Some, true, false};
 ghost use Rattle.pg_event.specs.Form.{processor_of};
-ghost use Rattle.pg_event.specs.Wants.{is_table, is_leaf};
 ghost use Rattle.pg_machine.specs.Listed.{state_of, processor_at};
-ghost use Rattle.pg_machine.specs.Machine.{start, MayTake, after, translation_at};
+ghost use Rattle.pg_machine.specs.Machine.{start, MayTake, after};
 ghost use Rattle.pg_machine.specs.Refused.{Lacks, adds, adds_event};
-ghost use Rattle.pg_machine.specs.Stepping.{started_processor, root_at, entry_of, filled, unusable};
-ghost use Rattle.pg_machine.specs.Stepping.{stuck_table, stuck_leaf, stuck_drop, stuck_access};
-ghost use Rattle.pg_machine.specs.Stepping.{stuck_assist, stuck_coming, stuck_event, stuck_step};
-ghost use Rattle.pg_machine.specs.Stepping.{lacking, next_table, next_leaf, next_drop, next_event};
-ghost use Rattle.pg_machine.specs.Stepping.{next_step, with_processor, with_structure_first};
-ghost use Rattle.pg_machine.specs.Stepping.{with_translation_first, processor_after, writes_after};
-ghost use Rattle.pg_machine.specs.Stepping.{IsStuckBy};
+ghost use Rattle.pg_machine.specs.Stepping.{started_processor, root_at, stuck_drop};
+ghost use Rattle.pg_machine.specs.Stepping.{stuck_event, stuck_step, next_drop, next_event};
+ghost use Rattle.pg_machine.specs.Stepping.{next_step, with_processor, processor_after};
+ghost use Rattle.pg_machine.specs.Stepping.{writes_after, IsStuckBy};
+
+mod coming;
+mod fills;
 
 use crate::memory::Memory;
 use crate::processor::Processor;
-use crate::sought::Sought;
-use crate::step::{Member, Step, Structure, Translation};
+use crate::step::{Member, Step};
 use crate::stuck::Stuck;
-use pg_entry::{
-    AccessKind, Cfg, Entry, Kind, Level, Rights, classify, combine, dirty, marked, table_of,
-};
-use pg_event::{
-    Control, Event, Header, Outcome, Parent, Want, access_kind, entry_address, is_canonical,
-    may_cache, processor_of, root_of, says_dirty, structure_key, translation_key, want_of,
-    well_formed,
-};
+use pg_entry::{Cfg, Level, marked};
+use pg_event::{Control, Event, Header, Parent, processor_of, root_of, says_dirty, well_formed};
 use std::alloc::{AllocError, Global};
 use std::marker::Model;
 
@@ -134,91 +123,12 @@ impl Machine {
         })
     }
 
-    /// The entry that a fill reads, where the walk may read it and may keep what it says.
-    fn usable(&self, p: u16, la: u64, level: Level, from: Parent) -> Result<Entry, Stuck>
-        ensures usable { MatchResult result (λ _. unusable self.now p la level from ≡ None)
-            (λ e. unusable self.now p la level from ≡ Some e) }
-        ensures entry { IfOk result (λ entry. entry.0 ≡ entry_of self.now la level from) }
-        ensures processor { OnOk result (p < length self.now.processors) }
-    {
-        if p as usize >= self.processors.len() || !is_canonical(la) {
-            return Err(Stuck::Processor);
-        }
-        if !self.processor(p).may_read(la, level, from) {
-            return Err(Stuck::Source);
-        }
-        let entry = self.memory.entry(entry_address(from.table, level, la));
-        if !may_cache(self.header.version, entry) {
-            return Err(Stuck::Kind);
-        }
-        Ok(entry)
-    }
-
-    fn fill_table(&mut self, p: u16, la: u64, level: Level, from: Parent) -> Result<(), Stuck>
-        ensures ok { OnOk result ((stuck_table self.old p la level from ≡ None)
-            × (self.new ≡ next_table self.old p la level from)) }
-        ensures err { IfErr result (λ e. IsStuckBy true (stuck_table self.old p la level from) e
-            × (self.new ≡ self.old)) }
-    {
-        let entry = match self.usable(p, la, level, from) {
-            Ok(entry) => entry,
-            Err(stuck) => return Err(stuck),
-        };
-        let pcid = self.processor(p).control().pcid;
-        let Some(structure) = structure_of(self.cfg(), pcid, la, level, from.rights, entry) else {
-            return Err(Stuck::Kind);
-        };
-        self.add_structure(p, structure).map_err(|_| Stuck::Memory)
-    }
-
-    fn fill_leaf(&mut self, p: u16, la: u64, level: Level, from: Parent) -> Result<(), Stuck>
-        ensures ok { OnOk result ((stuck_leaf self.old p la level from ≡ None)
-            × (self.new ≡ next_leaf self.old p la level from)) }
-        ensures err { IfErr result (λ e. IsStuckBy true (stuck_leaf self.old p la level from) e
-            × (self.new ≡ self.old)) }
-    {
-        let entry = match self.usable(p, la, level, from) {
-            Ok(entry) => entry,
-            Err(stuck) => return Err(stuck),
-        };
-        let control = self.processor(p).control();
-        let Some(translation) = translation_of(self.cfg(), control, la, level, from.rights, entry)
-        else {
-            return Err(Stuck::Kind);
-        };
-        self.add_translation(p, translation)
-            .map_err(|_| Stuck::Memory)
-    }
-
     #[tactic(auto, using(crate::proofs::Processors::processor_at_read))]
     fn processor(&self, p: u16) -> &Processor
         requires { p < length self.now.processors }
         ensures { result.now ≡ processor_at self.now.processors p }
     {
         &self.processors[p as usize]
-    }
-
-    #[tactic(auto, using(crate::proofs::Processors::processor_at_read))]
-    fn add_structure(&mut self, p: u16, structure: Structure) -> Result<(), AllocError>
-        requires there { p < length self.old.processors }
-        requires within { structure.table < 2 ^ 52 }
-        ensures ok { OnOk result (self.new ≡ with_processor self.old p
-            (with_structure_first (processor_at self.old.processors p) structure)) }
-        ensures err { OnErr result (self.new ≡ self.old) }
-    {
-        self.processors[p as usize].add_structure(structure)
-    }
-
-    #[tactic(auto, using(crate::proofs::Processors::processor_at_read))]
-    fn add_translation(&mut self, p: u16, translation: Translation) -> Result<(), AllocError>
-        requires there { p < length self.old.processors }
-        requires size { translation.key.shift ≤ 30 }
-        requires within { translation.frame < 2 ^ 52 }
-        ensures ok { OnOk result (self.new ≡ with_processor self.old p
-            (with_translation_first (processor_at self.old.processors p) (Some translation))) }
-        ensures err { OnErr result (self.new ≡ self.old) }
-    {
-        self.processors[p as usize].add_translation(translation)
     }
 
     #[tactic(auto, using(crate::proofs::Processors::processor_at_read))]
@@ -289,75 +199,6 @@ impl Machine {
             | Event::MovCr4Pge { .. } => Ok(()),
         }
     }
-
-    /// Why an event cannot come: an access needs what gives its outcome, an assist its entry.
-    fn stuck_coming(&self, event: &Event) -> Option<Stuck>
-        requires { processor_of event.now < length self.now.processors }
-        ensures { result ≡ stuck_coming self.now event.now }
-    {
-        match *event {
-            Event::Access {
-                p,
-                flags,
-                la,
-                outcome,
-                ..
-            } => self.stuck_access(p, access_kind(flags), la, outcome),
-            Event::Assist {
-                p,
-                flags,
-                la,
-                word,
-                ..
-            } => {
-                let sought = Sought::Word {
-                    access: access_kind(flags),
-                    word,
-                    with_dirty: says_dirty(flags),
-                };
-                self.stuck_assist(p, la, sought)
-            }
-            Event::Write { .. }
-            | Event::MovCr3 { .. }
-            | Event::Invlpg { .. }
-            | Event::Invpcid { .. }
-            | Event::MovCr4Pge { .. } => None,
-        }
-    }
-
-    fn stuck_access(&self, p: u16, access: AccessKind, la: u64, outcome: Outcome) -> Option<Stuck>
-        requires { p < length self.now.processors }
-        ensures { result ≡ stuck_access self.now p access la outcome }
-    {
-        let processor = self.processor(p);
-        if processor.has_outcome(&self.header, &self.memory, access, la, outcome) {
-            None
-        } else {
-            Some(lacking(want_of(outcome)))
-        }
-    }
-
-    fn stuck_assist(&self, p: u16, la: u64, sought: Sought) -> Option<Stuck>
-        requires { p < length self.now.processors }
-        ensures { result ≡ stuck_assist self.now p la sought }
-    {
-        let processor = self.processor(p);
-        if processor.finds(self.cfg(), &self.memory, la, sought) {
-            None
-        } else {
-            Some(Stuck::Entry)
-        }
-    }
-}
-
-/// What lacks where an access cannot come to an outcome that wants this.
-fn lacking(want: Want) -> Stuck
-    ensures { result ≡ lacking want }
-{
-    match want {
-        Want::Leaf => Stuck::Translation,
-        Want::Absent | Want::Reserved | Want::Present => Stuck::Entry,
-    }
 }
 
 fn started_processors(alloc: Global, header: &Header) -> Result<Vec<Processor>, AllocError>
@@ -371,59 +212,4 @@ fn started_processors(alloc: Global, header: &Header) -> Result<Vec<Processor>, 
         .iter()
         .map(|start| Processor::started(alloc, m, *start))
         .collect(alloc)
-}
-
-/// The paging-structure-cache entry that an entry gives, where it refers to a table.
-fn structure_of(
-    cfg: Cfg,
-    pcid: u16,
-    la: u64,
-    level: Level,
-    rights: Rights,
-    entry: Entry,
-) -> Option<Structure>
-    requires width { (36 ≤ cfg.m) × (cfg.m ≤ 52) }
-    ensures none { IfNone result (is_table (kind_of cfg level entry.0) ≡ false) }
-    ensures some { IfSome result (λ x. (is_table (kind_of cfg level entry.0) ≡ true)
-        × (x ≡ filled cfg.m pcid la level rights entry.0)) }
-    ensures within { IfSome result (λ x. x.table < 2 ^ 52) }
-{
-    match classify(cfg, level, entry) {
-        Kind::Table { .. } => Some(Structure {
-            key: structure_key(pcid, level, la),
-            table: table_of(cfg.m, entry),
-            rights: combine(rights, entry),
-        }),
-        Kind::Leaf { .. } | Kind::Absent | Kind::Reserved => None,
-    }
-}
-
-/// The translation that an entry gives, where it refers to a page.
-fn translation_of(
-    cfg: Cfg,
-    control: Control,
-    la: u64,
-    level: Level,
-    rights: Rights,
-    entry: Entry,
-) -> Option<Translation>
-    requires width { (36 ≤ cfg.m) × (cfg.m ≤ 52) }
-    ensures value { result
-        ≡ translation_at control la (joined rights entry.0) entry.0 (kind_of cfg level entry.0) }
-    ensures wanted { is_some result ≡ is_leaf (kind_of cfg level entry.0) }
-    ensures within { IfSome result (λ x. (x.key.shift ≤ 30) × (x.frame < 2 ^ 52)) }
-{
-    match classify(cfg, level, entry) {
-        Kind::Leaf {
-            frame,
-            shift,
-            global_bit,
-        } => Some(Translation {
-            key: translation_key(control.pcid, shift, global_bit && control.pge, la),
-            frame,
-            rights: combine(rights, entry),
-            dirty: dirty(entry),
-        }),
-        Kind::Table { .. } | Kind::Absent | Kind::Reserved => None,
-    }
 }

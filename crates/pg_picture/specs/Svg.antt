@@ -214,7 +214,8 @@ things_text events l =
 
 abbrev pub svg_text : List Event → Explanation → Layout → List ℕ
 svg_text events x l =
-    head_text events x l ++ (lanes_of l ++ (keys_text ++ (things_text events l ++ codes "</svg>\n")))
+    head_text events x l
+    ++ (lanes_of l ++ (keys_text ++ (things_text events l ++ codes "</svg>\n")))
 
 -- this is the picture of an explanation
 abbrev pub IsPicture : Head → List Event → Explanation → List ℕ → Type 0

@@ -3,7 +3,7 @@ use Rattle.pg_event.specs.declared.event.Event.{Event}
 use Rattle.pg_event.specs.Heads.{Head}
 use Rattle.pg_event.specs.Walk.{Reading}
 use Rattle.pg_event.specs.Witness.{failing_assist}
-use Rattle.pg_chain.specs.declared.steps.Step.{Step}
+use Rattle.pg_chain.specs.declared.steps.EntryRead.{EntryRead}
 use Rattle.pg_chain.specs.Walked.{reading_of}
 use Rattle.pg_explain.specs.Findings.{assist_finding, readings_by}
 use Rattle.pg_explain.specs.Walk.{reading_at}
@@ -17,7 +17,7 @@ returns-in-None c =
     let ws = c.args.moments.now in
     let x = c.args.update.now in
     let rs : List Reading = map reading_of c.deref.result.now in
-    let read : rs ≡ readings_by head events x.p x.la ws = ap (λ (ys : List Step). map reading_of ys) c.deref.ensures.value ∙ c.in_ok-steps.ensures.read in
+    let read : rs ≡ readings_by head events x.p x.la ws = ap (λ (ys : List EntryRead). map reading_of ys) c.deref.ensures.value ∙ c.in_ok-steps.ensures.read in
     told_none c.mark_finding.result (assist_finding head events x ws) (failing_assist head events x ws)
     (assist_found head events x ws c.first_tag-first.result rs c.mark_finding.result c.requires.some c.first_tag-first.ensures read c.mark_finding.ensures)
     (assist_reasons head events x ws) c.in-None.is
@@ -29,10 +29,10 @@ returns c =
     let ws = c.args.moments.now in
     let x = c.args.update.now in
     let rs : List Reading = map reading_of c.deref.result.now in
-    let read : rs ≡ readings_by head events x.p x.la ws = ap (λ (ys : List Step). map reading_of ys) c.deref.ensures.value ∙ c.in_ok-steps.ensures.read in
+    let read : rs ≡ readings_by head events x.p x.la ws = ap (λ (ys : List EntryRead). map reading_of ys) c.deref.ensures.value ∙ c.in_ok-steps.ensures.read in
     let found : c.mark_finding.result ≡ assist_finding head events x ws = assist_found head events x ws c.first_tag-first.result rs c.mark_finding.result c.requires.some c.first_tag-first.ensures read c.mark_finding.ensures in
     let walk : map reading_at c.in_ok-walk-in-Some.walk.items ≡ readings_by head events x.p x.la ws =
-    c.in_ok-walk-in-Some.ensures.read ∙ (ap (λ (ys : List Step). map reading_of ys) c.deref-in-Some.ensures.value ∙ c.in_ok-steps.ensures.read) in (
+    c.in_ok-walk-in-Some.ensures.read ∙ (ap (λ (ys : List EntryRead). map reading_of ys) c.deref-in-Some.ensures.value ∙ c.in_ok-steps.ensures.read) in (
       told_some c.mark_finding.result (assist_finding head events x ws) (failing_assist head events x ws) c.in-Some.finding found (assist_reasons head events x ws) c.in-Some.is,
       sym found ∙ c.in-Some.is,
       record { read = walk; told = c.in_ok-walk-in-Some.ensures.told },

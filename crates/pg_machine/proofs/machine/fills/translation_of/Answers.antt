@@ -1,6 +1,6 @@
 use Rattle.std.proofs.Common.{sym}
 use Rattle.pg_machine.proofs.Bounds.{leaf_within}
-use Rattle.pg_machine.proofs.machine.translation_of.Goals as goal
+use Rattle.pg_machine.proofs.machine.fills.translation_of.Goals as goal
 
 pub returns-after-global_bit-clause-within : goal.returns-after-global_bit-clause-within
 returns-after-global_bit-clause-within c =
