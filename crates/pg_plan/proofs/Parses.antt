@@ -19,7 +19,7 @@ use Rattle.pg_plan.specs.declared.request.Plan.{Plan}
 use Rattle.pg_plan.specs.declared.request.Command.{Command}
 use Rattle.pg_plan.specs.declared.request.Selection.{Selection}
 use Rattle.pg_plan.specs.declared.request.Telling.{Telling}
-use Rattle.pg_plan.specs.Commands.{AreAsked, AreFrom1To64, Asks, AsksOnly, file_in, named_file, IsAsked, IsNumberIn, IsPlanOf, IsSelectionOf, IsTellingOf, command_line, command_word, faults, is_on}
+use Rattle.pg_plan.specs.Commands.{AreAsked, AreFrom1To64, Asks, AsksOnly, file_in, named_file, IsAsked, IsPlanOf, IsSelectionOf, IsTellingOf, command_line, command_word, faults, is_on}
 use Rattle.pg_plan.specs.Values.{AreHexDigits, IsAddressIn, IsCpuIn, IsOptional, IsPageIn}
 
 is_plain : is_simple_and_free command_line ≡ true

@@ -40,12 +40,17 @@ bare_line = on_top (λ s. record s {
   subcommand_required = true;
 }) (new_app (codes "pcid-audit"))
 
--- a number from 1 to 64 behind `--checkers`
-abbrev pub checkers_rule : Rule
-checkers_rule = record (new_rule (codes "checkers")) {
-  long = Some (codes "checkers");
+-- `--` and a name, with any text as its value
+abbrev pub value_rule : Text → Rule
+value_rule name = record (new_rule name) {
+  long = Some name;
   action = Some Set;
   value_names = 1;
+}
+
+-- a number from 1 to 64 behind `--checkers`
+abbrev pub checkers_rule : Rule
+checkers_rule = record (value_rule (codes "checkers")) {
   parser = Some (parsers.Signed (pos 1) (pos 64));
 }
 
@@ -86,36 +91,22 @@ run_line =
 
 -- an event number behind `--` and a name
 abbrev pub number_rule : Text → Rule
-number_rule name = record (new_rule name) {
-  long = Some name;
-  action = Some Set;
-  value_names = 1;
+number_rule name = record (value_rule name) {
   parser = Some (parsers.Signed (pos 0) (pos 4294967295));
 }
 
 -- a processor behind `--cpu`
 abbrev pub cpu_rule : Rule
-cpu_rule = record (new_rule (codes "cpu")) {
-  long = Some (codes "cpu");
-  action = Some Set;
-  value_names = 1;
+cpu_rule = record (value_rule (codes "cpu")) {
   parser = Some (parsers.Signed (pos 0) (pos 65535));
-}
-
--- an address behind `--` and a name
-abbrev pub address_rule : Text → Rule
-address_rule name = record (new_rule name) {
-  long = Some name;
-  action = Some Set;
-  value_names = 1;
 }
 
 -- `show` with what is asked of the events themselves
 abbrev pub filter_line : App
 filter_line =
     let cpu = with_rule (new_app (command_word Show)) cpu_rule in
-    let page = with_rule cpu (address_rule (codes "page")) in
-    with_rule page (address_rule (codes "word"))
+    let page = with_rule cpu (value_rule (codes "page")) in
+    with_rule page (value_rule (codes "word"))
 
 abbrev pub show_line : App
 show_line =
@@ -124,10 +115,7 @@ show_line =
 
 -- a number from 1 to 1,000,000 behind `--most`
 abbrev pub most_rule : Rule
-most_rule = record (new_rule (codes "most")) {
-  long = Some (codes "most");
-  action = Some Set;
-  value_names = 1;
+most_rule = record (value_rule (codes "most")) {
   parser = Some (parsers.Signed (pos 1) (pos 1000000));
 }
 

@@ -1,16 +1,15 @@
 ghost use Rattle.std.specs.Prelude.{◌≡◌, ◌↔◌, ◌⊎◌, ℕ, List, Option, IfOk, IfErr, Some, false};
 ghost use Rattle.std.specs.Prelude.{option_map};
 ghost use Rattle.clap.specs.Values.{kind_of};
-ghost use Rattle.clap.specs.Simple.{app_of, subcommand_rows_of};
+ghost use Rattle.clap.specs.Simple.{App, new_app, subcommand_rows_of, with_rule, with_subcommand};
 ghost use Rattle.clap.specs.Matches.{first_value, found_of};
-ghost use Rattle.clap.specs.Walk.{rows_of, rule_of};
-ghost use Rattle.clap.specs.declared.builder.command.Command.TheViews.{out-Command as fields_of};
-ghost use Rattle.pg_plan.specs.Commands.{texts, bare_line, check_line, certify_line, run_line};
-ghost use Rattle.pg_plan.specs.Commands.{judging_line, running_line, telling_line, show_line};
-ghost use Rattle.pg_plan.specs.Commands.{file_rule, file_in, named_file, plain_line, with_file};
-ghost use Rattle.pg_plan.specs.Commands.{checkers_rule, number_rule, switch_rule, command_line};
-ghost use Rattle.pg_plan.specs.Commands.{cpu_rule, address_rule, filter_line};
-ghost use Rattle.pg_plan.specs.Commands.{most_rule, explain_line, with_progress, IsTellingOf};
+ghost use Rattle.clap.specs.Walk.{Rule, rows_of};
+ghost use Rattle.pg_plan.specs.Making.{IsLine, IsLineOf, IsOption};
+ghost use Rattle.pg_plan.specs.Commands.{texts, bare_line, plain_line, check_line, certify_line};
+ghost use Rattle.pg_plan.specs.Commands.{run_line, show_line, explain_line, command_line};
+ghost use Rattle.pg_plan.specs.Commands.{file_rule, value_rule, switch_rule, checkers_rule};
+ghost use Rattle.pg_plan.specs.Commands.{number_rule, cpu_rule, most_rule, with_progress};
+ghost use Rattle.pg_plan.specs.Commands.{file_in, named_file, IsTellingOf};
 ghost use Rattle.pg_plan.specs.Commands.{command_word, AreFrom1To64, is_on, IsSelectionOf};
 ghost use Rattle.pg_plan.specs.Commands.{Asks, AsksOnly, IsPlanOf};
 ghost use Rattle.pg_plan.specs.Commands.{AsksHelp, AsksVersion, NamesHelp, NamesVersion};
@@ -134,7 +133,7 @@ const NO_TELLING: &str = "error: --most goes with --all alone, by digits alone, 
     For more information, try '--help'.\n";
 
 fn bare_line<'a>(alloc: Global) -> CommandLine<'a>
-    ensures { app_of result ≡ bare_line }
+    ensures { IsLineOf bare_line result }
 {
     CommandLine::new(alloc, "pcid-audit")
         .about("Audits records of multiprocessor runs under x86-64 four-level paging with PCIDs")
@@ -143,34 +142,39 @@ fn bare_line<'a>(alloc: Global) -> CommandLine<'a>
         .subcommand_required(true)
 }
 
-fn checkers_option<'a>(alloc: Global) -> Arg<'a>
-    ensures rule { rule_of result ≡ checkers_rule }
-    ensures local { result.global ≡ false }
+/// A command with no options. Like each step behind it, it is a `Result`, so that a chain of steps
+/// ends in one place where memory runs out.
+fn new_line<'a>(alloc: Global, name: &'a str, about: &'a str) -> Result<CommandLine<'a>, AllocError>
+    ensures { IsLine (new_app name.entry.now) result }
 {
-    Arg::new(alloc, CHECKERS)
-        .long(CHECKERS)
-        .value_name("N")
-        .help(CHECKERS_ABOUT)
-        .action(ArgAction::Set)
-        .value_parser(value_parser!(u16).range(1..=64))
+    Ok(CommandLine::new(alloc, name).about(about))
 }
 
-/// The command with a file's name behind its options.
-fn with_file<'a>(alloc: Global, line: CommandLine<'a>) -> Result<CommandLine<'a>, AllocError>
-    requires { (fields_of line).has_globals ≡ false }
-    ensures line { IfOk result (λ r. app_of r ≡ with_file (app_of line.entry)) }
-    ensures local { IfOk result (λ r. (fields_of r).has_globals ≡ false) }
+/// The command with one more option.
+fn with_option<'a>(
+    line: Result<CommandLine<'a>, AllocError>,
+    option: Arg<'a>,
+) -> Result<CommandLine<'a>, AllocError>
+    ensures { (app : App) (rule : Rule) → IsLine app line.entry → IsOption rule option.entry →
+        IsLine (with_rule app rule) result }
 {
-    let file = Arg::new(alloc, FILE)
-        .value_name("FILE")
-        .help(FILE_ABOUT)
-        .action(ArgAction::Set);
-    line.arg(file)
+    line?.arg(option)
 }
 
+/// The command line with one more command.
+fn with_command<'a>(
+    line: Result<CommandLine<'a>, AllocError>,
+    command: Result<CommandLine<'a>, AllocError>,
+) -> Result<CommandLine<'a>, AllocError>
+    ensures { (app own : App) → IsLine app line.entry → IsLine own command.entry →
+        IsLine (with_subcommand app own.top) result }
+{
+    line?.subcommand(command?)
+}
+
+/// A switch behind `--` and its name.
 fn switch<'a>(alloc: Global, name: &'a str, about: &'a str) -> Arg<'a>
-    ensures rule { rule_of result ≡ switch_rule name.entry.now }
-    ensures local { result.global ≡ false }
+    ensures { IsOption (switch_rule name.entry.now) result }
 {
     Arg::new(alloc, name)
         .long(name)
@@ -178,18 +182,66 @@ fn switch<'a>(alloc: Global, name: &'a str, about: &'a str) -> Arg<'a>
         .action(ArgAction::SetTrue)
 }
 
+/// An option behind `--` and its name, with any text as its value.
+fn value_option<'a>(alloc: Global, name: &'a str, value: &'a str, about: &'a str) -> Arg<'a>
+    ensures { IsOption (value_rule name.entry.now) result }
+{
+    Arg::new(alloc, name)
+        .long(name)
+        .value_name(value)
+        .help(about)
+        .action(ArgAction::Set)
+}
+
+fn checkers_option<'a>(alloc: Global) -> Arg<'a>
+    ensures { IsOption checkers_rule result }
+{
+    let parser = value_parser!(u16).range(1..=64);
+    value_option(alloc, CHECKERS, "N", CHECKERS_ABOUT).value_parser(parser)
+}
+
+/// An event number behind `--` and a name.
+fn number_option<'a>(alloc: Global, name: &'a str, value: &'a str, about: &'a str) -> Arg<'a>
+    ensures { IsOption (number_rule name.entry.now) result }
+{
+    value_option(alloc, name, value, about).value_parser(value_parser!(u32))
+}
+
+/// A processor behind `--cpu`.
+fn cpu_option<'a>(alloc: Global) -> Arg<'a>
+    ensures { IsOption cpu_rule result }
+{
+    value_option(alloc, CPU, "P", CPU_ABOUT).value_parser(value_parser!(u16))
+}
+
+/// How many are explained, behind `--most`.
+fn most_option<'a>(alloc: Global) -> Arg<'a>
+    ensures { IsOption most_rule result }
+{
+    let parser = value_parser!(u32).range(1..=1_000_000);
+    value_option(alloc, MOST, "N", MOST_ABOUT).value_parser(parser)
+}
+
+/// A file's name behind the options.
+fn file_option<'a>(alloc: Global) -> Arg<'a>
+    ensures { IsOption file_rule result }
+{
+    Arg::new(alloc, FILE)
+        .value_name("FILE")
+        .help(FILE_ABOUT)
+        .action(ArgAction::Set)
+}
+
 /// The command with `--progress` and a file's name behind its options.
 fn with_progress<'a>(
     alloc: Global,
-    line: CommandLine<'a>,
+    line: Result<CommandLine<'a>, AllocError>,
     about: &'a str,
 ) -> Result<CommandLine<'a>, AllocError>
-    requires { (fields_of line).has_globals ≡ false }
-    ensures line { IfOk result (λ r. app_of r ≡ with_progress (app_of line.entry)) }
-    ensures local { IfOk result (λ r. (fields_of r).has_globals ≡ false) }
+    ensures { (app : App) → IsLine app line.entry → IsLine (with_progress app) result }
 {
-    let line = line.arg(switch(alloc, PROGRESS, about))?;
-    with_file(alloc, line)
+    let line = with_option(line, switch(alloc, PROGRESS, about));
+    with_option(line, file_option(alloc))
 }
 
 /// A command with no option of its own.
@@ -198,166 +250,72 @@ fn plain_line<'a>(
     name: &'a str,
     about: &'a str,
 ) -> Result<CommandLine<'a>, AllocError>
-    ensures line { IfOk result (λ line. app_of line ≡ plain_line name.entry.now) }
-    ensures local { IfOk result (λ line. (fields_of line).has_globals ≡ false) }
+    ensures { IsLine (plain_line name.entry.now) result }
 {
-    with_progress(
-        alloc,
-        CommandLine::new(alloc, name).about(about),
-        PROGRESS_ABOUT,
-    )
+    with_progress(alloc, new_line(alloc, name, about), PROGRESS_ABOUT)
 }
 
 fn check_line<'a>(alloc: Global) -> Result<CommandLine<'a>, AllocError>
-    ensures line { IfOk result (λ line. app_of line ≡ check_line) }
-    ensures local { IfOk result (λ line. (fields_of line).has_globals ≡ false) }
+    ensures { IsLine check_line result }
 {
-    let line = CommandLine::new(alloc, CHECK)
-        .about(CHECK_ABOUT)
-        .arg(checkers_option(alloc))?
-        .arg(switch(alloc, ALL, SUMMARY_ABOUT))?;
+    let line = new_line(alloc, CHECK, CHECK_ABOUT);
+    let line = with_option(line, checkers_option(alloc));
+    let line = with_option(line, switch(alloc, ALL, SUMMARY_ABOUT));
     with_progress(alloc, line, PROGRESS_ABOUT)
 }
 
 fn certify_line<'a>(alloc: Global) -> Result<CommandLine<'a>, AllocError>
-    ensures line { IfOk result (λ line. app_of line ≡ certify_line) }
-    ensures local { IfOk result (λ line. (fields_of line).has_globals ≡ false) }
+    ensures { IsLine certify_line result }
 {
-    let line = CommandLine::new(alloc, CERTIFY)
-        .about(CERTIFY_ABOUT)
-        .arg(checkers_option(alloc))?
-        .arg(switch(alloc, BYTES, FOUND_ABOUT))?;
+    let line = new_line(alloc, CERTIFY, CERTIFY_ABOUT);
+    let line = with_option(line, checkers_option(alloc));
+    let line = with_option(line, switch(alloc, BYTES, FOUND_ABOUT));
     with_progress(alloc, line, PROGRESS_ABOUT)
 }
 
 fn run_line<'a>(alloc: Global) -> Result<CommandLine<'a>, AllocError>
-    ensures line { IfOk result (λ line. app_of line ≡ run_line) }
-    ensures local { IfOk result (λ line. (fields_of line).has_globals ≡ false) }
+    ensures { IsLine run_line result }
 {
-    let line = CommandLine::new(alloc, RUN)
-        .about(RUN_ABOUT)
-        .arg(checkers_option(alloc))?
-        .arg(switch(alloc, SINGLE, SINGLE_ABOUT))?
-        .arg(switch(alloc, BYTES, BYTES_ABOUT))?;
+    let line = new_line(alloc, RUN, RUN_ABOUT);
+    let line = with_option(line, checkers_option(alloc));
+    let line = with_option(line, switch(alloc, SINGLE, SINGLE_ABOUT));
+    let line = with_option(line, switch(alloc, BYTES, BYTES_ABOUT));
     with_progress(alloc, line, RECORDED_ABOUT)
 }
 
-/// An event number behind `--` and a name.
-fn number_option<'a>(alloc: Global, name: &'a str, value: &'a str, about: &'a str) -> Arg<'a>
-    ensures rule { rule_of result ≡ number_rule name.entry.now }
-    ensures local { result.global ≡ false }
-{
-    Arg::new(alloc, name)
-        .long(name)
-        .value_name(value)
-        .help(about)
-        .action(ArgAction::Set)
-        .value_parser(value_parser!(u32))
-}
-
-/// A processor behind `--cpu`.
-fn cpu_option<'a>(alloc: Global) -> Arg<'a>
-    ensures rule { rule_of result ≡ cpu_rule }
-    ensures local { result.global ≡ false }
-{
-    Arg::new(alloc, CPU)
-        .long(CPU)
-        .value_name("P")
-        .help(CPU_ABOUT)
-        .action(ArgAction::Set)
-        .value_parser(value_parser!(u16))
-}
-
-/// An address behind `--` and a name.
-fn address_option<'a>(alloc: Global, name: &'a str, about: &'a str) -> Arg<'a>
-    ensures rule { rule_of result ≡ address_rule name.entry.now }
-    ensures local { result.global ≡ false }
-{
-    Arg::new(alloc, name)
-        .long(name)
-        .value_name("HEX")
-        .help(about)
-        .action(ArgAction::Set)
-}
-
-/// `show` with what is asked of the events themselves.
-fn filter_line<'a>(alloc: Global) -> Result<CommandLine<'a>, AllocError>
-    ensures line { IfOk result (λ line. app_of line ≡ filter_line) }
-    ensures local { IfOk result (λ line. (fields_of line).has_globals ≡ false) }
-{
-    CommandLine::new(alloc, SHOW)
-        .about(SHOW_ABOUT)
-        .arg(cpu_option(alloc))?
-        .arg(address_option(alloc, PAGE, PAGE_ABOUT))?
-        .arg(address_option(alloc, WORD, WORD_ABOUT))
-}
-
 fn show_line<'a>(alloc: Global) -> Result<CommandLine<'a>, AllocError>
-    ensures line { IfOk result (λ line. app_of line ≡ show_line) }
-    ensures local { IfOk result (λ line. (fields_of line).has_globals ≡ false) }
+    ensures { IsLine show_line result }
 {
-    let line = filter_line(alloc)?
-        .arg(number_option(alloc, FROM, "A", FROM_ABOUT))?
-        .arg(number_option(alloc, TO, "B", TO_ABOUT))?;
-    with_file(alloc, line)
-}
-
-/// How many are explained, behind `--most`.
-fn most_option<'a>(alloc: Global) -> Arg<'a>
-    ensures rule { rule_of result ≡ most_rule }
-    ensures local { result.global ≡ false }
-{
-    Arg::new(alloc, MOST)
-        .long(MOST)
-        .value_name("N")
-        .help(MOST_ABOUT)
-        .action(ArgAction::Set)
-        .value_parser(value_parser!(u32).range(1..=1_000_000))
+    let line = new_line(alloc, SHOW, SHOW_ABOUT);
+    let line = with_option(line, cpu_option(alloc));
+    let line = with_option(line, value_option(alloc, PAGE, "HEX", PAGE_ABOUT));
+    let line = with_option(line, value_option(alloc, WORD, "HEX", WORD_ABOUT));
+    let line = with_option(line, number_option(alloc, FROM, "A", FROM_ABOUT));
+    let line = with_option(line, number_option(alloc, TO, "B", TO_ABOUT));
+    with_option(line, file_option(alloc))
 }
 
 fn explain_line<'a>(alloc: Global) -> Result<CommandLine<'a>, AllocError>
-    ensures line { IfOk result (λ line. app_of line ≡ explain_line) }
-    ensures local { IfOk result (λ line. (fields_of line).has_globals ≡ false) }
+    ensures { IsLine explain_line result }
 {
-    let line = CommandLine::new(alloc, EXPLAIN)
-        .about(EXPLAIN_ABOUT)
-        .arg(switch(alloc, ALL, ALL_ABOUT))?
-        .arg(most_option(alloc))?
-        .arg(switch(alloc, SVG, SVG_ABOUT))?;
+    let line = new_line(alloc, EXPLAIN, EXPLAIN_ABOUT);
+    let line = with_option(line, switch(alloc, ALL, ALL_ABOUT));
+    let line = with_option(line, most_option(alloc));
+    let line = with_option(line, switch(alloc, SVG, SVG_ABOUT));
     with_progress(alloc, line, PROGRESS_ABOUT)
 }
 
-/// The commands that judge a record.
-fn judging_line<'a>(alloc: Global) -> Result<CommandLine<'a>, AllocError>
-    ensures { IfOk result (λ line. app_of line ≡ judging_line) }
-{
-    bare_line(alloc)
-        .subcommand(check_line(alloc)?)?
-        .subcommand(certify_line(alloc)?)
-}
-
-/// And those that have to do with runs.
-fn running_line<'a>(alloc: Global) -> Result<CommandLine<'a>, AllocError>
-    ensures { IfOk result (λ line. app_of line ≡ running_line) }
-{
-    judging_line(alloc)?
-        .subcommand(run_line(alloc)?)?
-        .subcommand(plain_line(alloc, RUN_OF, RUN_OF_ABOUT)?)
-}
-
-/// And those that say more of a record.
-fn telling_line<'a>(alloc: Global) -> Result<CommandLine<'a>, AllocError>
-    ensures { IfOk result (λ line. app_of line ≡ telling_line) }
-{
-    running_line(alloc)?
-        .subcommand(explain_line(alloc)?)?
-        .subcommand(show_line(alloc)?)
-}
-
 fn command_line<'a>(alloc: Global) -> Result<CommandLine<'a>, AllocError>
-    ensures { IfOk result (λ line. app_of line ≡ command_line) }
+    ensures { IsLine command_line result }
 {
-    telling_line(alloc)?.subcommand(plain_line(alloc, UPGRADE, UPGRADE_ABOUT)?)
+    let line = Ok(bare_line(alloc));
+    let line = with_command(line, check_line(alloc));
+    let line = with_command(line, certify_line(alloc));
+    let line = with_command(line, run_line(alloc));
+    let line = with_command(line, plain_line(alloc, RUN_OF, RUN_OF_ABOUT));
+    let line = with_command(line, explain_line(alloc));
+    let line = with_command(line, show_line(alloc));
+    with_command(line, plain_line(alloc, UPGRADE, UPGRADE_ABOUT))
 }
 
 fn usage_of(alloc: Global, error: Error) -> Usage

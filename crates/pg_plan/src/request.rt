@@ -78,7 +78,7 @@ pub struct Invocation<'a> {
 }
 
 /// Why the words of a command line give no plan.
-#[derive(Debug, Drop)]
+#[derive(Drop)]
 pub enum Usage {
     /// Help was asked for: its text.
     Help(String),

@@ -17,7 +17,7 @@ pub enum Instruction {
 }
 
 /// An instruction and the number, from 0, of the processor that carries it out.
-#[derive(Clone, Copy, PartialEq, Eq, Debug)]
+#[derive(Clone, Copy)]
 pub struct Task {
     /// The number of the processor.
     pub p: u16,

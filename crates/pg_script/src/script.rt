@@ -15,7 +15,7 @@ use std::alloc::Global;
 use std::marker::Model;
 
 /// The settings of a run and the instructions of its processors, as a text says them.
-#[derive(Debug, Drop)]
+#[derive(Drop)]
 pub struct Script {
     header: Header,
     tasks: Tasks,

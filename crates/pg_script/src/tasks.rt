@@ -10,7 +10,7 @@ use std::alloc::{AllocError, Global};
 use std::marker::Model;
 
 /// Kept as the processors in the order of the lines, and for each processor its own instructions.
-#[derive(Debug, Drop)]
+#[derive(Drop)]
 pub(crate) struct Tasks {
     order: Vec<u16>,
     /// By the number of the processor, as far as the last that has an instruction.

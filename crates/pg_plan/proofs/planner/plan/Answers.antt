@@ -13,8 +13,8 @@ returns-in-Some-clause-asked c =
     let parsed = c.in-Ok-try_get_matches_from in
     let words = texts c.args.words.now in
     let app = app_of c.in-Ok.line in
-    let taken = parsed_taken app words c.in-Ok.ensures parsed.ensures.kinds in
-    let rows = parsed_rows app words parsed.matches c.in-Ok.ensures parsed.ensures.matches in
+    let taken = parsed_taken app words c.in-Ok.ensures.made.form parsed.ensures.kinds in
+    let rows = parsed_rows app words parsed.matches c.in-Ok.ensures.made.form parsed.ensures.matches in
     is_asked words c.in-Some.plan _ taken (plans_of (Some c.in-Some.plan) (subcommand_rows_of parsed.matches) words rows c.in-Some.ensures) (c.file_of.ensures ∙ ap file_in rows)
 
 pub returns-in-Some-clause-checkers : goal.returns-in-Some-clause-checkers
@@ -27,21 +27,21 @@ pub returns-in-Ok-try_get_matches_from-clause-taken :
 returns-in-Ok-try_get_matches_from-clause-taken c = λ plan file asks.
     let parsed = c.in-Ok-try_get_matches_from in
     let words = texts c.args.words.now in
-    let rows = parsed_rows (app_of c.in-Ok.line) words parsed.matches c.in-Ok.ensures parsed.ensures.matches in
+    let rows = parsed_rows (app_of c.in-Ok.line) words parsed.matches c.in-Ok.ensures.made.form parsed.ensures.matches in
     let none : None ≡ Some plan = (plans_of None (subcommand_rows_of parsed.matches) words rows c.in-None.ensures plan).1 asks.1 in
     cc
 
 pub returns-clause-help : goal.returns-clause-help
 returns-clause-help c = λ asks.
     let failed = c.in-Err-try_get_matches_from in
-    let kind = gives_text DisplayHelp (app_of c.in-Ok.line) (texts c.args.words.now) failed.error c.in-Ok.ensures failed.ensures.kinds asks in
+    let kind = gives_text DisplayHelp (app_of c.in-Ok.line) (texts c.args.words.now) failed.error c.in-Ok.ensures.made.form failed.ensures.kinds asks in
     let P : Usage → Type 0 = λ why. ¬ IsFault why in
     ⊎_elim (λ e. subst P (sym (c.usage_of.ensures.memory e)) (λ f. f)) (λ e. c.usage_of.ensures.help e) kind
 
 pub returns-clause-version : goal.returns-clause-version
 returns-clause-version c = λ asks.
     let failed = c.in-Err-try_get_matches_from in
-    let kind = gives_text DisplayVersion (app_of c.in-Ok.line) (texts c.args.words.now) failed.error c.in-Ok.ensures failed.ensures.kinds asks in
+    let kind = gives_text DisplayVersion (app_of c.in-Ok.line) (texts c.args.words.now) failed.error c.in-Ok.ensures.made.form failed.ensures.kinds asks in
     let P : Usage → Type 0 = λ why. ¬ IsFault why in
     ⊎_elim (λ e. subst P (sym (c.usage_of.ensures.memory e)) (λ f. f)) (λ e. c.usage_of.ensures.version e) kind
 
@@ -51,7 +51,7 @@ returns-in-Ok-try_get_matches_from-clause-help c = λ asks.
     let parsed = c.in-Ok-try_get_matches_from in
     let none : Kinds = [] in
     let some : Kinds = DisplayHelp ∷ [] in
-    let both : none ≡ some = sym (parsed_taken (app_of c.in-Ok.line) (texts c.args.words.now) c.in-Ok.ensures parsed.ensures.kinds) ∙ asks in
+    let both : none ≡ some = sym (parsed_taken (app_of c.in-Ok.line) (texts c.args.words.now) c.in-Ok.ensures.made.form parsed.ensures.kinds) ∙ asks in
     absurd cc
 
 pub returns-in-Ok-try_get_matches_from-clause-version :
@@ -60,20 +60,20 @@ returns-in-Ok-try_get_matches_from-clause-version c = λ asks.
     let parsed = c.in-Ok-try_get_matches_from in
     let none : Kinds = [] in
     let some : Kinds = DisplayVersion ∷ [] in
-    let both : none ≡ some = sym (parsed_taken (app_of c.in-Ok.line) (texts c.args.words.now) c.in-Ok.ensures parsed.ensures.kinds) ∙ asks in
+    let both : none ≡ some = sym (parsed_taken (app_of c.in-Ok.line) (texts c.args.words.now) c.in-Ok.ensures.made.form parsed.ensures.kinds) ∙ asks in
     absurd cc
 
 pub returns-clause-taken : goal.returns-clause-taken
 returns-clause-taken c = λ plan file asks.
     let failed = c.in-Err-try_get_matches_from in
-    c.usage_of.ensures.memory (fails_by_memory (app_of c.in-Ok.line) (texts c.args.words.now) failed.error c.in-Ok.ensures failed.ensures.kinds asks.0)
+    c.usage_of.ensures.memory (fails_by_memory (app_of c.in-Ok.line) (texts c.args.words.now) failed.error c.in-Ok.ensures.made.form failed.ensures.kinds asks.0)
 
 pub returns-clause-help_named : goal.returns-clause-help_named
 returns-clause-help_named c = λ is.
     let failed = c.in-Err-try_get_matches_from in
-    text_named DisplayHelp (app_of c.in-Ok.line) (texts c.args.words.now) failed.error c.in-Ok.ensures failed.ensures.kinds (c.usage_of.ensures.help_named is) (λ e. cc)
+    text_named DisplayHelp (app_of c.in-Ok.line) (texts c.args.words.now) failed.error c.in-Ok.ensures.made.form failed.ensures.kinds (c.usage_of.ensures.help_named is) (λ e. cc)
 
 pub returns-clause-version_named : goal.returns-clause-version_named
 returns-clause-version_named c = λ is.
     let failed = c.in-Err-try_get_matches_from in
-    text_named DisplayVersion (app_of c.in-Ok.line) (texts c.args.words.now) failed.error c.in-Ok.ensures failed.ensures.kinds (c.usage_of.ensures.version_named is) (λ e. cc)
+    text_named DisplayVersion (app_of c.in-Ok.line) (texts c.args.words.now) failed.error c.in-Ok.ensures.made.form failed.ensures.kinds (c.usage_of.ensures.version_named is) (λ e. cc)

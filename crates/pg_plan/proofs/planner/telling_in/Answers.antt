@@ -1,11 +1,8 @@
-use Rattle.std.proofs.Common.{◌≡◌, ◌↔◌, ◌∙◌, List, codes, ap, sym}
-use Rattle.std.specs.Prelude.{option_map}
+use Rattle.std.proofs.Common.{◌∙◌, List, codes, ap, sym}
 use Rattle.clap.specs.Matches.{found_of}
-use Rattle.clap.specs.Walk.{Row, Text, first_of, rows_of}
+use Rattle.clap.specs.Walk.{Row, rows_of}
 use Rattle.clap.proofs.WalkLemmas.{first_value-rows}
-use Rattle.pg_plan.specs.declared.request.Telling.{Telling}
 use Rattle.pg_plan.specs.Commands.{is_on}
-use Rattle.pg_plan.specs.Values.{IsTelling}
 use Rattle.pg_plan.proofs.planner.telling_in.Goals as goal
 
 pub returns : goal.returns
