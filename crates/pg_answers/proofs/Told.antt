@@ -1,5 +1,5 @@
 -- What is told of a denied event by the events that are kept.
-use Rattle.std.proofs.Common.{◌≡◌, ℕ, zero, suc, ◌+◌, ◌^◌, ◌<◌, ◌≤◌, true, cond, List, [], ◌∷◌, ◌++◌, length, take, get_or, map, Option, Some, None, IfSome, refl, ap, sym, ◌∙◌, subst, inl, inr, arith}
+use Rattle.std.proofs.Common.{◌≡◌, ℕ, zero, suc, ◌+◌, ◌^◌, ◌<◌, true, cond, List, [], ◌∷◌, ◌++◌, length, take, get_or, map, Option, Some, None, IfSome, refl, ap, sym, ◌∙◌, subst, inl, inr, arith}
 use Rattle.std.specs.Prelude.{slice_get, option_map}
 use Rattle.std.proofs.lemmas.Bool.{cases_Bool}
 use Rattle.std.proofs.lemmas.List.{length-map, length-take}
@@ -14,11 +14,11 @@ use Rattle.pg_search.specs.declared.last.Last.{Last}
 use Rattle.pg_search.specs.Bare.{bare}
 use Rattle.pg_search.specs.Last.{IsLast}
 use Rattle.pg_search.specs.Law.{names_moments}
-use Rattle.pg_search.specs.Thinned.{changes_something, thinned, rank, numbers_from}
+use Rattle.pg_search.specs.Thinned.{changes_something, thinned, rank}
 use Rattle.pg_certify.specs.Certified.{IsDenied}
 use Rattle.pg_certify.specs.Shares.{end_of}
 use Rattle.pg_certify.specs.Accounts.{Account, IsAccount, KeptWhole, whole_of}
-use Rattle.pg_certify.proofs.Windows.{rank_low, thinned_count}
+use Rattle.pg_certify.proofs.Windows.{thinned_count}
 use Rattle.pg_explain.specs.declared.denial.Denial.{Denial}
 use Rattle.pg_explain.specs.Denied.{IsDenialOf, denial_text_by}
 use Rattle.pg_explain.specs.Lasts.{taken_in}
@@ -74,17 +74,6 @@ well_in head (x ∷ xs) more (suc i) d h lt = well_in head xs more i d h.1 (omeg
 pub well_end : (head : Head) (es : List Event) (e : Event) → AreWellFormed head (es ++ e ∷ []) → AreWellFormed head (e ∷ [])
 well_end head [] e h = h
 well_end head (x ∷ xs) e h = well_end head xs e h.1
-
--- numbers
-
-length_numbers : (s : ℕ) (es : List Event) → length (numbers_from s es) ≡ length (thinned es)
-length_numbers s [] = refl
-length_numbers s (e ∷ es) =
-    let rest : length (numbers_from (s + 1) es) ≡ length (thinned es) = length_numbers (s + 1) es in
-    elim (cases_Bool (changes_something e)) as (λ _. length (numbers_from s (e ∷ es)) ≡ length (thinned (e ∷ es))) [
-      | inl t ↦ ap (λ b. length (cond b (s ∷ numbers_from (s + 1) es) (numbers_from (s + 1) es))) t ∙ ap suc rest ∙ sym (ap (λ b. length (cond b (e ∷ thinned es) (thinned es))) t)
-      | inr f ↦ ap (λ b. length (cond b (s ∷ numbers_from (s + 1) es) (numbers_from (s + 1) es))) f ∙ rest ∙ sym (ap (λ b. length (cond b (e ∷ thinned es) (thinned es))) f)
-    ]
 
 -- lists
 
@@ -153,11 +142,6 @@ module _ (a : Account) (r : Recorded) (n : ℕ) (e : Event) (h : IsDeniedAccount
   few =
       let total : length r.events < 2 ^ 32 = h.known.certifying.few in
       omega (arith, count, thinned_count (take n r.events), length-take n r.events, denied.within, total)
-
-  pub enough : length kept ≤ length a.numbers.numbers
-  enough =
-      let is : length a.numbers.numbers ≡ length (thinned r.events) = ap length h.known.numbering.numbers ∙ length_numbers 0 r.events in
-      omega (arith, is, count, rank_low r.events n)
 
   pub low : n < 2 ^ 32
   low = let total : length r.events < 2 ^ 32 = h.known.certifying.few in omega (arith, denied.within, total)

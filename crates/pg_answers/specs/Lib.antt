@@ -7,7 +7,6 @@ pub mod Upgrades
 pub mod Lines
 pub mod Texts
 pub mod Explanations
-pub mod Pictures
 pub mod Summaries
 pub mod Accounts
 pub mod Certificates

@@ -1,5 +1,6 @@
 -- What a command answers that writes a text of the record that it reads.
 use Rattle.std.specs.Prelude.{◌≡◌, ◌≢◌, ◌⊎◌, ℕ, List, Some, Result, Ok, Err, IfSome}
+use Rattle.pg_event.specs.declared.version.Version.TheVariants.{Two}
 use Rattle.pg_event.specs.Reading.{refusal}
 use Rattle.pg_event.specs.Spelling.{Recorded}
 use Rattle.pg_report.specs.declared.error.AuditError.{AuditError}
@@ -8,6 +9,7 @@ use Rattle.pg_report.specs.declared.error.AuditError.TheVariants.{Thread, Checke
 use Rattle.pg_report.specs.Changes.{Change, Adds, AddsSome, AddsNothing}
 use Rattle.pg_report.specs.Audits.{SpellsOne, SpellsNone, ReaderFails, WriterFails}
 use Rattle.pg_report.specs.Audits.{TellsFailures}
+use Rattle.pg_report.specs.Intake.{ReadsRecord, TellsDevice}
 
 module _ {A : Type 0} (IsTextOf : Recorded → A → List ℕ → Type 0) where
   -- the bytes spell one record, this is its text with an answer, and this holds of the text
@@ -54,3 +56,9 @@ module _ {A : Type 0} (IsTextOf : Recorded → A → List ℕ → Type 0) where
   -- and on one thread
   abbrev pub IsTextGiven : Change → Change → Result A AuditError → Type 0
   IsTextGiven = IsTextGivenBy 1
+
+  -- what is left of that once the record was read, whatever it was read from
+  abbrev pub GivesTextOf : ℕ → Recorded → Change → Result A AuditError → Type 0
+  GivesTextOf checkers r output result =
+      (input : Change) → IfSome input.old.bytes (λ bytes. ReadsRecord Two bytes (Ok r)) →
+      TellsDevice {A = Recorded} input (Ok r) → IsTextGivenBy checkers input output result

@@ -1,9 +1,10 @@
 //! Records that are certified as they are read.
 
-ghost use Rattle.std.specs.Prelude.{◌≡◌, ◌≢◌, ◌++◌, ℕ, List, Option, Err, OnOk, IfErr, IfSome};
+ghost use Rattle.std.specs.Prelude.{◌≡◌, ◌≢◌, ◌++◌, [], ℕ, List, Option, Err, OnOk, IfErr, IfSome};
 ghost use Rattle.pg_event.specs.declared.event.Event.{Event};
 ghost use Rattle.pg_event.specs.Heads.{Head};
 ghost use Rattle.pg_check.specs.Kept.{AreWellFormed};
+ghost use Rattle.pg_codec.specs.declared.stage.Stage.TheVariants.{Start};
 ghost use Rattle.pg_codec.specs.Streams.{FailsWithDevice};
 ghost use Rattle.pg_certify.specs.Accounts.{IsAccount, MayComeNext};
 ghost use Rattle.pg_report.specs.Changes.{drawn};
@@ -96,6 +97,29 @@ fn account_rest<R: Source>(
     unreachable!()
 }
 
+/// Reads the record that a source has left, all of it, by a new reader, and certifies it as it is
+/// read.
+fn account_by<R: Source>(
+    alloc: Global,
+    reader: &mut RecordReader,
+    source: &mut R,
+) -> Result<Accounting, AuditError>
+    requires { reader.old ≡ record { unread = []; stage = Start } }
+    ensures reads { ReadsAccount (R.left source.old) result }
+    ensures device { TellsDevice (drawn R.Source source.old source.new) result }
+{
+    let header = match reader.read_header(alloc, source) {
+        Ok(header) => header,
+        Err(error) => return Err(read_error(error)),
+    };
+    let mut account = Accounting::new(alloc, header)?;
+    let mut window = Vec::new(alloc);
+    match account_rest(alloc, reader, source, &mut account, &mut window) {
+        Ok(()) => Ok(account),
+        Err(error) => Err(error),
+    }
+}
+
 /// Reads the record that a source has left, all of it, and certifies it as it is read.
 pub(crate) fn read_account<R: Source>(
     alloc: Global,
@@ -105,14 +129,5 @@ pub(crate) fn read_account<R: Source>(
     ensures device { TellsDevice (drawn R.Source source.old source.new) result }
 {
     let mut reader = RecordReader::new(alloc)?;
-    let header = match reader.read_header(alloc, source) {
-        Ok(header) => header,
-        Err(error) => return Err(read_error(error)),
-    };
-    let mut account = Accounting::new(alloc, header)?;
-    let mut window = Vec::new(alloc);
-    if let Err(error) = account_rest(alloc, &mut reader, source, &mut account, &mut window) {
-        return Err(error);
-    }
-    Ok(account)
+    account_by(alloc, &mut reader, source)
 }

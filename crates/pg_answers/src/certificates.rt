@@ -15,7 +15,7 @@ ghost use Rattle.pg_answers.specs.Certificates.{CertifiesRecord, IsCertificateOf
 ghost use Rattle.pg_answers.specs.Accounts.{IsDeniedAccount};
 ghost use Rattle.pg_answers.specs.Certificates.{certificate_status, yes_report, denied_head};
 ghost use Rattle.pg_answers.specs.Streams.{streams};
-ghost use Rattle.pg_answers.specs.Texts.{IsTextGivenBy};
+ghost use Rattle.pg_answers.specs.Texts.{GivesTextOf, IsTextGivenBy};
 
 use crate::accounts::read_account;
 use crate::denials::told_of;
@@ -171,8 +171,28 @@ fn give_certificate<O: Sink>(
     }
 }
 
-/// Reads a record, has so many checkers judge it, and writes whether it can be certified. Nothing
-/// is written before that is known.
+/// Has so many checkers judge a record, and writes whether it can be certified. Nothing is written
+/// before that is known.
+fn write_judged<T: AllocGlobal + Threads + Wait + Sync, O: Sink>(
+    rt: &T,
+    checkers: u16,
+    history: &History,
+    output: &mut O,
+) -> Result<Option<u64>, AuditError>
+    requires { AreCheckers checkers }
+    ensures { GivesTextOf IsCertificateOf checkers history.now
+        (filled O.Sink output.old output.new) result }
+{
+    let denied = match first_denied_by(rt, rt.alloc(), history, checkers as u32) {
+        Ok(denied) => denied,
+        Err(CertifyError::Memory) => return Err(AuditError::Memory),
+        Err(CertifyError::Thread) => return Err(AuditError::Thread),
+    };
+    let told = certificate_of(rt.alloc(), history, denied)?;
+    give_certificate(output, told)
+}
+
+/// Reads a record, and writes whether it can be certified, by so many checkers.
 fn write_by_checkers<T: AllocGlobal + Threads + Wait + Sync, R: Source, O: Sink>(
     rt: &T,
     checkers: u16,
@@ -183,16 +203,23 @@ fn write_by_checkers<T: AllocGlobal + Threads + Wait + Sync, R: Source, O: Sink>
     ensures { IsTextGivenBy IsCertificateOf checkers
         (drawn R.Source input.old input.new) (filled O.Sink output.old output.new) result }
 {
-    let history = match read_record(rt.alloc(), input) {
-        Ok(history) => history,
-        Err(error) => return Err(error),
-    };
-    let denied = match first_denied_by(rt, rt.alloc(), &history, checkers as u32) {
-        Ok(denied) => denied,
-        Err(CertifyError::Memory) => return Err(AuditError::Memory),
-        Err(CertifyError::Thread) => return Err(AuditError::Thread),
-    };
-    let told = certificate_of(rt.alloc(), &history, denied)?;
+    match read_record(rt.alloc(), input) {
+        Ok(history) => write_judged(rt, checkers, &history, output),
+        Err(error) => Err(error),
+    }
+}
+
+/// Writes whether a record can be certified, by what is known of it.
+fn write_account<O: Sink>(
+    alloc: Global,
+    account: &Accounting,
+    output: &mut O,
+) -> Result<Option<u64>, AuditError>
+    requires { (r : Recorded) × IsAccount account.now r.head r.events }
+    ensures { (r : Recorded) → IsAccount account.now r.head r.events →
+        GivesTextOf IsCertificateOf 1 r (filled O.Sink output.old output.new) result }
+{
+    let told = certificate_by(alloc, account)?;
     give_certificate(output, told)
 }
 
@@ -206,12 +233,10 @@ fn write_as_read<R: Source, O: Sink>(
     ensures { IsTextGivenBy IsCertificateOf 1
         (drawn R.Source input.old input.new) (filled O.Sink output.old output.new) result }
 {
-    let account = match read_account(alloc, input) {
-        Ok(account) => account,
-        Err(error) => return Err(error),
-    };
-    let told = certificate_by(alloc, &account)?;
-    give_certificate(output, told)
+    match read_account(alloc, input) {
+        Ok(account) => write_account(alloc, &account, output),
+        Err(error) => Err(error),
+    }
 }
 
 /// Writes whether a record can be certified. One checker certifies it as it is read; several share

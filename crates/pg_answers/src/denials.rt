@@ -9,27 +9,21 @@ ghost use Rattle.pg_answers.specs.Accounts.{IsDenialTold, IsDeniedAccount, taken
 
 use pg_certify::{Accounting, Numbering, kept_whole};
 use pg_check::History;
-use pg_event::{Event, Header};
+use pg_event::Event;
 use pg_explain::{Denial, denial_text_by, denials_put_back, deny, events_put_back, put_back};
-use pg_search::{Bare, Last};
+use pg_search::{KeptRun, Last};
 use std::alloc::{AllocError, Global};
 
 /// The events that are kept, and one more, as a run of their own.
-fn changes_of(
-    alloc: Global,
-    header: &Header,
-    kept: &[Bare],
-    event: &Event,
-) -> Result<History, AllocError>
-    requires head { IsHead header.now }
-    requires well { AreWellFormed header.now (kept.now ++ event.now ∷ []) }
-    requires few { length kept.now + 1 < 2 ^ 32 }
+fn changes_of(alloc: Global, kept: &KeptRun, event: &Event) -> Result<History, AllocError>
+    requires well { AreWellFormed kept.now.head (kept.now.events ++ event.now ∷ []) }
+    requires few { length kept.now.events + 1 < 2 ^ 32 }
     ensures { IfOk result (λ history. history
-        ≡ record { head = header.now; events = kept.now ++ event.now ∷ [] }) }
+        ≡ record { head = kept.now.head; events = kept.now.events ++ event.now ∷ [] }) }
 {
-    let mut history = History::new(alloc, header.clone()?)?;
-    for change in kept {
-        history.extend(&[change.event()])?;
+    let mut history = History::new(alloc, kept.header().clone()?)?;
+    for number in 0..kept.len() as u32 {
+        history.extend(&[kept.event_at(number)])?;
     }
     history.extend(&[*event])?;
     Ok(history)
@@ -69,13 +63,12 @@ pub(crate) fn told_of(
     denials_put_back();
     events_put_back();
     kept_whole();
-    let certifying = account.certifying();
-    let kept = certifying.kept();
+    let kept = account.certifying().kept();
     let rank = kept.len();
-    let changes = changes_of(alloc, certifying.header(), kept, event)?;
+    let changes = changes_of(alloc, kept, event)?;
     let among = deny(alloc, &changes, rank as u64)?;
-    let numbers = &account.numbering().numbers()[..rank];
-    let denial = put_back(alloc, numbers, number as u32, &among)?;
+    let numbers = account.numbering().numbers(alloc, rank)?;
+    let denial = put_back(alloc, &numbers, number as u32, &among)?;
     let taken = taken_of(
         account.numbering(),
         changes.events(),

@@ -8,7 +8,7 @@ ghost use Rattle.pg_report.specs.Changes.{drawn, filled};
 ghost use Rattle.pg_report.specs.Intake.{TellsDevice};
 ghost use Rattle.pg_answers.specs.Naming.{IsNaming, NamesRecord, TellsNaming, with_events};
 ghost use Rattle.pg_answers.specs.Streams.{streams};
-ghost use Rattle.pg_answers.specs.Texts.{IsTextGiven};
+ghost use Rattle.pg_answers.specs.Texts.{GivesTextOf, IsTextGiven};
 
 use crate::certificates::no_text;
 use crate::refusals::tell;
@@ -41,8 +41,27 @@ fn write_events<O: Sink>(
     }
 }
 
-/// Reads a record, and writes it with moments that witness its events. Where there are none nothing
-/// is written.
+/// Writes a record with moments that witness its events. Where there are none nothing is written.
+fn write_found<O: Sink>(
+    alloc: Global,
+    history: &History,
+    output: &mut O,
+) -> Result<Naming, AuditError>
+    ensures { GivesTextOf IsNaming 1 history.now (filled O.Sink output.old output.new) result }
+{
+    // What a no says of runs, of events that are well formed and not too many.
+    denied_events_have_no_run();
+    let _events = history.events();
+    match certify(alloc, history)? {
+        Certified::Yes(found) => write_events(output, history, &found),
+        Certified::No(event) => {
+            let text = no_text(alloc, history, event)?;
+            Ok(Naming::Denied(text))
+        }
+    }
+}
+
+/// Reads a record, and writes it with moments that witness its events.
 fn write_named<R: Source, O: Sink>(
     alloc: Global,
     input: &mut R,
@@ -51,19 +70,9 @@ fn write_named<R: Source, O: Sink>(
     ensures { IsTextGiven IsNaming
         (drawn R.Source input.old input.new) (filled O.Sink output.old output.new) result }
 {
-    let history = match read_record(alloc, input) {
-        Ok(history) => history,
-        Err(error) => return Err(error),
-    };
-    // What a no says of runs, of events that are well formed and not too many.
-    denied_events_have_no_run();
-    let _events = history.events();
-    match certify(alloc, &history)? {
-        Certified::Yes(found) => write_events(output, &history, &found),
-        Certified::No(event) => {
-            let text = no_text(alloc, &history, event)?;
-            Ok(Naming::Denied(text))
-        }
+    match read_record(alloc, input) {
+        Ok(history) => write_found(alloc, &history, output),
+        Err(error) => Err(error),
     }
 }
 

@@ -7,7 +7,7 @@ use pg_codec::Sink;
 use pg_report::{AuditError, Report, Verdict, write_text};
 
 /// What `run-of` wrote.
-#[derive(Clone, Copy, Debug, PartialEq, Eq)]
+#[derive(Clone, Copy)]
 pub enum Shown {
     /// The text of a run that has the record's events.
     Run,
@@ -16,14 +16,14 @@ pub enum Shown {
 }
 
 /// A report with its text.
-#[derive(Debug, Drop)]
+#[derive(Drop)]
 pub struct ReportText {
     pub report: Report,
     pub text: String,
 }
 
 /// A record's verdict, and what is written of the record.
-#[derive(Debug, Drop)]
+#[derive(Drop)]
 pub struct ToldText {
     pub verdict: Verdict,
     pub text: String,
@@ -47,7 +47,7 @@ pub enum Naming {
 }
 
 /// Writes what is told of a record, and gives its verdict.
-pub(crate) fn give<O: Sink>(output: &mut O, told: ToldText) -> Result<Verdict, AuditError>
+pub fn give<O: Sink>(output: &mut O, told: ToldText) -> Result<Verdict, AuditError>
     ensures text { WritesText (filled O.Sink output.old output.new)
         (string_bytes told.text) result }
     ensures device { TellsDevice (filled O.Sink output.old output.new) result }

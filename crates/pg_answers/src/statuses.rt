@@ -40,7 +40,8 @@ pub(crate) fn verdict_status(verdict: Verdict) -> u8
     }
 }
 
-pub(crate) fn status_of(answer: Result<Verdict, AuditError>) -> u8
+/// Of a verdict, or of an error where there is none.
+pub fn status_of(answer: Result<Verdict, AuditError>) -> u8
     ensures { result ≡ status_of answer }
 {
     match answer {

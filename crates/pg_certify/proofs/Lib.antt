@@ -4,3 +4,4 @@ mod Meaning
 mod Shares
 pub mod Windows
 mod Accounts
+mod Packed

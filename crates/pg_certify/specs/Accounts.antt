@@ -1,12 +1,11 @@
 -- The numbers of the events that are kept, and which of them are kept whole beside.
-use Rattle.std.specs.Prelude.{◌≡◌, ℕ, ◌+◌, ◌-◌, ◌==◌, Bool, true, false, not, if◌then◌else◌}
+use Rattle.std.specs.Prelude.{◌≡◌, ℕ, ◌+◌, ◌==◌, Bool, true, false, not, if◌then◌else◌}
 use Rattle.std.specs.Prelude.{List, [], ◌∷◌, ◌++◌, length, Option, Some, None, IfSome, slice_get}
 use Rattle.pg_event.specs.declared.event.Event.{Event}
 use Rattle.pg_event.specs.declared.event.Event.TheVariants.{Write, Access, Assist, MovCr3, Invlpg}
 use Rattle.pg_event.specs.declared.event.Event.TheVariants.{Invpcid, MovCr4Pge}
 use Rattle.pg_event.specs.declared.event.Outcome.TheVariants.{Page, Fault}
 use Rattle.pg_event.specs.Heads.{Head}
-use Rattle.pg_check.specs.Kept.{AreWellFormed}
 use Rattle.pg_run_of.specs.Converse.{without_moments}
 use Rattle.pg_search.specs.Bare.{bare}
 use Rattle.pg_search.specs.Thinned.{changes_something, numbers_from}

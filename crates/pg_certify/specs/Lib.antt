@@ -2,3 +2,4 @@ pub mod Certified
 pub mod Shares
 pub mod Windows
 pub mod Accounts
+pub mod Flags

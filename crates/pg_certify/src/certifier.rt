@@ -11,8 +11,7 @@ ghost use Rattle.pg_certify.specs.Certified.{CanBeCertified};
 ghost use Rattle.pg_certify.specs.Shares.{IsDealt, IsLeastDenied};
 
 use crate::case::{Asks, Case, case_of, with_moments};
-use crate::guesses::{Part, Scope, key_of, space_of};
-use crate::hints::Hints;
+use crate::guesses::{Guesses, Part, Scope, key_of};
 use crate::share::Share;
 use crate::walk::{Walk, first_moments, walk_by};
 use pg_check::{History, Memo, failing};
@@ -37,7 +36,7 @@ pub(crate) struct Certifier<'a> {
     alloc: Global,
     seen: Seen<'a>,
     memo: Memo<'a>,
-    hints: Hints,
+    guesses: Guesses,
 }
 
 impl<'a> Model for Certifier<'a> {
@@ -80,6 +79,9 @@ fn rare_pages_of(p: u16, pcid: u16, la: u64) -> [u64; 5] {
 /// So many changes of a word are looked at.
 const MOST_CHANGES: usize = 16;
 
+/// So many changes of a processor's control registers are gone back.
+const MOST_LOADS: usize = 64;
+
 fn last_of(moments: &Moments) -> u32 {
     let all = moments.as_slice();
     all[all.len() - 1]
@@ -87,7 +89,12 @@ fn last_of(moments: &Moments) -> u32 {
 
 impl<'a> Certifier<'a> {
     /// One that is to find moments for so many events, by what was found before.
-    pub(crate) fn new(alloc: Global, seen: Seen<'a>, hints: Hints, count: usize) -> Certifier<'a>
+    pub(crate) fn new(
+        alloc: Global,
+        seen: Seen<'a>,
+        guesses: Guesses,
+        count: usize,
+    ) -> Certifier<'a>
         ensures { result ≡ seen.entry }
     {
         let memo = seen.memo(count);
@@ -95,13 +102,13 @@ impl<'a> Certifier<'a> {
             alloc,
             seen,
             memo,
-            hints,
+            guesses,
         }
     }
 
     /// What was found, for those that come after.
-    pub(crate) fn into_hints(self) -> Hints {
-        self.hints
+    pub(crate) fn into_guesses(self) -> Guesses {
+        self.guesses
     }
 
     /// The event with these moments, if they witness it.
@@ -140,14 +147,8 @@ impl<'a> Certifier<'a> {
         ensures found { IfSome result
             (IsFoundFor self.old.head self.old.events i event.now) }
     {
-        let lists = self.hints.guesses.page(key)?;
-        if let Some(found) = self.judge_since(event, i, lists.newer, since) {
-            return Some(found);
-        }
-        match lists.older {
-            Some(moments) => self.judge_since(event, i, moments, since),
-            None => None,
-        }
+        let moments = self.guesses.page(key)?;
+        self.judge_since(event, i, moments, since)
     }
 
     /// The access to a large or a global page with moments that were found for that, if these
@@ -174,11 +175,11 @@ impl<'a> Certifier<'a> {
             (IsFoundFor self.old.head self.old.events case.i event.now) }
     {
         let key = key_of(case.p, Scope::Page(case.pcid), Part::Of4K, case.la);
-        let since = self.hints.guesses.since(case.p, case.pcid);
+        let since = self.guesses.since(case.p, case.pcid);
         if let Some(found) = self.judge_kept(event, case.i, key, since) {
             return Some(found);
         }
-        if self.hints.guesses.has_rare() {
+        if self.guesses.has_rare() {
             self.guess_rare(event, case)
         } else {
             None
@@ -208,9 +209,7 @@ impl<'a> Certifier<'a> {
         ensures { self.new ≡ self.old }
     {
         let is_page = matches!(case.asks, Asks::Page);
-        self.hints
-            .guesses
-            .note(case.p, case.pcid, case.la, walk, is_page);
+        self.guesses.note(case.p, case.pcid, case.la, walk, is_page);
     }
 
     /// The event with the moments of a walk that reads its first entries at these moments, and what
@@ -243,7 +242,7 @@ impl<'a> Certifier<'a> {
             (IsFoundFor self.old.head self.old.events case.i event.now) }
     {
         let key = key_of(case.p, Scope::Tables(case.pcid), part, case.la);
-        let near = self.hints.guesses.tables(key)?;
+        let near = self.guesses.tables(key)?;
         let tables = first_moments(&near, count);
         match self.guess_walk(event, case, tables.as_slice(), case.i) {
             Some(found) => Some(found),
@@ -283,17 +282,20 @@ impl<'a> Certifier<'a> {
         self.guess_walk(event, case, &tables[..count.min(3)], case.i)
     }
 
-    /// The latest moment up to one at which the processor had the PCID, as far as it is kept.
+    /// The latest moment up to one at which the processor had the PCID, if it lies among the last
+    /// few changes of its control registers.
     fn latest_under(&self, case: Case, moment: u32) -> Option<u32>
         requires { case.p < length self.now.head.processors }
     {
-        if self.seen.control_at(case.p, moment).pcid == case.pcid {
-            Some(moment)
-        } else {
-            self.hints
-                .changes
-                .last_to(space_of(case.p, case.pcid), moment)
+        let mut latest = moment;
+        for _ in 0..MOST_LOADS {
+            let span = self.seen.control_span(case.p, latest);
+            if span.value.pcid == case.pcid {
+                return Some(latest);
+            }
+            latest = span.from.checked_sub(1)?;
         }
+        None
     }
 
     /// The event by walks before a change of a word, under the own PCID or, as global pages may be
@@ -327,13 +329,12 @@ impl<'a> Certifier<'a> {
         ensures found { IfSome result
             (IsFoundFor self.old.head self.old.events case.i event.now) }
     {
-        let mut next = self.hints.changes.last(word);
+        let mut moment = case.i;
         for _ in 0..MOST_CHANGES {
-            let step = next?;
-            if let Some(found) = self.guess_change(event, case, step.event, count) {
+            moment = self.seen.value_span(moment, word).from.checked_sub(1)?;
+            if let Some(found) = self.guess_change(event, case, moment, count) {
                 return Some(found);
             }
-            next = self.hints.changes.before(step);
         }
         None
     }
@@ -435,56 +436,33 @@ impl<'a> Certifier<'a> {
         self.find_new(event, case)
     }
 
-    /// Takes note of an event that changes a word of table memory, or may change a PCID.
-    fn note_change(&mut self, i: u32, event: &Event)
-        requires { processor_of event.now < length self.old.head.processors }
-        ensures { self.new ≡ self.old }
-    {
-        match *event {
-            Event::Write { addr, .. } => self.hints.changes.note(i, addr),
-            Event::Assist { word, .. } => self.hints.changes.note(i, word),
-            Event::MovCr3 { p, .. } => {
-                let space = space_of(p, self.seen.control_at(p, i).pcid);
-                self.hints.changes.note(i, space);
-            }
-            Event::Access { .. }
-            | Event::Invlpg { .. }
-            | Event::Invpcid { .. }
-            | Event::MovCr4Pge { .. } => {}
-        }
-    }
-
     /// Takes note of an event that drops all that its processor has for a PCID, or for any, but for
     /// global translations (Intel SDM, vol. 3, 4.10.4.1).
-    fn note_drop(&mut self, i: u32, event: &Event)
+    pub(crate) fn see(&mut self, i: u32, event: &Event)
+        requires { processor_of event.now < length self.old.head.processors }
         ensures { self.new ≡ self.old }
     {
         match *event {
             Event::MovCr3 { p, operand } => {
                 if !has_bit(operand, 63) {
-                    self.hints.guesses.flush(i, p, (operand % 4096) as u16);
+                    self.guesses.flush(i, p, (operand % 4096) as u16);
                 }
             }
             Event::Invpcid { p, kind, pcid, .. } => match kind {
                 0 => {}
-                1 => self.hints.guesses.flush(i, p, pcid),
-                _ => self.hints.guesses.flush_all(i, p),
+                1 => self.guesses.flush(i, p, pcid),
+                _ => self.guesses.flush_all(i, p),
             },
-            Event::MovCr4Pge { p, .. } => self.hints.guesses.flush_all(i, p),
+            Event::MovCr4Pge { p, on } => {
+                if self.seen.control_at(p, i).pge != on {
+                    self.guesses.flush_all(i, p);
+                }
+            }
             Event::Write { .. }
             | Event::Access { .. }
             | Event::Assist { .. }
             | Event::Invlpg { .. } => {}
         }
-    }
-
-    /// Takes note of an event with this number, for guesses at those that come after it.
-    pub(crate) fn see(&mut self, i: u32, event: &Event)
-        requires { processor_of event.now < length self.old.head.processors }
-        ensures { self.new ≡ self.old }
-    {
-        self.note_change(i, event);
-        self.note_drop(i, event);
     }
 
     /// The event, as one with this number, with moments that witness it, which is itself where it
@@ -527,7 +505,7 @@ pub(crate) fn first_denied_of(
         history.now.head history.now.events) }
 {
     let count = share.size_of(history.len());
-    let mut certifier = Certifier::new(alloc, Seen::of(history), Hints::new(alloc), count);
+    let mut certifier = Certifier::new(alloc, Seen::of(history), Guesses::new(alloc), count);
     for i in 0..history.len() {
         let asked = event_at(history, i);
         if share.has(asked) {
@@ -562,7 +540,7 @@ pub fn certify(alloc: Global, history: &History) -> Result<Certified, AllocError
     ensures { IfOk result (Certifies history.now.head history.now.events) }
 {
     let count = history.len() as usize;
-    let mut certifier = Certifier::new(alloc, Seen::of(history), Hints::new(alloc), count);
+    let mut certifier = Certifier::new(alloc, Seen::of(history), Guesses::new(alloc), count);
     let mut found = Vec::new(alloc);
     for i in 0..history.len() {
         let asked = event_at(history, i);

@@ -10,11 +10,11 @@ ghost use Rattle.pg_certify.specs.declared.window.Denied.{Denied};
 ghost use Rattle.pg_certify.specs.Certified.{IsDenied, CanBeCertified};
 ghost use Rattle.pg_certify.specs.Windows.{IsCertifying, MayCome, IsJudgedWindow, after_window};
 
-use crate::hints::Hints;
-use crate::kept::Kept;
+use crate::guesses::Guesses;
+use crate::keeping::keep_all;
 use crate::window::{Denied, first_denied_among};
 use pg_event::{Event, Header};
-use pg_search::{Bare, witnessed_among_changes};
+use pg_search::{KeptRun, witnessed_among_changes};
 use std::alloc::{AllocError, Global};
 use std::marker::Model;
 
@@ -24,8 +24,8 @@ use std::marker::Model;
 #[derive(Drop)]
 pub struct Certifying {
     alloc: Global,
-    kept: Kept,
-    hints: Hints,
+    kept: KeptRun,
+    guesses: Guesses,
     count: u64,
     denied: Option<u64>,
 }
@@ -44,11 +44,11 @@ impl Certifying {
         requires { IsHead header }
         ensures { IfOk result (λ certifying. IsCertifying certifying header []) }
     {
-        let kept = Kept::new(alloc, header)?;
+        let kept = KeptRun::new(alloc, header)?;
         Ok(Certifying {
             alloc,
             kept,
-            hints: Hints::new(alloc),
+            guesses: Guesses::new(alloc),
             count: 0,
             denied: None,
         })
@@ -63,10 +63,10 @@ impl Certifying {
     }
 
     /// The events that are kept.
-    pub fn kept(&self) -> &[Bare]
-        ensures { result.now ≡ self.now.kept.events }
+    pub fn kept(&self) -> &KeptRun
+        ensures { result.now ≡ self.now.kept }
     {
-        self.kept.events()
+        &self.kept
     }
 
     /// Takes what judging so many events came to.
@@ -92,11 +92,11 @@ impl Certifying {
         ensures err { OnErr result (self.new ≡ self.old) }
     {
         let first = self.kept.len();
-        self.kept.keep_all(window)?;
+        keep_all(&mut self.kept, window)?;
         match first_denied_among(
             self.alloc,
             &self.kept,
-            &mut self.hints,
+            &mut self.guesses,
             first as u32,
             window,
         ) {

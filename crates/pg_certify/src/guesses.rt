@@ -17,18 +17,11 @@ pub(crate) enum Scope {
     Tables(u16),
 }
 
-/// The moments that were found last, and those that were found before.
-#[derive(Clone, Copy)]
-pub(crate) struct Lists {
-    pub newer: Moments,
-    pub older: Option<Moments>,
-}
-
 /// The moments that were found for pages, and for tables, and since when those of a processor and
 /// PCID may serve. Where memory is refused, some are not kept.
 #[derive(Drop)]
 pub(crate) struct Guesses {
-    pages: HashMap<u64, Lists>,
+    pages: HashMap<u64, Moments>,
     tables: HashMap<u64, Moments>,
     flushes: HashMap<u64, u32>,
     /// Whether any page was large or global.
@@ -65,8 +58,8 @@ pub(crate) fn key_of(p: u16, scope: Scope, part: Part, la: u64) -> u64 {
     (p as u64) << 52 | scope << 38 | part << 36 | number
 }
 
-/// A key that tells a PCID of a processor, and is no address of a word.
-pub(crate) fn space_of(p: u16, pcid: u16) -> u64 {
+/// A key that tells a PCID of a processor.
+fn space_of(p: u16, pcid: u16) -> u64 {
     (p as u64) << 32 | (pcid as u64) << 8 | 1
 }
 
@@ -95,10 +88,10 @@ impl Guesses {
         }
     }
 
-    /// The moments that were found for a page.
-    pub(crate) fn page(&self, key: u64) -> Option<Lists> {
+    /// The moments that were found last for a page.
+    pub(crate) fn page(&self, key: u64) -> Option<Moments> {
         match self.pages.get(&key) {
-            Some(lists) => Some(*lists),
+            Some(moments) => Some(*moments),
             None => None,
         }
     }
@@ -147,15 +140,7 @@ impl Guesses {
 
     /// Keeps moments that were found for a page.
     fn keep(&mut self, key: u64, moments: Moments) {
-        let older = match self.page(key) {
-            Some(lists) => Some(lists.newer),
-            None => None,
-        };
-        let lists = Lists {
-            newer: moments,
-            older,
-        };
-        let _refused = self.pages.insert(key, lists).is_err();
+        let _refused = self.pages.insert(key, moments).is_err();
     }
 
     /// Keeps the moments of a walk that witness an event under a PCID, for the tables that it comes

@@ -1,14 +1,15 @@
 //! The numbers of the events that are kept, and what else is told of them.
 
-ghost use Rattle.std.specs.Prelude.{◌≡◌, ◌+◌, ◌<◌, ◌^◌, [], ◌++◌, List, length, OnOk};
+ghost use Rattle.std.specs.Prelude.{◌≡◌, ◌+◌, ◌<◌, ◌^◌, [], ◌++◌, List, length, take, IfOk, OnOk};
 ghost use Rattle.pg_event.specs.declared.event.Event.{Event};
-ghost use Rattle.pg_certify.specs.Accounts.{is_placeholder, is_named, whole_of, with_number};
-ghost use Rattle.pg_certify.specs.Accounts.{with_named, noted, IsNumbering, KeptWhole};
+ghost use Rattle.pg_certify.specs.Accounts.{is_placeholder, is_named, whole_of, with_named};
+ghost use Rattle.pg_certify.specs.Accounts.{noted, IsNumbering, KeptWhole};
 ghost use Rattle.pg_search.specs.Bare.{bare};
 
-use crate::kept::changes_something;
+use crate::flags::Flags;
+use crate::keeping::changes_something;
 use pg_event::{Event, Moments, Outcome};
-use pg_search::Bare;
+use pg_search::bare;
 use std::alloc::{AllocError, Global};
 use std::marker::Model;
 
@@ -19,24 +20,25 @@ pub struct Numbered {
     pub event: Event,
 }
 
-/// The numbers of those events of a run that change something, and whole those of them that name
-/// moments other than one placeholder 0, since a line that tells of one shows its moments.
+/// Which events of a run change something, and whole those of them that name moments other than
+/// one placeholder 0, since a line that tells of one shows its moments.
 #[derive(Drop)]
 pub struct Numbering {
-    numbers: Vec<u32>,
+    changes: Flags,
     named: Vec<Numbered>,
-    count: u64,
 }
 
 impl Model for Numbering {
+    ghost use Rattle.std.specs.Prelude.{length};
     ghost use Rattle.pg_certify.specs.Accounts.{Numbers};
+    ghost use Rattle.pg_certify.specs.Flags.{set_from};
 
     ghost Value = { Numbers };
 
     ghost view = { λ n. record {
-      numbers = n.numbers.items;
+      numbers = set_from 0 n.changes;
       named = n.named.items;
-      count = n.count;
+      count = length n.changes;
     } };
 }
 
@@ -71,15 +73,6 @@ fn is_named(event: &Event) -> bool
     }
 }
 
-fn push_number(numbers: &mut Vec<u32>, number: u32, event: &Event) -> Result<(), AllocError>
-    ensures { OnOk result (numbers.new.items ≡ with_number numbers.old.items number event.now) }
-{
-    if changes_something(event) {
-        numbers.push(number)?;
-    }
-    Ok(())
-}
-
 fn push_named(named: &mut Vec<Numbered>, number: u32, event: &Event) -> Result<(), AllocError>
     ensures { OnOk result (named.new.items ≡ with_named named.old.items number event.now) }
 {
@@ -97,9 +90,8 @@ impl Numbering {
         ensures { IsNumbering result [] }
     {
         Numbering {
-            numbers: Vec::new(alloc),
+            changes: Flags::new(alloc),
             named: Vec::new(alloc),
-            count: 0,
         }
     }
 
@@ -107,11 +99,9 @@ impl Numbering {
         requires { self.old.count + 1 < 2 ^ 32 }
         ensures { OnOk result (self.new ≡ noted self.old event.now) }
     {
-        let number = self.count as u32;
-        push_number(&mut self.numbers, number, event)?;
-        push_named(&mut self.named, number, event)?;
-        self.count += 1;
-        Ok(())
+        let number = self.changes.len();
+        self.changes.push(changes_something(event))?;
+        push_named(&mut self.named, number, event)
     }
 
     /// Takes the events that come next. After an error it may have some of them, and is not to be
@@ -127,11 +117,12 @@ impl Numbering {
         Ok(())
     }
 
-    /// The numbers in their order.
-    pub fn numbers(&self) -> &[u32]
-        ensures { result.now ≡ self.now.numbers }
+    /// The numbers of the events that change something, in their order. Of more than so many the
+    /// first are told. Fails where memory is refused for so many.
+    pub fn numbers(&self, alloc: Global, most: usize) -> Result<Vec<u32>, AllocError>
+        ensures { IfOk result (λ numbers. numbers.items ≡ take most self.now.numbers) }
     {
-        self.numbers.as_slice()
+        self.changes.numbers(alloc, most)
     }
 
     /// The event with this number, of which the other is what is kept. `kept_whole` is the law.
@@ -143,7 +134,7 @@ impl Numbering {
                 return named.event;
             }
         }
-        Bare::new(kept).event()
+        bare(kept)
     }
 }
 

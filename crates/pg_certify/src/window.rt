@@ -7,9 +7,10 @@ ghost use Rattle.pg_search.specs.Thinned.{thinned};
 ghost use Rattle.pg_certify.specs.Windows.{IsFirstDenied};
 
 use crate::certifier::Certifier;
-use crate::hints::Hints;
-use crate::kept::{Kept, changes_something};
+use crate::guesses::Guesses;
+use crate::keeping::changes_something;
 use pg_event::Event;
+use pg_search::{KeptRun, Seen};
 use std::alloc::{AllocError, Global};
 use std::mem;
 
@@ -62,8 +63,8 @@ fn first_denied_in(
 /// The same by what was found before, to which is added what is found here.
 pub(crate) fn first_denied_among(
     alloc: Global,
-    kept: &Kept,
-    hints: &mut Hints,
+    kept: &KeptRun,
+    guesses: &mut Guesses,
     first: u32,
     window: &[Event],
 ) -> Result<Option<Denied>, AllocError>
@@ -72,9 +73,9 @@ pub(crate) fn first_denied_among(
     requires room { length kept.now.events < 2 ^ 32 }
     ensures { IfOk result (IsFirstDenied kept.now.head kept.now.events first window.now) }
 {
-    let before = mem::replace(hints, Hints::new(alloc));
-    let mut certifier = Certifier::new(alloc, kept.seen(), before, window.len());
+    let before = mem::replace(guesses, Guesses::new(alloc));
+    let mut certifier = Certifier::new(alloc, Seen::among(kept), before, window.len());
     let denied = first_denied_in(&mut certifier, first, window)?;
-    *hints = certifier.into_hints();
+    *guesses = certifier.into_guesses();
     Ok(denied)
 }

@@ -1,13 +1,15 @@
 -- Tallies count each bad event once.
-use Rattle.std.proofs.Common.{◌≡◌, ℕ, suc, ◌+◌, Bool, true, false, cond, not, eqb, List, [], ◌∷◌, ◌++◌, length, map, refl, sym, ap, ◌∙◌, arith, inl, inr}
+use Rattle.std.proofs.Common.{◌≡◌, ℕ, suc, ◌+◌, ◌<◌, Bool, true, false, cond, not, eqb, List, [], ◌∷◌, ◌++◌, length, map, take, get_or, refl, sym, ap, subst, ◌∙◌, arith, append-nil, inl, inr}
 use Rattle.std.specs.List.{AllByRecursion, filter, sum_by}
 use Rattle.std.proofs.lemmas.Bool.{cases_Bool, eqb-true}
+use Rattle.std.proofs.lemmas.List.{map_push, take_more}
+use Rattle.std.proofs.lemmas.List.Elements.{filter-append}
 use Rattle.std.proofs.lemmas.List.Sums.{sum_by-cons}
 use Rattle.pg_event.specs.declared.event.Reason.{Reason}
 use Rattle.pg_event.specs.declared.event.Reason.TheVariants.{Order, Entry, Context, StructureDropped, TranslationDropped, ForeignPcid, NotAtEvent, Rights, Answer, Code, Accessed, Dirty, Assist}
 use Rattle.pg_explain.specs.declared.bad_events.Bad.{Bad}
 use Rattle.pg_explain.specs.declared.tallier.Tally.{Tally}
-use Rattle.pg_explain.specs.Tallies.{place, reasons, has_reason, having, is_met, IsTally, CountsAddUp}
+use Rattle.pg_explain.specs.Tallies.{place, reasons, has_reason, having, is_met, IsTally, AreTalliesOf, CountsAddUp}
 
 -- how many have a reason
 abbrev count_of : List Bad → Reason → ℕ
@@ -81,3 +83,29 @@ add_up xs ts are =
 pub all_more : (xs : List Bad) (ts : List Tally) (t : Tally) → AllByRecursion (IsTally xs) ts → IsTally xs t → AllByRecursion (IsTally xs) (ts ++ t ∷ [])
 all_more xs [] t all is = (is, tt)
 all_more xs (u ∷ ts) t all is = (all.0, all_more xs ts t all.1 is)
+
+-- one more reason, that some bad event has, and that none has
+met_next : (xs : List Bad) (rs : List Reason) (i : ℕ) (d : Reason) → i < length rs → filter (is_met xs) (take (i + 1) rs) ≡ filter (is_met xs) (take i rs) ++ cond (is_met xs (get_or rs i d)) (get_or rs i d ∷ []) []
+met_next xs rs i d within = ap (filter (is_met xs)) (take_more rs i d within) ∙ filter-append (is_met xs) (take i rs) (get_or rs i d ∷ [])
+
+pub next_met : (xs : List Bad) (rs : List Reason) (i : ℕ) (d : Reason) (ts new : List Tally) (t : Tally) → i < length rs → new ≡ ts ++ t ∷ [] → is_met xs (get_or rs i d) ≡ true → t.reason ≡ get_or rs i d → IsTally xs t →
+    AreTalliesOf (take i rs) xs ts → AreTalliesOf (take (i + 1) rs) xs new
+next_met xs rs i d ts new t within is met reason told are =
+    let r : Reason = get_or rs i d in
+    let before : List Reason = filter (is_met xs) (take i rs) in
+    let reasons_of = λ (ys : List Tally). map (λ (y : Tally). y.reason) ys in
+    record {
+      reasons =
+          ap reasons_of is ∙ map_push (λ (y : Tally). y.reason) ts t ∙ ap (λ (q : Reason). reasons_of ts ++ q ∷ []) reason ∙ ap (λ (qs : List Reason). qs ++ r ∷ []) are.reasons
+          ∙ ap (λ b. before ++ cond b (r ∷ []) []) (sym met) ∙ sym (met_next xs rs i d within);
+      each = subst (AllByRecursion (IsTally xs)) (sym is) (all_more xs ts t are.each told);
+    }
+
+pub next_missed : (xs : List Bad) (rs : List Reason) (i : ℕ) (d : Reason) (ts : List Tally) → i < length rs → is_met xs (get_or rs i d) ≡ false → AreTalliesOf (take i rs) xs ts → AreTalliesOf (take (i + 1) rs) xs ts
+next_missed xs rs i d ts within none are =
+    let r : Reason = get_or rs i d in
+    let before : List Reason = filter (is_met xs) (take i rs) in
+    record {
+      reasons = are.reasons ∙ sym (append-nil before) ∙ ap (λ b. before ++ cond b (r ∷ []) []) (sym none) ∙ sym (met_next xs rs i d within);
+      each = are.each;
+    }

@@ -4,7 +4,7 @@ use Rattle.std.specs.Prelude.{slice_get, option_and_then}
 use Rattle.std.specs.List.{AllByRecursion, Contains}
 use Rattle.std.proofs.lemmas.Bool.{cases_lt}
 use Rattle.std.proofs.lemmas.List.{drop_more, take_more}
-use Rattle.std.proofs.lemmas.List.Elements.{All-from_recursion, All-contains, Contains-append_right}
+use Rattle.std.proofs.lemmas.List.Elements.{All-from_recursion, All-get_or, All-contains, Contains-append_right}
 use Rattle.std.proofs.lemmas.Option.{slice_get-get_or, slice_get_within}
 use Rattle.pg_event.specs.declared.event.Event.{Event}
 use Rattle.pg_event.specs.declared.event.Reason.{Reason}
@@ -77,6 +77,13 @@ bad_within head events i reason f = by_place (slice_get events i) refl f
     by_place : (o : Option Event) → slice_get events i ≡ o → option_and_then (failing_event head events i) o ≡ Some reason → i < length events
     by_place None at g = absurd cc
     by_place (Some e) at g = slice_get_within events i e at
+
+-- one of them
+pub bad_at : (head : Head) (events : List Event) (bs : List Bad) (i : ℕ) (d : Bad) → i < length bs → AllByRecursion (IsBad head events) bs → IsBad head events (get_or bs i d)
+bad_at head events bs i d lt all = All-get_or (IsBad head events) bs i d lt (All-from_recursion (IsBad head events) bs all)
+
+pub bad_fails : (head : Head) (events : List Event) (i : ℕ) (reason : Reason) → failing head events i ≡ Some reason → failing head events i ≡ None → ⊥
+bad_fails head events i reason f good = absurd cc
 
 -- ---- and there is no other
 

@@ -1,4 +1,5 @@
 pub mod Lines
+pub mod Loops
 pub mod Firsts
 pub mod Writers
 pub mod Reasons

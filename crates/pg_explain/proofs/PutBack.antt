@@ -1,10 +1,10 @@
 -- What stands behind an event among those that change something, put back among all.
-use Rattle.std.proofs.Common.{◌≡◌, ℕ, zero, suc, ◌+◌, ◌-◌, ◌<◌, ◌≤◌, Bool, true, false, not, cond, ◌||◌, List, [], ◌∷◌, ◌++◌, length, map, take, drop, fold, Option, Some, None, IfSome, IfNone, refl, ap, sym, ◌∙◌, subst, inl, inr, ◌⊎◌, arith}
+use Rattle.std.proofs.Common.{◌≡◌, ℕ, zero, suc, ◌+◌, ◌-◌, ◌<◌, ◌≤◌, true, false, cond, List, [], ◌∷◌, ◌++◌, length, map, take, drop, fold, Option, Some, None, IfSome, IfNone, refl, ap, sym, ◌∙◌, subst, inl, inr, arith}
 use Rattle.std.specs.Prelude.{slice_get, option_map}
 use Rattle.std.specs.Option.{option_or}
 use Rattle.std.specs.List.{AllByRecursion}
 use Rattle.std.proofs.lemmas.Bool.{cases_lt, cases_Bool, false_from_ne_true, false≢true}
-use Rattle.std.proofs.lemmas.List.{length-append, length-map, length-take, take-append-le, take-append-drop}
+use Rattle.std.proofs.lemmas.List.{length-append, length-map, take-append-le, take-append-drop}
 use Rattle.std.proofs.lemmas.List.Elements.{filter-append}
 use Rattle.std.proofs.Math.Seq.{take-append_seam}
 use Rattle.pg_entry.specs.declared.AccessKind.{AccessKind}
@@ -21,7 +21,7 @@ use Rattle.pg_event.specs.Heads.{Head}
 use Rattle.pg_event.specs.Form.{access_kind}
 use Rattle.pg_event.specs.Values.{written, controlled, started, mem_at, control_at}
 use Rattle.pg_event.specs.Walk.{Reading, readings, entry_address, below, root_of}
-use Rattle.pg_event.specs.Witness.{any_from, walked}
+use Rattle.pg_event.specs.Witness.{walked}
 use Rattle.pg_event.proofs.Alike.{same_judged}
 use Rattle.pg_inval.proofs.AnyFrom.{any_from-at, any_from-passes}
 use Rattle.pg_run_of.specs.Converse.{without_moments, AreSameButMoments}
@@ -36,7 +36,7 @@ use Rattle.pg_explain.specs.Denied.{IsWalkNow, IsDenialOf}
 use Rattle.pg_explain.specs.Findings.{readings_by}
 use Rattle.pg_explain.specs.Given.{given_at, given_by, given_now}
 use Rattle.pg_explain.specs.Walk.{writes, writes_some, is_written, IsWriter, IsTold, IsWalk, reading_at}
-use Rattle.pg_explain.specs.PutBack.{AreChanges, number_or, put_back, entry_put_back, last_put_back, IsPutBack, DenialsPutBack, IsKeptOf, EventsPutBack}
+use Rattle.pg_explain.specs.PutBack.{AreChanges, number_or, put_back, entry_put_back, last_put_back, IsPutBack, DenialsPutBack, EventsPutBack}
 
 some_same : (x y : Event) → Some x ≡ Some y → x ≡ y
 some_same x y h = cc

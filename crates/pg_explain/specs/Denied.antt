@@ -20,7 +20,7 @@ use Rattle.pg_explain.specs.declared.entry.WalkEntry.{WalkEntry}
 use Rattle.pg_explain.specs.declared.denial.Denial.{Denial}
 use Rattle.pg_explain.specs.Given.{given_now}
 use Rattle.pg_explain.specs.Lasts.{taken_by, taken_in}
-use Rattle.pg_explain.specs.Line.{access_text, outcome_text, assist_text, event_text}
+use Rattle.pg_explain.specs.Line.{outcome_text, claim_text}
 use Rattle.pg_explain.specs.Names.{level_number}
 use Rattle.pg_explain.specs.Text.{held_text, writer_text}
 use Rattle.pg_explain.specs.Walk.{IsWalk}
@@ -46,17 +46,6 @@ pub record IsDenialOf (head : Head) (events : List Event) (i : ℕ) (x : Denial)
   pub never : IfNone x.last (HasNoLast head events i)
 
 -- ---- its text
-
--- an event without the moments that it names
-abbrev pub claim_text : Event → List ℕ
-claim_text (Write p addr value) = event_text (Write p addr value)
-claim_text (Access p flags la outcome moments) =
-    access_text flags la ++ (codes " -> " ++ outcome_text outcome)
-claim_text (Assist p flags la word moments) = access_text flags la ++ assist_text flags word
-claim_text (MovCr3 p operand) = event_text (MovCr3 p operand)
-claim_text (Invlpg p la) = event_text (Invlpg p la)
-claim_text (Invpcid p kind pcid la) = event_text (Invpcid p kind pcid la)
-claim_text (MovCr4Pge p on) = event_text (MovCr4Pge p on)
 
 abbrev pub claim_line : ℕ → Event → List ℕ
 claim_line number e =

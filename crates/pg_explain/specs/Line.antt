@@ -122,6 +122,27 @@ event_text (Invpcid p kind pcid la) =
     codes "invpcid " ++ (decimal kind ++ (codes " " ++ (hex pcid ++ (codes " " ++ hex la))))
 event_text (MovCr4Pge p on) = codes "pge " ++ switch_text on
 
+-- an event without the moments that it names
+abbrev pub claim_text : Event → List ℕ
+claim_text (Write p addr value) = event_text (Write p addr value)
+claim_text (Access p flags la outcome moments) =
+    access_text flags la ++ (codes " -> " ++ outcome_text outcome)
+claim_text (Assist p flags la word moments) = access_text flags la ++ assist_text flags word
+claim_text (MovCr3 p operand) = event_text (MovCr3 p operand)
+claim_text (Invlpg p la) = event_text (Invlpg p la)
+claim_text (Invpcid p kind pcid la) = event_text (Invpcid p kind pcid la)
+claim_text (MovCr4Pge p on) = event_text (MovCr4Pge p on)
+
+-- the moments that an event names
+abbrev pub named_text : Event → List ℕ
+named_text (Write p addr value) = []
+named_text (Access p flags la outcome moments) = moments_text moments
+named_text (Assist p flags la word moments) = moments_text moments
+named_text (MovCr3 p operand) = []
+named_text (Invlpg p la) = []
+named_text (Invpcid p kind pcid la) = []
+named_text (MovCr4Pge p on) = []
+
 -- the line of the event with this number, without its end
 abbrev pub event_line : ℕ → Event → List ℕ
 event_line number e =

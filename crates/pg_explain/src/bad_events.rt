@@ -11,13 +11,13 @@ ghost use Rattle.pg_explain.specs.Explained.{IsExplained};
 ghost use Rattle.pg_explain.specs.Text.{explanation_text};
 
 use crate::explainer::explain;
-use crate::text::explanation_text;
+use crate::text::push_explained;
 use pg_check::{History, check_event};
 use pg_event::{Event, Reason, processor_of};
 use std::alloc::{AllocError, Global};
 
 /// An event that its moments do not prove.
-#[derive(Clone, Copy, Debug, PartialEq, Eq)]
+#[derive(Clone, Copy)]
 pub struct Bad {
     /// Its number.
     pub number: u32,
@@ -84,13 +84,8 @@ pub fn push_explanation(
         × (string_bytes text.new
         ≡ string_bytes text.old ++ explanation_text history.now.events x)) }
 {
-    let events = history.events();
     match explain(alloc, history, number)? {
-        Some(explanation) => {
-            let told = explanation_text(alloc, events, &explanation)?;
-            text.push_str(told.as_str())?;
-            Ok(())
-        }
+        Some(explanation) => push_explained(text, history.events(), &explanation),
         None => unreachable!(),
     }
 }

@@ -1,14 +1,14 @@
 //! The text of what stands behind an event that no moments witness.
 
 ghost use Rattle.std.specs.Prelude.{◌≡◌, ◌++◌, IfOk, OnOk, string_bytes};
-ghost use Rattle.pg_explain.specs.Denied.{claim_text, claimed_text, now_entry_text, now_walk_text};
+ghost use Rattle.pg_explain.specs.Denied.{claimed_text, now_entry_text, now_walk_text};
 ghost use Rattle.pg_explain.specs.Denied.{claim_line, claim_at, now_level_text, given_text};
 ghost use Rattle.pg_explain.specs.Denied.{denial_text, denial_text_by};
 
 use crate::denial::Denial;
 use crate::entry::WalkEntry;
-use crate::last_lines::{event_at, push_taken_by, taken_in};
-use crate::line::{push_access, push_assist, push_deed, push_outcome};
+use crate::last_lines::{push_taken_by, taken_in};
+use crate::line::{event_at, push_claim, push_outcome};
 use crate::names::level_number;
 use crate::walk_finding::is_table;
 use crate::walk_text::{push_held, push_writer};
@@ -16,39 +16,6 @@ use pg_chain::EntryRead;
 use pg_entry::Level;
 use pg_event::{Event, Outcome, processor_of};
 use std::alloc::{AllocError, Global};
-
-/// Appends what an event did, without the moments that it names.
-fn push_claim(text: &mut String, event: &Event) -> Result<(), AllocError>
-    ensures { OnOk result
-        (string_bytes text.new ≡ string_bytes text.old ++ claim_text event.now) }
-{
-    match *event {
-        Event::Access {
-            flags,
-            la,
-            outcome,
-            ..
-        } => {
-            push_access(text, flags, la)?;
-            text.push_str(" -> ")?;
-            push_outcome(text, outcome)
-        }
-        Event::Assist {
-            flags,
-            la,
-            word,
-            ..
-        } => {
-            push_access(text, flags, la)?;
-            push_assist(text, flags, word)
-        }
-        Event::Write { .. }
-        | Event::MovCr3 { .. }
-        | Event::Invlpg { .. }
-        | Event::Invpcid { .. }
-        | Event::MovCr4Pge { .. } => push_deed(text, event),
-    }
-}
 
 /// Appends the line of an event without the moments that it names.
 fn push_claim_line(text: &mut String, number: u32, event: &Event) -> Result<(), AllocError>

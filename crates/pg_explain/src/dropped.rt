@@ -12,7 +12,7 @@ use pg_event::{
 };
 
 /// What names an entry of a processor's caches.
-#[derive(Clone, Copy, PartialEq, Eq)]
+#[derive(Clone, Copy)]
 pub enum CacheKey {
     Structure(StructureKey),
     Translation(TranslationKey),

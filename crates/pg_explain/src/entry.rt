@@ -15,7 +15,7 @@ use pg_event::{Event, Parent, below, entry_address, root_of};
 use std::alloc::{AllocError, Global};
 
 /// An entry that the moments of an event name, as the walk reads it.
-#[derive(Clone, Copy, PartialEq, Eq)]
+#[derive(Clone, Copy)]
 pub struct WalkEntry {
     pub step: EntryRead,
     /// The PCID of the processor at the moment.

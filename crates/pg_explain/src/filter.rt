@@ -13,7 +13,7 @@ use pg_event::{Event, bits_from, processor_of};
 use std::alloc::{AllocError, Global};
 
 /// What is asked of the events that are shown. Of several things that are asked all must hold.
-#[derive(Clone, Copy, Debug, PartialEq, Eq)]
+#[derive(Clone, Copy)]
 pub struct Filter {
     /// The number of the first.
     pub from: u32,

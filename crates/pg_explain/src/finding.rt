@@ -5,14 +5,14 @@ use pg_entry::{AccessKind, Kind, Level, Rights};
 use pg_event::{Reason, Want};
 
 /// A moment of a processor, with the PCID that it has there.
-#[derive(Clone, Copy, PartialEq, Eq)]
+#[derive(Clone, Copy)]
 pub struct Tagged {
     pub moment: u32,
     pub pcid: u16,
 }
 
 /// What a moment must not be above.
-#[derive(Clone, Copy, PartialEq, Eq)]
+#[derive(Clone, Copy)]
 pub enum Limit {
     /// The moment of the next level.
     Moment(u32),
@@ -21,7 +21,7 @@ pub enum Limit {
 }
 
 /// What an entry of a walk must be.
-#[derive(Clone, Copy, PartialEq, Eq)]
+#[derive(Clone, Copy)]
 pub enum Wish {
     /// A table, above the last.
     Table,
@@ -30,7 +30,7 @@ pub enum Wish {
 }
 
 /// What of an assist does not fit the entry that is read last.
-#[derive(Clone, Copy, PartialEq, Eq)]
+#[derive(Clone, Copy)]
 pub enum Misfit {
     /// It is read at this moment, and not at the assist itself.
     Moment(u32),
@@ -43,7 +43,7 @@ pub enum Misfit {
 }
 
 /// What keeps supervisor mode from pages of user mode, as CR4 sets it (Intel SDM, vol. 3, 4.6).
-#[derive(Clone, Copy, PartialEq, Eq)]
+#[derive(Clone, Copy)]
 pub enum Prevention {
     /// SMAP: no data is read or written, unless EFLAGS.AC is set.
     Smap,
@@ -52,7 +52,7 @@ pub enum Prevention {
 }
 
 /// What stands behind the least reason that fails for an event.
-#[derive(Clone, Copy, PartialEq, Eq)]
+#[derive(Clone, Copy)]
 pub enum Finding {
     /// The first moment that is above the next one, or above the event.
     Order {

@@ -8,7 +8,7 @@ ghost use Rattle.pg_explain.specs.Text.{tags_text, drop_text, now_text, verb, ri
 ghost use Rattle.pg_explain.specs.Text.{by_text, flag_text, misfit_text, finding_text};
 
 use crate::finding::{Finding, Limit, Misfit, Prevention, Tagged, Wish};
-use crate::line::{push_code, push_event, push_kind, push_word};
+use crate::line::{event_at, push_code, push_kind, push_line_at, push_word};
 use crate::names::{level_number, rights_text};
 use crate::walk_text::{kind_name, push_held};
 use pg_entry::{AccessKind, Kind, Level, Rights};
@@ -21,10 +21,7 @@ pub fn push_numbered(text: &mut String, events: &[Event], number: u32) -> Result
     ensures { OnOk result
         (string_bytes text.new ≡ string_bytes text.old ++ numbered_text events.now number) }
 {
-    match events.get(number as usize) {
-        Some(event) => push_event(text, number as u64, event),
-        None => Ok(()),
-    }
+    push_line_at(text, number, event_at(events, number))
 }
 
 fn push_limit(text: &mut String, limit: Limit) -> Result<(), AllocError>

@@ -1,11 +1,10 @@
 //! The text of when an event would last have been witnessed.
 
-ghost use Rattle.std.specs.Prelude.{◌≡◌, ◌++◌, OnOk, slice_get, string_bytes};
+ghost use Rattle.std.specs.Prelude.{◌≡◌, ◌++◌, OnOk, string_bytes};
 ghost use Rattle.pg_explain.specs.Lasts.{by_text, last_moments_text, last_seen_by};
 ghost use Rattle.pg_explain.specs.Lasts.{taken_by, taken_in, taken_text};
-ghost use Rattle.pg_explain.specs.Line.{line_at};
 
-use crate::line::{push_event, push_numbers};
+use crate::line::{event_at, push_line_at, push_numbers};
 use pg_event::{Event, Moments};
 use pg_search::Last;
 use std::alloc::AllocError;
@@ -31,16 +30,6 @@ pub fn push_last_moments(text: &mut String, last: &Last) -> Result<(), AllocErro
     Ok(())
 }
 
-/// The event with this number.
-pub(crate) fn event_at(events: &[Event], number: u32) -> Option<Event>
-    ensures { result ≡ slice_get events.now number }
-{
-    match events.get(number as usize) {
-        Some(event) => Some(*event),
-        None => None,
-    }
-}
-
 /// The event that took the last moments away.
 pub(crate) fn taken_in(events: &[Event], last: Option<Last>) -> Option<Event>
     ensures { result ≡ taken_in events.now last }
@@ -48,17 +37,6 @@ pub(crate) fn taken_in(events: &[Event], last: Option<Last>) -> Option<Event>
     match last {
         None => None,
         Some(last) => event_at(events, last.number),
-    }
-}
-
-/// Appends the line of an event with this number, where there is one.
-fn push_line_at(text: &mut String, number: u32, event: Option<Event>) -> Result<(), AllocError>
-    ensures { OnOk result
-        (string_bytes text.new ≡ string_bytes text.old ++ line_at number event) }
-{
-    match event {
-        None => Ok(()),
-        Some(event) => push_event(text, number as u64, &event),
     }
 }
 

@@ -1,11 +1,11 @@
-ghost use Rattle.std.specs.Prelude.{◌≡◌, ◌++◌, OnOk, string_bytes};
+ghost use Rattle.std.specs.Prelude.{◌≡◌, ◌++◌, OnOk, codes, slice_get, string_bytes};
 ghost use Rattle.pg_event.specs.Form.{access_kind};
 ghost use Rattle.pg_explain.specs.Line.{mode_name, op_name, kind_text, access_text, bit_name};
 ghost use Rattle.pg_explain.specs.Line.{bit_names, opening, in_brackets, code_text, outcome_text};
 ghost use Rattle.pg_explain.specs.Line.{word_text, numbers_text, moments_text};
 ghost use Rattle.pg_explain.specs.Line.{set_text, assist_text};
-ghost use Rattle.pg_explain.specs.Line.{switch_text, event_text};
-ghost use Rattle.pg_explain.specs.Line.{event_line};
+ghost use Rattle.pg_explain.specs.Line.{switch_text, event_text, claim_text, named_text};
+ghost use Rattle.pg_explain.specs.Line.{event_line, line_at};
 
 use pg_entry::{AccessKind, Op, has_bit};
 use pg_event::{Event, Moments, Outcome, access_kind, processor_of, says_dirty};
@@ -142,10 +142,12 @@ fn set_text(flags: u8) -> &'static str
     }
 }
 
-fn switch_text(on: bool) -> &'static str
-    ensures { result.now ≡ switch_text on }
+/// Appends what MOV to CR4 did to CR4.PGE.
+fn push_switch(text: &mut String, on: bool) -> Result<(), AllocError>
+    ensures { OnOk result
+        (string_bytes text.new ≡ string_bytes text.old ++ (codes "pge " ++ switch_text on)) }
 {
-    if on { "on" } else { "off" }
+    text.push_str(if on { "pge on" } else { "pge off" })
 }
 
 /// Appends a word of table memory by its physical address.
@@ -166,10 +168,29 @@ pub(crate) fn push_assist(text: &mut String, flags: u8, word: u64) -> Result<(),
     text.push_str(set_text(flags))
 }
 
-/// Appends what an event did.
-pub(crate) fn push_deed(text: &mut String, event: &Event) -> Result<(), AllocError>
+/// Appends an access with its answer.
+fn push_answered(text: &mut String, flags: u8, la: u64, outcome: Outcome) -> Result<(), AllocError>
+    ensures { OnOk result (string_bytes text.new ≡ string_bytes text.old
+        ++ (access_text flags la ++ (codes " -> " ++ outcome_text outcome))) }
+{
+    push_access(text, flags, la)?;
+    text.push_str(" -> ")?;
+    push_outcome(text, outcome)
+}
+
+/// Appends an access with the assist that serves it.
+fn push_assisted(text: &mut String, flags: u8, la: u64, word: u64) -> Result<(), AllocError>
+    ensures { OnOk result (string_bytes text.new
+        ≡ string_bytes text.old ++ (access_text flags la ++ assist_text flags word)) }
+{
+    push_access(text, flags, la)?;
+    push_assist(text, flags, word)
+}
+
+/// Appends what an event did, without the moments that it names.
+pub(crate) fn push_claim(text: &mut String, event: &Event) -> Result<(), AllocError>
     ensures { OnOk result
-        (string_bytes text.new ≡ string_bytes text.old ++ event_text event.now) }
+        (string_bytes text.new ≡ string_bytes text.old ++ claim_text event.now) }
 {
     match *event {
         Event::Write { addr, value, .. } => write!(text, "write [0x{addr:x}] = 0x{value:x}"),
@@ -177,35 +198,47 @@ pub(crate) fn push_deed(text: &mut String, event: &Event) -> Result<(), AllocErr
             flags,
             la,
             outcome,
-            moments,
             ..
-        } => {
-            push_access(text, flags, la)?;
-            text.push_str(" -> ")?;
-            push_outcome(text, outcome)?;
-            push_moments(text, &moments)
-        }
+        } => push_answered(text, flags, la, outcome),
         Event::Assist {
             flags,
             la,
             word,
-            moments,
             ..
-        } => {
-            push_access(text, flags, la)?;
-            push_assist(text, flags, word)?;
-            push_moments(text, &moments)
-        }
+        } => push_assisted(text, flags, la, word),
         Event::MovCr3 { operand, .. } => write!(text, "cr3 0x{operand:x}"),
         Event::Invlpg { la, .. } => write!(text, "invlpg 0x{la:x}"),
         Event::Invpcid { kind, pcid, la, .. } => {
             write!(text, "invpcid {kind} 0x{pcid:x} 0x{la:x}")
         }
-        Event::MovCr4Pge { on, .. } => {
-            let switch = switch_text(on);
-            write!(text, "pge {switch}")
-        }
+        Event::MovCr4Pge { on, .. } => push_switch(text, on),
     }
+}
+
+/// Appends the moments that an event names.
+fn push_named(text: &mut String, event: &Event) -> Result<(), AllocError>
+    ensures { OnOk result
+        (string_bytes text.new ≡ string_bytes text.old ++ named_text event.now) }
+{
+    match *event {
+        Event::Access { moments, .. } | Event::Assist { moments, .. } => {
+            push_moments(text, &moments)
+        }
+        Event::Write { .. }
+        | Event::MovCr3 { .. }
+        | Event::Invlpg { .. }
+        | Event::Invpcid { .. }
+        | Event::MovCr4Pge { .. } => Ok(()),
+    }
+}
+
+/// Appends what an event did.
+fn push_deed(text: &mut String, event: &Event) -> Result<(), AllocError>
+    ensures { OnOk result
+        (string_bytes text.new ≡ string_bytes text.old ++ event_text event.now) }
+{
+    push_claim(text, event)?;
+    push_named(text, event)
 }
 
 /// Appends the line of the event with this number, without its end. `Err` is for want of memory
@@ -217,4 +250,29 @@ pub(crate) fn push_event(text: &mut String, number: u64, event: &Event) -> Resul
     let p = processor_of(event);
     write!(text, "{number} cpu {p} ")?;
     push_deed(text, event)
+}
+
+/// The event with this number.
+pub(crate) fn event_at(events: &[Event], number: u32) -> Option<Event>
+    ensures { result ≡ slice_get events.now number }
+{
+    match events.get(number as usize) {
+        Some(event) => Some(*event),
+        None => None,
+    }
+}
+
+/// Appends the line of an event with this number, where there is one.
+pub(crate) fn push_line_at(
+    text: &mut String,
+    number: u32,
+    event: Option<Event>,
+) -> Result<(), AllocError>
+    ensures { OnOk result
+        (string_bytes text.new ≡ string_bytes text.old ++ line_at number event) }
+{
+    match event {
+        None => Ok(()),
+        Some(event) => push_event(text, number as u64, &event),
+    }
 }

@@ -10,7 +10,7 @@ use pg_event::Reason;
 use std::alloc::{AllocError, Global};
 
 /// What the bad events with one reason have in common.
-#[derive(Debug, Drop)]
+#[derive(Drop)]
 pub struct Tally {
     pub reason: Reason,
     /// How many there are.

@@ -9,7 +9,7 @@ use crate::tallier::Tally;
 use std::alloc::{AllocError, Global};
 
 /// How numbers are written.
-#[derive(Clone, Copy, Debug, PartialEq, Eq)]
+#[derive(Clone, Copy)]
 pub enum Style {
     Decimal,
     Hex,

@@ -8,7 +8,7 @@ ghost use Rattle.pg_explain.specs.Text.{explanation_text};
 use crate::explainer::Explanation;
 use crate::finding_text::{push_finding, push_numbered};
 use crate::last_lines::push_taken;
-use crate::line::push_numbers;
+use crate::line::{event_at, push_numbers};
 use crate::walk_text::push_walk;
 use pg_event::{Event, Moments};
 use pg_search::Last;
@@ -18,7 +18,7 @@ use std::alloc::{AllocError, Global};
 pub fn deed_name(events: &[Event], number: u32) -> &'static str
     ensures { result.now ≡ deed_name (slice_get events.now number) }
 {
-    match events.get(number as usize) {
+    match event_at(events, number) {
         Some(Event::Access { .. }) => "access",
         Some(Event::Assist { .. }) => "assist",
         Some(
@@ -80,9 +80,28 @@ fn push_head(text: &mut String, events: &[Event], number: u32) -> Result<(), All
     text.push_str("\n")
 }
 
-/// The text of an explanation, where these are the events of its run: the event, the entries that
-/// its moments name down to the first that is no table, what stands behind the reason, and whether
-/// other moments would do, or when some last would have. `Err` is for want of memory alone.
+/// Appends the text of an explanation, where these are the events of its run: the event, the
+/// entries that its moments name down to the first that is no table, what stands behind the reason,
+/// and whether other moments would do, or when some last would have.
+pub(crate) fn push_explained(
+    text: &mut String,
+    events: &[Event],
+    explanation: &Explanation,
+) -> Result<(), AllocError>
+    ensures { OnOk result (string_bytes text.new
+        ≡ string_bytes text.old ++ explanation_text events.now explanation.now) }
+{
+    let number = explanation.number;
+    push_head(text, events, number)?;
+    push_walk(text, &explanation.walk)?;
+    push_finding(text, events, explanation.finding)?;
+    text.push_str("\n")?;
+    push_last(text, deed_name(events, number), explanation.other)?;
+    push_ended(text, events, explanation.other, explanation.last)
+}
+
+/// The text of an explanation, where these are the events of its run. `Err` is for want of memory
+/// alone.
 pub fn explanation_text(
     alloc: Global,
     events: &[Event],
@@ -91,13 +110,7 @@ pub fn explanation_text(
     ensures { IfOk result (λ t. string_bytes t
         ≡ explanation_text events.now explanation.now) }
 {
-    let number = explanation.number;
     let mut text = String::new(alloc);
-    push_head(&mut text, events, number)?;
-    push_walk(&mut text, &explanation.walk)?;
-    push_finding(&mut text, events, explanation.finding)?;
-    text.push_str("\n")?;
-    push_last(&mut text, deed_name(events, number), explanation.other)?;
-    push_ended(&mut text, events, explanation.other, explanation.last)?;
+    push_explained(&mut text, events, explanation)?;
     Ok(text)
 }

@@ -19,7 +19,7 @@ use pg_entry::{Cfg, Entry, Kind, Level, classify};
 use pg_event::{Want, below, is_wanted, structure_key};
 
 /// What an event asks of a walk.
-#[derive(Clone, Copy, PartialEq, Eq)]
+#[derive(Clone, Copy)]
 pub struct Asked {
     /// The number of the event.
     pub number: u32,

@@ -16,7 +16,7 @@ use pg_explain::{Explanation, Finding, WalkEntry, push_entry, push_finding, push
 use std::alloc::{AllocError, Global};
 
 /// What an event is to the bad one.
-#[derive(Clone, Copy, Debug, PartialEq, Eq)]
+#[derive(Clone, Copy)]
 pub enum Role {
     /// It is the bad event.
     Bad,
@@ -29,14 +29,14 @@ pub enum Role {
 }
 
 /// The lane of a processor. All places are in pixels, x to the right and y down.
-#[derive(Clone, Copy, Debug, PartialEq, Eq)]
+#[derive(Clone, Copy)]
 pub struct Lane {
     pub processor: u16,
     pub x: u64,
 }
 
 /// The box of an event, and its dot in a lane.
-#[derive(Clone, Copy, Debug, PartialEq, Eq)]
+#[derive(Clone, Copy)]
 pub struct EventBox {
     pub number: u32,
     /// Where its lane is.
@@ -47,7 +47,7 @@ pub struct EventBox {
 }
 
 /// The box of an entry of the walk.
-#[derive(Clone, Copy, PartialEq, Eq)]
+#[derive(Clone, Copy)]
 pub struct EntryBox {
     pub entry: WalkEntry,
     /// The top of its row.
@@ -55,7 +55,7 @@ pub struct EntryBox {
 }
 
 /// What an event did to an entry.
-#[derive(Clone, Copy, Debug, PartialEq, Eq)]
+#[derive(Clone, Copy)]
 pub enum Deed {
     /// It wrote it.
     Writes,
@@ -64,7 +64,7 @@ pub enum Deed {
 }
 
 /// An arrow from the box of an event to that of an entry.
-#[derive(Clone, Copy, Debug, PartialEq, Eq)]
+#[derive(Clone, Copy)]
 pub struct Arrow {
     /// How far down it begins.
     pub from: u64,

@@ -23,3 +23,4 @@ pub mod Thinned
 mod ThinnedWitness
 mod ThinnedFresh
 mod AnsweredAt
+mod Briefs

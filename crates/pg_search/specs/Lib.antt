@@ -10,4 +10,6 @@ pub mod Swept
 pub mod Last
 pub mod Thinned
 pub mod Bare
+pub mod Briefs
 pub mod Seen
+pub mod Events

@@ -2,23 +2,26 @@
 //! with the events up to it.
 #![tactic(auto)]
 
-mod bare;
+mod brief;
 mod fill;
 mod finder;
 mod fresh;
 mod held;
+mod kept_run;
 mod last;
 mod lasting;
 mod laws;
 mod now;
 mod parked;
+mod places;
 mod seen;
 mod sought;
 mod sweeper;
 mod ways;
 
-pub use bare::Bare;
+pub use brief::bare;
 pub use finder::{find_moments, find_moments_at, names_moments};
+pub use kept_run::KeptRun;
 pub use last::{Last, last_moments, last_moments_at};
 pub use laws::{
     found_moments_witness, freshest_among_changes, last_among_changes, made_is_exact,

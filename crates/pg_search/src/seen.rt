@@ -7,23 +7,23 @@ ghost use Rattle.pg_event.specs.Values.{mem_at, control_at};
 ghost use Rattle.pg_event.specs.Invalidation.{structure_key, translation_key};
 ghost use Rattle.pg_event.specs.Invalidation.{must_drop_structure, must_drop_translation};
 ghost use Rattle.pg_event.specs.Witness.{survives};
+ghost use Rattle.pg_timeline.specs.Timelines.{IsSpan};
 ghost use Rattle.pg_inval.specs.Drops.{IsTableLevel};
 ghost use Rattle.pg_chain.specs.Standing.{IsPast};
-ghost use Rattle.pg_search.specs.Seen.{IsSeen};
 
-use crate::bare::Bare;
+use crate::kept_run::KeptRun;
 use pg_chain::Past;
 use pg_check::{History, Memo, Stretch};
 use pg_entry::Level;
 use pg_event::{Control, Event, Header};
-use pg_timeline::Probes;
+use pg_timeline::{Probes, Span};
 use std::marker::Model;
 
 /// The events of a run, as somebody has kept them.
 #[derive(Clone, Copy)]
 pub(crate) enum Events<'a> {
     Whole(&'a [Event]),
-    Bared(&'a [Bare]),
+    Kept(&'a KeptRun),
 }
 
 /// The settings of a run, its events, perhaps without their moments, and what is looked up of them.
@@ -36,7 +36,8 @@ pub struct Seen<'a> {
 
 impl<'a> Model for Seen<'a> {
     ghost use Rattle.pg_event.specs.Spelling.{Recorded};
-    ghost use Rattle.pg_search.specs.Seen.{IsSeen, events_in};
+    ghost use Rattle.pg_search.specs.Events.{events_in};
+    ghost use Rattle.pg_search.specs.Seen.{IsSeen};
 
     ghost Value = { Recorded };
 
@@ -46,15 +47,14 @@ impl<'a> Model for Seen<'a> {
 }
 
 impl<'a> Seen<'a> {
-    /// A run by its settings, its past and its events without their moments.
-    pub fn new(header: &'a Header, past: &'a Past, events: &'a [Bare]) -> Seen<'a>
-        requires { IsSeen header.now events.now past.now }
-        ensures { result ≡ record { head = header.now; events = events.now } }
+    /// A run of which its events are kept without their moments.
+    pub fn among(kept: &'a KeptRun) -> Seen<'a>
+        ensures { result ≡ kept.now }
     {
         Seen {
-            header,
-            past,
-            events: Events::Bared(events),
+            header: kept.header(),
+            past: kept.past(),
+            events: Events::Kept(kept),
         }
     }
 
@@ -85,7 +85,7 @@ impl<'a> Seen<'a> {
     {
         match self.events {
             Events::Whole(events) => events[number as usize],
-            Events::Bared(events) => events[number as usize].event(),
+            Events::Kept(kept) => kept.event_at(number),
         }
     }
 
@@ -103,6 +103,21 @@ impl<'a> Seen<'a> {
         ensures root { result.root < 2 ^ 52 }
     {
         self.past.control_at(p, moment)
+    }
+
+    /// The same value, with the moments around this one at which it is the same.
+    pub fn value_span(&self, moment: u32, addr: u64) -> Span<u64>
+        ensures { IsSpan (λ w. mem_at self.now.events w addr) moment result }
+    {
+        self.past.value_span(moment, addr, &mut Probes::new())
+    }
+
+    /// The control registers, with the moments around this one at which they are the same.
+    pub fn control_span(&self, p: u16, moment: u32) -> Span<Control>
+        requires { p < length self.now.head.processors }
+        ensures { IsSpan (λ w. control_at self.now.head self.now.events p w) moment result }
+    {
+        self.past.control_span(p, moment, &mut Probes::new())
     }
 
     /// Whether the paging-structure-cache entry that a level gives for an address under a PCID

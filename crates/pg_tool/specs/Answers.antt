@@ -19,9 +19,9 @@ use Rattle.pg_report.specs.Changes.{Change, Fails, Works, Adds, AddsSome, drawn}
 use Rattle.pg_answers.specs.Certificates.{CertifiesRecord}
 use Rattle.pg_answers.specs.Explanations.{ExplainsRecord}
 use Rattle.pg_tool.specs.Guests.{RunsGuest}
+use Rattle.pg_tool.specs.Pictures.{DrawsRecord}
 use Rattle.pg_answers.specs.Lines.{ShowsRecord, filter_of}
 use Rattle.pg_answers.specs.Naming.{NamesRecord}
-use Rattle.pg_answers.specs.Pictures.{DrawsRecord}
 use Rattle.pg_answers.specs.Refusals.{StaysSame, Tells, refusal_line, memory_line, unopened_line}
 use Rattle.pg_answers.specs.Status.{Checks, ShowsRun}
 use Rattle.pg_answers.specs.Streams.{Streams}

@@ -1,2 +1,3 @@
 pub mod Guests
+pub mod Pictures
 pub mod Answers

@@ -6,6 +6,7 @@ mod followers;
 mod guest_error;
 mod guest_refusals;
 mod guests;
+mod pictures;
 mod program;
 
 pub use followers::Followers;

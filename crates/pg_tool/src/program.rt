@@ -16,8 +16,9 @@ use crate::followers::Followers;
 use crate::guest_error::GuestError;
 use crate::guest_refusals::tell_guest;
 use crate::guests::run_script;
+use crate::pictures::draw;
 use pg_answers::{
-    MEMORY, REFUSED, USAGE, YES, certify, check, check_all, draw, explain, explain_all, filter_of,
+    MEMORY, REFUSED, USAGE, YES, certify, check, check_all, explain, explain_all, filter_of,
     name_moments, run_of, show, tell, tell_memory, tell_text, upgrade,
 };
 use pg_codec::{Sink, Source, put_all};

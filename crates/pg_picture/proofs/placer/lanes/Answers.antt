@@ -1,7 +1,8 @@
-use Rattle.std.proofs.Common.{◌≡◌, ℕ, ◌<◌, Bool, List, length, ap, sym, subst, ◌∙◌, arith}
+use Rattle.std.proofs.Common.{◌≡◌, ℕ, ◌<◌, ◌≤◌, refl, Bool, List, length, ap, sym, subst, ◌∙◌, arith}
 use Rattle.pg_event.specs.declared.event.Event.{Event}
 use Rattle.pg_event.specs.Heads.{Head}
-use Rattle.pg_picture.specs.Layout.{takes_part, lanes}
+use Rattle.pg_picture.specs.Layout.{takes_part, lanes, lanes_from}
+use Rattle.pg_explain.proofs.Loops.{all_written}
 use Rattle.pg_picture.proofs.Lanes.{next_lane, no_lane}
 use Rattle.pg_picture.proofs.placer.lanes.Goals as goal
 use Rattle.pg_picture.proofs.placer.lanes.Goals.{then-takes_part+in_ok-push, else-takes_part}
@@ -30,3 +31,12 @@ loop-i-preserved c =
             within = omega (arith, c.loop-i.invariant.within);
           })
     ]
+
+pub returns : goal.returns
+returns c =
+    let head : Head = c.args.history.now.head in
+    let events : List Event = c.args.history.now.events in
+    let i = c.loop-i.i in
+    let all : c.deref-start-items.result.now ≡ head.processors = c.deref-start-items.ensures.value ∙ (ap (λ (h : Head). h.processors) c.behind-history.view_is ∙ ap (λ (h : Head). h.processors) c.header.ensures.header) in
+    let past : length head.processors ≤ i = subst (λ (ss : List (ℕ × Bool)). length ss ≤ i) all c.loop-i-test.false in
+    all_written (lanes_from events c.args.numbers.now i c.loop-i.x) head.processors i c.loop-i.found.items _ past refl c.loop-i.invariant.lanes

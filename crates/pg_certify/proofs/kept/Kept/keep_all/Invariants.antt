@@ -1,7 +1,0 @@
-use Rattle.std.proofs.Common.{◌≡◌, ◌++◌, map, take}
-use Rattle.pg_search.specs.Bare.{bare}
-use Rattle.pg_search.specs.Thinned.{thinned}
-use Rattle.pg_certify.proofs.kept.Kept.keep_all.Given as goal
-
-abbrev pub invariant-loop-event : goal.invariant-loop-event
-invariant-loop-event l = l.self ≡ record { head = l.fn.self.head; events = l.fn.self.events ++ map bare (thinned (take l.event-index l.events)) }

@@ -1,0 +1,170 @@
+//! Events in little room: without their moments, and without the values of writes.
+
+ghost use Rattle.std.specs.Prelude.{◌≡◌, ℕ};
+ghost use Rattle.pg_search.specs.Bare.{bare};
+ghost use Rattle.pg_search.specs.Briefs.{event_by, IsLeft};
+
+use pg_event::{Event, Moments, Outcome};
+
+/// An event with one moment 0 in place of its moments.
+pub fn bare(event: &Event) -> Event
+    ensures { result ≡ bare event.now }
+{
+    let moments = Moments::first(0);
+    match *event {
+        Event::Access {
+            p,
+            flags,
+            la,
+            outcome,
+            ..
+        } => Event::Access {
+            p,
+            flags,
+            la,
+            outcome,
+            moments,
+        },
+        Event::Assist {
+            p,
+            flags,
+            la,
+            word,
+            ..
+        } => Event::Assist {
+            p,
+            flags,
+            la,
+            word,
+            moments,
+        },
+        Event::Write { .. }
+        | Event::MovCr3 { .. }
+        | Event::Invlpg { .. }
+        | Event::Invpcid { .. }
+        | Event::MovCr4Pge { .. } => *event,
+    }
+}
+
+/// Which event it is.
+#[derive(Clone, Copy)]
+pub(crate) enum Sort {
+    Write,
+    Answer,
+    Fault,
+    Assist,
+    MovCr3,
+    Invlpg,
+    Invpcid,
+    MovCr4Pge,
+}
+
+/// Two numbers of an event.
+#[derive(Clone, Copy, PartialEq, Eq)]
+pub(crate) struct Pair {
+    /// The address of a write, the linear address, or the operand of MOV to CR3.
+    pub first: u64,
+    /// What an access came to, the word of an assist, or a PCID.
+    pub second: u64,
+}
+
+/// What else an event is, and where its numbers stand, in 8 bytes.
+#[derive(Clone, Copy)]
+pub(crate) struct Brief {
+    pub place: u32,
+    pub p: u16,
+    pub sort: Sort,
+    /// The flags, the type of INVPCID, or 1 where PGE is left on.
+    pub flags: u8,
+}
+
+const _: () = prove!(size_of::<Brief>() == 8);
+
+/// An event in brief, with its numbers at a place, and these numbers.
+pub(crate) fn brief_of(event: &Event, place: u32) -> (Brief, Pair)
+    ensures place { result.0.place ≡ place }
+    ensures event { (left : ℕ) → IsLeft event.now result.1.first left →
+        event_by left result.0 result.1 ≡ bare event.now }
+{
+    let (sort, p, flags, first, second) = match *event {
+        Event::Write { p, addr, .. } => (Sort::Write, p, 0, addr, 0),
+        Event::Access {
+            p,
+            flags,
+            la,
+            outcome: Outcome::Page(page),
+            ..
+        } => (Sort::Answer, p, flags, la, page),
+        Event::Access {
+            p,
+            flags,
+            la,
+            outcome: Outcome::Fault(code),
+            ..
+        } => (Sort::Fault, p, flags, la, code as u64),
+        Event::Assist {
+            p,
+            flags,
+            la,
+            word,
+            ..
+        } => (Sort::Assist, p, flags, la, word),
+        Event::MovCr3 { p, operand } => (Sort::MovCr3, p, 0, operand, 0),
+        Event::Invlpg { p, la } => (Sort::Invlpg, p, 0, la, 0),
+        Event::Invpcid { p, kind, pcid, la } => (Sort::Invpcid, p, kind, la, pcid as u64),
+        Event::MovCr4Pge { p, on } => (Sort::MovCr4Pge, p, on as u8, 0, 0),
+    };
+    let brief = Brief {
+        place,
+        p,
+        sort,
+        flags,
+    };
+    (brief, Pair { first, second })
+}
+
+/// The event that is kept in brief, with these numbers, where it left this value if it is a write.
+pub(crate) fn event_by(left: u64, brief: Brief, pair: Pair) -> Event
+    ensures { result ≡ event_by left brief pair }
+{
+    let Brief { p, flags, .. } = brief;
+    let Pair { first, second } = pair;
+    let moments = Moments::first(0);
+    match brief.sort {
+        Sort::Write => Event::Write {
+            p,
+            addr: first,
+            value: left,
+        },
+        Sort::Answer => Event::Access {
+            p,
+            flags,
+            la: first,
+            outcome: Outcome::Page(second),
+            moments,
+        },
+        Sort::Fault => Event::Access {
+            p,
+            flags,
+            la: first,
+            outcome: Outcome::Fault((second % (1 << 16)) as u16),
+            moments,
+        },
+        Sort::Assist => Event::Assist {
+            p,
+            flags,
+            la: first,
+            word: second,
+            moments,
+        },
+        Sort::MovCr3 => Event::MovCr3 { p, operand: first },
+        Sort::Invlpg => Event::Invlpg { p, la: first },
+        Sort::Invpcid => Event::Invpcid {
+            p,
+            kind: flags,
+            pcid: (second % (1 << 16)) as u16,
+            la: first,
+        },
+        Sort::MovCr4Pge => Event::MovCr4Pge { p, on: flags == 1 },
+    }
+}
