@@ -4,6 +4,7 @@ use Rattle.std.specs.Prelude.{slice_get}
 use Rattle.std.specs.Option.{unwrap_or}
 use Rattle.std.proofs.lemmas.Bool.{eq-eqb}
 use Rattle.std.proofs.lemmas.List.{length-take, take-append-drop}
+use Rattle.std.proofs.lemmas.Option.{slice_get_within}
 use Rattle.pg_event.specs.declared.event.Event.{Event}
 use Rattle.pg_event.specs.declared.event.Event.TheVariants.{Write, Access, Assist, MovCr3, Invlpg, Invpcid, MovCr4Pge}
 use Rattle.pg_event.specs.Heads.{Head}
@@ -75,19 +76,10 @@ placed_take n (suc k) (b ∷ bs) placed = (placed.0, placed_take n k bs placed.1
 
 -- ---- pairs
 
-pub there_more : (ps more : List Pair) (k : ℕ) → k < length ps → slice_get (ps ++ more) k ≡ slice_get ps k
+there_more : (ps more : List Pair) (k : ℕ) → k < length ps → slice_get (ps ++ more) k ≡ slice_get ps k
 there_more [] more k lt = absurd (omega (arith, lt))
 there_more (p ∷ ps) more zero lt = refl
 there_more (p ∷ ps) more (suc k) lt = there_more ps more k (omega (arith, lt))
-
-pub there_last : (ps : List Pair) (p : Pair) → slice_get (ps ++ p ∷ []) (length ps) ≡ Some p
-there_last [] p = refl
-there_last (x ∷ ps) p = there_last ps p
-
-pub there_within : (ps : List Pair) (k : ℕ) (p : Pair) → slice_get ps k ≡ Some p → k < length ps
-there_within [] k p h = absurd (cc)
-there_within (x ∷ ps) zero p h = omega arith
-there_within (x ∷ ps) (suc k) p h = omega (arith, there_within ps k p h)
 
 pub pairs_same : (ps qs : List Pair) → Extends ps qs → (k : ℕ) → k < length ps → pair_at qs k ≡ pair_at ps k
 pairs_same ps qs h k lt =
@@ -147,7 +139,7 @@ one_more p q head ps qs bs cs b x e kept longer briefs now room there is =
     let here : events_from q.versions qs 0 cs ≡ before ++ bare e ∷ [] =
     ap (events_from q.versions qs 0) briefs ∙ events_more q.versions qs 0 bs b ∙ ap (λ es. es ++ event_of q.versions qs (0 + length bs) b ∷ []) old ∙ ap (λ y. before ++ y ∷ []) new in
     let placed : ArePlaced (length qs) (bs ++ b ∷ []) =
-    placed_more (length qs) bs b (placed_below (length ps) (length qs) bs (pairs_count ps qs longer) kept.placed) (there_within qs b.place x there) in (
+    placed_more (length qs) bs b (placed_below (length ps) (length qs) bs (pairs_count ps qs longer) kept.placed) (slice_get_within qs b.place x there) in (
       record {
         seen = subst (λ (es : List Event). IsSeen head es q) (sym here) (record { settings = kept.seen.settings; stands = now; count = omega (arith, room, count, length-append before (bare e ∷ [])) });
         placed = subst (ArePlaced (length qs)) (sym briefs) placed;
