@@ -1,15 +1,11 @@
--- Texts of runs, and lines of refusals, to the byte.
+-- Texts of runs, to the byte.
 use Rattle.std.proofs.Common.{◌≡◌, ℕ, List, [], ◌∷◌, ◌++◌, refl}
 use Rattle.std.specs.Prelude.{codes}
 use Rattle.std.specs.Fmt.{digits}
 use Rattle.pg_event.specs.declared.event.Event.{Event}
 use Rattle.pg_event.specs.declared.event.Event.TheVariants.{Write}
-use Rattle.pg_event.specs.declared.event.Malformed.TheVariants.{WordAddress}
-use Rattle.pg_event.specs.declared.refusal.Refusal.TheVariants.{Malformed, Truncated}
 use Rattle.pg_run_of.specs.Plan.{steps_of}
-use Rattle.pg_report.specs.declared.error.AuditError.TheVariants.{Refused}
 use Rattle.pg_answers.specs.Runs.{run_text}
-use Rattle.pg_answers.specs.Refusals.{refusal_line}
 use Rattle.pg_event.proofs.RowsBase.{base, words, tables, four, read, faulted, user_read}
 
 -- the text of the run of these events under the base header
@@ -38,11 +34,3 @@ run_of_reserved_fault = refl
 run_of_same_access_twice : text_of (tables 0x9007 ++ read (four 4) ∷ read (four 4) ∷ []) ≡ writes ++ fills ++ fills ++ codes "do 4\ndo 5\n"
 unfolding digits
 run_of_same_access_twice = refl
-
-write_address_not_multiple_of_8 : refusal_line (Refused (Malformed 0 WordAddress)) ≡ codes "pcid-audit: refused 7 malformed event 0 rule 2\n"
-unfolding digits
-write_address_not_multiple_of_8 = refl
-
-fresh_walk_without_last_byte : refusal_line (Refused Truncated) ≡ codes "pcid-audit: refused 8 truncated\n"
-unfolding digits
-fresh_walk_without_last_byte = refl

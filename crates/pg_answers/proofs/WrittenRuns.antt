@@ -19,7 +19,7 @@ use Rattle.pg_report.proofs.Verdicts.{one, none}
 use Rattle.pg_answers.specs.declared.shown.Shown.{Shown}
 use Rattle.pg_answers.specs.declared.shown.Shown.TheVariants as shown
 use Rattle.pg_answers.specs.Runs.{run_text}
-use Rattle.pg_answers.specs.Status.{GivesRun, HasRunText, HasReportText, HasSomeText, HasWrittenRun, IsRunOf, WritesRun}
+use Rattle.pg_answers.specs.RunOf.{GivesRun, HasRunText, HasReportText, HasSomeText, HasWrittenRun, IsRunOf, WritesRun}
 
 -- ---- what is written of a record
 

@@ -11,9 +11,9 @@ use Rattle.pg_report.specs.declared.error.AuditError.{AuditError}
 use Rattle.pg_report.specs.declared.report.Report.{Report}
 use Rattle.pg_report.specs.declared.report.Verdict.TheVariants.{Yes}
 use Rattle.pg_report.specs.Text.{counts_text, report_text}
-use Rattle.pg_answers.specs.Refusals.{TellsError}
-use Rattle.pg_answers.specs.Status.{error_status}
-use Rattle.pg_answers.specs.Streams.{Streams}
+use Rattle.pg_auditing.specs.Refusals.{TellsError}
+use Rattle.pg_auditing.specs.Status.{error_status}
+use Rattle.pg_auditing.specs.Streams.{Streams}
 use Rattle.pg_answers.specs.Texts.{IsTextGivenBy}
 
 -- moments make the events an accepted record, and some run of the machine has them

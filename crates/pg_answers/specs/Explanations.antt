@@ -9,9 +9,9 @@ use Rattle.pg_report.specs.declared.error.AuditError.{AuditError}
 use Rattle.pg_report.specs.declared.report.Verdict.{Verdict}
 use Rattle.pg_report.specs.declared.report.Verdict.TheVariants.{Yes, No}
 use Rattle.pg_report.specs.Text.{report_of, report_text}
-use Rattle.pg_answers.specs.Refusals.{TellsError}
-use Rattle.pg_answers.specs.Status.{status_of}
-use Rattle.pg_answers.specs.Streams.{Streams}
+use Rattle.pg_auditing.specs.Refusals.{TellsError}
+use Rattle.pg_auditing.specs.Status.{status_of}
+use Rattle.pg_auditing.specs.Streams.{Streams}
 use Rattle.pg_answers.specs.Texts.{IsTextGiven}
 
 -- the report of a record, and where it is no what stands behind the reason of its first bad event

@@ -1,8 +1,6 @@
 pub mod Runs
 pub mod Replay
-pub mod Streams
-pub mod Refusals
-pub mod Status
+pub mod RunOf
 pub mod Upgrades
 pub mod Lines
 pub mod Texts

@@ -7,9 +7,9 @@ use Rattle.pg_plan.specs.declared.request.Plan.{Plan}
 use Rattle.pg_report.specs.declared.error.AuditError.{AuditError}
 use Rattle.pg_report.specs.declared.report.Verdict.{Verdict}
 use Rattle.pg_report.specs.Text.{report_of}
-use Rattle.pg_answers.specs.Refusals.{TellsError}
-use Rattle.pg_answers.specs.Status.{status_of}
-use Rattle.pg_answers.specs.Streams.{Streams}
+use Rattle.pg_auditing.specs.Refusals.{TellsError}
+use Rattle.pg_auditing.specs.Status.{status_of}
+use Rattle.pg_auditing.specs.Streams.{Streams}
 use Rattle.pg_answers.specs.Texts.{IsTextGiven}
 
 -- what a plan asks of the events that are shown

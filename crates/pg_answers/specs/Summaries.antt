@@ -9,9 +9,9 @@ use Rattle.pg_explain.specs.Tallies.{AreTallies, tally_text}
 use Rattle.pg_report.specs.declared.error.AuditError.{AuditError}
 use Rattle.pg_report.specs.declared.report.Verdict.{Verdict}
 use Rattle.pg_report.specs.Text.{reason_number, reason_name, report_of, report_text}
-use Rattle.pg_answers.specs.Refusals.{TellsError}
-use Rattle.pg_answers.specs.Status.{status_of}
-use Rattle.pg_answers.specs.Streams.{Streams}
+use Rattle.pg_auditing.specs.Refusals.{TellsError}
+use Rattle.pg_auditing.specs.Status.{status_of}
+use Rattle.pg_auditing.specs.Streams.{Streams}
 use Rattle.pg_answers.specs.Texts.{IsTextGiven}
 
 -- ---- the summary

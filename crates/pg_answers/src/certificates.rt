@@ -14,14 +14,13 @@ ghost use Rattle.pg_report.specs.Text.{report_text, counts_text};
 ghost use Rattle.pg_answers.specs.Certificates.{CertifiesRecord, IsCertificateOf, IsDenialText};
 ghost use Rattle.pg_answers.specs.Accounts.{IsDeniedAccount};
 ghost use Rattle.pg_answers.specs.Certificates.{certificate_status, yes_report, denied_head};
-ghost use Rattle.pg_answers.specs.Streams.{streams};
+ghost use Rattle.pg_auditing.specs.Streams.{streams};
 ghost use Rattle.pg_answers.specs.Texts.{GivesTextOf, IsTextGivenBy};
 
 use crate::accounts::read_account;
 use crate::denials::told_of;
-use crate::refusals::tell_error;
 use crate::shown::CertificateText;
-use crate::statuses::error_status;
+use pg_auditing::{error_status, tell_error};
 use pg_certify::{
     Accounting, CertifyError, certified_events_run, denied_events_have_no_run, first_denied_by,
 };

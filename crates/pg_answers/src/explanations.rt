@@ -3,12 +3,11 @@
 ghost use Rattle.std.specs.Prelude.{IfOk, string_bytes};
 ghost use Rattle.pg_report.specs.Changes.{drawn, filled};
 ghost use Rattle.pg_answers.specs.Explanations.{IsExplanationOf, ExplainsRecord};
-ghost use Rattle.pg_answers.specs.Streams.{streams};
+ghost use Rattle.pg_auditing.specs.Streams.{streams};
 ghost use Rattle.pg_answers.specs.Texts.{IsTextGiven};
 
-use crate::refusals::tell_error;
 use crate::shown::{ToldText, give};
-use crate::statuses::status_of;
+use pg_auditing::{status_of, tell_error};
 use pg_check::History;
 use pg_codec::{Sink, Source};
 use pg_explain::push_explanation;

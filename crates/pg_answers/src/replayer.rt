@@ -9,13 +9,12 @@ ghost use Rattle.pg_report.specs.Audits.{WritesText};
 ghost use Rattle.pg_report.specs.Intake.{TellsDevice};
 ghost use Rattle.pg_answers.specs.Replay.{end_of_run};
 ghost use Rattle.pg_answers.specs.Runs.{run_text};
-ghost use Rattle.pg_answers.specs.Status.{IsRunOf, ShowsRun, WritesRun};
-ghost use Rattle.pg_answers.specs.Streams.{streams};
+ghost use Rattle.pg_answers.specs.RunOf.{IsRunOf, ShowsRun, WritesRun, run_status};
+ghost use Rattle.pg_auditing.specs.Streams.{streams};
 
-use crate::refusals::tell_error;
 use crate::runs::run_text;
 use crate::shown::Shown;
-use crate::statuses::run_status;
+use pg_auditing::{NO, YES, error_status, tell_error};
 use pg_check::History;
 use pg_codec::{Sink, Source};
 use pg_event::Header;
@@ -104,6 +103,17 @@ fn write_run<R: Source, O: Sink>(
     match read_record(alloc, input) {
         Ok(history) => write_run_of(alloc, &history, output),
         Err(error) => Err(error),
+    }
+}
+
+/// The exit status of a run that was shown, or of an error where there is none.
+fn run_status(answer: Result<Shown, AuditError>) -> u8
+    ensures { result ≡ run_status answer }
+{
+    match answer {
+        Ok(Shown::Run) => YES,
+        Ok(Shown::Report) => NO,
+        Err(error) => error_status(error),
     }
 }
 

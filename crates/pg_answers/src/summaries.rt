@@ -3,15 +3,14 @@
 ghost use Rattle.std.specs.Prelude.{◌≡◌, ◌++◌, length, IfOk, OnOk, string_bytes};
 ghost use Rattle.pg_explain.specs.Bads.{bads};
 ghost use Rattle.pg_report.specs.Changes.{drawn, filled};
-ghost use Rattle.pg_answers.specs.Streams.{streams};
+ghost use Rattle.pg_auditing.specs.Streams.{streams};
 ghost use Rattle.pg_answers.specs.Summaries.{tally_line, tally_lines, count_line, IsSummary};
 ghost use Rattle.pg_answers.specs.Summaries.{IsCheckOfAll, IsExplanationOfAll};
 ghost use Rattle.pg_answers.specs.Summaries.{ChecksAll, ExplainsAll};
 ghost use Rattle.pg_answers.specs.Texts.{IsTextGiven};
 
-use crate::refusals::tell_error;
 use crate::shown::{ToldText, give};
-use crate::statuses::status_of;
+use pg_auditing::{status_of, tell_error};
 use pg_check::History;
 use pg_codec::{Sink, Source};
 use pg_explain::{Bad, Tally, bads, explanations_text, tallies, tally_text};

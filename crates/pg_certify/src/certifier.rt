@@ -66,13 +66,13 @@ fn moments_fit(moments: Moments)
 
 /// The pages other than one of 4 KBytes of the own PCID that may serve an access: large ones, and
 /// global ones of each size.
-fn rare_pages_of(p: u16, pcid: u16, la: u64) -> [u64; 5] {
+fn rare_pages_of(pcid: u16) -> [(Scope, Part); 5] {
     [
-        key_of(p, Scope::Page(pcid), Part::Of2M, la),
-        key_of(p, Scope::Page(pcid), Part::Of1G, la),
-        key_of(p, Scope::GlobalPage, Part::Of4K, la),
-        key_of(p, Scope::GlobalPage, Part::Of2M, la),
-        key_of(p, Scope::GlobalPage, Part::Of1G, la),
+        (Scope::Page(pcid), Part::Of2M),
+        (Scope::Page(pcid), Part::Of1G),
+        (Scope::GlobalPage, Part::Of4K),
+        (Scope::GlobalPage, Part::Of2M),
+        (Scope::GlobalPage, Part::Of1G),
     ]
 }
 
@@ -141,14 +141,22 @@ impl<'a> Certifier<'a> {
     }
 
     /// The event with moments that were found for a page, if they witness it.
-    fn judge_kept(&mut self, event: &Event, i: u32, key: u64, since: u32) -> Option<Event>
+    fn judge_kept(
+        &mut self,
+        event: &Event,
+        case: Case,
+        scope: Scope,
+        part: Part,
+        since: u32,
+    ) -> Option<Event>
         requires { broken_rule self.old.head event.now ≡ None }
         ensures same { self.new ≡ self.old }
         ensures found { IfSome result
-            (IsFoundFor self.old.head self.old.events i event.now) }
+            (IsFoundFor self.old.head self.old.events case.i event.now) }
     {
-        let moments = self.guesses.page(key)?;
-        self.judge_since(event, i, moments, since)
+        let key = key_of(case.p, scope, part, case.la);
+        let moments = self.guesses.page(key, part)?;
+        self.judge_since(event, case.i, moments, since)
     }
 
     /// The access to a large or a global page with moments that were found for that, if these
@@ -159,8 +167,8 @@ impl<'a> Certifier<'a> {
         ensures found { IfSome result
             (IsFoundFor self.old.head self.old.events case.i event.now) }
     {
-        for key in rare_pages_of(case.p, case.pcid, case.la) {
-            if let Some(found) = self.judge_kept(event, case.i, key, 0) {
+        for (scope, part) in rare_pages_of(case.pcid) {
+            if let Some(found) = self.judge_kept(event, case, scope, part, 0) {
                 return Some(found);
             }
         }
@@ -174,9 +182,9 @@ impl<'a> Certifier<'a> {
         ensures found { IfSome result
             (IsFoundFor self.old.head self.old.events case.i event.now) }
     {
-        let key = key_of(case.p, Scope::Page(case.pcid), Part::Of4K, case.la);
+        let own = Scope::Page(case.pcid);
         let since = self.guesses.since(case.p, case.pcid);
-        if let Some(found) = self.judge_kept(event, case.i, key, since) {
+        if let Some(found) = self.judge_kept(event, case, own, Part::Of4K, since) {
             return Some(found);
         }
         if self.guesses.has_rare() {

@@ -1,7 +1,7 @@
 //! Moments that were found, kept to guess from. Nothing is claimed of a guess: it is judged before
 //! it is taken, so that a wrong one costs time alone.
 
-use crate::walk::Walk;
+use crate::walk::{Walk, and_then};
 use pg_event::{Moments, bits_from};
 use std::alloc::Global;
 use std::collections::HashMap;
@@ -21,7 +21,7 @@ pub(crate) enum Scope {
 /// PCID may serve. Where memory is refused, some are not kept.
 #[derive(Drop)]
 pub(crate) struct Guesses {
-    pages: HashMap<u64, Moments>,
+    pages: HashMap<u64, [u32; 4]>,
     tables: HashMap<u64, Moments>,
     flushes: HashMap<u64, u32>,
     /// Whether any page was large or global.
@@ -88,12 +88,16 @@ impl Guesses {
         }
     }
 
-    /// The moments that were found last for a page.
-    pub(crate) fn page(&self, key: u64) -> Option<Moments> {
-        match self.pages.get(&key) {
-            Some(moments) => Some(*moments),
-            None => None,
-        }
+    /// The moments that were found last for a page of this size.
+    pub(crate) fn page(&self, key: u64, part: Part) -> Option<Moments> {
+        let [first, second, third, fourth] = *self.pages.get(&key)?;
+        let one = Moments::first(first);
+        Some(match part {
+            Part::Of512G => one,
+            Part::Of1G => and_then(one, second),
+            Part::Of2M => and_then(and_then(one, second), third),
+            Part::Of4K => and_then(and_then(and_then(one, second), third), fourth),
+        })
     }
 
     /// The moments that were found last for tables.
@@ -138,9 +142,13 @@ impl Guesses {
         self.keep_flush(event, spaces_of(p));
     }
 
-    /// Keeps moments that were found for a page.
-    fn keep(&mut self, key: u64, moments: Moments) {
-        let _refused = self.pages.insert(key, moments).is_err();
+    /// Keeps moments that were found for a page, whose size tells how many there are.
+    fn keep(&mut self, key: u64, moments: &Moments) {
+        let mut all = [0; 4];
+        for (place, moment) in all.iter_mut().zip(moments.as_slice()) {
+            *place = *moment;
+        }
+        let _refused = self.pages.insert(key, all).is_err();
     }
 
     /// Keeps the moments of a walk that witness an event under a PCID, for the tables that it comes
@@ -153,9 +161,9 @@ impl Guesses {
         }
         if is_page {
             let part = page_by(moments.len());
-            self.keep(key_of(p, Scope::Page(pcid), part, la), moments);
+            self.keep(key_of(p, Scope::Page(pcid), part, la), &moments);
             if walk.is_global {
-                self.keep(key_of(p, Scope::GlobalPage, part, la), moments);
+                self.keep(key_of(p, Scope::GlobalPage, part, la), &moments);
             }
             self.has_rare = self.has_rare || walk.is_global || part != Part::Of4K;
         }

@@ -6,7 +6,7 @@ ghost use Rattle.pg_certify.specs.Shares.{dealt_to};
 use pg_event::Event;
 
 /// Which events are dealt to one of so many checkers.
-#[derive(Clone, Copy, PartialEq, Eq, Drop)]
+#[derive(Clone, Copy, Drop)]
 pub(crate) struct Share {
     pub number: u32,
     pub checkers: u32,

@@ -30,7 +30,7 @@ fn moment_at(front: &[u32], i: usize, next: u32) -> u32 {
 }
 
 /// The moments and one more, if there is room.
-fn and_then(moments: Moments, moment: u32) -> Moments {
+pub(crate) fn and_then(moments: Moments, moment: u32) -> Moments {
     match moments.with(moment) {
         Some(more) => more,
         None => moments,

@@ -27,7 +27,7 @@ use std::alloc::{AllocError, Global};
 
 /// What a run did up to some event, as far as it was noted. A moment is the number of an event, and
 /// lies just before it.
-#[derive(Debug, Drop)]
+#[derive(Drop)]
 pub struct Past {
     /// Where memory for it comes from.
     pub alloc: Global,

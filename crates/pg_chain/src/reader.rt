@@ -16,7 +16,7 @@ use pg_timeline::{Probes, Span};
 use std::marker::Model;
 
 /// A word of memory, with its value at some moments.
-#[derive(Clone, Copy, PartialEq, Eq, Debug)]
+#[derive(Clone, Copy)]
 pub struct Word {
     /// Its physical byte address.
     pub address: u64,
@@ -24,7 +24,7 @@ pub struct Word {
 }
 
 /// A processor, with its control registers at some moments.
-#[derive(Clone, Copy, PartialEq, Eq, Debug)]
+#[derive(Clone, Copy)]
 pub struct Spell {
     pub p: u16,
     pub span: Span<Control>,
@@ -32,7 +32,7 @@ pub struct Spell {
 
 /// A past, with words and control registers that were looked up in it. Walks read the same tables
 /// again and again, most of them at moments between which nothing was written there.
-#[derive(Debug, Drop)]
+#[derive(Drop)]
 pub struct Reader<'a> {
     past: &'a Past,
     words: Vec<Option<Word>>,

@@ -24,7 +24,7 @@ use std::mem;
 
 /// What is known of a run so far, and its first bad event. The events themselves are let go once
 /// they are judged; those after a bad one are noted alone.
-#[derive(Debug, Drop)]
+#[derive(Drop)]
 pub struct Judged {
     header: Header,
     past: Past,

@@ -13,7 +13,7 @@ use pg_entry::Kind;
 use pg_event::{Moments, Reason, Want};
 
 /// A walk by moments, and what becomes of the translation that it gives.
-#[derive(Clone, Copy, PartialEq, Eq, Debug)]
+#[derive(Clone, Copy)]
 pub struct Lasting {
     pub chain: Chain,
     /// Up to this event, not with it, it was looked up when the translation had to go.

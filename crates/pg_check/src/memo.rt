@@ -20,7 +20,7 @@ use std::marker::Model;
 
 /// A walk that was made: which one, and what it came to. The page is told by its first address: no
 /// walk depends on the offset in it. The walk's parts stand side by side, so that a slot is short.
-#[derive(Clone, Copy, PartialEq, Eq, Debug)]
+#[derive(Clone, Copy)]
 pub struct Slot {
     pub page: u64,
     pub address: u64,
@@ -91,7 +91,7 @@ fn is_within(slot: &Slot, limit: u32) -> bool
 
 /// Walks that were made by a past. Where levels are read long before they are used, most accesses
 /// have a walk that another had before. A slot that is needed for another walk is taken.
-#[derive(Debug, Drop)]
+#[derive(Drop)]
 pub struct Memo<'a> {
     reader: Reader<'a>,
     slots: Vec<Option<Slot>>,

@@ -11,7 +11,7 @@ use pg_chain::Past;
 use pg_event::{Event, Reason};
 
 /// What the check of one segment found.
-#[derive(Clone, Copy, PartialEq, Eq, Debug)]
+#[derive(Clone, Copy, PartialEq, Eq)]
 pub struct SegmentVerdict {
     /// The number of the segment.
     pub number: u64,

@@ -9,7 +9,7 @@ use std::alloc::Global;
 use thiserror::Error;
 
 /// Why the bytes of a source were not taken in.
-#[derive(Clone, Copy, PartialEq, Eq, Debug, Error)]
+#[derive(Clone, Copy, Debug, Error)]
 pub enum IntakeError {
     /// There are more than were asked for.
     #[error("there are more bytes than were asked for")]

@@ -2,7 +2,7 @@ use pg_entry::Cfg;
 use pg_event::Version;
 
 /// A header without its processors.
-#[derive(Clone, Copy, PartialEq, Eq)]
+#[derive(Clone, Copy)]
 pub(crate) struct Settings {
     pub(crate) version: Version,
     pub(crate) cfg: Cfg,

@@ -6,7 +6,7 @@ ghost use Rattle.std.specs.Io.KnownBytes.{ReadConsumes, WriteAppends, Consumes, 
 ghost use Rattle.pg_codec.specs.Streams.{RaisesFailures};
 
 /// The device failed in this call, or had failed as often as can be counted.
-#[derive(Clone, Copy, PartialEq, Eq, Debug)]
+#[derive(Clone, Copy)]
 pub struct Failed;
 
 /// What bytes are pulled from.

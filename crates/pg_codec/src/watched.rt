@@ -5,7 +5,7 @@ use std::io::{Read, Write};
 
 /// A reader or a writer whose failures are counted: errors of every kind, `Interrupted` too, and
 /// writes that take none of the bytes given. At the greatest count it is asked no more.
-#[derive(Debug, Drop)]
+#[derive(Drop)]
 pub struct Watched<T> {
     pub inner: T,
     /// How often a call failed, up to the greatest u64.

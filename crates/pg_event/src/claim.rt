@@ -7,7 +7,7 @@ use crate::walk::access_kind;
 use pg_entry::AccessKind;
 
 /// What the event of an access claims, but for its moments.
-#[derive(Clone, Copy, PartialEq, Eq, Debug)]
+#[derive(Clone, Copy)]
 pub struct Claim {
     /// The number of the event.
     pub number: u32,
@@ -19,7 +19,7 @@ pub struct Claim {
 }
 
 /// What the event of an assist claims, but for its moments.
-#[derive(Clone, Copy, PartialEq, Eq, Debug)]
+#[derive(Clone, Copy)]
 pub struct Update {
     /// The number of the event.
     pub number: u32,

@@ -5,7 +5,7 @@ use crate::event::Event;
 use pg_entry::field;
 
 /// The control registers of a processor, as far as paging reads them.
-#[derive(Clone, Copy, PartialEq, Eq, Debug, Default)]
+#[derive(Clone, Copy, Debug, Default)]
 pub struct Control {
     /// The physical address of the PML4 table.
     pub root: u64,

@@ -19,7 +19,7 @@ const MOV_CR4_PGE: u8 = 0x15;
 const ASSIST: u8 = 0x16;
 
 /// What a byte of a record says of what follows it.
-#[derive(Clone, Copy, Debug, PartialEq, Eq)]
+#[derive(Clone, Copy, PartialEq, Eq)]
 enum Part {
     /// The version's low byte.
     Version,
@@ -45,7 +45,7 @@ enum Part {
 
 /// Counts the events of a record of either version by its bytes. Of bytes that are no record it
 /// counts what looks like an event.
-#[derive(Debug, Drop)]
+#[derive(Drop)]
 pub struct Counter {
     part: Part,
     /// So many bytes stand before that part.

@@ -23,7 +23,7 @@ use std::marker::Model;
 
 /// A recorded processor: it carries out its instructions in their order, by turns, and keeps the
 /// receipts of its events.
-#[derive(Debug, Drop)]
+#[derive(Drop)]
 pub struct Processor {
     number: u16,
     instructions: Vec<Instruction>,

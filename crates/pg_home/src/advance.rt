@@ -2,7 +2,7 @@ use pg_entry::Level;
 use pg_world::Receipt;
 
 /// Why a turn was stopped.
-#[derive(Clone, Copy, PartialEq, Eq, Debug)]
+#[derive(Clone, Copy, PartialEq, Eq)]
 pub enum Stop {
     /// Memory was refused.
     Memory,
@@ -13,7 +13,7 @@ pub enum Stop {
 }
 
 /// What a turn of a processor came to.
-#[derive(Clone, Copy, PartialEq, Eq, Debug)]
+#[derive(Clone, Copy, PartialEq, Eq)]
 pub enum Advance {
     /// This level was read, and what its entry refers to or maps was kept.
     Read(Level),

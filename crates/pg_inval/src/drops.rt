@@ -26,7 +26,7 @@ use std::marker::Model;
 
 /// What a run's events dropped from the caches of their processors, as far as they were noted: for
 /// each key, the moments of its events.
-#[derive(Debug, Drop)]
+#[derive(Drop)]
 pub struct Drops {
     alloc: Global,
     next: u64,

@@ -10,7 +10,7 @@ use std::hash::{Hash, Hasher};
 /// What an event drops on a processor: all cached entries of a kind, those of a PCID, or those that
 /// would be used for an address. An entry is dropped by the events of a few of these keys, and an
 /// event has a few of them, so that neither has to be searched for among all others.
-#[derive(Clone, Copy, PartialEq, Eq, Debug)]
+#[derive(Clone, Copy, PartialEq, Eq)]
 pub(crate) enum DropKey {
     /// All entries that are not global: each paging-structure-cache entry is one.
     NotGlobal {

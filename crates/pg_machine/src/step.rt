@@ -26,7 +26,7 @@ pub struct Translation {
 }
 
 /// What a cache holds.
-#[derive(Clone, Copy, PartialEq, Eq, Debug)]
+#[derive(Clone, Copy, PartialEq, Eq)]
 pub enum Member {
     /// Of a paging-structure cache.
     Structure(Structure),
@@ -35,7 +35,7 @@ pub enum Member {
 }
 
 /// A step of a run.
-#[derive(Clone, Copy, PartialEq, Eq, Debug)]
+#[derive(Clone, Copy, PartialEq, Eq)]
 pub enum Step {
     /// Fills the PML4 cache for a linear address, from the processor's root.
     Fill4 {

@@ -15,7 +15,7 @@ use std::marker::Model;
 
 /// The values that a run's events left in memory, as far as they were noted: for each address, by
 /// moments.
-#[derive(Debug, Drop)]
+#[derive(Drop)]
 pub struct Versions {
     alloc: Global,
     next: u64,

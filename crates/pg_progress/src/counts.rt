@@ -1,5 +1,5 @@
 /// How many events stand, and how many segments are sealed.
-#[derive(Clone, Copy, PartialEq, Eq, Debug)]
+#[derive(Clone, Copy, PartialEq, Eq)]
 pub struct Counts {
     pub events: u32,
     pub segments: u32,

@@ -19,7 +19,7 @@ pub trait Onlooker {
 }
 
 /// The onlooker that does nothing.
-#[derive(Clone, Copy, Debug)]
+#[derive(Clone, Copy)]
 pub struct Nobody;
 
 impl Onlooker for Nobody {

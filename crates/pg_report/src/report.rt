@@ -15,7 +15,7 @@ pub enum Verdict {
 }
 
 /// What an audit says of a record.
-#[derive(Clone, Copy, Debug, PartialEq, Eq)]
+#[derive(Clone, Copy, PartialEq, Eq)]
 pub struct Report {
     /// Yes, or the first bad event.
     pub verdict: Verdict,

@@ -6,7 +6,7 @@ use pg_machine::Step;
 
 /// A fill of a cache by a walk, and the moment that it is taken at: just before the event of that
 /// number.
-#[derive(Clone, Copy, PartialEq, Eq, Debug)]
+#[derive(Clone, Copy)]
 pub(crate) struct Fill {
     /// The number of the event that it comes just before.
     pub moment: u32,

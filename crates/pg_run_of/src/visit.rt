@@ -10,7 +10,7 @@ use pg_machine::Step;
 
 /// A walk of processor `p` for a linear address, as far as it has come: the level that it reads
 /// next, and the table that it reads it in.
-#[derive(Clone, Copy, PartialEq, Eq, Debug)]
+#[derive(Clone, Copy)]
 pub(crate) struct Visit {
     pub p: u16,
     pub la: u64,

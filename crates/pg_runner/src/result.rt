@@ -3,7 +3,7 @@ use pg_report::Report;
 use pg_world::Receipt;
 
 /// What a run of a script came to.
-#[derive(Debug, Drop)]
+#[derive(Drop)]
 pub struct RunResult {
     /// Its record.
     pub trace: Record,

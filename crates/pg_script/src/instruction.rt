@@ -1,6 +1,6 @@
 /// What an instruction of a script asks a processor to do: an event without its processor, its
 /// outcome and its moments.
-#[derive(Clone, Copy, PartialEq, Eq, Debug)]
+#[derive(Clone, Copy, PartialEq, Eq)]
 pub enum Instruction {
     /// Write a word of table memory, at a physical byte address.
     Write { addr: u64, value: u64 },

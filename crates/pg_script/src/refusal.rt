@@ -71,7 +71,7 @@ impl ScriptRefusal {
 
 /// A refusal and the line that it is of, from 1. Where a line lacks at the end of the text, it is
 /// the number after the last.
-#[derive(Clone, Copy, PartialEq, Eq, Debug, Drop, Error)]
+#[derive(Clone, Copy, Debug, Drop, Error)]
 #[error("script line {line}: {refusal:?}")]
 pub struct ScriptError {
     pub line: u32,

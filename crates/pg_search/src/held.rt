@@ -10,7 +10,7 @@ use pg_machine::Translation;
 use std::marker::Model;
 
 /// A table that a walk under a PCID may go on in, and the moments that lead to it.
-#[derive(Clone, Copy, PartialEq, Eq)]
+#[derive(Clone, Copy)]
 pub(crate) struct Spot {
     pub from: Parent,
     pub pcid: u16,
@@ -21,7 +21,7 @@ pub(crate) struct Spot {
 }
 
 /// A translation, and the moments that made it.
-#[derive(Clone, Copy, PartialEq, Eq)]
+#[derive(Clone, Copy)]
 pub(crate) struct FoundTranslation {
     pub translation: Translation,
     pub moments: Moments,

@@ -21,7 +21,7 @@ use pg_event::{Event, Moments, claim_of, update_of};
 use std::alloc::{AllocError, Global};
 
 /// When an event would last have been witnessed.
-#[derive(Clone, Copy, PartialEq, Eq, Debug)]
+#[derive(Clone, Copy)]
 pub struct Last {
     /// The number that the event would have had.
     pub number: u32,

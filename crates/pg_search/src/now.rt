@@ -12,7 +12,7 @@ use pg_event::{Control, Event, entry_address, root_of};
 
 /// A processor and a linear address at a moment, with the control registers that the processor has
 /// there and the entry that level 4 has for the address.
-#[derive(Clone, Copy, PartialEq, Eq)]
+#[derive(Clone, Copy)]
 pub(crate) struct Now {
     pub p: u16,
     pub la: u64,

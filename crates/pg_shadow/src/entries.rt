@@ -2,7 +2,7 @@ use pg_entry::{Level, Rights};
 use pg_event::Moments;
 
 /// What a paging-structure-cache entry keeps (Intel SDM, vol. 3, 4.10.3).
-#[derive(Clone, Copy, PartialEq, Eq, Debug)]
+#[derive(Clone, Copy)]
 pub struct KeptTable {
     /// The physical address of the table that the paging entry refers to.
     pub table: u64,
@@ -13,7 +13,7 @@ pub struct KeptTable {
 }
 
 /// What a translation keeps (Intel SDM, vol. 3, 4.10.2).
-#[derive(Clone, Copy, PartialEq, Eq, Debug)]
+#[derive(Clone, Copy)]
 pub struct KeptLeaf {
     /// The physical address of the page.
     pub frame: u64,
@@ -26,7 +26,7 @@ pub struct KeptLeaf {
 }
 
 /// What a look-up finds for a linear address.
-#[derive(Clone, Copy, PartialEq, Eq, Debug)]
+#[derive(Clone, Copy, PartialEq, Eq)]
 pub enum Found {
     /// A translation.
     Hit {

@@ -14,7 +14,7 @@ use std::marker::Model;
 pub(crate) const SLOTS: usize = 512;
 
 /// A slot, and the number of the page of the level below that is reached through it.
-#[derive(Clone, Copy, PartialEq, Eq, Debug)]
+#[derive(Clone, Copy)]
 pub(crate) struct Place {
     pub slot: Slot,
     pub below: Option<usize>,
@@ -28,7 +28,7 @@ impl Place {
 }
 
 /// The slots of one level for the linear addresses that agree in the bits above it.
-#[derive(Debug, Drop)]
+#[derive(Drop)]
 pub(crate) struct Page {
     level: Level,
     /// The bits above the level.

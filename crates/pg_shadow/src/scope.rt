@@ -5,7 +5,7 @@ use pg_entry::has_bit;
 use pg_event::{Control, Event, Outcome, changes_pge};
 
 /// Where the entries stand that an event must drop (Intel SDM, vol. 3, 4.10.4.1).
-#[derive(Clone, Copy, PartialEq, Eq, Debug)]
+#[derive(Clone, Copy)]
 pub(crate) enum Scope {
     Nowhere,
     /// On the path of a linear address under a PCID, and among the globals or not.

@@ -33,7 +33,7 @@ use std::collections::HashMap;
 use std::marker::Model;
 
 /// What one processor caches, and its control registers.
-#[derive(Debug, Drop)]
+#[derive(Drop)]
 pub struct Shadow {
     m: u8,
     control: Control,

@@ -5,14 +5,14 @@ use crate::entries::{KeptLeaf, KeptTable};
 
 /// What stands at a level for one number: a paging-structure-cache entry and a translation by a
 /// large page may stand there both.
-#[derive(Clone, Copy, PartialEq, Eq, Debug)]
+#[derive(Clone, Copy)]
 pub(crate) struct Slot {
     pub structure: Option<KeptTable>,
     pub translation: Option<KeptLeaf>,
 }
 
 /// What is to be kept.
-#[derive(Clone, Copy, PartialEq, Eq, Debug)]
+#[derive(Clone, Copy)]
 pub(crate) enum Kept {
     Table(KeptTable),
     Leaf(KeptLeaf),
@@ -21,7 +21,7 @@ pub(crate) enum Kept {
 }
 
 /// The slots that a walk for one linear address meets.
-#[derive(Clone, Copy, PartialEq, Eq, Debug)]
+#[derive(Clone, Copy)]
 pub(crate) struct Path {
     pub four: Slot,
     pub three: Slot,

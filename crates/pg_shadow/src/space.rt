@@ -18,7 +18,7 @@ use std::marker::Model;
 
 /// What is kept under one PCID, or for all of them: a tree of pages, of which the first is that of
 /// level 4.
-#[derive(Debug, Drop)]
+#[derive(Drop)]
 pub(crate) struct Space {
     alloc: Global,
     pages: Vec<Page>,

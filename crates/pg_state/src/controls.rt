@@ -17,7 +17,7 @@ use std::alloc::{AllocError, Global};
 use std::marker::Model;
 
 /// The control registers of a run's processors at its moments, as far as they were noted.
-#[derive(Debug, Drop)]
+#[derive(Drop)]
 pub struct Controls {
     header: Header,
     next: u64,

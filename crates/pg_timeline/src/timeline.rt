@@ -10,7 +10,7 @@ use std::alloc::{AllocError, Global};
 use std::marker::Model;
 
 /// A value, and the moment from just after which it holds.
-#[derive(Clone, Copy, PartialEq, Eq, Debug, Default)]
+#[derive(Clone, Copy, Default)]
 pub struct Stamp<V> {
     /// The number of an event.
     pub moment: u32,
@@ -18,7 +18,7 @@ pub struct Stamp<V> {
 }
 
 /// A value, and the first and the last of moments at which it is the same.
-#[derive(Clone, Copy, PartialEq, Eq, Debug)]
+#[derive(Clone, Copy)]
 pub struct Span<V> {
     pub value: V,
     pub from: u32,
@@ -26,7 +26,7 @@ pub struct Span<V> {
 }
 
 /// Values whose moments rise.
-#[derive(Debug, Drop)]
+#[derive(Drop)]
 pub struct Timeline<V> {
     stamps: SmallVec<Stamp<V>, 1>,
 }

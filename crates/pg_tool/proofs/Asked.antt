@@ -5,7 +5,7 @@ use Rattle.pg_plan.specs.declared.request.Usage.{Usage}
 use Rattle.pg_plan.specs.Commands.{AsksOnly}
 use Rattle.pg_report.specs.Changes.{Change}
 use Rattle.pg_tool.specs.Answers.{Answers, Does, DoesNamed, GivesUsage, Opening}
-use Rattle.pg_answers.specs.Streams.{Streams}
+use Rattle.pg_auditing.specs.Streams.{Streams}
 
 pub gives_same : (why other : Usage) (output errors : Change) (status : ℕ) → why ≡ other → GivesUsage other output errors status → GivesUsage why output errors status
 gives_same why other output errors status is gives = subst (λ (u : Usage). GivesUsage u output errors status) (sym is) gives

@@ -22,9 +22,10 @@ use Rattle.pg_tool.specs.Guests.{RunsGuest}
 use Rattle.pg_tool.specs.Pictures.{DrawsRecord}
 use Rattle.pg_answers.specs.Lines.{ShowsRecord, filter_of}
 use Rattle.pg_answers.specs.Naming.{NamesRecord}
-use Rattle.pg_answers.specs.Refusals.{StaysSame, Tells, refusal_line, memory_line, unopened_line}
-use Rattle.pg_answers.specs.Status.{Checks, ShowsRun}
-use Rattle.pg_answers.specs.Streams.{Streams}
+use Rattle.pg_auditing.specs.Refusals.{StaysSame, Tells, refusal_line, memory_line, unopened_line}
+use Rattle.pg_auditing.specs.Status.{Checks}
+use Rattle.pg_answers.specs.RunOf.{ShowsRun}
+use Rattle.pg_auditing.specs.Streams.{Streams}
 use Rattle.pg_answers.specs.Summaries.{ChecksAll, ExplainsAll}
 use Rattle.pg_answers.specs.Upgrades.{Upgrades}
 

@@ -3,7 +3,7 @@ use pg_script::ScriptError;
 use thiserror::Error;
 
 /// Why a guest script gives no answer.
-#[derive(Clone, Copy, PartialEq, Eq, Debug, Error)]
+#[derive(Clone, Copy, Debug, Error)]
 pub enum GuestError {
     /// The input has more than 134,217,728 bytes.
     #[error("the script has more than 134,217,728 bytes")]

@@ -4,24 +4,15 @@ ghost use Rattle.std.specs.Prelude.{◌++◌, codes, decimal};
 ghost use Rattle.pg_codec.specs.Writing.{Puts};
 ghost use Rattle.pg_report.specs.Changes.{filled};
 ghost use Rattle.pg_tool.specs.Guests.{script_line, guest_line};
-ghost use Rattle.pg_answers.specs.Refusals.{Tells};
+ghost use Rattle.pg_auditing.specs.Refusals.{Tells};
 
 use crate::guest_error::GuestError;
-use pg_answers::{put_error, put_line, put_number};
+use pg_auditing::{put_error, put_line, put_name, put_number};
 use pg_codec::{Failed, Sink, put_all};
 use pg_report::AuditError;
 
 /// The refusal of an input that is too long, which is of no line.
 const TOO_LONG: u8 = 11;
-
-/// A refusal's name, which ends its line.
-pub(crate) fn put_name<W: Sink>(errors: &mut W, name: &str) -> Result<(), Failed>
-    ensures { Puts W.Sink (codes " " ++ (name.now ++ codes "\n")) errors.old errors.new result }
-{
-    put_all(errors, b" ")?;
-    put_all(errors, name.as_bytes())?;
-    put_all(errors, b"\n")
-}
 
 fn put_script_line<W: Sink>(errors: &mut W, line: u32, number: u8, name: &str) -> Result<(), Failed>
     ensures { Puts W.Sink (script_line line number name.now) errors.old errors.new result }

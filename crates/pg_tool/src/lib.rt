@@ -1,7 +1,6 @@
 //! The whole program over any streams.
 #![tactic(auto)]
 
-mod files;
 mod followers;
 mod guest_error;
 mod guest_refusals;

@@ -2,11 +2,12 @@
 
 ghost use Rattle.std.specs.Prelude.{IfOk, string_bytes};
 ghost use Rattle.pg_report.specs.Changes.{drawn, filled};
-ghost use Rattle.pg_answers.specs.Streams.{streams};
+ghost use Rattle.pg_auditing.specs.Streams.{streams};
 ghost use Rattle.pg_answers.specs.Texts.{IsTextGiven};
 ghost use Rattle.pg_tool.specs.Pictures.{IsPictureOf, DrawsRecord};
 
-use pg_answers::{ToldText, give, status_of, tell_error};
+use pg_answers::{ToldText, give};
+use pg_auditing::{status_of, tell_error};
 use pg_check::History;
 use pg_codec::{Sink, Source};
 use pg_picture::draw as draw_event;

@@ -9,17 +9,18 @@ ghost use Rattle.pg_tool.specs.Answers.{Answers, CertifiesBy, ChecksBy, Explains
 ghost use Rattle.pg_tool.specs.Answers.{DoesNamed, GivesText, opens};
 ghost use Rattle.pg_tool.specs.Guests.{guest_error_status, run_error_status};
 ghost use Rattle.pg_tool.specs.Guests.{RunsGuest, TellsGuest};
-ghost use Rattle.pg_answers.specs.Streams.{streams};
+ghost use Rattle.pg_auditing.specs.Streams.{streams};
 
-use crate::files::tell_unopened;
 use crate::followers::Followers;
 use crate::guest_error::GuestError;
 use crate::guest_refusals::tell_guest;
 use crate::guests::run_script;
 use crate::pictures::draw;
 use pg_answers::{
-    MEMORY, REFUSED, USAGE, YES, certify, check, check_all, explain, explain_all, filter_of,
-    name_moments, run_of, show, tell, tell_memory, tell_text, upgrade,
+    certify, check_all, explain, explain_all, filter_of, name_moments, run_of, show, upgrade,
+};
+use pg_auditing::{
+    MEMORY, REFUSED, UNOPENED, USAGE, YES, check, tell, tell_memory, tell_text, tell_unopened,
 };
 use pg_codec::{Sink, Source, put_all};
 use pg_plan::{Command, Plan, Telling, Usage, plan};
@@ -31,8 +32,6 @@ use std::alloc::{AllocGlobal, Global};
 use std::cell::Cell;
 use std::sync::Wait;
 use std::thread::Threads;
-
-const UNOPENED: u8 = 66;
 
 fn run_error_status(error: RunError) -> u8
     ensures { result ≡ run_error_status error }

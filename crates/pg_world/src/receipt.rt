@@ -1,7 +1,7 @@
 use pg_event::Event;
 
 /// What a call that records an event answers.
-#[derive(Clone, Copy, PartialEq, Eq, Debug)]
+#[derive(Clone, Copy, PartialEq, Eq)]
 pub struct Receipt {
     /// The number of the event.
     pub moment: u32,

@@ -8,7 +8,7 @@ use pg_entry::{AccessKind, Level, Rights};
 use pg_event::{Header, Moments, flags_of, is_canonical};
 
 /// A walk that is to read a level (Intel SDM, vol. 3, 4.5).
-#[derive(Clone, Copy, PartialEq, Eq, Debug)]
+#[derive(Clone, Copy)]
 pub struct Walk {
     /// The linear byte address.
     pub la: u64,
@@ -38,7 +38,7 @@ impl Walk {
 }
 
 /// What the read of a level came to.
-#[derive(Clone, Copy, PartialEq, Eq, Debug)]
+#[derive(Clone, Copy)]
 pub enum LevelRead {
     /// An entry that the walk may use, and the moment that it was read at: the number of events.
     Entry { value: u64, moment: u32 },

@@ -32,7 +32,7 @@ const MOST_EVENTS: usize = 4_294_967_295;
 /// Table memory and the record of a run so far. Processors read and write it one call at a time,
 /// and each call records one event at most. Its events are cut into segments of the size that the
 /// header says: a full one is sealed, and the last one once the record is finished.
-#[derive(Debug, Drop)]
+#[derive(Drop)]
 pub struct World {
     header: Header,
     events: Vec<Event>,

@@ -4,8 +4,8 @@ use Rattle.pg_plan.specs.Commands.{texts}
 use Rattle.pg_plan.specs.declared.request.Usage.TheVariants.{Fault, Memory}
 use Rattle.pg_report.specs.Changes.{filled}
 use Rattle.pg_tool.specs.Answers.{GivesUsage, opens}
-use Rattle.pg_answers.specs.Refusals.{Tells}
-use Rattle.pg_answers.specs.Streams.{Streams, streams}
+use Rattle.pg_auditing.specs.Refusals.{Tells}
+use Rattle.pg_auditing.specs.Streams.{Streams, streams}
 use Rattle.pg_tool.proofs.Asked.{does_asked, does_named, gives_same}
 use Rattle.pg_tool.proofs.program.pcid_audit_followed.Goals as goal
 

@@ -3,8 +3,8 @@
 ghost use Rattle.std.specs.Prelude.{◌++◌, codes, decimal};
 ghost use Rattle.pg_codec.specs.Writing.{Puts};
 ghost use Rattle.pg_report.specs.Changes.{filled};
-ghost use Rattle.pg_answers.specs.Refusals.{refusal_text, place_text, refusal_line, memory_line};
-ghost use Rattle.pg_answers.specs.Refusals.{Tells, TellsError};
+ghost use Rattle.pg_auditing.specs.Refusals.{refusal_text, place_text, refusal_line, memory_line};
+ghost use Rattle.pg_auditing.specs.Refusals.{Tells, TellsError};
 
 use itoa::Buffer;
 use pg_codec::{Failed, Sink, put_all};
@@ -18,6 +18,15 @@ pub fn put_number<W: Sink>(errors: &mut W, before: &[u8], number: u64) -> Result
     let mut buffer = Buffer::new();
     put_all(errors, before)?;
     put_all(errors, buffer.format(number).as_bytes())
+}
+
+/// A refusal's name, which ends its line.
+pub fn put_name<W: Sink>(errors: &mut W, name: &str) -> Result<(), Failed>
+    ensures { Puts W.Sink (codes " " ++ (name.now ++ codes "\n")) errors.old errors.new result }
+{
+    put_all(errors, b" ")?;
+    put_all(errors, name.as_bytes())?;
+    put_all(errors, b"\n")
 }
 
 fn put_refusal<W: Sink>(errors: &mut W, number: u8, name: &str) -> Result<(), Failed>

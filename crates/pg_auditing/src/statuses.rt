@@ -1,9 +1,8 @@
 //! Exit statuses.
 
 ghost use Rattle.std.specs.Prelude.{◌≡◌};
-ghost use Rattle.pg_answers.specs.Status.{error_status, verdict_status, status_of, run_status};
+ghost use Rattle.pg_auditing.specs.Status.{error_status, verdict_status, status_of};
 
-use crate::shown::Shown;
 use pg_report::{AuditError, Verdict};
 
 /// Of a yes, and of what was done.
@@ -21,7 +20,11 @@ pub const MEMORY: u8 = 3;
 /// Of words that are no command.
 pub const USAGE: u8 = 64;
 
-pub(crate) fn error_status(error: AuditError) -> u8
+/// Of a file that can't be opened.
+pub const UNOPENED: u8 = 66;
+
+/// Of an error.
+pub fn error_status(error: AuditError) -> u8
     ensures { result ≡ error_status error }
 {
     match error {
@@ -31,7 +34,8 @@ pub(crate) fn error_status(error: AuditError) -> u8
     }
 }
 
-pub(crate) fn verdict_status(verdict: Verdict) -> u8
+/// Of a verdict.
+pub fn verdict_status(verdict: Verdict) -> u8
     ensures { result ≡ verdict_status verdict }
 {
     match verdict {
@@ -46,16 +50,6 @@ pub fn status_of(answer: Result<Verdict, AuditError>) -> u8
 {
     match answer {
         Ok(verdict) => verdict_status(verdict),
-        Err(error) => error_status(error),
-    }
-}
-
-pub(crate) fn run_status(answer: Result<Shown, AuditError>) -> u8
-    ensures { result ≡ run_status answer }
-{
-    match answer {
-        Ok(Shown::Run) => YES,
-        Ok(Shown::Report) => NO,
         Err(error) => error_status(error),
     }
 }

@@ -3,8 +3,8 @@ use Rattle.std.proofs.lemmas.Result.{err_from_is_err_and}
 use Rattle.pg_codec.proofs.Written.{puts_same}
 use Rattle.pg_codec.proofs.Segments.{puts_then, puts_fails}
 use Rattle.pg_report.specs.Numbers.{error_number, error_name}
-use Rattle.pg_answers.specs.Refusals.{refusal_text, place_text}
-use Rattle.pg_answers.proofs.refusals.put_error.Goals as goal
+use Rattle.pg_auditing.specs.Refusals.{refusal_text, place_text}
+use Rattle.pg_auditing.proofs.refusals.put_error.Goals as goal
 
 pub returns-in_err-put_refusal : goal.returns-in_err-put_refusal
 returns-in_err-put_refusal g c =

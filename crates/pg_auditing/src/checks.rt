@@ -3,8 +3,8 @@
 ghost use Rattle.pg_pool.specs.Rounds.{AreCheckers};
 ghost use Rattle.pg_report.specs.Audits.{IsAudit};
 ghost use Rattle.pg_report.specs.Changes.{drawn, filled};
-ghost use Rattle.pg_answers.specs.Status.{Checks, IsAbleBy};
-ghost use Rattle.pg_answers.specs.Streams.{streams};
+ghost use Rattle.pg_auditing.specs.Status.{Checks, IsAbleBy};
+ghost use Rattle.pg_auditing.specs.Streams.{streams};
 
 use crate::refusals::tell_error;
 use crate::statuses::status_of;

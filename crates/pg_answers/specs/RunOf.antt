@@ -1,12 +1,10 @@
--- Exit statuses, and what they say.
-use Rattle.std.specs.Prelude.{◌≡◌, ◌≢◌, ℕ, List, Some, None, Result, Ok, Err, ◌⊎◌, IfSome}
+-- What `run-of` answers.
+use Rattle.std.specs.Prelude.{◌≡◌, ℕ, List, Some, None, Result, Ok, Err, ◌⊎◌, IfSome}
 use Rattle.pg_event.specs.Witness.{first_bad}
 use Rattle.pg_event.specs.Spelling.{Recorded}
 use Rattle.pg_event.specs.Reading.{refusal}
 use Rattle.pg_machine.specs.declared.step.Step.{Step}
 use Rattle.pg_run_of.specs.Build.{BuildsRun}
-use Rattle.pg_report.specs.declared.report.Verdict.{Verdict}
-use Rattle.pg_report.specs.declared.report.Verdict.TheVariants.{Yes, No}
 use Rattle.pg_report.specs.declared.error.AuditError.{AuditError}
 use Rattle.pg_report.specs.declared.error.AuditError.TheVariants.{Refused, Device, Memory}
 use Rattle.pg_report.specs.declared.error.AuditError.TheVariants.{Thread, Checkers}
@@ -14,40 +12,13 @@ use Rattle.pg_report.specs.declared.report.Report.{Report}
 use Rattle.pg_report.specs.Text.{report_of, report_text}
 use Rattle.pg_report.specs.Changes.{Change, Adds, AddsSome, AddsNothing}
 use Rattle.pg_report.specs.Audits.{SpellsOne, SpellsNone, ReaderFails, WriterFails}
-use Rattle.pg_report.specs.Audits.{TellsFailures, IsAudit}
+use Rattle.pg_report.specs.Audits.{TellsFailures}
 use Rattle.pg_answers.specs.declared.shown.Shown.{Shown}
 use Rattle.pg_answers.specs.declared.shown.Shown.TheVariants as shown
 use Rattle.pg_answers.specs.Runs.{run_text}
-use Rattle.pg_answers.specs.Refusals.{TellsError}
-use Rattle.pg_answers.specs.Streams.{Streams}
-
--- 0 yes, 1 no, 2 refused input or a failed device, 3 want of memory or of a thread, 64 a number of
--- checkers that can't be
-abbrev pub error_status : AuditError → ℕ
-error_status (Refused e) = 2
-error_status Device = 2
-error_status Memory = 3
-error_status Thread = 3
-error_status Checkers = 64
-
-abbrev pub verdict_status : Verdict → ℕ
-verdict_status Yes = 0
-verdict_status (No event reason) = 1
-
-abbrev pub status_of : Result Verdict AuditError → ℕ
-status_of (Ok verdict) = verdict_status verdict
-status_of (Err e) = error_status e
-
--- so many checkers can be had, and one wants no thread
-abbrev pub IsAbleBy : ℕ → Result Verdict AuditError → Type 0
-IsAbleBy checkers answer = (answer ≢ Err Checkers) × (checkers ≡ 1 → answer ≢ Err Thread)
-
--- The status is that of an audit of what the reader had left by so many checkers, and the line on
--- standard error is that of the same answer.
-abbrev pub Checks : ℕ → Streams → ℕ → Type 0
-Checks checkers s status =
-    (answer : Result Verdict AuditError) × (status ≡ status_of answer)
-    × IsAudit s.input s.output answer × IsAbleBy checkers answer × TellsError s.errors answer
+use Rattle.pg_auditing.specs.Refusals.{TellsError}
+use Rattle.pg_auditing.specs.Status.{error_status}
+use Rattle.pg_auditing.specs.Streams.{Streams}
 
 -- the bytes spell one record, these steps are its planned run, and this holds of their text
 abbrev pub HasRunText : List ℕ → (List ℕ → Type 0) → Type 0

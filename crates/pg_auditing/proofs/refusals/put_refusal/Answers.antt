@@ -2,7 +2,7 @@ use Rattle.std.proofs.Common.{List, ℕ, ◌++◌, codes, decimal}
 use Rattle.std.proofs.lemmas.Result.{err_from_is_err_and}
 use Rattle.pg_codec.proofs.Written.{puts_same}
 use Rattle.pg_codec.proofs.Segments.{puts_then, puts_fails}
-use Rattle.pg_answers.proofs.refusals.put_refusal.Goals as goal
+use Rattle.pg_auditing.proofs.refusals.put_refusal.Goals as goal
 
 abbrev head : ℕ → List ℕ
 head number = codes "pcid-audit: refused " ++ decimal number

@@ -1,11 +1,13 @@
 -- What the program says on standard error where it gives no answer.
-use Rattle.std.specs.Prelude.{◌⊎◌, ℕ, List, [], ◌++◌, Result, Ok, Err, codes, decimal}
+use Rattle.std.specs.Prelude.{◌≡◌, ◌⊎◌, ℕ, List, [], ◌++◌, Result, Ok, Err, codes, decimal}
 use Rattle.pg_event.specs.declared.refusal.Refusal.TheVariants as refusals
 use Rattle.pg_report.specs.declared.error.AuditError.{AuditError}
 use Rattle.pg_report.specs.declared.error.AuditError.TheVariants.{Refused, Device, Memory}
 use Rattle.pg_report.specs.declared.error.AuditError.TheVariants.{Thread, Checkers}
 use Rattle.pg_report.specs.Changes.{Change, Fails, Works, Adds, AddsSome, AddsNothing}
 use Rattle.pg_report.specs.Numbers.{rule_number, error_number, error_name}
+use Rattle.pg_auditing.specs.declared.words.NoWords.{NoWords}
+use Rattle.pg_auditing.specs.declared.words.NoWords.TheVariants as unread
 
 -- `pcid-audit: refused 3 header field`
 abbrev pub refusal_text : ℕ → List ℕ → List ℕ
@@ -55,3 +57,9 @@ Tells c text = (Adds c text × Works c) ⊎ (AddsSome c text × Fails c)
 abbrev pub TellsError : {A : Type 0} → Change → Result A AuditError → Type 0
 TellsError errors (Ok x) = StaysSame errors
 TellsError errors (Err e) = Tells errors (refusal_line e)
+
+-- a word that is no text is told as one, with 64, and want of memory as that, with 3
+abbrev pub TellsNoWords : Change → NoWords → ℕ → Type 0
+TellsNoWords errors unread.NoText status =
+    Tells errors (codes "error: a word is no UTF-8 text\n") × (status ≡ 64)
+TellsNoWords errors unread.Memory status = Tells errors memory_line × (status ≡ 3)

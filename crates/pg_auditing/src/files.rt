@@ -3,9 +3,9 @@
 ghost use Rattle.std.specs.Prelude.{◌≡◌};
 ghost use Rattle.pg_codec.specs.Writing.{Puts};
 ghost use Rattle.pg_report.specs.Changes.{filled};
-ghost use Rattle.pg_answers.specs.Refusals.{Tells, unopened_line};
+ghost use Rattle.pg_auditing.specs.Refusals.{Tells, unopened_line};
 
-use crate::guest_refusals::put_name;
+use crate::refusals::put_name;
 use pg_codec::{Failed, Sink, put_all};
 
 fn put_unopened<W: Sink>(errors: &mut W, name: &str) -> Result<(), Failed>
@@ -16,7 +16,7 @@ fn put_unopened<W: Sink>(errors: &mut W, name: &str) -> Result<(), Failed>
 }
 
 /// Writes the line of a file that can't be opened.
-pub(crate) fn tell_unopened<W: Sink>(errors: &mut W, name: &str)
+pub fn tell_unopened<W: Sink>(errors: &mut W, name: &str)
     ensures { Tells (filled W.Sink errors.old errors.new) (unopened_line name.now) }
 {
     let _ = put_unopened(errors, name);

@@ -8,8 +8,8 @@ use Rattle.pg_codec.specs.Writing.{Puts}
 use Rattle.pg_report.specs.Numbers.{rule_number}
 use Rattle.pg_report.specs.declared.error.AuditError.{AuditError}
 use Rattle.pg_report.specs.declared.error.AuditError.TheVariants.{Refused}
-use Rattle.pg_answers.specs.Refusals.{place_text}
-use Rattle.pg_answers.proofs.refusals.put_place.Goals as goal
+use Rattle.pg_auditing.specs.Refusals.{place_text}
+use Rattle.pg_auditing.proofs.refusals.put_place.Goals as goal
 
 abbrev at_event : ℕ → List ℕ
 at_event event = codes " event " ++ decimal event

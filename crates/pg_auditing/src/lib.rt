@@ -1,0 +1,19 @@
+//! `check` over any streams: the audit of a record, its exit status, and the lines that tell of what
+//! was refused.
+#![tactic(auto)]
+
+mod checks;
+mod files;
+mod refusals;
+mod statuses;
+mod words;
+
+pub use checks::check;
+pub use files::tell_unopened;
+pub use refusals::{
+    put_error, put_line, put_name, put_number, tell, tell_error, tell_memory, tell_text,
+};
+pub use statuses::{
+    MEMORY, NO, REFUSED, UNOPENED, USAGE, YES, error_status, status_of, verdict_status,
+};
+pub use words::{NoWords, arguments, tell_no_words, words_of};
