@@ -13,9 +13,19 @@ use std::process::ExitCode;
 /// Of words that ask for what the whole program does.
 const OTHERS: u8 = 79;
 
-/// Whether a plan asks for a check and nothing else.
+/// Whether a plan asks for a check and nothing else. All fields are named, so that a new option is
+/// not left out here: the others are of other commands.
 fn is_own(plan: Plan) -> bool {
-    plan.command == Command::Check && plan.telling == Telling::First && !plan.progress
+    let Plan {
+        command,
+        checkers: _,
+        single: _,
+        bytes: _,
+        selection: _,
+        telling,
+        progress,
+    } = plan;
+    command == Command::Check && telling == Telling::First && !progress
 }
 
 /// What is told, and the exit status, where there is no plan. The texts that are asked for are the

@@ -1,5 +1,5 @@
-//! `check` over any streams: the audit of a record, its exit status, and the lines that tell of what
-//! was refused.
+//! `check` over any streams: the audit of a record, its exit status, and the lines that tell of
+//! what was refused.
 #![tactic(auto)]
 
 mod checks;
