@@ -4,6 +4,7 @@ ghost use Rattle.std.specs.Prelude.{◌≡◌, ◌<◌, true, false, length, Mat
 ghost use Rattle.pg_event.specs.Form.{processor_of};
 ghost use Rattle.pg_search.specs.Law.{names_moments, with_moments};
 
+use crate::pcids::Pcids;
 use pg_event::{Event, Moments, Outcome, uses_last, want_of};
 use pg_search::Seen;
 
@@ -75,7 +76,7 @@ fn asks_of(outcome: Outcome) -> Asks {
 }
 
 /// What an event asks, if it names moments.
-pub(crate) fn case_of(seen: &Seen<'_>, i: u32, event: &Event) -> Option<Case>
+pub(crate) fn case_of(seen: &Seen<'_>, pcids: &mut Pcids, i: u32, event: &Event) -> Option<Case>
     requires processor { processor_of event.now < length seen.now.head.processors }
     ensures number { IfSome result (λ case. case.i ≡ i) }
     ensures processor { IfSome result (λ case. case.p < length seen.now.head.processors) }
@@ -91,7 +92,7 @@ pub(crate) fn case_of(seen: &Seen<'_>, i: u32, event: &Event) -> Option<Case>
         | Event::Invpcid { .. }
         | Event::MovCr4Pge { .. } => return None,
     };
-    let pcid = seen.control_at(p, i).pcid;
+    let pcid = pcids.at(seen, p, i);
     Some(Case {
         i,
         p,

@@ -12,6 +12,7 @@ ghost use Rattle.pg_certify.specs.Shares.{IsDealt, IsLeastDenied};
 
 use crate::case::{Asks, Case, case_of, with_moments};
 use crate::guesses::{Guesses, Part, Scope, key_of};
+use crate::pcids::Pcids;
 use crate::share::Share;
 use crate::walk::{Walk, first_moments, walk_by};
 use pg_check::{History, Memo, failing};
@@ -37,6 +38,7 @@ pub(crate) struct Certifier<'a> {
     seen: Seen<'a>,
     memo: Memo<'a>,
     guesses: Guesses,
+    pcids: Pcids,
 }
 
 impl<'a> Model for Certifier<'a> {
@@ -103,6 +105,7 @@ impl<'a> Certifier<'a> {
             seen,
             memo,
             guesses,
+            pcids: Pcids::new(alloc),
         }
     }
 
@@ -485,7 +488,7 @@ impl<'a> Certifier<'a> {
         ensures none { IfOk result
             (λ r. IfNone r (IsUnwitnessed self.old.head self.old.events i event.now)) }
     {
-        match case_of(&self.seen, i, event) {
+        match case_of(&self.seen, &mut self.pcids, i, event) {
             Some(case) => self.find_case(event, case),
             None => Ok(Some(*event)),
         }

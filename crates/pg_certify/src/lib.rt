@@ -13,6 +13,7 @@ mod guesses;
 mod keeping;
 mod laws;
 mod numbering;
+mod pcids;
 mod share;
 mod walk;
 mod window;

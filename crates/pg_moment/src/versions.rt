@@ -2,15 +2,13 @@ ghost use Rattle.std.specs.Prelude.{◌≡◌, ℕ, nat_eq, ◌+◌, ◌≤◌, 
 ghost use Rattle.std.specs.Prelude.{OnErr};
 ghost use Rattle.pg_event.specs.declared.event.Event.{Event};
 ghost use Rattle.pg_event.specs.Values.{mem_at};
-ghost use Rattle.std.specs.HashMap.{IsUnchanged};
-ghost use Rattle.pg_timeline.specs.Timelines.{end_of, IsSpan};
-ghost use Rattle.pg_timeline.specs.Keyed.{stamps_in, IsPushed, AreCut};
+ghost use Rattle.pg_timeline.specs.Timelines.{IsSpan};
 ghost use Rattle.pg_moment.specs.Versions.{next_moment, value_at, IsNoted, IsSame, IsCutAt, Leaves};
 ghost use Rattle.pg_moment.specs.Versions.{StandsFor};
 
-use pg_timeline::{Probes, Span, Timeline};
+use crate::words::Words;
+use pg_timeline::{Probes, Span};
 use std::alloc::{AllocError, Global};
-use std::collections::HashMap;
 use std::marker::Model;
 
 /// The values that a run's events left in memory, as far as they were noted: for each address, by
@@ -19,7 +17,7 @@ use std::marker::Model;
 pub struct Versions {
     alloc: Global,
     next: u64,
-    by_address: HashMap<u64, Timeline<u64>>,
+    words: Words,
 }
 
 impl Model for Versions {
@@ -28,44 +26,9 @@ impl Model for Versions {
 
     ghost Value = { Keyed ℕ ℕ };
 
-    ghost view = { λ a. record { entries = a.by_address.entries; next = a.next } };
+    ghost view = { λ a. record { entries = a.words; next = a.next } };
 
-    ghost invariant = { λ a. EndsBefore nat_eq a.by_address.entries a.next };
-}
-
-/// Adds a value at the end of the timeline of an address, which may be its first.
-fn push_at(
-    by_address: &mut HashMap<u64, Timeline<u64>>,
-    alloc: Global,
-    addr: u64,
-    moment: u32,
-    value: u64,
-) -> Result<(), AllocError>
-    requires { end_of (stamps_in nat_eq by_address.old.entries addr) ≤ moment }
-    ensures ok { OnOk result
-        (IsPushed nat_eq by_address.old.entries by_address.new.entries addr
-        (record { moment = moment; value = value })) }
-    ensures err { OnErr result (IsUnchanged by_address.old by_address.new) }
-{
-    match by_address.get_mut(&addr) {
-        Some(timeline) => timeline.push(moment, value),
-        None => {
-            let mut timeline = Timeline::new(alloc);
-            timeline.push(moment, value)?;
-            by_address.insert(addr, timeline)?;
-            Ok(())
-        }
-    }
-}
-
-/// Forgets the values of every address from a moment on.
-fn cut_all(by_address: &mut HashMap<u64, Timeline<u64>>, moment: u32)
-    ensures { AreCut nat_eq by_address.old.entries by_address.new.entries moment }
-{
-    by_address.retain(|_, timeline| {
-        timeline.forget_from(moment);
-        true
-    });
+    ghost invariant = { λ a. EndsBefore nat_eq a.words a.next };
 }
 
 impl Versions {
@@ -77,7 +40,7 @@ impl Versions {
         Versions {
             alloc,
             next: 0,
-            by_address: HashMap::new(alloc),
+            words: Words::new(alloc),
         }
     }
 
@@ -98,7 +61,7 @@ impl Versions {
             moment ≡ length events → Leaves events event addr value →
             OnOk result (StandsFor self.new (events ++ event ∷ [])) }
     {
-        push_at(&mut self.by_address, self.alloc, addr, moment, value)?;
+        self.words.push(self.alloc, addr, moment, value)?;
         self.next = moment as u64 + 1;
         Ok(())
     }
@@ -120,7 +83,7 @@ impl Versions {
             result ≡ mem_at events moment addr }
         ensures probes { (probes.old ≤ probes.new) × (probes.new ≤ probes.old + 34) }
     {
-        match self.by_address.get(&addr) {
+        match self.words.get(addr) {
             Some(timeline) => timeline.last_before(moment, probes).unwrap_or(0),
             None => 0,
         }
@@ -134,7 +97,7 @@ impl Versions {
             IsSpan (λ w. mem_at events w addr) moment result }
         ensures probes { (probes.old ≤ probes.new) × (probes.new ≤ probes.old + 35) }
     {
-        match self.by_address.get(&addr) {
+        match self.words.get(addr) {
             Some(timeline) => timeline.span_at(moment, 0, probes),
             None => Span {
                 value: 0,
@@ -148,7 +111,7 @@ impl Versions {
     pub fn forget_from(&mut self, moment: u32)
         ensures { IsCutAt self.old self.new moment }
     {
-        cut_all(&mut self.by_address, moment);
+        self.words.forget_from(moment);
         self.next = self.next.min(moment as u64);
     }
 }

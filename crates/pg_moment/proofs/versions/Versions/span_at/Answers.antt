@@ -2,7 +2,7 @@ use Rattle.std.proofs.Common.{◌≡◌, ℕ, [], Some, None, nat_eq, ap, sym, �
 use Rattle.std.specs.Map.{lookup}
 use Rattle.std.specs.Option.{unwrap_or}
 use Rattle.pg_event.specs.Values.{mem_at}
-use Rattle.pg_timeline.specs.Timelines.{last_before, IsSpan}
+use Rattle.pg_timeline.specs.Timelines.{last_before}
 use Rattle.pg_timeline.proofs.Spans.{IsSpan-same}
 use Rattle.pg_timeline.specs.Keyed.{Keyed}
 use Rattle.pg_moment.specs.Versions.{value_at}
@@ -10,7 +10,7 @@ use Rattle.pg_moment.proofs.versions.Versions.span_at.Goals as goal
 
 pub returns-in-Some-clause-value : goal.returns-in-Some-clause-value
 returns-in-Some-clause-value c =
-    let entries = c.self.inside.by_address.entries in
+    let entries = c.self.inside.words in
     let found : lookup (nat_eq c.args.addr) entries ≡ Some c.in-Some.timeline.now = sym c.in-Some.ensures.value in
     IsSpan-same (λ w. unwrap_or (last_before w c.in-Some.timeline.now) 0) (λ w. value_at c.args.self.now w c.args.addr) c.args.moment c.span_at.result
     (λ w. ap (λ (v : Keyed ℕ ℕ). value_at v w c.args.addr) (sym c.self.view_is) ∙ ap (λ o. unwrap_or (last_before w (unwrap_or o [])) 0) found)
@@ -23,7 +23,7 @@ returns-in-Some-clause-memory c = λ events h.
 
 pub returns-in-None-clause-value : goal.returns-in-None-clause-value
 returns-in-None-clause-value c =
-    let entries = c.self.inside.by_address.entries in
+    let entries = c.self.inside.words in
     let none : lookup (nat_eq c.args.addr) entries ≡ None = sym c.in-None.ensures.value in
     record {
       low = omega arith;
