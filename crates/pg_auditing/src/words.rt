@@ -1,6 +1,6 @@
 //! The words that a program was started with.
 
-ghost use Rattle.std.specs.Prelude.{◌≡◌};
+ghost use Rattle.std.specs.Prelude.{◌≡◌, map, drop, IfOk, string_bytes};
 ghost use Rattle.pg_report.specs.Changes.{filled};
 ghost use Rattle.pg_auditing.specs.Refusals.{TellsNoWords};
 
@@ -36,9 +36,12 @@ pub fn arguments<T: Env + AllocGlobal>(rt: &T) -> Result<Vec<String>, NoWords> {
 }
 
 /// The words behind the first.
-pub fn words_of(alloc: Global, arguments: &[String]) -> Result<Vec<&str>, AllocError> {
+pub fn words_of(alloc: Global, arguments: &[String]) -> Result<Vec<&str>, AllocError>
+    ensures { IfOk result (λ words. map (λ w. w.now) words.items
+        ≡ map string_bytes (drop 1 arguments.now)) }
+{
     let mut words = Vec::new(alloc);
-    for argument in arguments.iter().skip(1) {
+    for argument in arguments.get(1..).unwrap_or(&[]) {
         words.push(argument.as_str())?;
     }
     Ok(words)
