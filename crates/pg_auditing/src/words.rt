@@ -1,6 +1,6 @@
 //! The words that a program was started with.
 
-ghost use Rattle.std.specs.Prelude.{◌≡◌, map, drop, IfOk, string_bytes};
+ghost use Rattle.std.specs.Prelude.{◌≡◌, ◌≤◌, map, drop, length, IsOk, IfOk, string_bytes};
 ghost use Rattle.pg_report.specs.Changes.{filled};
 ghost use Rattle.pg_auditing.specs.Refusals.{TellsNoWords};
 
@@ -35,9 +35,11 @@ pub fn arguments<T: Env + AllocGlobal>(rt: &T) -> Result<Vec<String>, NoWords> {
     }
 }
 
-/// The words behind the first.
+/// The words behind the first. Fails where memory is refused, which none asks for where there are
+/// no such words.
 pub fn words_of(alloc: Global, arguments: &[String]) -> Result<Vec<&str>, AllocError>
-    ensures { IfOk result (λ words. map (λ w. w.now) words.items
+    ensures none { length arguments.now ≤ 1 → IsOk result }
+    ensures words { IfOk result (λ words. map (λ w. w.now) words.items
         ≡ map string_bytes (drop 1 arguments.now)) }
 {
     let mut words = Vec::new(alloc);

@@ -14,7 +14,8 @@ struct Stay {
     to: u32,
 }
 
-/// The PCID that was asked last of each processor. Where memory is refused, some are not kept.
+/// The PCID that was asked last of each processor, always of the same `Seen`. Where memory is
+/// refused, some are not kept.
 #[derive(Drop)]
 pub(crate) struct Pcids {
     stays: Vec<Option<Stay>>,
