@@ -209,6 +209,29 @@ impl Past {
         !self.drops.structure_dropped(p, pcid, level, la, from, to)
     }
 
+    /// The first event from this moment on at which a processor had to drop the
+    /// paging-structure-cache entry that level 4, 3 or 2 gives for a linear address under a PCID.
+    pub fn first_drop_of_structure(
+        &self,
+        p: u16,
+        pcid: u16,
+        level: Level,
+        la: u64,
+        from: u32,
+        probes: &mut Probes,
+    ) -> Option<u32>
+        requires { IsTableLevel level }
+        ensures run { let key = structure_key pcid level la in
+            InEachRun self.now (λ head events.
+            IsFirstDrop
+            (λ a b. not (survives head events p (λ c e. must_drop_structure c e key) a b))
+            from (2 ^ 32 - 1) result) }
+        ensures probes { (probes.old ≤ probes.new) × (probes.new ≤ probes.old + 102) }
+    {
+        self.drops
+            .first_drop_of_structure(p, pcid, level, la, from, u32::MAX, probes)
+    }
+
     /// The first event from this moment on at which a processor had to drop the translation of a
     /// linear address by a page of 2 to the power of `shift` bytes (12, 21 or 30) under a PCID.
     pub fn first_drop_of_translation(
