@@ -11,5 +11,6 @@ pub mod Last
 pub mod Thinned
 pub mod Bare
 pub mod Briefs
+pub mod Lasts
 pub mod Seen
 pub mod Events

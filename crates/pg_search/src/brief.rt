@@ -1,16 +1,16 @@
 //! Events in little room: without their moments, and without the values of writes.
 
 ghost use Rattle.std.specs.Prelude.{◌≡◌, ℕ};
+ghost use Rattle.pg_search.specs.Law.{with_moments};
 ghost use Rattle.pg_search.specs.Bare.{bare};
 ghost use Rattle.pg_search.specs.Briefs.{event_by, IsLeft};
 
 use pg_event::{Event, Moments, Outcome};
 
-/// An event with one moment 0 in place of its moments.
-pub fn bare(event: &Event) -> Event
-    ensures { result ≡ bare event.now }
+/// The event with these moments in place of its own, if it names some.
+pub fn with_moments(event: &Event, chosen: Moments) -> Event
+    ensures { result ≡ with_moments chosen event.now }
 {
-    let moments = Moments::first(0);
     match *event {
         Event::Access {
             p,
@@ -23,7 +23,7 @@ pub fn bare(event: &Event) -> Event
             flags,
             la,
             outcome,
-            moments,
+            moments: chosen,
         },
         Event::Assist {
             p,
@@ -36,7 +36,7 @@ pub fn bare(event: &Event) -> Event
             flags,
             la,
             word,
-            moments,
+            moments: chosen,
         },
         Event::Write { .. }
         | Event::MovCr3 { .. }
@@ -44,6 +44,13 @@ pub fn bare(event: &Event) -> Event
         | Event::Invpcid { .. }
         | Event::MovCr4Pge { .. } => *event,
     }
+}
+
+/// An event with one moment 0 in place of its moments.
+pub fn bare(event: &Event) -> Event
+    ensures { result ≡ bare event.now }
+{
+    with_moments(event, Moments::first(0))
 }
 
 /// Which event it is.

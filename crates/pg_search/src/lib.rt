@@ -19,7 +19,7 @@ mod sought;
 mod sweeper;
 mod ways;
 
-pub use brief::bare;
+pub use brief::{bare, with_moments};
 pub use finder::{find_moments, find_moments_at, names_moments};
 pub use kept_run::KeptRun;
 pub use last::{Last, last_moments, last_moments_at};

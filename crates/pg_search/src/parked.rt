@@ -91,7 +91,8 @@ fn has_survived(x: &HeldFound, history: &Seen<'_>, now: &Now, since: u32) -> boo
         (translation_key now.now.control.pcid x.now.translation.key.shift false now.now.la) }
 {
     let shift = x.get().translation.key.shift;
-    history.translation_survives(now.p, now.control.pcid, shift, now.la, since, now.moment)
+    let pcid = now.control.pcid;
+    history.translation_survives(now.p, pcid, shift, now.la, false, since, now.moment)
 }
 
 /// What has survived of translations.

@@ -10,6 +10,7 @@ ghost use Rattle.pg_event.specs.Witness.{survives};
 ghost use Rattle.pg_timeline.specs.Timelines.{IsSpan};
 ghost use Rattle.pg_inval.specs.Drops.{IsTableLevel};
 ghost use Rattle.pg_chain.specs.Standing.{IsPast};
+ghost use Rattle.pg_search.specs.Lasts.{IsEnd};
 
 use crate::kept_run::KeptRun;
 use pg_chain::Past;
@@ -115,14 +116,15 @@ impl<'a> Seen<'a> {
     /// The control registers, with the moments around this one at which they are the same.
     pub fn control_span(&self, p: u16, moment: u32) -> Span<Control>
         requires { p < length self.now.head.processors }
-        ensures { IsSpan (λ w. control_at self.now.head self.now.events p w) moment result }
+        ensures span { IsSpan (λ w. control_at self.now.head self.now.events p w) moment result }
+        ensures root { result.value.root < 2 ^ 52 }
     {
         self.past.control_span(p, moment, &mut Probes::new())
     }
 
     /// Whether the paging-structure-cache entry that a level gives for an address under a PCID
     /// survives on a processor from one moment up to, not with, another.
-    pub(crate) fn structure_survives(
+    pub fn structure_survives(
         &self,
         p: u16,
         pcid: u16,
@@ -139,26 +141,43 @@ impl<'a> Seen<'a> {
         self.past.structure_survives(p, pcid, level, la, from, to)
     }
 
-    /// Whether a translation of an address, of one PCID alone, survives on a processor from one
-    /// moment up to, not with, another.
-    pub(crate) fn translation_survives(
+    /// The last moment, from this one on, up to which that entry survives; the greatest of all where
+    /// no event drops it.
+    pub fn structure_end(&self, p: u16, pcid: u16, level: Level, la: u64, from: u32) -> u32
+        requires { IsTableLevel level }
+        ensures { let key = structure_key pcid level la in
+            IsEnd (λ w. survives self.now.head self.now.events p
+            (λ c e. must_drop_structure c e key) from w) from result }
+    {
+        let mut probes = Probes::new();
+        let past = self.past;
+        match past.first_drop_of_structure(p, pcid, level, la, from, &mut probes) {
+            Some(first) => first,
+            None => u32::MAX,
+        }
+    }
+
+    /// Whether a translation of an address survives on a processor from one moment up to, not with,
+    /// another.
+    pub fn translation_survives(
         &self,
         p: u16,
         pcid: u16,
         shift: u8,
         la: u64,
+        global: bool,
         from: u32,
         to: u32,
     ) -> bool
         requires shift { IsPageShift shift }
         requires order { from ≤ to }
-        ensures { let key = translation_key pcid shift false la in
+        ensures { let key = translation_key pcid shift global la in
             result ≡ survives self.now.head self.now.events p (λ c e. must_drop_translation c e key)
             from to }
     {
         let mut probes = Probes::new();
         let past = self.past;
-        match past.first_drop_of_translation(p, pcid, shift, la, false, from, &mut probes) {
+        match past.first_drop_of_translation(p, pcid, shift, la, global, from, &mut probes) {
             Some(first) => first >= to,
             None => true,
         }
