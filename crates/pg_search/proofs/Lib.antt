@@ -1,6 +1,6 @@
 mod Freshness
 mod Lists
-mod Swept
+pub mod Swept
 mod Stepping
 mod Sound
 mod Ready

@@ -1,0 +1,3 @@
+mod Spans
+mod Lasts
+mod Nexts

@@ -1,0 +1,14 @@
+use Rattle.std.proofs.Common.{ℕ, ◌<◌, ◌≤◌, ◌+◌, ◌-◌}
+use Rattle.std.specs.List.{All}
+use Rattle.pg_reach.specs.Stays.{IsSteady, IsWithin}
+use Rattle.pg_reach.proofs.stays.spans_of.Given as goal
+
+abbrev pub invariant-loop-at : goal.invariant-loop-at
+invariant-loop-at l = record {
+  order : l.low ≤ l.at;
+  each : All (IsSteady l.seen l.p) l.spans.items;
+  all : (w : ℕ) → l.low ≤ w → w < l.at → IsWithin l.spans.items w;
+}
+
+abbrev pub decreases-loop-at : goal.decreases-loop-at
+decreases-loop-at l = l.number + 1 - l.at

@@ -1,0 +1,3 @@
+pub mod Stays
+pub mod Views
+pub mod Reaching

@@ -1,0 +1,147 @@
+-- To which tables a walk can come, and when (Intel SDM, vol. 3, 4.10.3).
+use Rattle.std.specs.Prelude.{◌≡◌, ℕ, ◌+◌, ◌<◌, ◌≤◌, ◌^◌, ◌-◌, min, Bool, true, false, ◌&&◌, List, [], ◌∷◌, ◌++◌, map}
+use Rattle.std.specs.Prelude.{Option, Some, None, MatchOption, length, ◌⊎◌}
+use Rattle.std.specs.List.{All, Contains}
+use Rattle.pg_entry.specs.declared.Level.{Level}
+use Rattle.pg_entry.specs.declared.Level.TheVariants.{Four, Three, Two, One}
+use Rattle.pg_entry.specs.Kinds.{kind_of}
+use Rattle.pg_event.specs.declared.control.Control.{Control}
+use Rattle.pg_event.specs.declared.walk.Parent.{Parent}
+use Rattle.pg_event.specs.Spelling.{Recorded}
+use Rattle.pg_event.specs.Values.{control_at}
+use Rattle.pg_event.specs.Invalidation.{structure_key, must_drop_structure}
+use Rattle.pg_event.specs.Walk.{below}
+use Rattle.pg_event.specs.Wants.{is_table}
+use Rattle.pg_event.specs.Witness.{survives}
+use Rattle.pg_machine.specs.Machine.{may_cache}
+use Rattle.pg_timeline.specs.declared.timeline.Span.{Span}
+use Rattle.pg_search.specs.Exact as exact
+use Rattle.pg_search.specs.Exact.{IsWayFromRoot}
+use Rattle.pg_search.specs.Lasts.{IsEnd}
+use Rattle.pg_search.specs.Sweep.{entry_at, table_by}
+use Rattle.pg_reach.specs.declared.walker.Walker.{Walker}
+use Rattle.pg_reach.specs.declared.view.Piece.{Piece}
+use Rattle.pg_reach.specs.declared.reach.Reach.{Reach}
+use Rattle.pg_reach.specs.Stays.{IsUnder}
+
+-- the entry that a table has for the address at a moment (4.5)
+abbrev pub entry_of : Recorded → Walker → Level → Parent → ℕ → ℕ
+entry_of r v level table w = entry_at r.events v.la w level table
+
+-- the structure entry that a level gives survives from one moment up to another (4.10.4.1)
+abbrev pub structure_lasts : Recorded → Walker → Level → ℕ → ℕ → Bool
+structure_lasts r v level from to = survives r.head r.events v.p
+    (λ c e. must_drop_structure c e (structure_key v.pcid level v.la)) from to
+
+-- what is said of the last moment, from one up to another, at which a walk may read
+abbrev pub IsLastRead : Recorded → Walker → ℕ → ℕ → Option ℕ → Type 0
+IsLastRead r v at to read =
+    MatchOption read ((w : ℕ) → at ≤ w → w ≤ to → IsUnder r v w → ⊥)
+    (λ m. (at ≤ m) × (m ≤ to) × IsUnder r v m
+    × ((w : ℕ) → at ≤ w → w ≤ to → IsUnder r v w → w ≤ m))
+
+-- a table has one entry for the address from a moment on, up to this one
+pub record IsPiece (r : Recorded) (v : Walker) (level : Level) (table : Parent) (at last : ℕ)
+    (piece : Piece) : Type 0 where
+  pub low : at ≤ piece.to
+  pub high : piece.to ≤ last
+  pub same : (w : ℕ) → at ≤ w → w ≤ piece.to → entry_of r v level table w ≡ piece.entry
+  pub read : IsLastRead r v at piece.to piece.read
+
+-- the moments, where what is read later than one is read at this one
+abbrev pub up_to : ℕ → List ℕ → List ℕ
+up_to w ws = map (min w) ws
+
+-- the processor and address of a walk, under its PCID
+abbrev pub way_of : Walker → exact.Walker
+way_of v = record { p = v.p; la = v.la; pcid = v.pcid }
+
+-- how many readings lead to a table of a level
+abbrev pub steps_to : Level → ℕ
+steps_to Four = 0
+steps_to Three = 1
+steps_to Two = 2
+steps_to One = 3
+
+-- some moments lead to a table at a level, and may be followed by this one: all of them are these
+abbrev pub ComesBy : Recorded → Walker → Level → Parent → ℕ → List ℕ → Type 0
+ComesBy r v level table w moments = (ws : List ℕ) × (moments ≡ ws ++ w ∷ [])
+    × IsWayFromRoot r.head r.events (way_of v) w ws level table
+
+-- a walk may read in the table at each moment from one up to another at which the processor has the
+-- PCID, by the latest moments that are not later
+pub record IsReach (r : Recorded) (v : Walker) (level : Level) (x : Reach) : Type 0 where
+  pub within : x.table.table < 2 ^ 52
+  pub few : length x.latest ≤ steps_to level + 1
+  pub way : (w : ℕ) → x.from ≤ w → w ≤ x.to → IsUnder r v w →
+      ComesBy r v level x.table w (up_to w x.latest)
+
+-- a reach has the table at a moment
+pub record Has (at : Parent) (w : ℕ) (x : Reach) : Type 0 where
+  pub table : x.table ≡ at
+  pub from : x.from ≤ w
+  pub to : w ≤ x.to
+
+-- one of the reaches has the table at a moment
+abbrev pub AreAt : List Reach → Parent → ℕ → Type 0
+AreAt xs table w = (x : Reach) × Contains xs x × Has table w x
+
+-- reading in a table at a moment leads to another, and its structure entry survives to a later one
+pub record LeadsOn (r : Recorded) (v : Walker) (level : Level) (table : Parent) (w y : ℕ) :
+    Type 0 where
+  pub under : IsUnder r v w
+  pub is_table : is_table (kind_of r.head.cfg level (entry_of r v level table w)) ≡ true
+  pub cached : may_cache r.head.version (entry_of r v level table w) ≡ true
+  pub order : w ≤ y
+  pub small : y < 2 ^ 32
+  pub lasts : structure_lasts r v level w y ≡ true
+
+-- the table that reading in one at a moment leads to
+abbrev pub next_at : Recorded → Walker → Level → Parent → ℕ → Parent
+next_at r v level table w = table_by r.head.cfg.m table (entry_of r v level table w)
+
+-- some reaches have each table that reading in the table of another, from one moment up to, not
+-- with, another, leads to
+abbrev pub AreNext : Recorded → Walker → Level → ℕ → ℕ → List Reach → Reach → Type 0
+AreNext r v level low until nexts x = (w y : ℕ) → low ≤ w → w < until →
+    LeadsOn r v level x.table w y → AreAt nexts (next_at r v level x.table w) y
+
+-- these are added, and nothing is lost
+pub record IsFilled (r : Recorded) (v : Walker) (level : Level) (low until : ℕ) (x : Reach)
+    (olds news : List Reach) : Type 0 where
+  pub each : All (IsReach r v (below level)) olds → All (IsReach r v (below level)) news
+  pub kept : (y : Reach) → Contains olds y → Contains news y
+  pub next : AreNext r v level low until news x
+
+-- a reach has the table of another at each of its moments
+pub record Stretches (x y : Reach) : Type 0 where
+  pub table : y.table ≡ x.table
+  pub from : y.from ≤ x.from
+  pub to : x.to ≤ y.to
+
+abbrev pub Covers : List Reach → Reach → Type 0
+Covers xs x = (y : Reach) × Contains xs y × Stretches x y
+
+-- with one reach more, or as they were, where one has its table at each of its moments
+abbrev pub IsAdded : List Reach → List Reach → Reach → Type 0
+IsAdded olds news x = ((news ≡ olds) × Covers olds x) ⊎ (news ≡ olds ++ x ∷ [])
+
+-- the reach that an entry in the table of another gives, which may be read from a moment on and last
+-- at `read`
+pub record IsNextOf (r : Recorded) (v : Walker) (level : Level) (x : Reach) (entry start read : ℕ)
+    (y : Reach) : Type 0 where
+  pub is_table : is_table (kind_of r.head.cfg level entry) ≡ true
+  pub cached : may_cache r.head.version entry ≡ true
+  pub from : y.from ≡ start
+  pub small : y.to < 2 ^ 32
+  pub to : IsEnd (structure_lasts r v level read) read y.to
+  pub table : y.table ≡ table_by r.head.cfg.m x.table entry
+  pub within : y.table.table < 2 ^ 52
+  pub latest : y.latest ≡ up_to read x.latest ++ (2 ^ 32 - 1) ∷ []
+
+abbrev pub IsNextReach :
+    Recorded → Walker → Level → Reach → ℕ → ℕ → ℕ → Option Reach → Type 0
+IsNextReach r v level x entry start read next =
+    MatchOption next
+    ((is_table (kind_of r.head.cfg level entry) && may_cache r.head.version entry) ≡ false)
+    (IsNextOf r v level x entry start read)

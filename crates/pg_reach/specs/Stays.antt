@@ -1,0 +1,54 @@
+-- When a processor has a PCID.
+use Rattle.std.specs.Prelude.{◌≡◌, ℕ, ◌<◌, ◌≤◌, ◌^◌, max, List, Option, Some, None, MatchOption}
+use Rattle.std.specs.List.{All, Contains}
+use Rattle.pg_event.specs.declared.control.Control.{Control}
+use Rattle.pg_event.specs.Spelling.{Recorded}
+use Rattle.pg_event.specs.Values.{control_at}
+use Rattle.pg_timeline.specs.declared.timeline.Span.{Span}
+use Rattle.pg_reach.specs.declared.walker.Walker.{Walker}
+
+-- the processor has the PCID at a moment
+abbrev pub IsUnder : Recorded → Walker → ℕ → Type 0
+IsUnder r v w = (control_at r.head r.events v.p w).pcid ≡ v.pcid
+
+-- moments at which the control registers of a processor are the same
+pub record IsSteady (r : Recorded) (p : ℕ) (s : Span Control) : Type 0 where
+  pub same : (w : ℕ) → s.from ≤ w → w ≤ s.to → control_at r.head r.events p w ≡ s.value
+  pub root : s.value.root < 2 ^ 52
+
+-- and it has the PCID there
+pub record IsStay (r : Recorded) (v : Walker) (s : Span Control) : Type 0 where
+  pub steady : IsSteady r v.p s
+  pub pcid : s.value.pcid ≡ v.pcid
+
+-- one of the spans has the moment
+abbrev pub IsWithin : List (Span Control) → ℕ → Type 0
+IsWithin spans w = (s : Span Control) × Contains spans s × (s.from ≤ w) × (w ≤ s.to)
+
+-- spans that have each moment from one up to another
+pub record AreSpans (r : Recorded) (p low number : ℕ) (spans : List (Span Control)) : Type 0 where
+  pub each : All (IsSteady r p) spans
+  pub all : (w : ℕ) → low ≤ w → w ≤ number → IsWithin spans w
+
+-- the stays, which have each moment from one up to another at which the processor has the PCID
+pub record AreStays (r : Recorded) (v : Walker) (low : ℕ) (stays : List (Span Control)) : Type 0
+  where
+    pub each : All (IsStay r v) stays
+    pub all : (w : ℕ) → low ≤ w → w ≤ v.number → IsUnder r v w → IsWithin stays w
+
+-- the stays are those of some spans that have the PCID
+pub record AreOwn (pcid : ℕ) (spans stays : List (Span Control)) : Type 0 where
+  pub each : All (λ s. Contains spans s × (s.value.pcid ≡ pcid)) stays
+  pub all : (s : Span Control) → Contains spans s → s.value.pcid ≡ pcid → Contains stays s
+
+-- the later of two moments
+abbrev pub later : Option ℕ → ℕ → ℕ
+later None moment = moment
+later (Some other) moment = max other moment
+
+-- the latest of the moments of some spans, from one moment up to another
+abbrev pub IsLatest : List (Span Control) → ℕ → ℕ → Option ℕ → Type 0
+IsLatest spans at to latest =
+    MatchOption latest ((w : ℕ) → at ≤ w → w ≤ to → IsWithin spans w → ⊥)
+    (λ m. (at ≤ m) × (m ≤ to) × IsWithin spans m
+    × ((w : ℕ) → at ≤ w → w ≤ to → IsWithin spans w → w ≤ m))

@@ -1,0 +1,8 @@
+//! Whether any moments witness an access or an assist, asked of the past and not event by event.
+#![tactic(auto)]
+
+mod reach;
+mod reaches;
+mod stays;
+mod view;
+mod walker;
