@@ -1,5 +1,6 @@
 -- What survives from a moment up to another.
-use Rattle.std.proofs.Common.{◌≡◌, ℕ, zero, suc, ◌+◌, ◌-◌, ◌≤◌, ◌<◌, Bool, List, true, subst, arith}
+use Rattle.std.proofs.Common.{◌≡◌, ℕ, zero, suc, ◌+◌, ◌-◌, ◌≤◌, ◌<◌, Bool, List, true, false, inl, inr, subst, arith}
+use Rattle.std.proofs.lemmas.Bool.{cases_Bool}
 use Rattle.pg_event.specs.declared.control.Control.{Control}
 use Rattle.pg_event.specs.declared.event.Event.{Event}
 use Rattle.pg_event.specs.Invalidation.{structure_key, must_drop_structure}
@@ -36,3 +37,14 @@ lasts_within r v level from to more low h = survives_within r.head r.events v.p 
 
 pub lasts_from : (r : Recorded) (v : Walker) (level : Level) (from later to : ℕ) → from ≤ later → later ≤ to → structure_lasts r v level from to ≡ true → structure_lasts r v level later to ≡ true
 lasts_from r v level from later to low high h = survives_later r.head r.events v.p (λ c e. must_drop_structure c e (structure_key v.pcid level v.la)) from later to low high h
+
+-- what does not survive from a moment does not from one before it
+pub not_before : (head : Head) (all : List Event) (p : ℕ) (test : Control → Event → Bool) (w later to : ℕ) → w ≤ later → later ≤ to → survives head all p test later to ≡ false → survives head all p test w to ≡ false
+not_before head all p test w later to low high none =
+    elim (cases_Bool (survives head all p test w to)) as (λ _. survives head all p test w to ≡ false) [
+      | inl t ↦ absurd (apart (survives_later head all p test w later to low high t) none)
+      | inr f ↦ f
+    ]
+  where
+    apart : {b : Bool} → b ≡ true → b ≡ false → ⊥
+    apart h k = cc

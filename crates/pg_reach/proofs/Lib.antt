@@ -1,3 +1,5 @@
 mod Spans
 mod Lasts
 mod Nexts
+mod Levels
+mod Refusals

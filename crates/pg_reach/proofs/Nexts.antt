@@ -117,7 +117,7 @@ next_reach r v level x entry start read y deep h low order high under same next 
 
 -- what is added, one piece more
 
-at_kept : (olds news : List Reach) → ((y : Reach) → Contains olds y → Contains news y) → (t : Parent) (w : ℕ) → AreAt olds t w → AreAt news t w
+pub at_kept : (olds news : List Reach) → ((y : Reach) → Contains olds y → Contains news y) → (t : Parent) (w : ℕ) → AreAt olds t w → AreAt news t w
 at_kept olds news kept t w h = (h.0, kept h.0 h.1, h.2)
 
 pub filled_none : (r : Recorded) (v : Walker) (level : Level) (at : ℕ) (x : Reach) (xs : List Reach) → IsFilled r v level at at x xs xs
@@ -161,15 +161,15 @@ filled_nowhere r v level at x piece xs none h = record {
     apart h k = cc
 
 -- a reach that is added is there
-added_covers : (olds news : List Reach) (x : Reach) → IsAdded olds news x → Covers news x
+pub added_covers : (olds news : List Reach) (x : Reach) → IsAdded olds news x → Covers news x
 added_covers olds news x (inl h) = (h.1.0, subst (λ (ys : List Reach). Contains ys h.1.0) (sym h.0) h.1.1, h.1.2)
 added_covers olds news x (inr h) = (x, subst (λ (ys : List Reach). Contains ys x) (sym h) (Contains-push olds x), record { table = refl; from = omega arith; to = omega arith })
 
-added_kept : (olds news : List Reach) (x : Reach) → IsAdded olds news x → (y : Reach) → Contains olds y → Contains news y
+pub added_kept : (olds news : List Reach) (x : Reach) → IsAdded olds news x → (y : Reach) → Contains olds y → Contains news y
 added_kept olds news x (inl h) y here = subst (λ (ys : List Reach). Contains ys y) (sym h.0) here
 added_kept olds news x (inr h) y here = subst (λ (ys : List Reach). Contains ys y) (sym h) (Contains-append_left olds (x ∷ []) y here)
 
-added_each : (P : Reach → Type 0) (olds news : List Reach) (x : Reach) → IsAdded olds news x → P x → All P olds → All P news
+pub added_each : (P : Reach → Type 0) (olds news : List Reach) (x : Reach) → IsAdded olds news x → P x → All P olds → All P news
 added_each P olds news x (inl h) here all = subst (All P) (sym h.0) all
 added_each P olds news x (inr h) here all = subst (All P) (sym h) (All-push P olds x all here)
 

@@ -1,3 +1,6 @@
 pub mod Stays
 pub mod Views
 pub mod Reaching
+pub mod Asking
+pub mod Ends
+pub mod Bounds

@@ -1,5 +1,5 @@
 -- To which tables a walk can come, and when (Intel SDM, vol. 3, 4.10.3).
-use Rattle.std.specs.Prelude.{◌≡◌, ℕ, ◌+◌, ◌<◌, ◌≤◌, ◌^◌, ◌-◌, min, Bool, true, false, ◌&&◌, List, [], ◌∷◌, ◌++◌, map}
+use Rattle.std.specs.Prelude.{◌≡◌, ℕ, ◌+◌, ◌<◌, ◌≤◌, ◌^◌, ◌-◌, min, max, Bool, true, false, ◌&&◌, List, [], ◌∷◌, ◌++◌, map}
 use Rattle.std.specs.Prelude.{Option, Some, None, MatchOption, length, ◌⊎◌}
 use Rattle.std.specs.List.{All, Contains}
 use Rattle.pg_entry.specs.declared.Level.{Level}
@@ -10,7 +10,7 @@ use Rattle.pg_event.specs.declared.walk.Parent.{Parent}
 use Rattle.pg_event.specs.Spelling.{Recorded}
 use Rattle.pg_event.specs.Values.{control_at}
 use Rattle.pg_event.specs.Invalidation.{structure_key, must_drop_structure}
-use Rattle.pg_event.specs.Walk.{below}
+use Rattle.pg_event.specs.Walk.{below, root_of}
 use Rattle.pg_event.specs.Wants.{is_table}
 use Rattle.pg_event.specs.Witness.{survives}
 use Rattle.pg_machine.specs.Machine.{may_cache}
@@ -145,3 +145,31 @@ IsNextReach r v level x entry start read next =
     MatchOption next
     ((is_table (kind_of r.head.cfg level entry) && may_cache r.head.version entry) ≡ false)
     (IsNextOf r v level x entry start read)
+
+-- reaches at the level below one have each table that reading from a moment on in those of others
+-- leads to
+pub record AreBelow (r : Recorded) (v : Walker) (level : Level) (low : ℕ) (above nexts : List Reach)
+    : Type 0 where
+  pub each : All (IsReach r v (below level)) nexts
+  pub next : (x : Reach) → Contains above x →
+      AreNext r v level (max x.from low) (min x.to v.number + 1) nexts x
+
+-- the root table, at the moments of a stay
+abbrev pub root_reach : Span Control → Reach
+root_reach s = record {
+  from = s.from;
+  to = s.to;
+  table = root_of s.value;
+  latest = (2 ^ 32 - 1) ∷ [];
+}
+
+-- reaches are those of the stays, of which one may serve for another
+pub record AreRootsOf (stays : List (Span Control)) (roots : List Reach) : Type 0 where
+  pub each : All (λ x. (s : Span Control) × Contains stays s × (root_reach s ≡ x)) roots
+  pub all : (s : Span Control) → Contains stays s → Covers roots (root_reach s)
+
+-- reaches have the root at each moment, from one up to another, at which the processor has the PCID
+pub record AreRoots (r : Recorded) (v : Walker) (low : ℕ) (roots : List Reach) : Type 0 where
+  pub each : All (IsReach r v Four) roots
+  pub all : (w : ℕ) → low ≤ w → w ≤ v.number → IsUnder r v w →
+      AreAt roots (root_of (control_at r.head r.events v.p w)) w

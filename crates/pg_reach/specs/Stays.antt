@@ -15,6 +15,7 @@ IsUnder r v w = (control_at r.head r.events v.p w).pcid ≡ v.pcid
 pub record IsSteady (r : Recorded) (p : ℕ) (s : Span Control) : Type 0 where
   pub same : (w : ℕ) → s.from ≤ w → w ≤ s.to → control_at r.head r.events p w ≡ s.value
   pub root : s.value.root < 2 ^ 52
+  pub small : s.to < 2 ^ 32
 
 -- and it has the PCID there
 pub record IsStay (r : Recorded) (v : Walker) (s : Span Control) : Type 0 where

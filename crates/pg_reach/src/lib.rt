@@ -3,6 +3,7 @@
 
 mod reach;
 mod reaches;
+mod since;
 mod stays;
 mod view;
 mod walker;

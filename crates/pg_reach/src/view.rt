@@ -1,21 +1,31 @@
 //! What a search sees of a run.
 
-ghost use Rattle.std.specs.Prelude.{◌≡◌, ◌<◌, ◌≤◌, ◌^◌, ◌+◌, ◌&&◌, min, max, length, IfOk, OnOk};
+ghost use Rattle.std.specs.Prelude.{◌≡◌, ◌<◌, ◌≤◌, ◌^◌, ◌+◌, ◌&&◌, min, max, length, IfOk, OnOk, None};
+ghost use Rattle.std.specs.Prelude.{IfSome, IfNone};
+ghost use Rattle.std.specs.List.{All};
 ghost use Rattle.pg_entry.specs.Kinds.{kind_of};
+ghost use Rattle.pg_event.specs.Form.{broken_rule};
 ghost use Rattle.pg_event.specs.Wants.{is_table};
+ghost use Rattle.pg_chain.specs.Standing.{IsPast};
+ghost use Rattle.pg_search.specs.Law.{AreWitness};
 ghost use Rattle.pg_machine.specs.Machine.{may_cache};
 ghost use Rattle.pg_inval.specs.Drops.{IsTableLevel};
 ghost use Rattle.pg_reach.specs.Stays.{AreSpans};
-ghost use Rattle.pg_reach.specs.Reaching.{IsPiece, IsReach, IsNextReach, IsFilled};
+ghost use Rattle.pg_reach.specs.Reaching.{IsPiece, IsReach, IsNextReach, IsFilled, AreBelow};
+ghost use Rattle.pg_reach.specs.Reaching.{AreRoots};
+ghost use Rattle.pg_reach.specs.Ends.{IsNoEnd, AreRefused};
 
 
 use crate::reach::{Reach, up_to};
 use crate::reaches::Reaches;
 use crate::stays::{latest_of, stays_of};
-use crate::walker::Walker;
+use crate::walker::{Walker, want_by};
+use pg_check::{Memo, failing};
 use pg_entry::{Entry, Kind, Level, classify, combine, table_of};
-use pg_event::{Control, Header, Parent, entry_address, may_cache};
-use pg_search::Seen;
+use pg_event::{
+    Control, Event, Header, Moments, Parent, entry_address, is_wanted, may_cache, root_of,
+};
+use pg_search::{Seen, with_moments};
 use pg_timeline::Span;
 use std::alloc::{AllocError, Global};
 use std::marker::Model;
@@ -180,5 +190,135 @@ impl<'a> View<'a> {
             }
         }
         Ok(())
+    }
+
+    /// The tables at the level below one to which reading from a moment on leads, in the tables of
+    /// reaches at that level. Fails where memory is refused.
+    pub(crate) fn tables_below(
+        &self,
+        alloc: Global,
+        level: Level,
+        low: u32,
+        above: &[Reach],
+    ) -> Result<Reaches, AllocError>
+        requires level { IsTableLevel level }
+        requires low { self.now.low ≤ low }
+        requires each { All (IsReach self.now.run self.now.walker level) above.now }
+        ensures { IfOk result (AreBelow self.now.run self.now.walker level low above.now) }
+    {
+        let mut nexts = Reaches::new(alloc);
+        for x in above {
+            self.add_tables(level, low, x, &mut nexts)?;
+        }
+        Ok(nexts)
+    }
+
+    /// The root tables. Fails where memory is refused.
+    pub(crate) fn roots(&self, alloc: Global) -> Result<Reaches, AllocError>
+        ensures { IfOk result (AreRoots self.now.run self.now.walker self.now.low) }
+    {
+        let mut roots = Reaches::new(alloc);
+        for stay in &self.stays {
+            roots.add(Reach {
+                from: stay.from,
+                to: stay.to,
+                table: root_of(stay.value),
+                latest: Moments::first(u32::MAX),
+            })?;
+        }
+        Ok(roots)
+    }
+
+    /// The moments with which an event is witnessed that reads a piece of the table of a reach
+    /// last.
+    fn end_by(
+        &self,
+        memo: &mut Memo<'_>,
+        event: &Event,
+        level: Level,
+        x: &Reach,
+        piece: &Piece,
+    ) -> Option<Moments>
+        requires past { IsPast memo.old self.now.run.head self.now.run.events }
+        requires well { broken_rule self.now.run.head event.now ≡ None }
+        ensures memo { memo.new ≡ memo.old }
+        ensures some { IfSome result (AreWitness self.now.run.head self.now.run.events
+            self.now.walker.number event.now) }
+        ensures none { IfNone result (IsNoEnd self.now.run self.now.walker event.now level x.now
+            piece.now) }
+    {
+        let read = piece.read?;
+        let kind = classify(self.seen.header().cfg, level, Entry(piece.entry));
+        if !is_wanted(want_by(event), kind) {
+            return None;
+        }
+        let moments = up_to(read, &x.latest);
+        match failing(memo, self.walker.number, &with_moments(event, moments)) {
+            None => Some(moments),
+            Some(_) => None,
+        }
+    }
+
+    /// The moments with which an event is witnessed that reads the table of a reach last, from a
+    /// moment on.
+    fn end_in(
+        &self,
+        memo: &mut Memo<'_>,
+        event: &Event,
+        level: Level,
+        since: u32,
+        x: &Reach,
+    ) -> Option<Moments>
+        requires past { IsPast memo.old self.now.run.head self.now.run.events }
+        requires well { broken_rule self.now.run.head event.now ≡ None }
+        requires low { self.now.low ≤ since }
+        requires within { x.now.table.table < 2 ^ 52 }
+        ensures memo { memo.new ≡ memo.old }
+        ensures some { IfSome result (AreWitness self.now.run.head self.now.run.events
+            self.now.walker.number event.now) }
+        ensures none { IfNone result (AreRefused self.now.run self.now.walker event.now level
+            (max x.now.from since) (min x.now.to self.now.walker.number + 1) x.now) }
+    {
+        let last = x.to.min(self.walker.number);
+        let mut at = x.from.max(since);
+        while at <= last {
+            let piece = self.piece_at(level, x.table, at, last);
+            if let Some(moments) = self.end_by(memo, event, level, x, &piece) {
+                return Some(moments);
+            }
+            match piece.to.checked_add(1) {
+                Some(next) => at = next,
+                None => return None,
+            }
+        }
+        None
+    }
+
+    /// The moments with which an event is witnessed that reads the table of one of some reaches
+    /// last, from a moment on.
+    pub(crate) fn end_among(
+        &self,
+        memo: &mut Memo<'_>,
+        event: &Event,
+        level: Level,
+        since: u32,
+        reaches: &[Reach],
+    ) -> Option<Moments>
+        requires past { IsPast memo.old self.now.run.head self.now.run.events }
+        requires well { broken_rule self.now.run.head event.now ≡ None }
+        requires low { self.now.low ≤ since }
+        requires each { All (IsReach self.now.run self.now.walker level) reaches.now }
+        ensures memo { memo.new ≡ memo.old }
+        ensures some { IfSome result (AreWitness self.now.run.head self.now.run.events
+            self.now.walker.number event.now) }
+        ensures none { IfNone result (All (λ x. AreRefused self.now.run self.now.walker event.now
+            level (max x.from since) (min x.to self.now.walker.number + 1) x) reaches.now) }
+    {
+        for x in reaches {
+            if let Some(moments) = self.end_in(memo, event, level, since, x) {
+                return Some(moments);
+            }
+        }
+        None
     }
 }

@@ -16,6 +16,7 @@ loop-at-preserved c =
     let steady : IsSteady c.args.seen.now c.args.p s = record {
       same = λ w low high. c.control_span-span.ensures.span.same w (omega (arith, c.control_span-span.ensures.span.low, low)) (omega (arith, c.min-to.ensures, high));
       root = c.control_span-span.ensures.root;
+      small = c.min-to.type_inv;
     } in
     record {
       order = omega (arith, c.loop-at.invariant.order, c.min-to.ensures, next, c.control_span-span.ensures.span.high, c.loop-at-test.true);
@@ -31,6 +32,7 @@ returns-in-None c =
     let steady : IsSteady c.args.seen.now c.args.p s = record {
       same = λ w low high. c.control_span-span.ensures.span.same w (omega (arith, c.control_span-span.ensures.span.low, low)) (omega (arith, c.min-to.ensures, high));
       root = c.control_span-span.ensures.root;
+      small = c.min-to.type_inv;
     } in
     let over : c.min-to.result + 1 < 2 ^ 32 → ⊥ = c.in-None.ensures in
     record {

@@ -1,0 +1,17 @@
+use Rattle.std.proofs.Common.{◌≡◌, ℕ, ◌<◌, ◌≤◌, ◌+◌, ◌-◌, ◌/◌, Bool, false, sym, ◌∙◌, arith}
+use Rattle.pg_event.specs.declared.control.Control.{Control}
+use Rattle.pg_event.specs.declared.event.Event.{Event}
+use Rattle.pg_event.specs.Invalidation.{structure_key, must_drop_structure}
+use Rattle.pg_reach.proofs.Lasts.{not_before}
+use Rattle.pg_reach.proofs.since.structure_since.Goals as goal
+
+pub loop-low-preserved : goal.loop-low-preserved
+loop-low-preserved c =
+    let middle : ℕ = c.loop-low.low + (c.loop-low.high - c.loop-low.low) / 2 in
+    let drop : Control → Event → Bool = λ d e. must_drop_structure d e (structure_key c.args.walker.now.pcid c.args.level c.args.walker.now.la) in
+    let below : middle < c.loop-low.high = omega (arith, c.loop-low-test.true) in
+    record {
+      order = omega (arith, below);
+      within = c.loop-low.invariant.within;
+      none = λ w lt. not_before c.args.seen.now.head c.args.seen.now.events c.args.walker.now.p drop w middle c.args.to (omega (arith, lt)) (omega (arith, below, c.loop-low.invariant.within)) (sym c.structure_survives.ensures ∙ c.if-structure_survives.false);
+    }
