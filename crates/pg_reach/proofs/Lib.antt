@@ -3,3 +3,7 @@ mod Lasts
 mod Nexts
 mod Levels
 mod Refusals
+mod Later
+mod Coming
+mod Whole
+mod Cases

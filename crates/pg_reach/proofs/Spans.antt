@@ -1,13 +1,13 @@
 -- Spans that have a moment, one span more.
-use Rattle.std.proofs.Common.{◌≡◌, ℕ, ◌+◌, ◌<◌, ◌≤◌, max, min, List, [], ◌∷◌, ◌++◌, ◌⊎◌, inl, inr, sym, ◌∙◌, subst, ap, take, false, arith, Option, Some, None}
-use Rattle.std.specs.List.{All, Contains}
-use Rattle.std.proofs.lemmas.Bool.{cases_lt}
-use Rattle.std.proofs.lemmas.List.Elements.{All-push, All-weaker, All-contains, Contains-append_left, Contains-push, Contains-push_cases}
+use Rattle.std.proofs.Common.{◌≡◌, ℕ, ◌+◌, ◌<◌, ◌≤◌, max, min, nat_eq, Bool, true, ◌||◌, List, [], ◌∷◌, ◌++◌, ◌⊎◌, inl, inr, sym, ◌∙◌, subst, ap, take, false, arith, Option, Some, None}
+use Rattle.std.specs.List.{All, Contains, list_any}
+use Rattle.std.proofs.lemmas.Bool.{cases_lt, cases_Bool, eqb-true}
+use Rattle.std.proofs.lemmas.List.Elements.{All-push, All-weaker, All-contains, Contains-append_left, Contains-append_right, Contains-push, Contains-push_cases}
 use Rattle.pg_event.specs.declared.control.Control.{Control}
 use Rattle.pg_timeline.specs.declared.timeline.Span.{Span}
 use Rattle.pg_event.specs.Spelling.{Recorded}
 use Rattle.pg_reach.specs.declared.walker.Walker.{Walker}
-use Rattle.pg_reach.specs.Stays.{IsSteady, IsStay, IsWithin, AreSpans, AreStays, IsLatest, AreOwn, later}
+use Rattle.pg_reach.specs.Stays.{IsSteady, IsStay, IsWithin, AreSpans, AreStays, IsLatest, AreOwn, ArePcids, later}
 use Rattle.pg_reach.specs.Reaching.{IsLastRead}
 
 -- what stands where there is no span
@@ -113,3 +113,31 @@ stays_by r v low spans stays h own = record {
       let steady : IsSteady r v.p s.0 = All-contains (IsSteady r v.p) spans s.0 h.each s.1 in
       (s.0, own.all s.0 s.1 (ap (λ (c : Control). c.pcid) (sym (steady.same w s.2 s.3)) ∙ here), s.2, s.3);
 }
+
+-- the PCIDs of spans, one span more
+
+pub pcids_more : (xs : List (Span Control)) (s : Span Control) (pcids : List ℕ) → ArePcids xs pcids → ArePcids (xs ++ s ∷ []) (pcids ++ s.value.pcid ∷ [])
+pcids_more xs s pcids h x here =
+    elim (Contains-push_cases xs s x here) as (λ _. Contains (pcids ++ s.value.pcid ∷ []) x.value.pcid) [
+      | inl a ↦ Contains-append_left pcids (s.value.pcid ∷ []) x.value.pcid (h x a)
+      | inr e ↦ subst (λ (z : Span Control). Contains (pcids ++ s.value.pcid ∷ []) z.value.pcid) e (Contains-push pcids s.value.pcid)
+    ]
+
+pub pcids_there : (xs : List (Span Control)) (s : Span Control) (pcids : List ℕ) → ArePcids xs pcids → Contains pcids s.value.pcid → ArePcids (xs ++ s ∷ []) pcids
+pcids_there xs s pcids h there x here =
+    elim (Contains-push_cases xs s x here) as (λ _. Contains pcids x.value.pcid) [
+      | inl a ↦ h x a
+      | inr e ↦ subst (λ (z : Span Control). Contains pcids z.value.pcid) e there
+    ]
+
+pub has_pcid : (pcids : List ℕ) (pcid : ℕ) → list_any (λ y. nat_eq y pcid) pcids ≡ true → Contains pcids pcid
+has_pcid [] pcid h = absurd (cc)
+has_pcid (x ∷ xs) pcid h =
+    elim (cases_Bool (nat_eq x pcid)) as (λ _. Contains (x ∷ xs) pcid) [
+      | inl t ↦ (0, omega arith, eqb-true x pcid t)
+      | inr f ↦ let rest = has_pcid xs pcid (or_right_of (nat_eq x pcid) (list_any (λ y. nat_eq y pcid) xs) f h) in Contains-append_right (x ∷ []) xs pcid rest
+    ]
+  where
+    or_right_of : (a b : Bool) → a ≡ false → (a || b) ≡ true → b ≡ true
+    or_right_of true b f h = absurd (cc)
+    or_right_of false b f h = h

@@ -42,6 +42,10 @@ pub record AreOwn (pcid : ℕ) (spans stays : List (Span Control)) : Type 0 wher
   pub each : All (λ s. Contains spans s × (s.value.pcid ≡ pcid)) stays
   pub all : (s : Span Control) → Contains spans s → s.value.pcid ≡ pcid → Contains stays s
 
+-- the PCIDs of some spans are among these
+abbrev pub ArePcids : List (Span Control) → List ℕ → Type 0
+ArePcids spans pcids = (s : Span Control) → Contains spans s → Contains pcids s.value.pcid
+
 -- the later of two moments
 abbrev pub later : Option ℕ → ℕ → ℕ
 later None moment = moment

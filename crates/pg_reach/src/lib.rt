@@ -1,9 +1,12 @@
 //! Whether any moments witness an access or an assist, asked of the past and not event by event.
 #![tactic(auto)]
 
+mod finder;
 mod reach;
 mod reaches;
 mod since;
 mod stays;
 mod view;
 mod walker;
+
+pub use finder::any_moments;

@@ -1,7 +1,7 @@
 //! When a processor has a PCID.
 
 ghost use Rattle.std.specs.Prelude.{◌≡◌, ◌<◌, ◌≤◌, ◌^◌, ℕ, length, IfOk};
-ghost use Rattle.pg_reach.specs.Stays.{AreSpans, AreOwn, IsLatest, later};
+ghost use Rattle.pg_reach.specs.Stays.{AreSpans, AreOwn, ArePcids, IsLatest, later};
 
 use pg_event::Control;
 use pg_search::Seen;
@@ -52,6 +52,19 @@ pub(crate) fn stays_of(
         }
     }
     Ok(stays)
+}
+
+/// The PCIDs that the processor has in some spans.
+pub(crate) fn pcids_of(alloc: Global, spans: &[Span<Control>]) -> Result<Vec<u16>, AllocError>
+    ensures { IfOk result (λ pcids. ArePcids spans.now pcids.items) }
+{
+    let mut pcids = Vec::new(alloc);
+    for span in spans {
+        if !pcids.contains(&span.value.pcid) {
+            pcids.push(span.value.pcid)?;
+        }
+    }
+    Ok(pcids)
 }
 
 /// The latest moment of some spans, from one moment up to another.

@@ -1,7 +1,7 @@
 mod Freshness
 mod Lists
 pub mod Swept
-mod Stepping
+pub mod Stepping
 mod Sound
 mod Ready
 mod Settled
