@@ -18,7 +18,8 @@ use crate::walk::{Walk, first_moments, walk_by};
 use pg_check::{History, Memo, failing};
 use pg_entry::has_bit;
 use pg_event::{Event, Moments};
-use pg_search::{Seen, find_moments_at};
+use pg_reach::any_moments;
+use pg_search::Seen;
 use std::alloc::{AllocError, Global};
 use std::marker::Model;
 
@@ -399,7 +400,8 @@ impl<'a> Certifier<'a> {
         ensures none { IfOk result
             (λ r. IfNone r (IsUnwitnessed self.old.head self.old.events case.i event.now)) }
     {
-        let Some(moments) = find_moments_at(self.alloc, &self.seen, case.i, event)? else {
+        let found = any_moments(self.alloc, &self.seen, &mut self.memo, case.i, event)?;
+        let Some(moments) = found else {
             return Ok(None);
         };
         moments_fit(moments);
