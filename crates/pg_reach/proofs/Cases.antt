@@ -1,6 +1,5 @@
 -- Under which PCID and how late moments end that witness an event.
-use Rattle.std.proofs.Common.{◌≡◌, ℕ, ◌+◌, ◌<◌, ◌≤◌, ◌==◌, ◌&&◌, ◌||◌, not, Bool, true, false, List, [], ◌∷◌, length, refl, ap, sym, ◌∙◌, subst, inl, inr, ◌⊎◌, arith, Option, Some, None}
-use Rattle.std.specs.List.{list_all}
+use Rattle.std.proofs.Common.{◌≡◌, ℕ, ◌<◌, ◌≤◌, ◌==◌, ◌&&◌, not, Bool, true, false, List, [], ◌∷◌, length, refl, ap, sym, ◌∙◌, subst, inl, inr, ◌⊎◌, arith, None}
 use Rattle.std.proofs.lemmas.Bool.{cases_Bool, and_parts, eqb-true}
 use Rattle.pg_entry.specs.declared.Cfg.{Cfg}
 use Rattle.pg_entry.specs.declared.Cause.{Cause}
@@ -27,7 +26,7 @@ use Rattle.pg_event.specs.Values.{mem_at, control_at}
 use Rattle.pg_event.specs.Invalidation.{translation_key, must_drop_translation}
 use Rattle.pg_event.specs.Walk.{Reading, readings, below, entry_address}
 use Rattle.pg_event.specs.Wants.{want_of, is_wanted, is_table, uses_last}
-use Rattle.pg_event.specs.Witness.{last_or, survives, leads_to, is_one_context, failing_fault, failing_end, is_updated, failing_access, failing_assist, claim_of, update_of}
+use Rattle.pg_event.specs.Witness.{last_or, survives, leads_to, is_one_context, failing_fault, failing_end, failing_access, failing_assist, claim_of, update_of}
 use Rattle.pg_run_of.specs.Plan.{root_at}
 use Rattle.pg_run_of.proofs.Standing.{seen, given}
 use Rattle.pg_run_of.proofs.Accesses.{guard_none, bar_none, wants_leaf, access_inside, assist_inside, claim_holds, update_holds}

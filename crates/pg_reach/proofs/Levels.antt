@@ -1,19 +1,18 @@
 -- Reaches of a whole level.
-use Rattle.std.proofs.Common.{◌≡◌, ℕ, ◌+◌, ◌-◌, ◌<◌, ◌≤◌, ◌^◌, min, max, false, List, [], ◌∷◌, ◌++◌, ◌⊎◌, inl, inr, refl, ap, sym, ◌∙◌, subst, arith}
-use Rattle.std.specs.List.{All, Contains}
-use Rattle.std.proofs.lemmas.List.Elements.{All-push, All-weaker, All-contains, Contains-append_left, Contains-push, Contains-push_cases}
+use Rattle.std.proofs.Common.{◌≡◌, ℕ, ◌+◌, ◌-◌, ◌^◌, min, max, false, List, [], ◌∷◌, ◌++◌, inl, inr, refl, ap, sym, ◌∙◌, subst, arith}
+use Rattle.std.specs.List.{Contains}
+use Rattle.std.proofs.lemmas.List.Elements.{All-weaker, All-contains, Contains-append_left, Contains-push, Contains-push_cases}
 use Rattle.pg_entry.specs.declared.Level.{Level}
 use Rattle.pg_entry.specs.declared.Level.TheVariants.{Four}
 use Rattle.pg_event.specs.declared.control.Control.{Control}
-use Rattle.pg_event.specs.declared.walk.Parent.{Parent}
 use Rattle.pg_event.specs.Spelling.{Recorded}
 use Rattle.pg_event.specs.Values.{control_at}
-use Rattle.pg_event.specs.Walk.{below, root_of}
+use Rattle.pg_event.specs.Walk.{root_of}
 use Rattle.pg_timeline.specs.declared.timeline.Span.{Span}
 use Rattle.pg_reach.specs.declared.walker.Walker.{Walker}
 use Rattle.pg_reach.specs.declared.reach.Reach.{Reach}
-use Rattle.pg_reach.specs.Stays.{IsUnder, IsStay, AreStays}
-use Rattle.pg_reach.specs.Reaching.{IsReach, AreAt, LeadsOn, next_at, AreNext, IsFilled, AreBelow, Covers, IsAdded, root_reach, AreRootsOf, AreRoots}
+use Rattle.pg_reach.specs.Stays.{IsStay, AreStays}
+use Rattle.pg_reach.specs.Reaching.{IsReach, next_at, AreNext, IsFilled, AreBelow, Covers, IsAdded, root_reach, AreRootsOf, AreRoots}
 use Rattle.pg_reach.proofs.Nexts.{at_kept, added_covers, added_kept, added_each}
 
 -- what stands where there is no reach

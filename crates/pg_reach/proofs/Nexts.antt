@@ -1,8 +1,8 @@
 -- The table that an entry gives is one that a walk can come to.
-use Rattle.std.proofs.Common.{◌≡◌, ℕ, ◌+◌, ◌-◌, ◌<◌, ◌≤◌, ◌^◌, min, Bool, true, false, ◌&&◌, Option, Some, None, List, [], ◌∷◌, ◌++◌, map, length, refl, ap, sym, ◌∙◌, subst, inl, inr, arith}
+use Rattle.std.proofs.Common.{◌≡◌, ℕ, ◌+◌, ◌-◌, ◌≤◌, ◌^◌, min, Bool, true, false, ◌&&◌, Some, None, List, [], ◌∷◌, ◌++◌, length, refl, ap, sym, ◌∙◌, subst, inl, inr, arith}
 use Rattle.std.specs.List.{All, Contains}
 use Rattle.std.proofs.lemmas.Bool.{cases_lt, and_from}
-use Rattle.std.proofs.lemmas.List.{length_push, length-map, append_assoc}
+use Rattle.std.proofs.lemmas.List.{length_push, length-map}
 use Rattle.std.proofs.lemmas.List.Elements.{All-push, Contains-append_left, Contains-push}
 use Rattle.pg_entry.specs.declared.Level.{Level}
 use Rattle.pg_entry.specs.declared.Level.TheVariants.{Four, Three, Two, One}
@@ -25,7 +25,7 @@ use Rattle.pg_reach.specs.declared.reach.Reach.{Reach}
 use Rattle.pg_reach.specs.declared.view.Piece.{Piece}
 use Rattle.pg_reach.specs.Stays.{IsUnder}
 use Rattle.pg_search.specs.Lasts.{IsEnd}
-use Rattle.pg_reach.specs.Reaching.{entry_of, structure_lasts, IsLastRead, IsPiece, up_to, way_of, steps_to, ComesBy, IsReach, AreAt, LeadsOn, next_at, IsFilled, Covers, IsAdded, IsNextOf}
+use Rattle.pg_reach.specs.Reaching.{entry_of, structure_lasts, IsLastRead, IsPiece, up_to, way_of, steps_to, IsReach, AreAt, LeadsOn, next_at, IsFilled, Covers, IsAdded, IsNextOf}
 
 -- one more link behind a chain
 chain_push : (head : Head) (events : List Event) (v : exact.Walker) (w y : ℕ) (level : Level) (from : Parent) (ws : List ℕ) (at : Level) (to : Parent) →
@@ -185,12 +185,15 @@ filled_one r v level at read x y piece olds news deep reach low h is next added 
       next = λ w t from lt leads.
           let value : entry_of r v level x.table w ≡ piece.entry = h.same w from (omega (arith, lt)) in
           let early : w ≤ read = last.3 w from (omega (arith, lt)) leads.under in
-          let to : t ≤ y.to = lasting_end r v level w read t y.to early next.to leads in
-          (there.0, there.1, record {
-            table = there.2.table ∙ next.table ∙ ap (table_by r.head.cfg.m x.table) (sym value);
-            from = omega (arith, there.2.from, next.from, from, leads.order);
-            to = omega (arith, there.2.to, to);
-          });
+          let to : t ≤ y.to = lasting_end r v level w read t y.to early next.to leads in (
+            there.0,
+            there.1,
+            record {
+              table = there.2.table ∙ next.table ∙ ap (table_by r.head.cfg.m x.table) (sym value);
+              from = omega (arith, there.2.from, next.from, from, leads.order);
+              to = omega (arith, there.2.to, to);
+            },
+          );
     }
   where
     lasting_end : (r : Recorded) (v : Walker) (level : Level) (w read t end : ℕ) → w ≤ read → IsEnd (structure_lasts r v level read) read end → LeadsOn r v level x.table w t → t ≤ end

@@ -1,6 +1,6 @@
 -- Spans that have a moment, one span more.
-use Rattle.std.proofs.Common.{◌≡◌, ℕ, ◌+◌, ◌<◌, ◌≤◌, max, min, nat_eq, Bool, true, ◌||◌, List, [], ◌∷◌, ◌++◌, ◌⊎◌, inl, inr, sym, ◌∙◌, subst, ap, take, false, arith, Option, Some, None}
-use Rattle.std.specs.List.{All, Contains, list_any}
+use Rattle.std.proofs.Common.{◌≡◌, ℕ, ◌<◌, ◌≤◌, max, min, nat_eq, Bool, true, ◌||◌, List, [], ◌∷◌, ◌++◌, ◌⊎◌, inl, inr, sym, ◌∙◌, subst, ap, false, arith, Option, Some, None}
+use Rattle.std.specs.List.{Contains, list_any}
 use Rattle.std.proofs.lemmas.Bool.{cases_lt, cases_Bool, eqb-true}
 use Rattle.std.proofs.lemmas.List.Elements.{All-push, All-weaker, All-contains, Contains-append_left, Contains-append_right, Contains-push, Contains-push_cases}
 use Rattle.pg_event.specs.declared.control.Control.{Control}
@@ -31,19 +31,27 @@ within_cases xs s w h =
 pub latest_apart : (xs : List (Span Control)) (s : Span Control) (at to : ℕ) (latest : Option ℕ) → IsLatest xs at to latest → (max s.from at ≤ min s.to to → ⊥) → IsLatest (xs ++ s ∷ []) at to latest
 latest_apart xs s at to None h apart = λ w low high here.
     elim (within_cases xs s w here) as (λ _. ⊥) [ inl a ↦ h w low high a | inr b ↦ apart (omega (arith, b.0, b.1, low, high)) ]
-latest_apart xs s at to (Some m) h apart =
-    (h.0, h.1, within_kept xs s m h.2, λ w low high here. elim (within_cases xs s w here) as (λ _. w ≤ m) [
-      | inl a ↦ h.3 w low high a
-      | inr b ↦ absurd (apart (omega (arith, b.0, b.1, low, high)))
-    ])
+latest_apart xs s at to (Some m) h apart = (
+  h.0,
+  h.1,
+  within_kept xs s m h.2,
+  λ w low high here. elim (within_cases xs s w here) as (λ _. w ≤ m) [
+    | inl a ↦ h.3 w low high a
+    | inr b ↦ absurd (apart (omega (arith, b.0, b.1, low, high)))
+  ],
+)
 
 -- one more that does, up to a moment
 pub latest_met : (xs : List (Span Control)) (s : Span Control) (at to : ℕ) (latest : Option ℕ) → IsLatest xs at to latest → max s.from at ≤ min s.to to → IsLatest (xs ++ s ∷ []) at to (Some (later latest (min s.to to)))
-latest_met xs s at to None h meets =
-    (omega (arith, meets), omega arith, within_new xs s (min s.to to) (omega (arith, meets)) (omega arith), λ w low high here. elim (within_cases xs s w here) as (λ _. w ≤ min s.to to) [
-      | inl a ↦ absurd (h w low high a)
-      | inr b ↦ omega (arith, b.1, high)
-    ])
+latest_met xs s at to None h meets = (
+  omega (arith, meets),
+  omega arith,
+  within_new xs s (min s.to to) (omega (arith, meets)) (omega arith),
+  λ w low high here. elim (within_cases xs s w here) as (λ _. w ≤ min s.to to) [
+    | inl a ↦ absurd (h w low high a)
+    | inr b ↦ omega (arith, b.1, high)
+  ],
+)
 latest_met xs s at to (Some n) h meets =
     let m : ℕ = min s.to to in
     let here : IsWithin (xs ++ s ∷ []) m = within_new xs s m (omega (arith, meets)) (omega arith) in

@@ -1,12 +1,12 @@
 -- Where no reading of a reach witnesses an event, no moments do.
-use Rattle.std.proofs.Common.{◌≡◌, ℕ, ◌+◌, ◌<◌, ◌≤◌, ◌^◌, ◌==◌, ◌&&◌, ◌||◌, not, min, max, Bool, true, false, List, [], ◌∷◌, ◌++◌, length, refl, ap, sym, ◌∙◌, subst, inl, inr, arith, Option, Some, None}
-use Rattle.std.specs.List.{All, Contains}
-use Rattle.std.proofs.lemmas.Bool.{and_parts, and_from, eq-eqb, eqb-true}
+use Rattle.std.proofs.Common.{◌≡◌, ℕ, ◌+◌, ◌<◌, ◌≤◌, ◌^◌, ◌==◌, min, max, true, List, [], ◌∷◌, ◌++◌, length, refl, ap, sym, ◌∙◌, subst, arith, None}
+use Rattle.std.specs.List.{All}
+use Rattle.std.proofs.lemmas.Bool.{and_parts, eqb-true}
 use Rattle.std.proofs.lemmas.List.Elements.{All-contains}
 use Rattle.pg_entry.specs.declared.Cause.{Cause}
 use Rattle.pg_entry.specs.declared.Cause.TheVariants as causes
 use Rattle.pg_entry.specs.declared.Level.{Level}
-use Rattle.pg_entry.specs.declared.Level.TheVariants.{Four, Three, Two, One}
+use Rattle.pg_entry.specs.declared.Level.TheVariants.{Four, Three}
 use Rattle.pg_entry.specs.declared.Kind.{Kind}
 use Rattle.pg_entry.specs.declared.Kind.TheVariants as kinds
 use Rattle.pg_entry.specs.Kinds.{kind_of}
@@ -24,24 +24,23 @@ use Rattle.pg_event.specs.Form.{broken_rule}
 use Rattle.pg_event.specs.Heads.{Head, judges_accessed}
 use Rattle.pg_event.specs.Spelling.{Recorded}
 use Rattle.pg_event.specs.Values.{mem_at, control_at}
-use Rattle.pg_event.specs.Walk.{Reading, readings, root_of, below}
+use Rattle.pg_event.specs.Walk.{Reading, readings, below}
 use Rattle.pg_event.specs.Wants.{want_of, is_wanted}
 use Rattle.pg_event.specs.Witness.{last_or, failing_fault, failing_end, is_updated, failing_event, failing_access, failing_assist, claim_of, update_of}
 use Rattle.pg_run_of.specs.Plan.{root_at}
 use Rattle.pg_run_of.proofs.Standing.{seen, given}
-use Rattle.pg_run_of.proofs.Accesses.{guard_none, WalkHolds, AreCached, claim_holds, update_holds}
-use Rattle.pg_run_of.proofs.Chains.{next_or, IsHop, Comes, Holds, Ends, IsFlagged, reading_at, access_none, assist_none}
+use Rattle.pg_run_of.proofs.Accesses.{guard_none, claim_holds, update_holds}
+use Rattle.pg_run_of.proofs.Chains.{next_or, Comes, Holds, Ends, IsFlagged, reading_at, access_none, assist_none}
 use Rattle.pg_run_of.proofs.Certified.{assist_judged}
 use Rattle.pg_search.specs.Exact as exact
 use Rattle.pg_search.specs.Exact.{first_or, IsChain, IsWayFromRoot}
-use Rattle.pg_search.specs.Law.{AreWitness, with_moments}
+use Rattle.pg_search.specs.Law.{with_moments}
 use Rattle.pg_reach.specs.declared.walker.Walker.{Walker}
 use Rattle.pg_reach.specs.declared.reach.Reach.{Reach}
 use Rattle.pg_reach.specs.declared.since.Bounds.{Bounds}
-use Rattle.pg_reach.specs.Stays.{IsUnder}
-use Rattle.pg_reach.specs.Reaching.{way_of, up_to, IsReach, AreAt}
+use Rattle.pg_reach.specs.Reaching.{way_of, IsReach}
 use Rattle.pg_reach.specs.Asking.{want_by, Asks, last_moment, pcid_of, NoneUnder}
-use Rattle.pg_reach.specs.Bounds.{bound_of, AreBounds}
+use Rattle.pg_reach.specs.Bounds.{AreBounds}
 use Rattle.pg_reach.specs.Ends.{IsRefused, AreRefused}
 use Rattle.pg_reach.proofs.Coming.{AreLevels, EndsIn, begins_in, ends_in}
 use Rattle.pg_reach.proofs.Later.{leaf_later}

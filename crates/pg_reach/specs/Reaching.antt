@@ -1,6 +1,6 @@
 -- To which tables a walk can come, and when (Intel SDM, vol. 3, 4.10.3).
 use Rattle.std.specs.Prelude.{◌≡◌, ℕ, ◌+◌, ◌<◌, ◌≤◌, ◌^◌, ◌-◌, min, max, Bool, true, false, ◌&&◌, List, [], ◌∷◌, ◌++◌, map}
-use Rattle.std.specs.Prelude.{Option, Some, None, MatchOption, length, ◌⊎◌}
+use Rattle.std.specs.Prelude.{Option, MatchOption, length, ◌⊎◌}
 use Rattle.std.specs.List.{All, Contains}
 use Rattle.pg_entry.specs.declared.Level.{Level}
 use Rattle.pg_entry.specs.declared.Level.TheVariants.{Four, Three, Two, One}

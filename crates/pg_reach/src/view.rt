@@ -15,7 +15,6 @@ ghost use Rattle.pg_reach.specs.Reaching.{IsPiece, IsReach, IsNextReach, IsFille
 ghost use Rattle.pg_reach.specs.Reaching.{AreRoots};
 ghost use Rattle.pg_reach.specs.Ends.{IsNoEnd, AreRefused};
 
-
 use crate::reach::{Reach, up_to};
 use crate::reaches::Reaches;
 use crate::stays::{latest_of, stays_of};

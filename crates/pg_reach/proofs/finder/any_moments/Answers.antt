@@ -1,10 +1,9 @@
-use Rattle.std.proofs.Common.{◌≡◌, ℕ, ◌<◌, ◌≤◌, Bool, true, false, Option, Some, None, Result, Ok, Err, ap, sym, ◌∙◌, subst, arith}
+use Rattle.std.proofs.Common.{◌≡◌, Bool, true, false, Option, Some, None, Result, Ok, Err, ap, sym, ◌∙◌}
 use Rattle.std.specs.Prelude.{IfNone, IfOk}
 use Rattle.pg_event.specs.declared.control.Control.{Control}
 use Rattle.pg_event.specs.Values.{control_at}
-use Rattle.pg_event.specs.Wants.{uses_last}
 use Rattle.pg_reach.specs.declared.walker.Walker.{Walker}
-use Rattle.pg_reach.specs.Asking.{Asks, want_by, under, NoneOwn, NoneGlobal}
+use Rattle.pg_reach.specs.Asking.{NoneOwn}
 use Rattle.pg_reach.proofs.Cases.{none_at_all, processor_there}
 use Rattle.pg_reach.proofs.finder.any_moments.Goals as goal
 

@@ -1,12 +1,11 @@
-use Rattle.std.proofs.Common.{◌≡◌, ℕ, ◌+◌, ◌++◌, ◌∷◌, [], List, Option, Some, None, take, get_or, ap, ◌∙◌, sym, subst, arith}
+use Rattle.std.proofs.Common.{◌≡◌, ℕ, List, Option, Some, None, take, get_or, ap, ◌∙◌, sym, subst, arith}
 use Rattle.std.specs.Prelude.{IfNone}
-use Rattle.std.specs.List.{All, Contains}
+use Rattle.std.specs.List.{All}
 use Rattle.std.proofs.lemmas.List.{take_more, take_all}
 use Rattle.std.proofs.lemmas.List.Elements.{All-push, All-contains}
 use Rattle.pg_event.specs.declared.control.Control.{Control}
 use Rattle.pg_timeline.specs.declared.timeline.Span.{Span}
-use Rattle.pg_event.specs.Values.{control_at}
-use Rattle.pg_reach.specs.Stays.{IsSteady, AreSpans, ArePcids}
+use Rattle.pg_reach.specs.Stays.{IsSteady, ArePcids}
 use Rattle.pg_reach.specs.Asking.{under, NoneGlobal}
 use Rattle.pg_reach.proofs.finder.search_globals.Goals as goal
 

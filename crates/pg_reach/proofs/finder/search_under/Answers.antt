@@ -1,4 +1,4 @@
-use Rattle.std.proofs.Common.{◌≡◌, ℕ, ◌+◌, min, max, List, Option, Some, None, sym, ◌∙◌, subst, arith}
+use Rattle.std.proofs.Common.{◌≡◌, ◌+◌, min, max, List, Option, Some, None, subst}
 use Rattle.std.specs.Prelude.{IfNone}
 use Rattle.std.specs.List.{All}
 use Rattle.pg_entry.specs.declared.Level.{Level}
@@ -8,10 +8,8 @@ use Rattle.pg_inval.specs.Drops.{IsTableLevel}
 use Rattle.pg_reach.specs.declared.reach.Reach.{Reach}
 use Rattle.pg_reach.specs.Views.{Viewed}
 use Rattle.pg_reach.specs.Reaching.{IsReach, AreRoots, AreBelow}
-use Rattle.pg_reach.specs.Asking.{NoneUnder}
 use Rattle.pg_reach.specs.Bounds.{bound_of}
 use Rattle.pg_reach.specs.Ends.{AreRefused}
-use Rattle.pg_reach.proofs.Coming.{AreLevels}
 use Rattle.pg_reach.proofs.Whole.{AreWhole, none_under}
 use Rattle.pg_reach.proofs.finder.search_under.Goals as goal
 

@@ -1,5 +1,4 @@
-use Rattle.std.proofs.Common.{◌≡◌, ℕ, ◌+◌, ◌<◌, ◌≤◌, ◌++◌, ◌∷◌, [], List, Option, Some, take, get_or, max, min, sym, ap, ◌∙◌, subst, arith}
-use Rattle.std.specs.Prelude.{false}
+use Rattle.std.proofs.Common.{◌≡◌, ℕ, ◌+◌, ◌≤◌, ◌++◌, ◌∷◌, [], List, Some, take, get_or, max, min, sym, ap, ◌∙◌, subst, arith}
 use Rattle.std.proofs.lemmas.List.{take_more, take_all}
 use Rattle.pg_event.specs.declared.control.Control.{Control}
 use Rattle.pg_timeline.specs.declared.timeline.Span.{Span}

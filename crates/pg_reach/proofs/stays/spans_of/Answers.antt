@@ -1,9 +1,9 @@
-use Rattle.std.proofs.Common.{◌≡◌, ℕ, ◌+◌, ◌<◌, ◌≤◌, ◌^◌, ◌++◌, ◌∷◌, [], List, sym, ap, ◌∙◌, subst, refl, arith}
+use Rattle.std.proofs.Common.{◌≡◌, ◌+◌, ◌<◌, ◌^◌, ◌++◌, ◌∷◌, [], List, sym, subst, refl, arith}
 use Rattle.std.specs.List.{All}
 use Rattle.std.proofs.lemmas.List.Elements.{All-push}
 use Rattle.pg_event.specs.declared.control.Control.{Control}
 use Rattle.pg_timeline.specs.declared.timeline.Span.{Span}
-use Rattle.pg_reach.specs.Stays.{IsSteady, IsWithin, AreSpans}
+use Rattle.pg_reach.specs.Stays.{IsSteady, IsWithin}
 use Rattle.pg_reach.proofs.Spans.{within_next}
 use Rattle.pg_reach.proofs.stays.spans_of.Goals as goal
 

@@ -1,4 +1,4 @@
-use Rattle.std.proofs.Common.{◌≡◌, ℕ, Result, Ok, Err}
+use Rattle.std.proofs.Common.{Result, Ok, Err}
 use Rattle.std.specs.Prelude.{OnOk}
 use Rattle.pg_reach.proofs.Nexts.{filled_one}
 use Rattle.pg_reach.proofs.view.View.add_table.Goals as goal

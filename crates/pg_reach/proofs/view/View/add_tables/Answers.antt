@@ -1,4 +1,4 @@
-use Rattle.std.proofs.Common.{◌≡◌, ℕ, ◌<◌, ◌≤◌, ◌+◌, ◌^◌, min, max, ap, subst, sym, arith}
+use Rattle.std.proofs.Common.{◌≡◌, ◌<◌, ◌+◌, ◌^◌, min, max, ap, subst, sym, arith}
 use Rattle.pg_reach.specs.Views.{Viewed}
 use Rattle.pg_reach.specs.Reaching.{IsFilled}
 use Rattle.pg_reach.proofs.Nexts.{filled_more, filled_less}
@@ -10,7 +10,7 @@ loop-at-preserved c =
     record {
       order = omega (arith, next, c.loop-at.invariant.order, c.piece_at-piece.ensures.low);
       filled = subst (λ until. IsFilled c.args.self.now.run c.args.self.now.walker c.args.level (max c.args.x.now.from c.args.low) until c.args.x.now c.args.nexts.now c.add_table.new.nexts) (sym next)
-      (filled_more c.args.self.now.run c.args.self.now.walker c.args.level (max c.args.x.now.from c.args.low) c.loop-at.at (c.piece_at-piece.result.to + 1) c.args.x.now c.args.nexts.now c.loop-at.nexts c.add_table.new.nexts c.loop-at.invariant.filled c.in_ok-add_table.ensures);
+          (filled_more c.args.self.now.run c.args.self.now.walker c.args.level (max c.args.x.now.from c.args.low) c.loop-at.at (c.piece_at-piece.result.to + 1) c.args.x.now c.args.nexts.now c.loop-at.nexts c.add_table.new.nexts c.loop-at.invariant.filled c.in_ok-add_table.ensures);
     }
 
 pub returns-in-None : goal.returns-in-None

@@ -1,4 +1,4 @@
-use Rattle.std.proofs.Common.{◌≡◌, ℕ, ◌<◌, ◌≤◌, ◌^◌, ◌&&◌, List, [], ◌∷◌, ◌++◌, Bool, true, false, not, ap, sym, ◌∙◌, subst, refl, arith}
+use Rattle.std.proofs.Common.{◌≡◌, ℕ, ◌&&◌, List, [], ◌∷◌, ◌++◌, true, ap, sym, ◌∙◌, subst, refl}
 use Rattle.std.proofs.lemmas.Bool.{and_parts}
 use Rattle.pg_entry.specs.declared.Rights.{Rights}
 use Rattle.pg_entry.specs.Kinds.{kind_of, table_of}
@@ -19,7 +19,7 @@ returns c =
     let head : Head = c.self.inside.seen.now.head in
     let leads : (is_table (kind_of head.cfg c.args.level c.args.entry.0) && may_cache head.version c.args.entry.0) ≡ true = subst (λ (h : Head). (is_table (kind_of h.cfg c.args.level c.args.entry.0) && may_cache h.version c.args.entry.0) ≡ true) c.header-header.ensures.header (sym c.leads_on.ensures ∙ c.if-not-leads_on.false) in
     subst (λ (v : Viewed). IsNextOf v.run v.walker c.args.level c.args.x.now c.args.entry.0 c.args.from c.args.read
-    record {from = c.args.from; to = c.structure_end.result; table = record {table = c.table_of.result; rights = c.combine.result}; latest = c.in_ok-with.field-0}) c.self.view_is (record {
+    record { from = c.args.from; to = c.structure_end.result; table = record { table = c.table_of.result; rights = c.combine.result }; latest = c.in_ok-with.field-0 }) c.self.view_is (record {
       is_table = (and_parts _ _ leads).0;
       cached = (and_parts _ _ leads).1;
       from = refl;
