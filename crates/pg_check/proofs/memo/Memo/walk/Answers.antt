@@ -15,4 +15,4 @@ returns-then-may_be_kept-clause-walk c = λ head events h.
 
 pub returns-else-may_be_kept-clause-walk : goal.returns-else-may_be_kept-clause-walk
 returns-else-may_be_kept-clause-walk c = λ head events h.
-    c.lasting_walk.ensures.walk head events (subst (λ (x : Past). IsPast x head events) (sym c.self.view_is) h)
+    c.lasting_walk.ensures.walk head events (subst (λ (x : Past). IsPast x head events) (sym c.self-else-may_be_kept.view_is) h)
