@@ -12,7 +12,7 @@ ghost use Rattle.pg_check.specs.Remembered.{HasWalk, HaveWalks, IsWithin, walk_i
 
 use crate::lasting::{Lasting, asked_up_to, is_asked, lasting_walk};
 use crate::places::{
-    Kept, empty_slots, first_slots, most_slots, next_count, place_of, put_all, with_room,
+    Kept, empty_slots, first_slots, most_slots, next_count, page_of, place_of, put_all, with_room,
 };
 use crate::walk::is_in_order;
 use pg_chain::{Chain, EntryRead, Past, Reader};
@@ -427,8 +427,9 @@ impl<'a> Memo<'a> {
             IsWalk head events p la want moments.now result }
     {
         if may_be_kept(want) {
-            let page = la - la % 4096;
-            let first = place_of(self.slots.len(), p, page, moments.len(), current);
+            let levels = moments.len();
+            let page = page_of(la, levels);
+            let first = place_of(self.slots.len(), p, page, levels, current);
             self.page_walk(number, first, p, page, moments)
         } else {
             lasting_walk(&mut self.reader, number, number, p, la, moments, want)

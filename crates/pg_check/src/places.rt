@@ -1,8 +1,8 @@
 //! Where walks are kept, and how many places there are.
 
-ghost use Rattle.std.specs.Prelude.{◌≡◌, ℕ, []};
+ghost use Rattle.std.specs.Prelude.{◌≡◌, ◌^◌, ℕ, []};
 ghost use Rattle.pg_chain.specs.declared.past.Past.{Past};
-ghost use Rattle.pg_check.specs.Remembered.{HasWalk, HaveWalks};
+ghost use Rattle.pg_check.specs.Remembered.{HasWalk, HaveWalks, page_bits, page_start};
 
 use crate::memo::Slot;
 use pg_chain::Past;
@@ -45,6 +45,26 @@ const TIMES: usize = 4;
 
 /// An odd number whose multiples by the numbers from 0 on, cut to 64 bits, lie evenly apart.
 const SPREAD: u64 = 0x9e37_79b9_7f4a_7c15;
+
+/// The size of the page in bytes that the last entry maps where so many levels are read, if that
+/// is a leaf.
+fn page_bytes(levels: usize) -> u64
+    ensures { result ≡ 2 ^ page_bits levels }
+{
+    match levels {
+        4 => 1 << 12,
+        3 => 1 << 21,
+        _ => 1 << 30,
+    }
+}
+
+/// The first address of the page that a leaf maps where so many levels are read. Walks by the same
+/// moments to addresses of one page are alike.
+pub(crate) fn page_of(la: u64, levels: usize) -> u64
+    ensures { result ≡ page_start (page_bits levels) la }
+{
+    la - la % page_bytes(levels)
+}
 
 /// The first of the two places, of so many, of the walks of a processor to a page by so many levels
 /// while this PCID is current. Neither moments nor the walk's own PCID take part, so that a walk
