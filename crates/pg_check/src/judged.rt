@@ -54,12 +54,7 @@ impl Model for Judged {
 
 /// The first bad event of some, the first of which has this number, where `kept` are walks of the
 /// events before them; and the walks that are kept then.
-fn judge_by(
-    past: &Past,
-    kept: Kept,
-    first: u64,
-    events: &[Event],
-) -> (Option<(u64, Reason)>, Kept)
+fn judge_by(past: &Past, kept: Kept, first: u64, events: &[Event]) -> (Option<(u64, Reason)>, Kept)
     requires kept { HaveWalks past.now first kept.slots.items }
     requires processors { AllByRecursion
         (λ e. processor_of e < processor_count past.now) events.now }

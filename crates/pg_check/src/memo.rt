@@ -166,12 +166,7 @@ impl<'a> Memo<'a> {
 
     /// The walks that slots have, which rest on the first so many events of the run. There is room
     /// for so many more, up to a limit.
-    pub(crate) fn with_slots(
-        past: &'a Past,
-        kept: Kept,
-        walks: usize,
-        limit: u32,
-    ) -> Memo<'a>
+    pub(crate) fn with_slots(past: &'a Past, kept: Kept, walks: usize, limit: u32) -> Memo<'a>
         requires { HaveWalks past.now limit kept.slots.items }
         ensures { result ≡ past.now }
     {

@@ -31,13 +31,17 @@ impl Kept {
 /// So many slots are kept at first by one for each recorded processor, but so many at least and at
 /// most.
 const SLOTS_FOR_EACH: usize = 1_024;
+
 const FIRST_SLOTS: usize = 4_096;
+
 const MOST_FIRST_SLOTS: usize = 65_536;
 
 /// So many slots outlive a window at most by one for each recorded processor, but so many at least
 /// and at most.
 const MOST_FOR_EACH: usize = 4_096;
+
 const MOST_KEPT_SLOTS: usize = 65_536;
+
 const MOST_OF_ALL: usize = 131_072;
 
 /// So many times as many slots there are where all were filled.
@@ -103,11 +107,7 @@ pub(crate) fn empty_slots(alloc: Global, count: usize) -> Vec<Option<Slot>>
 }
 
 /// These slots if there are so many, else so many with no walk.
-pub(crate) fn with_room(
-    alloc: Global,
-    slots: Vec<Option<Slot>>,
-    count: usize,
-) -> Vec<Option<Slot>>
+pub(crate) fn with_room(alloc: Global, slots: Vec<Option<Slot>>, count: usize) -> Vec<Option<Slot>>
     ensures { (past : Past) (limit : ℕ) → HaveWalks past limit slots.items →
         HaveWalks past limit result.items }
 {
