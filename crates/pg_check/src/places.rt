@@ -1,6 +1,6 @@
 //! Where walks are kept, and how many places there are.
 
-ghost use Rattle.std.specs.Prelude.{◌≡◌, ◌^◌, ℕ, []};
+ghost use Rattle.std.specs.Prelude.{◌≡◌, ℕ, []};
 ghost use Rattle.pg_chain.specs.declared.past.Past.{Past};
 ghost use Rattle.pg_check.specs.Remembered.{HasWalk, HaveWalks, page_bits, page_start};
 
@@ -28,46 +28,41 @@ impl Kept {
     }
 }
 
-/// So many slots are kept at first by one for each recorded processor, but so many at least and at
-/// most.
+/// Slots that outlive a window are so many at first for each recorded processor.
 const SLOTS_FOR_EACH: usize = 1_024;
 
+/// They are so many at least at first, however few processors there are.
 const FIRST_SLOTS: usize = 4_096;
 
+/// They are so many at most at first, however many processors there are.
 const MOST_FIRST_SLOTS: usize = 65_536;
 
-/// So many slots outlive a window at most by one for each recorded processor, but so many at least
-/// and at most.
+/// There may be so many in the end for each recorded processor.
 const MOST_FOR_EACH: usize = 4_096;
 
+/// There may be so many in the end, however few processors there are.
 const MOST_KEPT_SLOTS: usize = 65_536;
 
+/// There are never more, however many processors there are.
 const MOST_OF_ALL: usize = 131_072;
 
-/// So many times as many slots there are where all were filled.
+/// Where there are more slots, there are so many times as many.
 const TIMES: usize = 4;
 
 /// An odd number whose multiples by the numbers from 0 on, cut to 64 bits, lie evenly apart.
 const SPREAD: u64 = 0x9e37_79b9_7f4a_7c15;
 
-/// The size of the page in bytes that the last entry maps where so many levels are read, if that
-/// is a leaf.
-fn page_bytes(levels: usize) -> u64
-    ensures { result ≡ 2 ^ page_bits levels }
-{
-    match levels {
-        4 => 1 << 12,
-        3 => 1 << 21,
-        _ => 1 << 30,
-    }
-}
-
 /// The first address of the page that a leaf maps where so many levels are read. Walks by the same
-/// moments to addresses of one page are alike.
+/// moments to addresses of one page are alike. Each size stands as a constant, since each access
+/// asks this and a division by another number costs much.
 pub(crate) fn page_of(la: u64, levels: usize) -> u64
     ensures { result ≡ page_start (page_bits levels) la }
 {
-    la - la % page_bytes(levels)
+    match levels {
+        4 => la - la % (1 << 12),
+        3 => la - la % (1 << 21),
+        _ => la - la % (1 << 30),
+    }
 }
 
 /// The first of the two places, of so many, of the walks of a processor to a page by so many levels
@@ -143,7 +138,7 @@ pub(crate) fn put_all(from: &[Option<Slot>], to: &mut Vec<Option<Slot>>)
     }
 }
 
-/// So many slots there are next, where so many are all in use and there may be so many.
+/// How many slots follow so many, where there may be so many at most.
 pub(crate) fn next_count(count: usize, most: usize) -> usize {
     count.saturating_mul(TIMES).min(most)
 }
