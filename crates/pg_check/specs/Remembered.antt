@@ -1,5 +1,5 @@
 -- What a memo of walks keeps true.
-use Rattle.std.specs.Prelude.{◌≡◌, ℕ, ◌≤◌, true, List, length, Option, Some, None, Ok}
+use Rattle.std.specs.Prelude.{◌≡◌, ℕ, ◌-◌, ◌%◌, ◌^◌, ◌≤◌, ◌==◌, true, if◌then◌else◌, List, length, Option, Some, None, Ok}
 use Rattle.std.specs.List.{AllByRecursion}
 use Rattle.pg_event.specs.declared.event.Event.{Event}
 use Rattle.pg_event.specs.declared.event.Want.TheVariants as wants
@@ -11,6 +11,15 @@ use Rattle.pg_chain.specs.Walked.{chain_of}
 use Rattle.pg_check.specs.declared.memo.Slot.{Slot}
 use Rattle.pg_check.specs.declared.lasting.Lasting.{Lasting}
 use Rattle.pg_check.specs.Lasting.{IsLasting}
+
+-- the binary logarithm of the size of the page that the last entry maps where so many levels are
+-- read, if that is a leaf
+abbrev pub page_bits : ℕ → ℕ
+page_bits levels = if levels == 4 then 12 else if levels == 3 then 21 else 30
+
+-- the first address of a page of 2 ^ k bytes
+abbrev pub page_start : ℕ → ℕ → ℕ
+page_start k la = la - la % 2 ^ k
 
 -- what the walk of a slot came to
 abbrev pub walk_in : Slot → Lasting

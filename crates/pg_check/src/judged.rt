@@ -14,7 +14,8 @@ ghost use Rattle.pg_check.specs.Remembered.{HaveWalks};
 ghost use Rattle.pg_check.specs.Stretches.{IsStretch};
 
 use crate::judge::first_bad_of;
-use crate::memo::{Memo, Slot};
+use crate::memo::Memo;
+use crate::places::Kept;
 use crate::stretch::Stretch;
 use pg_chain::Past;
 use pg_event::{Event, Header, Reason};
@@ -31,7 +32,7 @@ pub struct Judged {
     count: u64,
     first_bad: Option<(u64, Reason)>,
     /// Walks that were made by the events that were judged.
-    slots: Vec<Option<Slot>>,
+    kept: Kept,
 }
 
 impl Model for Judged {
@@ -48,24 +49,19 @@ impl Model for Judged {
       first_bad = j.first_bad;
     } };
 
-    ghost invariant = { λ j. IsHead j.header × HaveWalks j.past j.count j.slots.items };
+    ghost invariant = { λ j. IsHead j.header × HaveWalks j.past j.count j.kept.slots.items };
 }
 
 /// The first bad event of some, the first of which has this number, where `kept` are walks of the
 /// events before them; and the walks that are kept then.
-fn judge_by(
-    past: &Past,
-    kept: Vec<Option<Slot>>,
-    first: u64,
-    events: &[Event],
-) -> (Option<(u64, Reason)>, Vec<Option<Slot>>)
-    requires kept { HaveWalks past.now first kept.items }
+fn judge_by(past: &Past, kept: Kept, first: u64, events: &[Event]) -> (Option<(u64, Reason)>, Kept)
+    requires kept { HaveWalks past.now first kept.slots.items }
     requires processors { AllByRecursion
         (λ e. processor_of e < processor_count past.now) events.now }
     requires count { first + length events.now < 2 ^ 32 }
     ensures first { (head : Head) (all : List Event) → IsPast past.now head all →
         result.0 ≡ first_bad_from head all first events.now }
-    ensures kept { HaveWalks past.now (first + length events.now) result.1.items }
+    ensures kept { HaveWalks past.now (first + length events.now) result.1.slots.items }
 {
     let last = (first + events.len() as u64) as u32;
     let mut memo = Memo::with_slots(past, kept, events.len(), last);
@@ -85,7 +81,7 @@ impl Judged {
             past,
             count: 0,
             first_bad: None,
-            slots: Vec::new(alloc),
+            kept: Kept::new(alloc),
         })
     }
 
@@ -162,10 +158,10 @@ impl Judged {
             self.move_on(events, None);
             return Ok(());
         }
-        let kept = mem::replace(&mut self.slots, Vec::new(self.past.alloc));
-        let (found, slots) = judge_by(&self.past, kept, self.count, events);
+        let kept = mem::replace(&mut self.kept, Kept::new(self.past.alloc));
+        let (found, kept) = judge_by(&self.past, kept, self.count, events);
         self.move_on(events, found);
-        self.slots = slots;
+        self.kept = kept;
         Ok(())
     }
 

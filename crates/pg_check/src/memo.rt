@@ -11,11 +11,13 @@ ghost use Rattle.pg_check.specs.Lasting.{IsAsked, IsWalk};
 ghost use Rattle.pg_check.specs.Remembered.{HasWalk, HaveWalks, IsWithin, walk_in};
 
 use crate::lasting::{Lasting, asked_up_to, is_asked, lasting_walk};
+use crate::places::{
+    Kept, empty_slots, first_slots, most_slots, next_count, page_of, place_of, put_all, with_room,
+};
 use crate::walk::is_in_order;
 use pg_chain::{Chain, EntryRead, Past, Reader};
 use pg_entry::{Level, Rights};
 use pg_event::{Control, Moments, Reason, Want};
-use std::alloc::Global;
 use std::marker::Model;
 
 /// A walk that was made: which one, and what it came to. The page is told by its first address: no
@@ -97,6 +99,10 @@ pub struct Memo<'a> {
     slots: Vec<Option<Slot>>,
     /// What the slots say rests on the first so many events.
     limit: u32,
+    /// How many walks were made for the slots.
+    made: usize,
+    /// So many slots there are at most.
+    most: usize,
 }
 
 impl<'a> Model for Memo<'a> {
@@ -114,15 +120,6 @@ impl<'a> Model for Memo<'a> {
 /// So many walks are kept at most by a memo for a round: more would not stay in a cache of the
 /// processor that judges.
 const MOST_SLOTS: usize = 16_384;
-
-/// Slots that outlive a window are so many for each recorded processor, if that is more.
-const SLOTS_FOR_EACH: usize = 1_024;
-
-/// So many are kept at most, however many processors there are.
-const MOST_KEPT_SLOTS: usize = 65_536;
-
-/// An odd number whose bits are spread, which spreads those of what it is multiplied by.
-const SPREAD: u64 = 0x9e37_79b9_7f4a_7c15;
 
 /// Whether a walk is worth a slot: one to a leaf. One that ends otherwise is used at its own event
 /// alone.
@@ -143,32 +140,12 @@ fn is_of(slot: &Slot, p: u16, page: u64, moments: &Moments) -> bool
     slot.p == p && slot.page == page && slot.moments.as_slice() == moments.as_slice()
 }
 
-/// So many slots. Where memory is refused there are none.
-fn empty_slots(alloc: Global, count: usize) -> Vec<Option<Slot>>
-    ensures { (past : Past) (limit : ℕ) → HaveWalks past limit result.items }
-{
-    match Vec::from_elem(alloc, None, count) {
-        Ok(slots) => slots,
-        Err(_) => Vec::new(alloc),
+/// Whether a slot has a walk of a processor to a page under this PCID, by whatever moments.
+fn is_for(slot: Option<Slot>, p: u16, page: u64, pcid: u16) -> bool {
+    match slot {
+        Some(slot) => slot.p == p && slot.page == page && slot.pcid == pcid,
+        None => false,
     }
-}
-
-/// These slots if there are so many, else so many with no walk.
-fn with_room(alloc: Global, slots: Vec<Option<Slot>>, count: usize) -> Vec<Option<Slot>>
-    ensures { (past : Past) (limit : ℕ) → HaveWalks past limit slots.items →
-        HaveWalks past limit result.items }
-{
-    if slots.len() < count {
-        empty_slots(alloc, count)
-    } else {
-        slots
-    }
-}
-
-/// So many slots are worth their room where so many walks may come.
-fn slots_for(past: &Past, walks: usize) -> usize {
-    let all = past.controls.processors().saturating_mul(SLOTS_FOR_EACH);
-    walks.min(all.max(MOST_SLOTS).min(MOST_KEPT_SLOTS))
 }
 
 impl<'a> Memo<'a> {
@@ -177,42 +154,49 @@ impl<'a> Memo<'a> {
     pub(crate) fn new(past: &'a Past, walks: usize) -> Memo<'a>
         ensures { result ≡ past.now }
     {
+        let most = walks.min(MOST_SLOTS);
         Memo {
             reader: Reader::new(past, walks),
-            slots: empty_slots(past.alloc, walks.min(MOST_SLOTS)),
+            slots: empty_slots(past.alloc, first_slots(past, most)),
             limit: u32::MAX,
+            made: 0,
+            most,
         }
     }
 
     /// The walks that slots have, which rest on the first so many events of the run. There is room
     /// for so many more, up to a limit.
-    pub(crate) fn with_slots(
-        past: &'a Past,
-        slots: Vec<Option<Slot>>,
-        walks: usize,
-        limit: u32,
-    ) -> Memo<'a>
-        requires { HaveWalks past.now limit slots.items }
+    pub(crate) fn with_slots(past: &'a Past, kept: Kept, walks: usize, limit: u32) -> Memo<'a>
+        requires { HaveWalks past.now limit kept.slots.items }
         ensures { result ≡ past.now }
     {
+        let Kept { slots, made } = kept;
         Memo {
             reader: Reader::new(past, walks),
-            slots: with_room(past.alloc, slots, slots_for(past, walks)),
+            slots: with_room(past.alloc, slots, first_slots(past, walks)),
             limit,
+            made,
+            most: most_slots(past),
         }
     }
 
     /// The slots, where they rest on the first so many events.
-    pub(crate) fn into_slots(self, limit: u32) -> Vec<Option<Slot>>
-        ensures { HaveWalks self.entry limit result.items }
+    pub(crate) fn into_slots(self, limit: u32) -> Kept
+        ensures { HaveWalks self.entry limit result.slots.items }
     {
         let alloc = self.past().alloc;
         let Memo {
             reader: _,
             slots,
             limit: own,
+            made,
+            most: _,
         } = self;
-        if own <= limit { slots } else { Vec::new(alloc) }
+        if own <= limit {
+            Kept { slots, made }
+        } else {
+            Kept::new(alloc)
+        }
     }
 
     /// What the run did.
@@ -237,19 +221,6 @@ impl<'a> Memo<'a> {
         self.reader.control_at(p, moment)
     }
 
-    /// The first of the two places of a walk to a page, where there are any.
-    fn place_of(&self, p: u16, page: u64, moments: &Moments) -> usize {
-        let all = moments.as_slice();
-        let last = all[all.len() - 1] as u64;
-        let spread = (page >> 12).wrapping_mul(SPREAD) ^ (last << 16 | p as u64);
-        // The upper bits depend on all others, and the place is told by the lower ones.
-        let mixed = spread.wrapping_mul(SPREAD);
-        let number = (mixed ^ (mixed >> 32)).wrapping_mul(SPREAD) >> 32;
-        // The same part of the places that this number is of 2 to the power of 32.
-        let place = number.wrapping_mul(self.slots.len() as u64) >> 32;
-        place as usize & !1
-    }
-
     /// What a place has of a walk to a page. Each access asks it, so that a call would cost much.
     #[inline(always)]
     fn kept_at(&self, place: usize, p: u16, page: u64, moments: &Moments) -> Option<Lasting>
@@ -266,12 +237,11 @@ impl<'a> Memo<'a> {
         }
     }
 
-    /// What was kept of a walk to a page, and where.
-    fn kept(&self, p: u16, page: u64, moments: &Moments) -> Option<(usize, Lasting)>
+    /// What was kept of a walk to a page at the first of its two places or at the other, and where.
+    fn kept(&self, first: usize, p: u16, page: u64, moments: &Moments) -> Option<(usize, Lasting)>
         ensures { (head : Head) (events : List Event) → IsPast self.now head events →
             IfSome result (λ found. IsWalk head events p page Leaf moments.now (Ok found.1)) }
     {
-        let first = self.place_of(p, page, moments);
         match self.kept_at(first, p, page, moments) {
             Some(walk) => Some((first, walk)),
             None => match self.kept_at(first | 1, p, page, moments) {
@@ -292,15 +262,56 @@ impl<'a> Memo<'a> {
         }
     }
 
-    /// Keeps a walk that was not kept.
-    fn remember(&mut self, p: u16, page: u64, moments: &Moments, walk: Lasting)
+    /// Whether a place has a walk to a page under this PCID, by whatever moments.
+    fn is_taken_for(&self, place: usize, p: u16, page: u64, pcid: u16) -> bool {
+        match self.slots.get(place) {
+            Some(slot) => is_for(*slot, p, page, pcid),
+            None => false,
+        }
+    }
+
+    /// Which of two places a new walk takes: that of an earlier walk to the page, which it follows,
+    /// else the first.
+    fn room_for(&mut self, first: usize, p: u16, page: u64, pcid: u16) -> usize
+        ensures { self.new ≡ self.old }
+    {
+        if self.is_taken_for(first, p, page, pcid) {
+            first
+        } else if self.is_taken_for(first | 1, p, page, pcid) {
+            first | 1
+        } else {
+            self.make_way(first);
+            first
+        }
+    }
+
+    /// Keeps a walk that was not kept, at one of its two places.
+    fn remember(&mut self, first: usize, p: u16, page: u64, moments: &Moments, walk: Lasting)
         requires { (head : Head) (events : List Event) → IsPast self.old head events →
             IsWalk head events p page Leaf moments.now (Ok walk) }
         ensures { self.new ≡ self.old }
     {
-        let first = self.place_of(p, page, moments);
-        self.make_way(first);
-        self.keep(first, p, page, moments, walk);
+        let place = self.room_for(first, p, page, walk.chain.pcid);
+        self.keep(place, p, page, moments, walk);
+    }
+
+    /// Counts a walk that was made. Where as many were made as there are slots, there are more from
+    /// now on, unless memory is refused: then it is asked for again after so many walks more.
+    fn count_walk(&mut self)
+        ensures { self.new ≡ self.old }
+    {
+        self.made = self.made.saturating_add(1);
+        let count = self.slots.len();
+        if self.made <= count || count >= self.most {
+            return;
+        }
+        let mut more = empty_slots(self.past().alloc, next_count(count, self.most));
+        if more.len() > count {
+            put_all(self.slots.as_slice(), &mut more);
+            self.slots = more;
+        } else {
+            self.made = 0;
+        }
     }
 
     /// Keeps what a walk to a page came to at a place, where there is one, unless it rests on later
@@ -345,10 +356,11 @@ impl<'a> Memo<'a> {
         known
     }
 
-    /// A walk that was not kept.
+    /// A walk that was not kept, and is from now on, at one of its two places.
     fn walk_anew(
         &mut self,
         number: u32,
+        first: usize,
         p: u16,
         page: u64,
         moments: &Moments,
@@ -362,7 +374,8 @@ impl<'a> Memo<'a> {
         let to = self.limit;
         match lasting_walk(&mut self.reader, number, to, p, page, moments, Want::Leaf) {
             Ok(walk) => {
-                self.remember(p, page, moments, walk);
+                self.remember(first, p, page, moments, walk);
+                self.count_walk();
                 Ok(walk)
             }
             Err(reason) => Err(reason),
@@ -373,6 +386,7 @@ impl<'a> Memo<'a> {
     fn page_walk(
         &mut self,
         number: u32,
+        first: usize,
         p: u16,
         page: u64,
         moments: &Moments,
@@ -383,18 +397,19 @@ impl<'a> Memo<'a> {
         ensures walk { (head : Head) (events : List Event) → IsPast self.old head events →
             IsWalk head events p page Leaf moments.now result }
     {
-        match self.kept(p, page, moments) {
+        match self.kept(first, p, page, moments) {
             Some((place, walk)) => { Ok(self.asked_walk(number, place, p, page, moments, walk)) }
-            None => self.walk_anew(number, p, page, moments),
+            None => self.walk_anew(number, first, p, page, moments),
         }
     }
 
     /// The walk of an access by its moments, and how long its translation lasts as far as the event
     /// with this number asks, or the least of the reasons `Entry`, `Context` and
-    /// `StructureDropped`.
+    /// `StructureDropped`. `current` is the PCID at the event: walks are placed by it.
     pub(crate) fn walk(
         &mut self,
         number: u32,
+        current: u16,
         p: u16,
         la: u64,
         moments: &Moments,
@@ -407,7 +422,10 @@ impl<'a> Memo<'a> {
             IsWalk head events p la want moments.now result }
     {
         if may_be_kept(want) {
-            self.page_walk(number, p, la - la % 4096, moments)
+            let levels = moments.len();
+            let page = page_of(la, levels);
+            let first = place_of(self.slots.len(), p, page, levels, current);
+            self.page_walk(number, first, p, page, moments)
         } else {
             lasting_walk(&mut self.reader, number, number, p, la, moments, want)
         }

@@ -8,7 +8,7 @@ use Rattle.pg_check.proofs.Grown.{walks_later}
 use Rattle.pg_check.proofs.judged.judge_by.Goals as goal
 
 pub with_slots-memo-requires : goal.with_slots-memo-requires
-with_slots-memo-requires c = walks_later c.args.past.now c.args.first (c.args.first + length c.args.events.now) c.args.kept.items (omega arith) c.requires.kept
+with_slots-memo-requires c = walks_later c.args.past.now c.args.first (c.args.first + length c.args.events.now) c.args.kept.slots.items (omega arith) c.requires.kept
 
 pub first_bad_of-found-requires-clause-processors : goal.first_bad_of-found-requires-clause-processors
 first_bad_of-found-requires-clause-processors c =
@@ -16,4 +16,4 @@ first_bad_of-found-requires-clause-processors c =
 
 pub returns-clause-kept : goal.returns-clause-kept
 returns-clause-kept c =
-    subst (λ (x : Past). HaveWalks x (c.args.first + length c.args.events.now) c.into_slots.result.items) (c.first_bad_of-found.ensures.past ∙ c.with_slots-memo.ensures) c.into_slots.ensures
+    subst (λ (x : Past). HaveWalks x (c.args.first + length c.args.events.now) c.into_slots.result.slots.items) (c.first_bad_of-found.ensures.past ∙ c.with_slots-memo.ensures) c.into_slots.ensures

@@ -7,7 +7,7 @@ use Rattle.pg_check.proofs.judged.Judged.move_on.Goals as goal
 pub invariant_of-self : goal.invariant_of-self
 invariant_of-self c =
     let s = c.self.inside in
-    (c.self.invariant.0, walks_later s.past s.count (s.count + length c.args.events.now) s.slots.items (omega arith) c.self.invariant.1)
+    (c.self.invariant.0, walks_later s.past s.count (s.count + length c.args.events.now) s.kept.slots.items (omega arith) c.self.invariant.1)
 
 pub returns-clause-judged : goal.returns-clause-judged
 returns-clause-judged c = λ head before waits is.

@@ -12,7 +12,7 @@ invariant_of-self c =
     let was : IsJudged f s.header may.before = may.judged in
     let count : s.count ≡ length may.before = was.count in (
       c.self.invariant.0,
-      walks_noted c.note_all.result s.past c.note_all.new.self s.count s.header may.before c.args.events.now s.slots.items (omega (arith, count)) was.past
+      walks_noted c.note_all.result s.past c.note_all.new.self s.count s.header may.before c.args.events.now s.kept.slots.items (omega (arith, count)) was.past
           (c.note_all.ensures.ok s.header may.before was.past was.count) (c.note_all.ensures.err s.header may.before was.past was.count) c.self.invariant.1,
     )
 

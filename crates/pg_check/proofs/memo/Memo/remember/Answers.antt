@@ -4,4 +4,4 @@ use Rattle.pg_chain.specs.Standing.{IsPast}
 use Rattle.pg_check.proofs.memo.Memo.remember.Goals as goal
 
 pub keep-requires : goal.keep-requires
-keep-requires c = λ head events h. c.requires head events (subst (λ (x : Past). IsPast x head events) c.make_way.ensures h)
+keep-requires c = λ head events h. c.requires head events (subst (λ (x : Past). IsPast x head events) c.room_for-place.ensures h)

@@ -1,0 +1,144 @@
+//! Where walks are kept, and how many places there are.
+
+ghost use Rattle.std.specs.Prelude.{◌≡◌, ℕ, []};
+ghost use Rattle.pg_chain.specs.declared.past.Past.{Past};
+ghost use Rattle.pg_check.specs.Remembered.{HasWalk, HaveWalks, page_bits, page_start};
+
+use crate::memo::Slot;
+use pg_chain::Past;
+use std::alloc::Global;
+
+/// Slots that outlive the memo that filled them.
+#[derive(Drop)]
+pub struct Kept {
+    pub slots: Vec<Option<Slot>>,
+    /// How many walks were made for them.
+    pub made: usize,
+}
+
+impl Kept {
+    /// No slot.
+    pub fn new(alloc: Global) -> Kept
+        ensures { result.slots.items ≡ [] }
+    {
+        Kept {
+            slots: Vec::new(alloc),
+            made: 0,
+        }
+    }
+}
+
+/// Slots that outlive a window are so many at first for each recorded processor.
+const SLOTS_FOR_EACH: usize = 1_024;
+
+/// They are so many at least at first, however few processors there are.
+const FIRST_SLOTS: usize = 4_096;
+
+/// They are so many at most at first, however many processors there are.
+const MOST_FIRST_SLOTS: usize = 65_536;
+
+/// There may be so many in the end for each recorded processor.
+const MOST_FOR_EACH: usize = 4_096;
+
+/// There may be so many in the end, however few processors there are.
+const MOST_KEPT_SLOTS: usize = 65_536;
+
+/// There are never more, however many processors there are.
+const MOST_OF_ALL: usize = 131_072;
+
+/// Where there are more slots, there are so many times as many.
+const TIMES: usize = 4;
+
+/// An odd number whose multiples by the numbers from 0 on, cut to 64 bits, lie evenly apart.
+const SPREAD: u64 = 0x9e37_79b9_7f4a_7c15;
+
+/// The first address of the page that a leaf maps where so many levels are read. Walks by the same
+/// moments to addresses of one page are alike. Each size stands as a constant, since each access
+/// asks this and a division by another number costs much.
+pub(crate) fn page_of(la: u64, levels: usize) -> u64
+    ensures { result ≡ page_start (page_bits levels) la }
+{
+    match levels {
+        4 => la - la % (1 << 12),
+        3 => la - la % (1 << 21),
+        _ => la - la % (1 << 30),
+    }
+}
+
+/// The first of the two places, of so many, of the walks of a processor to a page by so many levels
+/// while this PCID is current. Neither moments nor the walk's own PCID take part, so that a walk
+/// that was dropped gives its place to the one that follows it. The pages of the upper half have
+/// the same place under each PCID, since global ones lie there. Pages that follow each other are
+/// spread evenly.
+pub(crate) fn place_of(count: usize, p: u16, page: u64, levels: usize, current: u16) -> usize {
+    let space = if page >> 63 == 0 { current as u64 } else { 0 };
+    let key = (p as u64) << 40 | (levels as u64) << 36 | page % (1 << 48) / 4096;
+    let number = (key ^ space << 50).wrapping_mul(SPREAD) >> 32;
+    // The same part of the places that this number is of 2 to the power of 32.
+    let place = number.wrapping_mul(count as u64) >> 32;
+    place as usize & !1
+}
+
+/// So many slots are worth their room at first where so many walks may come.
+pub(crate) fn first_slots(past: &Past, walks: usize) -> usize {
+    let all = past.controls.processors().saturating_mul(SLOTS_FOR_EACH);
+    walks.min(all.max(FIRST_SLOTS).min(MOST_FIRST_SLOTS))
+}
+
+/// So many slots at most outlive a window.
+pub(crate) fn most_slots(past: &Past) -> usize {
+    let all = past.controls.processors().saturating_mul(MOST_FOR_EACH);
+    all.max(MOST_KEPT_SLOTS).min(MOST_OF_ALL)
+}
+
+/// So many slots. Where memory is refused there are none.
+pub(crate) fn empty_slots(alloc: Global, count: usize) -> Vec<Option<Slot>>
+    ensures { (past : Past) (limit : ℕ) → HaveWalks past limit result.items }
+{
+    match Vec::from_elem(alloc, None, count) {
+        Ok(slots) => slots,
+        Err(_) => Vec::new(alloc),
+    }
+}
+
+/// These slots if there are so many, else so many with no walk.
+pub(crate) fn with_room(alloc: Global, slots: Vec<Option<Slot>>, count: usize) -> Vec<Option<Slot>>
+    ensures { (past : Past) (limit : ℕ) → HaveWalks past limit slots.items →
+        HaveWalks past limit result.items }
+{
+    if slots.len() < count {
+        empty_slots(alloc, count)
+    } else {
+        slots
+    }
+}
+
+/// Keeps what a slot has at its place among others, where there is one.
+fn put(slots: &mut Vec<Option<Slot>>, slot: Option<Slot>)
+    ensures { (past : Past) (limit : ℕ) → HasWalk past limit slot →
+        HaveWalks past limit slots.old.items → HaveWalks past limit slots.new.items }
+{
+    let Some(walk) = slot else {
+        return;
+    };
+    let levels = walk.moments.len();
+    let place = place_of(slots.len(), walk.p, walk.page, levels, walk.pcid);
+    if place < slots.len() {
+        slots[place] = Some(walk);
+    }
+}
+
+/// Keeps what slots have among others too.
+pub(crate) fn put_all(from: &[Option<Slot>], to: &mut Vec<Option<Slot>>)
+    ensures { (past : Past) (limit : ℕ) → HaveWalks past limit from.now →
+        HaveWalks past limit to.old.items → HaveWalks past limit to.new.items }
+{
+    for slot in from {
+        put(to, *slot);
+    }
+}
+
+/// How many slots follow so many, where there may be so many at most.
+pub(crate) fn next_count(count: usize, most: usize) -> usize {
+    count.saturating_mul(TIMES).min(most)
+}
