@@ -1,14 +1,11 @@
-use Rattle.std.proofs.Common.{◌≡◌, ℕ, ◌<◌, ◌≤◌, ◌^◌, Bool, true, false, List, not, sym, subst, inl, inr, arith}
-use Rattle.std.specs.Prelude.{None, Some}
+use Rattle.std.proofs.Common.{◌≡◌, ◌≤◌, Bool, true, false, List, not, subst, inl, inr, arith}
 use Rattle.std.proofs.lemmas.Bool.{cases_lt}
 use Rattle.pg_event.specs.Heads.{Head}
 use Rattle.pg_event.specs.Spelling.{Recorded}
 use Rattle.pg_event.specs.declared.control.Control.{Control}
 use Rattle.pg_event.specs.declared.event.Event.{Event}
 use Rattle.pg_event.specs.Invalidation.{structure_key, must_drop_structure}
-use Rattle.pg_event.specs.Witness.{survives}
 use Rattle.pg_chain.specs.Standing.{IsPast}
-use Rattle.pg_search.specs.Lasts.{IsEnd}
 use Rattle.pg_search.proofs.Swept.{dropped_at}
 use Rattle.pg_search.proofs.seen.Seen.structure_end.Goals as goal
 
