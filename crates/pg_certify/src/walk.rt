@@ -3,7 +3,7 @@
 
 ghost use Rattle.std.specs.Prelude.{◌<◌, length};
 
-use pg_entry::{Entry, Kind, Level, classify, has_bit, table_of};
+use pg_entry::{Cfg, Entry, Kind, Level, classify, has_bit, page_offset, table_of};
 use pg_event::{Moments, entry_address};
 use pg_search::Seen;
 
@@ -14,9 +14,8 @@ pub(crate) struct Walk {
     pub moments: Moments,
     /// The physical addresses of the entries that are read.
     pub words: [u64; 4],
-    /// Whether it makes a global translation, if it makes one: the entry read last has bit 8 set,
-    /// and CR4.PGE is 1 then (Intel SDM, vol. 3, 4.10.2.4).
-    pub is_global: bool,
+    /// The entry that is read last.
+    pub last: Entry,
 }
 
 const LEVELS: [Level; 4] = [Level::Four, Level::Three, Level::Two, Level::One];
@@ -35,6 +34,12 @@ pub(crate) fn and_then(moments: Moments, moment: u32) -> Moments {
         Some(more) => more,
         None => moments,
     }
+}
+
+/// The last moment of a list.
+pub(crate) fn last_of(moments: &Moments) -> u32 {
+    let all = moments.as_slice();
+    all[all.len() - 1]
 }
 
 /// The first moments of a list, at least one of them.
@@ -75,6 +80,34 @@ pub(crate) fn walk_by(seen: &Seen<'_>, p: u16, la: u64, front: &[u32], moment: u
     Walk {
         moments,
         words,
-        is_global: has_bit(last.0, 8) && seen.control_at(p, at).pge,
+        last,
     }
+}
+
+/// Whether a walk of a processor makes a global translation, if it makes one: the entry read last
+/// has bit 8 set, and CR4.PGE is 1 then (Intel SDM, vol. 3, 4.10.2.4).
+pub(crate) fn is_global(seen: &Seen<'_>, p: u16, walk: &Walk) -> bool
+    requires { p < length seen.now.head.processors }
+{
+    has_bit(walk.last.0, 8) && seen.control_at(p, last_of(&walk.moments)).pge
+}
+
+/// The physical address that a walk gives for a linear one, if it comes to a page.
+pub(crate) fn address_by(seen: &Seen<'_>, walk: &Walk, la: u64) -> Option<u64> {
+    let level = LEVELS[walk.moments.len() - 1];
+    match classify(seen.header().cfg, level, walk.last) {
+        Kind::Leaf { frame, shift, .. } => Some(frame | page_offset(la, shift)),
+        Kind::Absent | Kind::Reserved | Kind::Table { .. } => None,
+    }
+}
+
+/// The first of the moments around one at which a walk of a processor reads the same.
+pub(crate) fn stands_since(seen: &Seen<'_>, p: u16, walk: &Walk, moment: u32) -> u32
+    requires { p < length seen.now.head.processors }
+{
+    let mut since = seen.control_span(p, moment).from;
+    for word in &walk.words[..walk.moments.len()] {
+        since = since.max(seen.value_span(moment, *word).from);
+    }
+    since
 }
