@@ -14,7 +14,7 @@ use crate::case::{Asks, Case, case_of, with_moments};
 use crate::guesses::{Guesses, Part, Scope, key_of};
 use crate::pcids::Pcids;
 use crate::share::Share;
-use crate::walk::{Walk, address_by, first_moments, is_global, last_of, stands_since, walk_by};
+use crate::walk::{Walk, address_by, first_moments, is_global, last_of, walk_by};
 use pg_check::{History, Memo, failing};
 use pg_entry::has_bit;
 use pg_event::{Event, Moments, Outcome, Reason};
@@ -79,7 +79,7 @@ fn rare_pages_of(pcid: u16) -> [(Scope, Part); 5] {
 }
 
 /// So many walks that read something else are gone back.
-const MOST_WALKS: usize = 32;
+const MOST_WALKS: usize = 64;
 
 /// The tables of so many of them are tried with what lies below as it is read now.
 const MOST_TABLES: usize = 4;
@@ -333,11 +333,12 @@ impl<'a> Certifier<'a> {
         None
     }
 
-    /// The latest moment before a walk was read as it is at a moment.
+    /// The latest moment before a walk was read as it is at one moment.
     fn before(&self, case: Case, walk: &Walk, moment: u32, under: Under) -> Option<u32>
         requires { case.p < length self.now.head.processors }
     {
-        let before = stands_since(&self.seen, case.p, walk, moment).checked_sub(1)?;
+        let control = self.seen.control_span(case.p, moment);
+        let before = walk.since.max(control.from).checked_sub(1)?;
         match under {
             Under::Own => self.latest_under(case, before),
             Under::Any => Some(before),

@@ -16,6 +16,8 @@ pub(crate) struct Walk {
     pub words: [u64; 4],
     /// The entry that is read last.
     pub last: Entry,
+    /// The first moment from which on all entries stand as they are read.
+    pub since: u32,
 }
 
 const LEVELS: [Level; 4] = [Level::Four, Level::Three, Level::Two, Level::One];
@@ -65,13 +67,16 @@ pub(crate) fn walk_by(seen: &Seen<'_>, p: u16, la: u64, front: &[u32], moment: u
     let mut moments = Moments::first(at);
     let mut words = [0; 4];
     let mut last = Entry(0);
+    let mut since = 0;
     for i in 0..4 {
         at = moment_at(front, i, moment);
         if i > 0 {
             moments = and_then(moments, at);
         }
         words[i] = entry_address(table, LEVELS[i], la);
-        last = Entry(seen.value_at(at, words[i]));
+        let span = seen.value_span(at, words[i]);
+        last = Entry(span.value);
+        since = since.max(span.from);
         if !matches!(classify(cfg, LEVELS[i], last), Kind::Table { .. }) {
             break;
         }
@@ -81,6 +86,7 @@ pub(crate) fn walk_by(seen: &Seen<'_>, p: u16, la: u64, front: &[u32], moment: u
         moments,
         words,
         last,
+        since,
     }
 }
 
@@ -99,15 +105,4 @@ pub(crate) fn address_by(seen: &Seen<'_>, walk: &Walk, la: u64) -> Option<u64> {
         Kind::Leaf { frame, shift, .. } => Some(frame | page_offset(la, shift)),
         Kind::Absent | Kind::Reserved | Kind::Table { .. } => None,
     }
-}
-
-/// The first of the moments around one at which a walk of a processor reads the same.
-pub(crate) fn stands_since(seen: &Seen<'_>, p: u16, walk: &Walk, moment: u32) -> u32
-    requires { p < length seen.now.head.processors }
-{
-    let mut since = seen.control_span(p, moment).from;
-    for word in &walk.words[..walk.moments.len()] {
-        since = since.max(seen.value_span(moment, *word).from);
-    }
-    since
 }
