@@ -78,11 +78,29 @@ fn rare_pages_of(pcid: u16) -> [(Scope, Part); 5] {
     ]
 }
 
-/// So many walks that read something else are gone back.
-const MOST_WALKS: usize = 64;
+/// How far back walks at earlier moments are tried.
+#[derive(Clone, Copy)]
+struct Reach {
+    /// So many of them.
+    walks: usize,
+    /// So many times their tables with what lies below as it is read now.
+    tables: usize,
+}
 
-/// The tables of so many of them are tried with what lies below as it is read now.
-const MOST_TABLES: usize = 4;
+/// How far back it is of use to look: a page may have been used long since, while another entry is
+/// read at the event.
+fn reach_of(asks: Asks) -> Reach {
+    match asks {
+        Asks::Page => Reach {
+            walks: 64,
+            tables: 4,
+        },
+        Asks::Entry | Asks::Word(_) => Reach {
+            walks: 16,
+            tables: 16,
+        },
+    }
+}
 
 /// So many changes of a processor's control registers are gone back.
 const MOST_LOADS: usize = 64;
@@ -402,9 +420,10 @@ impl<'a> Certifier<'a> {
         ensures found { IfSome result
             (IsFoundFor self.old.head self.old.events case.i event.now) }
     {
+        let reach = reach_of(case.asks);
         let mut moment = case.i;
         let mut walk = walk_by(&self.seen, case.p, case.la, &[], moment);
-        for step in 0..MOST_WALKS {
+        for step in 0..reach.walks {
             moment = self.before(case, &walk, moment, under)?;
             if moment < since {
                 return None;
@@ -413,7 +432,7 @@ impl<'a> Certifier<'a> {
             if let Some(found) = self.judge_earlier(event, case, &walk, under) {
                 return Some(found);
             }
-            if under == Under::Own && step < MOST_TABLES {
+            if under == Under::Own && step < reach.tables {
                 if let Some(found) = self.guess_stale(event, case, moment) {
                     return Some(found);
                 }
