@@ -78,6 +78,9 @@ fn rare_pages_of(pcid: u16) -> [(Scope, Part); 5] {
     ]
 }
 
+/// So many changes of a word are looked at.
+const MOST_CHANGES: usize = 8;
+
 /// How far back walks at earlier moments are tried.
 #[derive(Clone, Copy)]
 struct Reach {
@@ -148,7 +151,9 @@ impl<'a> Certifier<'a> {
         self.guesses
     }
 
-    /// The event with these moments, or the least reason by which they do not witness it.
+    /// The event with these moments, or the least reason by which they do not witness it. Each event
+    /// asks it, so that to copy what it gives would cost much.
+    #[inline(always)]
     fn judge(&mut self, event: &Event, i: u32, moments: Moments) -> Result<Event, Reason>
         requires { broken_rule self.old.head event.now ≡ None }
         ensures same { self.new ≡ self.old }
@@ -165,14 +170,7 @@ impl<'a> Certifier<'a> {
 
     /// The event with moments that were found for a page, if they witness it. Those whose
     /// translation was dropped are forgotten.
-    fn judge_kept(
-        &mut self,
-        event: &Event,
-        case: Case,
-        scope: Scope,
-        part: Part,
-        since: u32,
-    ) -> Option<Event>
+    fn judge_kept(&mut self, event: &Event, case: Case, scope: Scope, part: Part) -> Option<Event>
         requires { broken_rule self.old.head event.now ≡ None }
         ensures same { self.new ≡ self.old }
         ensures found { IfSome result
@@ -180,7 +178,7 @@ impl<'a> Certifier<'a> {
     {
         let key = key_of(case.p, scope, part, case.la);
         let moments = self.guesses.page(key, part)?;
-        if last_of(&moments) < since {
+        if last_of(&moments) < self.guesses.since(case.p, scope) {
             return None;
         }
         match self.judge(event, case.i, moments) {
@@ -203,8 +201,7 @@ impl<'a> Certifier<'a> {
             (IsFoundFor self.old.head self.old.events case.i event.now) }
     {
         for (scope, part) in rare_pages_of(case.pcid) {
-            let since = self.guesses.since(case.p, scope);
-            if let Some(found) = self.judge_kept(event, case, scope, part, since) {
+            if let Some(found) = self.judge_kept(event, case, scope, part) {
                 return Some(found);
             }
         }
@@ -219,8 +216,7 @@ impl<'a> Certifier<'a> {
             (IsFoundFor self.old.head self.old.events case.i event.now) }
     {
         let own = Scope::Page(case.pcid);
-        let since = self.guesses.since(case.p, own);
-        if let Some(found) = self.judge_kept(event, case, own, Part::Of4K, since) {
+        if let Some(found) = self.judge_kept(event, case, own, Part::Of4K) {
             return Some(found);
         }
         if self.guesses.has_rare() {
@@ -262,8 +258,7 @@ impl<'a> Certifier<'a> {
         }
     }
 
-    /// The event with the moments of a walk, if they witness it. Where it was served by a page, the
-    /// walk's address is looked at before; where not, its last entry is read at the event.
+    /// The event with the moments of a walk, if they witness it.
     fn judge_walk(&mut self, event: &Event, case: Case, walk: &Walk) -> Option<Event>
         requires well { broken_rule self.old.head event.now ≡ None }
         requires processor { case.p < length self.old.head.processors }
@@ -271,13 +266,6 @@ impl<'a> Certifier<'a> {
         ensures found { IfSome result
             (IsFoundFor self.old.head self.old.events case.i event.now) }
     {
-        let may_be = match case.asks {
-            Asks::Page => may_serve(event, address_by(&self.seen, walk, case.la)),
-            Asks::Entry | Asks::Word(_) => last_of(&walk.moments) == case.i,
-        };
-        if !may_be {
-            return None;
-        }
         let found = match case.asks {
             Asks::Page | Asks::Entry => self.judge(event, case.i, walk.moments).ok(),
             Asks::Word(word) => self.judge_word(event, case.i, word, walk),
@@ -286,6 +274,15 @@ impl<'a> Certifier<'a> {
             self.note_walk(case, walk);
         }
         found
+    }
+
+    /// Whether a walk may witness an event: its page gives the answer, or its last entry is read at
+    /// the event.
+    fn is_likely(&self, event: &Event, case: Case, walk: &Walk) -> bool {
+        match case.asks {
+            Asks::Page => may_serve(event, address_by(&self.seen, walk, case.la)),
+            Asks::Entry | Asks::Word(_) => last_of(&walk.moments) == case.i,
+        }
     }
 
     /// The event with the moments of a walk that reads its first entries at these moments, and what
@@ -298,28 +295,27 @@ impl<'a> Certifier<'a> {
             (IsFoundFor self.old.head self.old.events case.i event.now) }
     {
         let walk = walk_by(&self.seen, case.p, case.la, front, moment);
-        self.judge_walk(event, case, &walk)
+        if self.is_likely(event, case, &walk) {
+            self.judge_walk(event, case, &walk)
+        } else {
+            None
+        }
     }
 
-    /// The event by the tables of the walk that was found last with the same upper bits of the
-    /// address, and what lies below as it is read now, or by all moments of that walk.
-    fn guess_tables(&mut self, event: &Event, case: Case, part: Part, count: usize) -> Option<Event>
+    /// The event by the walk that is read now.
+    fn guess_now(&mut self, event: &Event, case: Case) -> Option<Event>
         requires well { broken_rule self.old.head event.now ≡ None }
         requires processor { case.p < length self.old.head.processors }
         ensures same { self.new ≡ self.old }
         ensures found { IfSome result
             (IsFoundFor self.old.head self.old.events case.i event.now) }
     {
-        let key = key_of(case.p, Scope::Tables(case.pcid), part, case.la);
-        let near = self.guesses.tables(key)?;
-        let tables = first_moments(&near, count);
-        match self.guess_walk(event, case, tables.as_slice(), case.i) {
-            Some(found) => Some(found),
-            None => self.guess_walk(event, case, near.as_slice(), case.i),
-        }
+        let walk = walk_by(&self.seen, case.p, case.la, &[], case.i);
+        self.judge_walk(event, case, &walk)
     }
 
-    /// The event by walks that were found for addresses near its own, the nearest first.
+    /// The event by the tables of the walk that was found last in the same part of the address
+    /// space, and what lies below as it is read now, or by all moments of that walk.
     fn guess_near(&mut self, event: &Event, case: Case) -> Option<Event>
         requires well { broken_rule self.old.head event.now ≡ None }
         requires processor { case.p < length self.old.head.processors }
@@ -327,8 +323,10 @@ impl<'a> Certifier<'a> {
         ensures found { IfSome result
             (IsFoundFor self.old.head self.old.events case.i event.now) }
     {
-        for (part, count) in [(Part::Of2M, 3), (Part::Of1G, 2), (Part::Of512G, 1)] {
-            if let Some(found) = self.guess_tables(event, case, part, count) {
+        let near = self.guesses.tables(case.p, case.pcid, case.la)?;
+        for count in [3, 2, 4] {
+            let tables = first_moments(&near, count);
+            if let Some(found) = self.guess_walk(event, case, tables.as_slice(), case.i) {
                 return Some(found);
             }
         }
@@ -351,16 +349,23 @@ impl<'a> Certifier<'a> {
         None
     }
 
+    /// The latest moment up to one that is looked at.
+    fn latest(&self, case: Case, moment: u32, under: Under) -> Option<u32>
+        requires { case.p < length self.now.head.processors }
+    {
+        match under {
+            Under::Own => self.latest_under(case, moment),
+            Under::Any => Some(moment),
+        }
+    }
+
     /// The latest moment before a walk was read as it is at one moment.
     fn before(&self, case: Case, walk: &Walk, moment: u32, under: Under) -> Option<u32>
         requires { case.p < length self.now.head.processors }
     {
         let control = self.seen.control_span(case.p, moment);
         let before = walk.since.max(control.from).checked_sub(1)?;
-        match under {
-            Under::Own => self.latest_under(case, before),
-            Under::Any => Some(before),
-        }
+        self.latest(case, before, under)
     }
 
     /// The event by the tables of an earlier moment, and what lies below as it is read now.
@@ -398,11 +403,66 @@ impl<'a> Certifier<'a> {
             Under::Own => true,
             Under::Any => is_global(&self.seen, case.p, walk),
         };
-        if may_be {
+        if may_be && self.is_likely(event, case, walk) {
             self.judge_walk(event, case, walk)
         } else {
             None
         }
+    }
+
+    /// The event by walks before the last changes of a word, the newest first.
+    fn guess_changes(
+        &mut self,
+        event: &Event,
+        case: Case,
+        word: u64,
+        under: Under,
+        since: u32,
+    ) -> Option<Event>
+        requires well { broken_rule self.old.head event.now ≡ None }
+        requires processor { case.p < length self.old.head.processors }
+        ensures same { self.new ≡ self.old }
+        ensures found { IfSome result
+            (IsFoundFor self.old.head self.old.events case.i event.now) }
+    {
+        let mut change = case.i;
+        for _ in 0..MOST_CHANGES {
+            change = self.seen.value_span(change, word).from.checked_sub(1)?;
+            let moment = self.latest(case, change, under)?;
+            if moment < since {
+                return None;
+            }
+            let walk = walk_by(&self.seen, case.p, case.la, &[], moment);
+            if let Some(found) = self.judge_earlier(event, case, &walk, under) {
+                return Some(found);
+            }
+        }
+        None
+    }
+
+    /// The event by walks before the last changes of what is read now, from the last entry up.
+    fn guess_changed(
+        &mut self,
+        event: &Event,
+        case: Case,
+        under: Under,
+        since: u32,
+    ) -> Option<Event>
+        requires well { broken_rule self.old.head event.now ≡ None }
+        requires processor { case.p < length self.old.head.processors }
+        ensures same { self.new ≡ self.old }
+        ensures found { IfSome result
+            (IsFoundFor self.old.head self.old.events case.i event.now) }
+    {
+        let walk = walk_by(&self.seen, case.p, case.la, &[], case.i);
+        let depth = walk.moments.len();
+        for place in 1..depth + 1 {
+            let word = walk.words[depth - place];
+            if let Some(found) = self.guess_changes(event, case, word, under, since) {
+                return Some(found);
+            }
+        }
+        None
     }
 
     /// The event by walks at one earlier moment each, the newest first. Each step goes back to what
@@ -441,6 +501,20 @@ impl<'a> Certifier<'a> {
         None
     }
 
+    /// The event by walks at earlier moments.
+    fn guess_under(&mut self, event: &Event, case: Case, under: Under, since: u32) -> Option<Event>
+        requires well { broken_rule self.old.head event.now ≡ None }
+        requires processor { case.p < length self.old.head.processors }
+        ensures same { self.new ≡ self.old }
+        ensures found { IfSome result
+            (IsFoundFor self.old.head self.old.events case.i event.now) }
+    {
+        match self.guess_changed(event, case, under, since) {
+            Some(found) => Some(found),
+            None => self.guess_earlier(event, case, under, since),
+        }
+    }
+
     /// The event by walks at earlier moments, under its PCID or, as a global page may serve it,
     /// under any.
     fn guess_back(&mut self, event: &Event, case: Case) -> Option<Event>
@@ -451,12 +525,12 @@ impl<'a> Certifier<'a> {
             (IsFoundFor self.old.head self.old.events case.i event.now) }
     {
         let since = self.guesses.since(case.p, Scope::Page(case.pcid));
-        if let Some(found) = self.guess_earlier(event, case, Under::Own, since) {
+        if let Some(found) = self.guess_under(event, case, Under::Own, since) {
             return Some(found);
         }
         if self.guesses.has_global() && matches!(case.asks, Asks::Page) {
             let since = self.guesses.since(case.p, Scope::GlobalPage);
-            self.guess_earlier(event, case, Under::Any, since)
+            self.guess_under(event, case, Under::Any, since)
         } else {
             None
         }
@@ -470,7 +544,7 @@ impl<'a> Certifier<'a> {
         ensures found { IfSome result
             (IsFoundFor self.old.head self.old.events case.i event.now) }
     {
-        if let Some(found) = self.guess_walk(event, case, &[], case.i) {
+        if let Some(found) = self.guess_now(event, case) {
             return Some(found);
         }
         match self.guess_near(event, case) {

@@ -29,7 +29,7 @@ pub(crate) struct Guesses {
 }
 
 /// A part of the linear address space, told by the upper bits of an address: a page by its size, or
-/// what lies below an entry of level 2, 3 or 4.
+/// what lies below an entry.
 #[derive(Clone, Copy, PartialEq, Eq)]
 pub(crate) enum Part {
     /// Bits 47:12.
@@ -106,9 +106,12 @@ impl Guesses {
         })
     }
 
-    /// The moments that were found last for tables.
-    pub(crate) fn tables(&self, key: u64) -> Option<Moments> {
-        match self.tables.get(&key) {
+    /// The moments that were found last in the same 1 GB of the address space.
+    pub(crate) fn tables(&self, p: u16, pcid: u16, la: u64) -> Option<Moments> {
+        match self
+            .tables
+            .get(&key_of(p, Scope::Tables(pcid), Part::Of1G, la))
+        {
             Some(moments) => Some(*moments),
             None => None,
         }
@@ -178,10 +181,8 @@ impl Guesses {
 
     /// Keeps moments that witness an event under a PCID for the tables that they come by.
     pub(crate) fn note_tables(&mut self, p: u16, pcid: u16, la: u64, moments: Moments) {
-        for part in [Part::Of2M, Part::Of1G, Part::Of512G] {
-            let key = key_of(p, Scope::Tables(pcid), part, la);
-            let _refused = self.tables.insert(key, moments).is_err();
-        }
+        let key = key_of(p, Scope::Tables(pcid), Part::Of1G, la);
+        let _refused = self.tables.insert(key, moments).is_err();
     }
 
     /// Keeps moments that witness an event under a PCID for the page that serves it.
