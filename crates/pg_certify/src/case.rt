@@ -2,50 +2,11 @@
 
 ghost use Rattle.std.specs.Prelude.{◌≡◌, ◌<◌, true, false, length, MatchOption, IfSome};
 ghost use Rattle.pg_event.specs.Form.{processor_of};
-ghost use Rattle.pg_search.specs.Law.{names_moments, with_moments};
+ghost use Rattle.pg_search.specs.Law.{names_moments};
 
 use crate::pcids::Pcids;
-use pg_event::{Event, Moments, Outcome, uses_last, want_of};
+use pg_event::{Event, Outcome, uses_last, want_of};
 use pg_search::Seen;
-
-/// The event with these moments in place of its own, if it names some.
-pub(crate) fn with_moments(event: &Event, chosen: Moments) -> Event
-    ensures { result ≡ with_moments chosen event.now }
-{
-    match *event {
-        Event::Access {
-            p,
-            flags,
-            la,
-            outcome,
-            ..
-        } => Event::Access {
-            p,
-            flags,
-            la,
-            outcome,
-            moments: chosen,
-        },
-        Event::Assist {
-            p,
-            flags,
-            la,
-            word,
-            ..
-        } => Event::Assist {
-            p,
-            flags,
-            la,
-            word,
-            moments: chosen,
-        },
-        Event::Write { .. }
-        | Event::MovCr3 { .. }
-        | Event::Invlpg { .. }
-        | Event::Invpcid { .. }
-        | Event::MovCr4Pge { .. } => *event,
-    }
-}
 
 /// What an event asks of its processor for an address: a page, the word that an assist names, or
 /// another entry.

@@ -10,16 +10,16 @@ ghost use Rattle.pg_certify.specs.Certified.{IsFoundFor, IsUnwitnessed, IsDenied
 ghost use Rattle.pg_certify.specs.Certified.{CanBeCertified};
 ghost use Rattle.pg_certify.specs.Shares.{IsDealt, IsLeastDenied};
 
-use crate::case::{Asks, Case, case_of, with_moments};
+use crate::case::{Asks, Case, case_of};
 use crate::guesses::{Guesses, Part, Scope, key_of};
 use crate::pcids::Pcids;
 use crate::share::Share;
-use crate::walk::{Walk, first_moments, walk_by};
+use crate::walk::{Walk, address_by, first_moments, is_global, last_of, walk_by};
 use pg_check::{History, Memo, failing};
 use pg_entry::has_bit;
-use pg_event::{Event, Moments};
+use pg_event::{Event, Moments, Outcome, Reason};
 use pg_reach::any_moments;
-use pg_search::Seen;
+use pg_search::{Seen, with_moments};
 use std::alloc::{AllocError, Global};
 use std::marker::Model;
 
@@ -80,14 +80,51 @@ fn rare_pages_of(pcid: u16) -> [(Scope, Part); 5] {
 }
 
 /// So many changes of a word are looked at.
-const MOST_CHANGES: usize = 16;
+const MOST_CHANGES: usize = 8;
+
+/// How far back walks at earlier moments are tried.
+#[derive(Clone, Copy)]
+struct Reach {
+    /// So many of them.
+    walks: usize,
+    /// So many times their tables with what lies below as it is read now.
+    tables: usize,
+}
+
+/// How far back it is of use to look: a page may have been used long since, while another entry is
+/// read at the event.
+fn reach_of(asks: Asks) -> Reach {
+    match asks {
+        Asks::Page => Reach {
+            walks: 64,
+            tables: 4,
+        },
+        Asks::Entry | Asks::Word(_) => Reach {
+            walks: 16,
+            tables: 16,
+        },
+    }
+}
 
 /// So many changes of a processor's control registers are gone back.
 const MOST_LOADS: usize = 64;
 
-fn last_of(moments: &Moments) -> u32 {
-    let all = moments.as_slice();
-    all[all.len() - 1]
+/// Under which PCID a walk may have been made: its own alone or, where the page is global, any.
+#[derive(Clone, Copy, PartialEq, Eq)]
+enum Under {
+    Own,
+    Any,
+}
+
+/// Whether an address that a walk gives may be what an event was served by.
+fn may_serve(event: &Event, address: Option<u64>) -> bool {
+    match *event {
+        Event::Access {
+            outcome: Outcome::Page(page),
+            ..
+        } => address == Some(page),
+        _ => address.is_some(),
+    }
 }
 
 impl<'a> Certifier<'a> {
@@ -115,44 +152,26 @@ impl<'a> Certifier<'a> {
         self.guesses
     }
 
-    /// The event with these moments, if they witness it.
-    fn judge(&mut self, event: &Event, i: u32, moments: Moments) -> Option<Event>
+    /// The event with these moments, or the least reason by which they do not witness it. Each event
+    /// asks it, so that to copy what it gives would cost much.
+    #[inline(always)]
+    fn judge(&mut self, event: &Event, i: u32, moments: Moments) -> Result<Event, Reason>
         requires { broken_rule self.old.head event.now ≡ None }
         ensures same { self.new ≡ self.old }
-        ensures found { IfSome result
+        ensures found { IfOk result
             (IsFoundFor self.old.head self.old.events i event.now) }
     {
         moments_fit(moments);
         let guessed = with_moments(event, moments);
         match failing(&mut self.memo, i, &guessed) {
-            None => Some(guessed),
-            Some(_) => None,
+            None => Ok(guessed),
+            Some(reason) => Err(reason),
         }
     }
 
-    /// The event with these moments, if the last is not too early and they witness it.
-    fn judge_since(&mut self, event: &Event, i: u32, moments: Moments, since: u32) -> Option<Event>
-        requires { broken_rule self.old.head event.now ≡ None }
-        ensures same { self.new ≡ self.old }
-        ensures found { IfSome result
-            (IsFoundFor self.old.head self.old.events i event.now) }
-    {
-        if last_of(&moments) < since {
-            None
-        } else {
-            self.judge(event, i, moments)
-        }
-    }
-
-    /// The event with moments that were found for a page, if they witness it.
-    fn judge_kept(
-        &mut self,
-        event: &Event,
-        case: Case,
-        scope: Scope,
-        part: Part,
-        since: u32,
-    ) -> Option<Event>
+    /// The event with moments that were found for a page, if they witness it. Those whose
+    /// translation was dropped are forgotten.
+    fn judge_kept(&mut self, event: &Event, case: Case, scope: Scope, part: Part) -> Option<Event>
         requires { broken_rule self.old.head event.now ≡ None }
         ensures same { self.new ≡ self.old }
         ensures found { IfSome result
@@ -160,7 +179,18 @@ impl<'a> Certifier<'a> {
     {
         let key = key_of(case.p, scope, part, case.la);
         let moments = self.guesses.page(key, part)?;
-        self.judge_since(event, case.i, moments, since)
+        if last_of(&moments) < self.guesses.since(case.p, scope) {
+            return None;
+        }
+        match self.judge(event, case.i, moments) {
+            Ok(found) => Some(found),
+            Err(reason) => {
+                if matches!(reason, Reason::TranslationDropped) {
+                    self.guesses.forget(key);
+                }
+                None
+            }
+        }
     }
 
     /// The access to a large or a global page with moments that were found for that, if these
@@ -172,7 +202,7 @@ impl<'a> Certifier<'a> {
             (IsFoundFor self.old.head self.old.events case.i event.now) }
     {
         for (scope, part) in rare_pages_of(case.pcid) {
-            if let Some(found) = self.judge_kept(event, case, scope, part, 0) {
+            if let Some(found) = self.judge_kept(event, case, scope, part) {
                 return Some(found);
             }
         }
@@ -187,8 +217,7 @@ impl<'a> Certifier<'a> {
             (IsFoundFor self.old.head self.old.events case.i event.now) }
     {
         let own = Scope::Page(case.pcid);
-        let since = self.guesses.since(case.p, case.pcid);
-        if let Some(found) = self.judge_kept(event, case, own, Part::Of4K, since) {
+        if let Some(found) = self.judge_kept(event, case, own, Part::Of4K) {
             return Some(found);
         }
         if self.guesses.has_rare() {
@@ -208,7 +237,7 @@ impl<'a> Certifier<'a> {
         for level in 0..walk.moments.len() {
             if walk.words[level] == word {
                 let moments = first_moments(&walk.moments, level + 1);
-                if let Some(found) = self.judge(event, i, moments) {
+                if let Ok(found) = self.judge(event, i, moments) {
                     return Some(found);
                 }
             }
@@ -218,10 +247,43 @@ impl<'a> Certifier<'a> {
 
     /// Keeps the moments of a walk by which an event was found.
     fn note_walk(&mut self, case: Case, walk: &Walk)
+        requires { case.p < length self.old.head.processors }
         ensures { self.new ≡ self.old }
     {
-        let is_page = matches!(case.asks, Asks::Page);
-        self.guesses.note(case.p, case.pcid, case.la, walk, is_page);
+        self.guesses
+            .note_tables(case.p, case.pcid, case.la, walk.moments);
+        if matches!(case.asks, Asks::Page) {
+            let global = is_global(&self.seen, case.p, walk);
+            self.guesses
+                .note_page(case.p, case.pcid, case.la, &walk.moments, global);
+        }
+    }
+
+    /// The event with the moments of a walk, if they witness it.
+    fn judge_walk(&mut self, event: &Event, case: Case, walk: &Walk) -> Option<Event>
+        requires well { broken_rule self.old.head event.now ≡ None }
+        requires processor { case.p < length self.old.head.processors }
+        ensures same { self.new ≡ self.old }
+        ensures found { IfSome result
+            (IsFoundFor self.old.head self.old.events case.i event.now) }
+    {
+        let found = match case.asks {
+            Asks::Page | Asks::Entry => self.judge(event, case.i, walk.moments).ok(),
+            Asks::Word(word) => self.judge_word(event, case.i, word, walk),
+        };
+        if found.is_some() {
+            self.note_walk(case, walk);
+        }
+        found
+    }
+
+    /// Whether a walk may witness an event: its page gives the answer, or its last entry is read at
+    /// the event.
+    fn is_likely(&self, event: &Event, case: Case, walk: &Walk) -> bool {
+        match case.asks {
+            Asks::Page => may_serve(event, address_by(&self.seen, walk, case.la)),
+            Asks::Entry | Asks::Word(_) => last_of(&walk.moments) == case.i,
+        }
     }
 
     /// The event with the moments of a walk that reads its first entries at these moments, and what
@@ -234,35 +296,27 @@ impl<'a> Certifier<'a> {
             (IsFoundFor self.old.head self.old.events case.i event.now) }
     {
         let walk = walk_by(&self.seen, case.p, case.la, front, moment);
-        let found = match case.asks {
-            Asks::Page | Asks::Entry => self.judge(event, case.i, walk.moments),
-            Asks::Word(word) => self.judge_word(event, case.i, word, &walk),
-        };
-        if found.is_some() {
-            self.note_walk(case, &walk);
+        if self.is_likely(event, case, &walk) {
+            self.judge_walk(event, case, &walk)
+        } else {
+            None
         }
-        found
     }
 
-    /// The event by the tables of the walk that was found last with the same upper bits of the
-    /// address, and what lies below as it is read now, or by all moments of that walk.
-    fn guess_tables(&mut self, event: &Event, case: Case, part: Part, count: usize) -> Option<Event>
+    /// The event by the walk that is read now.
+    fn guess_now(&mut self, event: &Event, case: Case) -> Option<Event>
         requires well { broken_rule self.old.head event.now ≡ None }
         requires processor { case.p < length self.old.head.processors }
         ensures same { self.new ≡ self.old }
         ensures found { IfSome result
             (IsFoundFor self.old.head self.old.events case.i event.now) }
     {
-        let key = key_of(case.p, Scope::Tables(case.pcid), part, case.la);
-        let near = self.guesses.tables(key)?;
-        let tables = first_moments(&near, count);
-        match self.guess_walk(event, case, tables.as_slice(), case.i) {
-            Some(found) => Some(found),
-            None => self.guess_walk(event, case, near.as_slice(), case.i),
-        }
+        let walk = walk_by(&self.seen, case.p, case.la, &[], case.i);
+        self.judge_walk(event, case, &walk)
     }
 
-    /// The event by walks that were found for addresses near its own, the nearest first.
+    /// The event by the tables of the walk that was found last in the same part of the address
+    /// space, and what lies below as it is read now, or by all moments of that walk.
     fn guess_near(&mut self, event: &Event, case: Case) -> Option<Event>
         requires well { broken_rule self.old.head event.now ≡ None }
         requires processor { case.p < length self.old.head.processors }
@@ -270,28 +324,14 @@ impl<'a> Certifier<'a> {
         ensures found { IfSome result
             (IsFoundFor self.old.head self.old.events case.i event.now) }
     {
-        for (part, count) in [(Part::Of2M, 3), (Part::Of1G, 2), (Part::Of512G, 1)] {
-            if let Some(found) = self.guess_tables(event, case, part, count) {
+        let near = self.guesses.tables(case.p, case.pcid, case.la)?;
+        for count in [3, 2, 4] {
+            let tables = first_moments(&near, count);
+            if let Some(found) = self.guess_walk(event, case, tables.as_slice(), case.i) {
                 return Some(found);
             }
         }
         None
-    }
-
-    /// The event by a walk at an earlier moment, or by the tables of one, `count` of them, and what
-    /// lies below as it is read now.
-    fn guess_at(&mut self, event: &Event, case: Case, moment: u32, count: usize) -> Option<Event>
-        requires well { broken_rule self.old.head event.now ≡ None }
-        requires processor { case.p < length self.old.head.processors }
-        ensures same { self.new ≡ self.old }
-        ensures found { IfSome result
-            (IsFoundFor self.old.head self.old.events case.i event.now) }
-    {
-        if let Some(found) = self.guess_walk(event, case, &[], moment) {
-            return Some(found);
-        }
-        let tables = [moment; 3];
-        self.guess_walk(event, case, &tables[..count.min(3)], case.i)
     }
 
     /// The latest moment up to one at which the processor had the PCID, if it lies among the last
@@ -310,14 +350,49 @@ impl<'a> Certifier<'a> {
         None
     }
 
-    /// The event by walks before a change of a word, under the own PCID or, as global pages may be
-    /// read, under any.
-    fn guess_change(
+    /// The latest moment up to one that is looked at.
+    fn latest(&self, case: Case, moment: u32, under: Under) -> Option<u32>
+        requires { case.p < length self.now.head.processors }
+    {
+        match under {
+            Under::Own => self.latest_under(case, moment),
+            Under::Any => Some(moment),
+        }
+    }
+
+    /// The latest moment before a walk was read as it is at one moment.
+    fn before(&self, case: Case, walk: &Walk, moment: u32, under: Under) -> Option<u32>
+        requires { case.p < length self.now.head.processors }
+    {
+        let control = self.seen.control_span(case.p, moment);
+        let before = walk.since.max(control.from).checked_sub(1)?;
+        self.latest(case, before, under)
+    }
+
+    /// The event by the tables of an earlier moment, and what lies below as it is read now.
+    fn guess_stale(&mut self, event: &Event, case: Case, moment: u32) -> Option<Event>
+        requires well { broken_rule self.old.head event.now ≡ None }
+        requires processor { case.p < length self.old.head.processors }
+        ensures same { self.new ≡ self.old }
+        ensures found { IfSome result
+            (IsFoundFor self.old.head self.old.events case.i event.now) }
+    {
+        let tables = [moment; 3];
+        for count in 1..4 {
+            if let Some(found) = self.guess_walk(event, case, &tables[..count], case.i) {
+                return Some(found);
+            }
+        }
+        None
+    }
+
+    /// The event by a walk at an earlier moment: of the own PCID, or of a global page.
+    fn judge_earlier(
         &mut self,
         event: &Event,
         case: Case,
-        change: u32,
-        count: usize,
+        walk: &Walk,
+        under: Under,
     ) -> Option<Event>
         requires well { broken_rule self.old.head event.now ≡ None }
         requires processor { case.p < length self.old.head.processors }
@@ -325,26 +400,41 @@ impl<'a> Certifier<'a> {
         ensures found { IfSome result
             (IsFoundFor self.old.head self.old.events case.i event.now) }
     {
-        if let Some(moment) = self.latest_under(case, change) {
-            if let Some(found) = self.guess_at(event, case, moment, count) {
-                return Some(found);
-            }
+        let may_be = match under {
+            Under::Own => true,
+            Under::Any => is_global(&self.seen, case.p, walk),
+        };
+        if may_be && self.is_likely(event, case, walk) {
+            self.judge_walk(event, case, walk)
+        } else {
+            None
         }
-        self.guess_at(event, case, change, count)
     }
 
     /// The event by walks before the last changes of a word, the newest first.
-    fn guess_changes(&mut self, event: &Event, case: Case, word: u64, count: usize) -> Option<Event>
+    fn guess_changes(
+        &mut self,
+        event: &Event,
+        case: Case,
+        word: u64,
+        under: Under,
+        since: u32,
+    ) -> Option<Event>
         requires well { broken_rule self.old.head event.now ≡ None }
         requires processor { case.p < length self.old.head.processors }
         ensures same { self.new ≡ self.old }
         ensures found { IfSome result
             (IsFoundFor self.old.head self.old.events case.i event.now) }
     {
-        let mut moment = case.i;
+        let mut change = case.i;
         for _ in 0..MOST_CHANGES {
-            moment = self.seen.value_span(moment, word).from.checked_sub(1)?;
-            if let Some(found) = self.guess_change(event, case, moment, count) {
+            change = self.seen.value_span(change, word).from.checked_sub(1)?;
+            let moment = self.latest(case, change, under)?;
+            if moment < since {
+                return None;
+            }
+            let walk = walk_by(&self.seen, case.p, case.la, &[], moment);
+            if let Some(found) = self.judge_earlier(event, case, &walk, under) {
                 return Some(found);
             }
         }
@@ -352,7 +442,13 @@ impl<'a> Certifier<'a> {
     }
 
     /// The event by walks before the last changes of what is read now, from the last entry up.
-    fn guess_earlier(&mut self, event: &Event, case: Case) -> Option<Event>
+    fn guess_changed(
+        &mut self,
+        event: &Event,
+        case: Case,
+        under: Under,
+        since: u32,
+    ) -> Option<Event>
         requires well { broken_rule self.old.head event.now ≡ None }
         requires processor { case.p < length self.old.head.processors }
         ensures same { self.new ≡ self.old }
@@ -363,11 +459,82 @@ impl<'a> Certifier<'a> {
         let depth = walk.moments.len();
         for place in 1..depth + 1 {
             let word = walk.words[depth - place];
-            if let Some(found) = self.guess_changes(event, case, word, depth - 1) {
+            if let Some(found) = self.guess_changes(event, case, word, under, since) {
                 return Some(found);
             }
         }
         None
+    }
+
+    /// The event by walks at one earlier moment each, the newest first. Each step goes back to what
+    /// was read before anything that the walk of the step before reads was changed.
+    fn guess_earlier(
+        &mut self,
+        event: &Event,
+        case: Case,
+        under: Under,
+        since: u32,
+    ) -> Option<Event>
+        requires well { broken_rule self.old.head event.now ≡ None }
+        requires processor { case.p < length self.old.head.processors }
+        ensures same { self.new ≡ self.old }
+        ensures found { IfSome result
+            (IsFoundFor self.old.head self.old.events case.i event.now) }
+    {
+        let reach = reach_of(case.asks);
+        let mut moment = case.i;
+        let mut walk = walk_by(&self.seen, case.p, case.la, &[], moment);
+        for step in 0..reach.walks {
+            moment = self.before(case, &walk, moment, under)?;
+            if moment < since {
+                return None;
+            }
+            walk = walk_by(&self.seen, case.p, case.la, &[], moment);
+            if let Some(found) = self.judge_earlier(event, case, &walk, under) {
+                return Some(found);
+            }
+            if under == Under::Own && step < reach.tables {
+                if let Some(found) = self.guess_stale(event, case, moment) {
+                    return Some(found);
+                }
+            }
+        }
+        None
+    }
+
+    /// The event by walks at earlier moments.
+    fn guess_under(&mut self, event: &Event, case: Case, under: Under, since: u32) -> Option<Event>
+        requires well { broken_rule self.old.head event.now ≡ None }
+        requires processor { case.p < length self.old.head.processors }
+        ensures same { self.new ≡ self.old }
+        ensures found { IfSome result
+            (IsFoundFor self.old.head self.old.events case.i event.now) }
+    {
+        match self.guess_changed(event, case, under, since) {
+            Some(found) => Some(found),
+            None => self.guess_earlier(event, case, under, since),
+        }
+    }
+
+    /// The event by walks at earlier moments, under its PCID or, as a global page may serve it,
+    /// under any.
+    fn guess_back(&mut self, event: &Event, case: Case) -> Option<Event>
+        requires well { broken_rule self.old.head event.now ≡ None }
+        requires processor { case.p < length self.old.head.processors }
+        ensures same { self.new ≡ self.old }
+        ensures found { IfSome result
+            (IsFoundFor self.old.head self.old.events case.i event.now) }
+    {
+        let since = self.guesses.since(case.p, Scope::Page(case.pcid));
+        if let Some(found) = self.guess_under(event, case, Under::Own, since) {
+            return Some(found);
+        }
+        if self.guesses.has_global() && matches!(case.asks, Asks::Page) {
+            let since = self.guesses.since(case.p, Scope::GlobalPage);
+            self.guess_under(event, case, Under::Any, since)
+        } else {
+            None
+        }
     }
 
     /// The event by walks that are made anew: now, near by, or earlier.
@@ -378,12 +545,12 @@ impl<'a> Certifier<'a> {
         ensures found { IfSome result
             (IsFoundFor self.old.head self.old.events case.i event.now) }
     {
-        if let Some(found) = self.guess_walk(event, case, &[], case.i) {
+        if let Some(found) = self.guess_now(event, case) {
             return Some(found);
         }
         match self.guess_near(event, case) {
             Some(found) => Some(found),
-            None => self.guess_earlier(event, case),
+            None => self.guess_back(event, case),
         }
     }
 
@@ -464,11 +631,12 @@ impl<'a> Certifier<'a> {
             Event::Invpcid { p, kind, pcid, .. } => match kind {
                 0 => {}
                 1 => self.guesses.flush(i, p, pcid),
+                2 => self.guesses.flush_with_globals(i, p),
                 _ => self.guesses.flush_all(i, p),
             },
             Event::MovCr4Pge { p, on } => {
                 if self.seen.control_at(p, i).pge != on {
-                    self.guesses.flush_all(i, p);
+                    self.guesses.flush_with_globals(i, p);
                 }
             }
             Event::Write { .. }

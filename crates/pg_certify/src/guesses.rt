@@ -1,7 +1,7 @@
 //! Moments that were found, kept to guess from. Nothing is claimed of a guess: it is judged before
 //! it is taken, so that a wrong one costs time alone.
 
-use crate::walk::{Walk, and_then};
+use crate::walk::and_then;
 use pg_event::{Moments, bits_from};
 use std::alloc::Global;
 use std::collections::HashMap;
@@ -24,12 +24,12 @@ pub(crate) struct Guesses {
     pages: HashMap<u64, [u32; 4]>,
     tables: HashMap<u64, Moments>,
     flushes: HashMap<u64, u32>,
-    /// Whether any page was large or global.
-    has_rare: bool,
+    has_large: bool,
+    has_global: bool,
 }
 
 /// A part of the linear address space, told by the upper bits of an address: a page by its size, or
-/// what lies below an entry of level 2, 3 or 4.
+/// what lies below an entry.
 #[derive(Clone, Copy, PartialEq, Eq)]
 pub(crate) enum Part {
     /// Bits 47:12.
@@ -68,6 +68,11 @@ fn spaces_of(p: u16) -> u64 {
     (p as u64) << 32 | 2
 }
 
+/// A key that tells the global pages of a processor.
+fn globals_of(p: u16) -> u64 {
+    (p as u64) << 32 | 3
+}
+
 /// The page that a walk by so many moments comes to.
 fn page_by(count: usize) -> Part {
     match count {
@@ -84,7 +89,8 @@ impl Guesses {
             pages: HashMap::new(alloc),
             tables: HashMap::new(alloc),
             flushes: HashMap::new(alloc),
-            has_rare: false,
+            has_large: false,
+            has_global: false,
         }
     }
 
@@ -100,9 +106,12 @@ impl Guesses {
         })
     }
 
-    /// The moments that were found last for tables.
-    pub(crate) fn tables(&self, key: u64) -> Option<Moments> {
-        match self.tables.get(&key) {
+    /// The moments that were found last in the same 1 GB of the address space.
+    pub(crate) fn tables(&self, p: u16, pcid: u16, la: u64) -> Option<Moments> {
+        match self
+            .tables
+            .get(&key_of(p, Scope::Tables(pcid), Part::Of1G, la))
+        {
             Some(moments) => Some(*moments),
             None => None,
         }
@@ -110,7 +119,12 @@ impl Guesses {
 
     /// Whether any page was large or global.
     pub(crate) fn has_rare(&self) -> bool {
-        self.has_rare
+        self.has_large || self.has_global
+    }
+
+    /// Whether any page was global.
+    pub(crate) fn has_global(&self) -> bool {
+        self.has_global
     }
 
     /// The moment behind the last event that dropped all that a key tells, and 0 where none did.
@@ -121,11 +135,14 @@ impl Guesses {
         }
     }
 
-    /// The first moment since which a translation of a processor and PCID may have been made that
-    /// is not global.
-    pub(crate) fn since(&self, p: u16, pcid: u16) -> u32 {
-        self.flushed(space_of(p, pcid))
-            .max(self.flushed(spaces_of(p)))
+    /// The first moment since which what serves a scope may have been read on a processor.
+    pub(crate) fn since(&self, p: u16, scope: Scope) -> u32 {
+        match scope {
+            Scope::Page(pcid) | Scope::Tables(pcid) => self
+                .flushed(space_of(p, pcid))
+                .max(self.flushed(spaces_of(p))),
+            Scope::GlobalPage => self.flushed(globals_of(p)),
+        }
     }
 
     fn keep_flush(&mut self, event: u32, key: u64) {
@@ -137,9 +154,20 @@ impl Guesses {
         self.keep_flush(event, space_of(p, pcid));
     }
 
-    /// Takes note that an event dropped what a processor had for any PCID.
+    /// Takes note that an event dropped what a processor had for any PCID, but for global pages.
     pub(crate) fn flush_all(&mut self, event: u32, p: u16) {
         self.keep_flush(event, spaces_of(p));
+    }
+
+    /// Takes note that an event dropped all that a processor had.
+    pub(crate) fn flush_with_globals(&mut self, event: u32, p: u16) {
+        self.flush_all(event, p);
+        self.keep_flush(event, globals_of(p));
+    }
+
+    /// Forgets the moments that were found for a page.
+    pub(crate) fn forget(&mut self, key: u64) {
+        let _ = self.pages.remove(&key);
     }
 
     /// Keeps moments that were found for a page, whose size tells how many there are.
@@ -151,21 +179,27 @@ impl Guesses {
         let _refused = self.pages.insert(key, all).is_err();
     }
 
-    /// Keeps the moments of a walk that witness an event under a PCID, for the tables that it comes
-    /// by and, if a page serves the event, for that page.
-    pub(crate) fn note(&mut self, p: u16, pcid: u16, la: u64, walk: &Walk, is_page: bool) {
-        let moments = walk.moments;
-        for part in [Part::Of2M, Part::Of1G, Part::Of512G] {
-            let key = key_of(p, Scope::Tables(pcid), part, la);
-            let _refused = self.tables.insert(key, moments).is_err();
+    /// Keeps moments that witness an event under a PCID for the tables that they come by.
+    pub(crate) fn note_tables(&mut self, p: u16, pcid: u16, la: u64, moments: Moments) {
+        let key = key_of(p, Scope::Tables(pcid), Part::Of1G, la);
+        let _refused = self.tables.insert(key, moments).is_err();
+    }
+
+    /// Keeps moments that witness an event under a PCID for the page that serves it.
+    pub(crate) fn note_page(
+        &mut self,
+        p: u16,
+        pcid: u16,
+        la: u64,
+        moments: &Moments,
+        is_global: bool,
+    ) {
+        let part = page_by(moments.len());
+        self.keep(key_of(p, Scope::Page(pcid), part, la), moments);
+        if is_global {
+            self.keep(key_of(p, Scope::GlobalPage, part, la), moments);
         }
-        if is_page {
-            let part = page_by(moments.len());
-            self.keep(key_of(p, Scope::Page(pcid), part, la), &moments);
-            if walk.is_global {
-                self.keep(key_of(p, Scope::GlobalPage, part, la), &moments);
-            }
-            self.has_rare = self.has_rare || walk.is_global || part != Part::Of4K;
-        }
+        self.has_large = self.has_large || part != Part::Of4K;
+        self.has_global = self.has_global || is_global;
     }
 }

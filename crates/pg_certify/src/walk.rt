@@ -3,7 +3,7 @@
 
 ghost use Rattle.std.specs.Prelude.{◌<◌, length};
 
-use pg_entry::{Entry, Kind, Level, classify, has_bit, table_of};
+use pg_entry::{Cfg, Entry, Kind, Level, classify, has_bit, page_offset, table_of};
 use pg_event::{Moments, entry_address};
 use pg_search::Seen;
 
@@ -14,9 +14,10 @@ pub(crate) struct Walk {
     pub moments: Moments,
     /// The physical addresses of the entries that are read.
     pub words: [u64; 4],
-    /// Whether it makes a global translation, if it makes one: the entry read last has bit 8 set,
-    /// and CR4.PGE is 1 then (Intel SDM, vol. 3, 4.10.2.4).
-    pub is_global: bool,
+    /// The entry that is read last.
+    pub last: Entry,
+    /// The first moment from which on all entries stand as they are read.
+    pub since: u32,
 }
 
 const LEVELS: [Level; 4] = [Level::Four, Level::Three, Level::Two, Level::One];
@@ -35,6 +36,12 @@ pub(crate) fn and_then(moments: Moments, moment: u32) -> Moments {
         Some(more) => more,
         None => moments,
     }
+}
+
+/// The last moment of a list.
+pub(crate) fn last_of(moments: &Moments) -> u32 {
+    let all = moments.as_slice();
+    all[all.len() - 1]
 }
 
 /// The first moments of a list, at least one of them.
@@ -60,13 +67,16 @@ pub(crate) fn walk_by(seen: &Seen<'_>, p: u16, la: u64, front: &[u32], moment: u
     let mut moments = Moments::first(at);
     let mut words = [0; 4];
     let mut last = Entry(0);
+    let mut since = 0;
     for i in 0..4 {
         at = moment_at(front, i, moment);
         if i > 0 {
             moments = and_then(moments, at);
         }
         words[i] = entry_address(table, LEVELS[i], la);
-        last = Entry(seen.value_at(at, words[i]));
+        let span = seen.value_span(at, words[i]);
+        last = Entry(span.value);
+        since = since.max(span.from);
         if !matches!(classify(cfg, LEVELS[i], last), Kind::Table { .. }) {
             break;
         }
@@ -75,6 +85,24 @@ pub(crate) fn walk_by(seen: &Seen<'_>, p: u16, la: u64, front: &[u32], moment: u
     Walk {
         moments,
         words,
-        is_global: has_bit(last.0, 8) && seen.control_at(p, at).pge,
+        last,
+        since,
+    }
+}
+
+/// Whether a walk of a processor makes a global translation, if it makes one: the entry read last
+/// has bit 8 set, and CR4.PGE is 1 then (Intel SDM, vol. 3, 4.10.2.4).
+pub(crate) fn is_global(seen: &Seen<'_>, p: u16, walk: &Walk) -> bool
+    requires { p < length seen.now.head.processors }
+{
+    has_bit(walk.last.0, 8) && seen.control_at(p, last_of(&walk.moments)).pge
+}
+
+/// The physical address that a walk gives for a linear one, if it comes to a page.
+pub(crate) fn address_by(seen: &Seen<'_>, walk: &Walk, la: u64) -> Option<u64> {
+    let level = LEVELS[walk.moments.len() - 1];
+    match classify(seen.header().cfg, level, walk.last) {
+        Kind::Leaf { frame, shift, .. } => Some(frame | page_offset(la, shift)),
+        Kind::Absent | Kind::Reserved | Kind::Table { .. } => None,
     }
 }

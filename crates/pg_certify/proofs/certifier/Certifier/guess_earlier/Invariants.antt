@@ -1,5 +1,5 @@
 use Rattle.std.proofs.Common.{◌≡◌}
 use Rattle.pg_certify.proofs.certifier.Certifier.guess_earlier.Given as goal
 
-abbrev pub invariant-loop-place : goal.invariant-loop-place
-invariant-loop-place l = l.self ≡ l.fn.self
+abbrev pub invariant-loop-step : goal.invariant-loop-step
+invariant-loop-step l = l.self ≡ l.fn.self
