@@ -10,21 +10,23 @@ use std::sync::Wait;
 use std::test::Fail;
 use std::thread::Threads;
 
-/// The words end with 0 and their text on standard output, or else with 64 and it on standard error.
+/// The words ended with 0 and their text on standard output, or with 64 and it on standard error.
+fn is_told(told: Told, is_fault: bool, status: u8, output: &[u8], errors: &[u8]) -> bool {
+    if is_fault {
+        status == 64 && output.is_empty() && errors == told.text.as_bytes()
+    } else {
+        status == 0 && errors.is_empty() && output == told.text.as_bytes()
+    }
+}
+
 fn expect<T: AllocGlobal + Abort + Threads + Wait + Sync>(rt: &T, told: Told, is_fault: bool) {
     let mut input = Watched::new([].as_slice());
     let mut output = Watched::new(Vec::new(rt.alloc()));
     let mut errors = Watched::new(Vec::new(rt.alloc()));
     let planned = plan(rt.alloc(), told.words);
     let status = pcid_audit(rt, planned, no_file, &mut input, &mut output, &mut errors);
-    let (said, other) = if is_fault {
-        (errors.inner.as_slice(), output.inner.as_slice())
-    } else {
-        (output.inner.as_slice(), errors.inner.as_slice())
-    };
-    let is_ended = status == if is_fault { 64 } else { 0 };
-    let is_told = said == told.text.as_bytes() && other.is_empty();
-    assert!(rt; is_ended && is_told, "{:?}", told.words);
+    let is_right = is_told(told, is_fault, status, &output.inner, &errors.inner);
+    assert!(rt; is_right, "{:?}", told.words);
 }
 
 fn expect_all<T: AllocGlobal + Abort + Threads + Wait + Sync>(
