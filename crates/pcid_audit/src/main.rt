@@ -4,7 +4,7 @@
 use pg_auditing::{NoWords, arguments, tell_no_words, words_of};
 use pg_codec::Watched;
 use pg_follow::{Followed, Teller};
-use pg_tool::{Followers, pcid_audit_followed};
+use pg_tool::{Followers, pcid_audit_followed, plan};
 use std::cell::Cell;
 use std::fs::{self, File};
 use std::io::{self, Lock, Read, Stderr, Write};
@@ -47,7 +47,7 @@ fn main(rt: HostRuntime) -> ExitCode {
     };
     ExitCode::from(pcid_audit_followed(
         &rt,
-        words.as_slice(),
+        plan(rt.alloc(), words.as_slice()),
         |name: &str| open_file(&rt, name, &progress),
         followers,
         &mut input,

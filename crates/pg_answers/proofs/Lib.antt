@@ -6,3 +6,5 @@ pub mod Bad
 pub mod Named
 pub mod Accounted
 pub mod Told
+pub mod OneDenial
+pub mod OneCertificate

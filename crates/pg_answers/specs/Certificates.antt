@@ -1,20 +1,21 @@
 -- What `certify` answers: whether some run of the machine has a record's events, whatever moments
 -- they name, and what stands behind a no.
 use Rattle.std.specs.Prelude.{◌≡◌, ℕ, List, ◌++◌, length, take, Option, Some, None, Result, Ok, Err}
-use Rattle.std.specs.Prelude.{codes, decimal}
+use Rattle.std.specs.Prelude.{codes, decimal, IfSome}
 use Rattle.pg_event.specs.Spelling.{Recorded, segment_count}
 use Rattle.pg_search.specs.Law.{RunBeginsWith}
 use Rattle.pg_certify.specs.Certified.{CanBeCertified, IsDenied, HasRunButMoments}
 use Rattle.pg_explain.specs.declared.denial.Denial.{Denial}
 use Rattle.pg_explain.specs.Denied.{IsDenialOf, denial_text}
 use Rattle.pg_report.specs.declared.error.AuditError.{AuditError}
+use Rattle.pg_report.specs.Changes.{Change, Adds}
 use Rattle.pg_report.specs.declared.report.Report.{Report}
 use Rattle.pg_report.specs.declared.report.Verdict.TheVariants.{Yes}
 use Rattle.pg_report.specs.Text.{counts_text, report_text}
 use Rattle.pg_auditing.specs.Refusals.{TellsError}
 use Rattle.pg_auditing.specs.Status.{error_status}
 use Rattle.pg_auditing.specs.Streams.{Streams}
-use Rattle.pg_answers.specs.Texts.{IsTextGivenBy}
+use Rattle.pg_answers.specs.Texts.{GivesText, IsTextGivenBy}
 
 -- moments make the events an accepted record, and some run of the machine has them
 pub record IsCertifiedRecord (r : Recorded) : Type 0 where
@@ -60,9 +61,25 @@ certificate_status (Ok None) = 0
 certificate_status (Ok (Some n)) = 1
 certificate_status (Err e) = error_status e
 
+-- The answer is a function of the record, and so is what was written: whatever certifies the same
+-- bytes and comes to an answer, by however many checkers, comes to this one, and writes this text.
+abbrev pub IsTheCertificate : List ℕ → Change → Result (Option ℕ) AuditError → Type 0
+IsTheCertificate bytes output (Ok denied) =
+    (text : List ℕ) × Adds output text
+    × ((other : Option ℕ) (checkers : ℕ) (input' output' : Change) →
+    GivesText IsCertificateOf checkers bytes input' output' (Ok other) →
+    (other ≡ denied) × Adds output' text)
+IsTheCertificate bytes output (Err e) = Unit {0}
+
+-- what certifying by so many checkers promises of its answer and its streams
+pub record IsCertificate (checkers : ℕ) (input output : Change)
+    (answer : Result (Option ℕ) AuditError) : Type 0 where
+  pub text : IsTextGivenBy IsCertificateOf checkers input output answer
+  pub only : IfSome input.old.bytes (λ bytes. IsTheCertificate bytes output answer)
+
 -- By so many checkers: the status is that of such an answer, and the line on standard error is its
 -- line.
 abbrev pub CertifiesRecord : ℕ → Streams → ℕ → Type 0
 CertifiesRecord checkers s status =
     (answer : Result (Option ℕ) AuditError) × (status ≡ certificate_status answer)
-    × IsTextGivenBy IsCertificateOf checkers s.input s.output answer × TellsError s.errors answer
+    × IsCertificate checkers s.input s.output answer × TellsError s.errors answer

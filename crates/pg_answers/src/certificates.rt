@@ -11,7 +11,8 @@ ghost use Rattle.pg_report.specs.Intake.{TellsDevice};
 ghost use Rattle.pg_event.specs.Spelling.{Recorded};
 ghost use Rattle.pg_certify.specs.Accounts.{IsAccount};
 ghost use Rattle.pg_report.specs.Text.{report_text, counts_text};
-ghost use Rattle.pg_answers.specs.Certificates.{CertifiesRecord, IsCertificateOf, IsDenialText};
+ghost use Rattle.pg_answers.specs.Certificates.{CertifiesRecord, IsCertificate, IsCertificateOf};
+ghost use Rattle.pg_answers.specs.Certificates.{IsDenialText};
 ghost use Rattle.pg_answers.specs.Accounts.{IsDeniedAccount};
 ghost use Rattle.pg_answers.specs.Certificates.{certificate_status, yes_report, denied_head};
 ghost use Rattle.pg_auditing.specs.Streams.{streams};
@@ -247,7 +248,7 @@ fn write_certificate<T: AllocGlobal + Threads + Wait + Sync, R: Source, O: Sink>
     output: &mut O,
 ) -> Result<Option<u64>, AuditError>
     requires { AreCheckers checkers }
-    ensures { IsTextGivenBy IsCertificateOf checkers
+    ensures { IsCertificate checkers
         (drawn R.Source input.old input.new) (filled O.Sink output.old output.new) result }
 {
     if checkers == 1 {

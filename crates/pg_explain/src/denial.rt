@@ -83,7 +83,8 @@ fn walk_now(alloc: Global, history: &History, number: u32, event: &Event) -> Res
 /// what its processor would read at the event, what that would give, and when the event would last
 /// have been witnessed.
 ///
-/// It takes one pass over the events before. It fails only where memory is refused.
+/// It takes as many passes over the events before as `find_moments` of `pg_search` does. It fails
+/// only where memory is refused.
 pub fn deny(alloc: Global, history: &History, number: u64) -> Result<Denial, AllocError>
     requires within { number < length history.now.events }
     requires names { IfSome (slice_get history.now.events number) (λ e. names_moments e ≡ true) }

@@ -1,2 +1,3 @@
 pub mod Parses
 pub mod Rows
+pub mod Told

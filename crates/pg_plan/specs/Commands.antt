@@ -147,6 +147,10 @@ command_line = with_subcommand telling_line (plain_line (command_word Upgrade)).
 abbrev pub faults : List Text → Kinds
 faults words = fault_of command_line words
 
+-- they are taken
+abbrev pub AreTaken : List Text → Type 0
+AreTaken words = faults words ≡ []
+
 -- ---- what words ask for
 
 -- a switch was given
@@ -194,7 +198,7 @@ file_in (Some (name, rows)) = named_file (first_of (codes "file") rows)
 abbrev pub Asks : List Text → Plan → Option Text → Type 0
 Asks words plan file =
     let found = subcommand_of command_line words in
-    (faults words ≡ []) × IsPlanOf found plan × (file ≡ file_in found)
+    AreTaken words × IsPlanOf found plan × (file ≡ file_in found)
 
 -- this plan of this file, and no other
 abbrev pub AsksOnly : List Text → Plan → Option Text → Type 0

@@ -1,3 +1,4 @@
 pub mod Values
 pub mod Commands
 pub mod Making
+pub mod Texts

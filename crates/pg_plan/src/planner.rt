@@ -1,7 +1,8 @@
 ghost use Rattle.std.specs.Prelude.{◌≡◌, ◌↔◌, ◌⊎◌, ℕ, List, Option, IfOk, IfErr, Some, false};
 ghost use Rattle.std.specs.Prelude.{option_map};
 ghost use Rattle.clap.specs.Values.{kind_of};
-ghost use Rattle.clap.specs.Simple.{App, new_app, subcommand_rows_of, with_rule, with_subcommand};
+ghost use Rattle.clap.specs.Simple.{App, new_app, subcommand_of, subcommand_rows_of, with_rule};
+ghost use Rattle.clap.specs.Simple.{with_subcommand};
 ghost use Rattle.clap.specs.Matches.{first_value, found_of};
 ghost use Rattle.clap.specs.Walk.{Rule, rows_of};
 ghost use Rattle.pg_plan.specs.Making.{IsLine, IsLineOf, IsOption};
@@ -12,8 +13,9 @@ ghost use Rattle.pg_plan.specs.Commands.{number_rule, cpu_rule, most_rule, with_
 ghost use Rattle.pg_plan.specs.Commands.{file_in, named_file, IsTellingOf};
 ghost use Rattle.pg_plan.specs.Commands.{command_word, AreFrom1To64, is_on, IsSelectionOf};
 ghost use Rattle.pg_plan.specs.Commands.{Asks, AsksOnly, IsPlanOf};
-ghost use Rattle.pg_plan.specs.Commands.{AsksHelp, AsksVersion, NamesHelp, NamesVersion};
-ghost use Rattle.pg_plan.specs.Commands.{IsHelp, IsVersion, IsFault};
+ghost use Rattle.pg_plan.specs.Commands.{AsksHelp, AsksVersion, NamesHelp, NamesVersion, AreTaken};
+ghost use Rattle.pg_plan.specs.Commands.{IsHelp, IsVersion, IsFault, command_line};
+ghost use Rattle.pg_plan.specs.Texts.{HasVersionText, IsFaultOf, IsWrong, TellsWrong, version_text};
 ghost use Rattle.pg_plan.specs.declared.request.Command.{Command as Asked};
 ghost use Rattle.pg_plan.specs.declared.request.Plan.{Plan as Planned};
 ghost use Rattle.pg_plan.specs.declared.request.Selection.{Selection as Selected};
@@ -58,6 +60,9 @@ const UPGRADE_ABOUT: &str =
 
 /// The version of the program, and of the records that it reads.
 const VERSION: &str = "0.2.0 (record versions 1 and 2)";
+
+/// What `--version` gives.
+const VERSION_TEXT: &str = "pcid-audit 0.2.0 (record versions 1 and 2)\n";
 
 const CHECKERS: &str = "checkers";
 
@@ -318,22 +323,34 @@ fn command_line<'a>(alloc: Global) -> Result<CommandLine<'a>, AllocError>
     with_command(line, plain_line(alloc, UPGRADE, UPGRADE_ABOUT))
 }
 
+/// The version, which is given by a text of this program's own.
+fn version(alloc: Global) -> Usage
+    ensures help { ¬ IsHelp result }
+    ensures fault { ¬ IsFault result }
+    ensures text { HasVersionText result }
+{
+    match String::from_str(alloc, VERSION_TEXT) {
+        Ok(text) => Usage::Version(text),
+        Err(_) => Usage::Memory,
+    }
+}
+
 fn usage_of(alloc: Global, error: Error) -> Usage
     ensures memory { kind_of error ≡ ErrorKind.OutOfMemory → result ≡ Usage.Memory }
     ensures help { kind_of error ≡ ErrorKind.DisplayHelp → ¬ IsFault result }
     ensures help_named { IsHelp result → kind_of error ≡ ErrorKind.DisplayHelp }
     ensures version { kind_of error ≡ ErrorKind.DisplayVersion → ¬ IsFault result }
     ensures version_named { IsVersion result → kind_of error ≡ ErrorKind.DisplayVersion }
+    ensures version_text { HasVersionText result }
 {
-    if error.kind() == ErrorKind::OutOfMemory {
-        return Usage::Memory;
+    match error.kind() {
+        ErrorKind::OutOfMemory => return Usage::Memory,
+        ErrorKind::DisplayVersion => return version(alloc),
+        _ => {}
     }
     match format!(in alloc; "{error}") {
-        Ok(text) => match error.kind() {
-            ErrorKind::DisplayHelp => Usage::Help(text),
-            ErrorKind::DisplayVersion => Usage::Version(text),
-            _ => Usage::Fault(text),
-        },
+        Ok(text) if error.kind() == ErrorKind::DisplayHelp => Usage::Help(text),
+        Ok(text) => Usage::Fault(text),
         Err(_) => Usage::Memory,
     }
 }
@@ -434,15 +451,20 @@ fn file_of<'a>(matches: &ArgMatches<'a>) -> Option<&'a str>
 }
 
 /// What is wrong with the words where `clap` takes them.
-fn wrong_with(matches: &ArgMatches<'_>) -> &'static str {
-    match matches.subcommand() {
-        Some((_, own)) if telling_in(own).is_none() => NO_TELLING,
-        _ => NO_NUMBER,
+fn wrong_with(matches: &ArgMatches<'_>) -> &'static str
+    ensures { IsWrong (subcommand_rows_of matches.now) result.now }
+{
+    let Some((_, own)) = matches.subcommand() else {
+        return NO_NUMBER;
+    };
+    match telling_in(own) {
+        None => NO_TELLING,
+        Some(_) => NO_NUMBER,
     }
 }
 
 fn fault(alloc: Global, text: &str) -> Usage
-    ensures { IsFault result ⊎ (result ≡ Usage.Memory) }
+    ensures { IsFaultOf text.now result }
 {
     match String::from_str(alloc, text) {
         Ok(text) => Usage::Fault(text),
@@ -461,6 +483,9 @@ pub fn plan<'a>(alloc: Global, words: &'a [&'a str]) -> Result<Invocation<'a>, U
     ensures help_named { IfErr result (λ why. IsHelp why → NamesHelp (texts words.now)) }
     ensures version { IfErr result (λ why. AsksVersion (texts words.now) → ¬ IsFault why) }
     ensures version_named { IfErr result (λ why. IsVersion why → NamesVersion (texts words.now)) }
+    ensures version_text { IfErr result HasVersionText }
+    ensures wrong { IfErr result (λ why. AreTaken (texts words.now) →
+        TellsWrong (subcommand_of command_line (texts words.now)) why) }
 {
     let line = match command_line(alloc) {
         Ok(line) => line,

@@ -3,7 +3,7 @@
 
 use crate::case::no_file;
 use pg_codec::Watched;
-use pg_tool::pcid_audit;
+use pg_tool::{pcid_audit, plan};
 use std::alloc::{AllocError, AllocGlobal, Global};
 use std::process::Abort;
 use std::sync::Wait;
@@ -34,7 +34,8 @@ fn run<T: AllocGlobal + Abort + Threads + Wait + Sync>(
     errors: &mut Written,
 ) -> u8 {
     let mut input = Watched::new(text);
-    pcid_audit(rt, words, no_file, &mut input, output, errors)
+    let planned = plan(rt.alloc(), words);
+    pcid_audit(rt, planned, no_file, &mut input, output, errors)
 }
 
 /// What `run` comes to, which a thread for the processor and one thread for all have to say alike.

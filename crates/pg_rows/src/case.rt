@@ -2,7 +2,7 @@
 
 use crate::pieces::{Crumbs, Fault, Pieces};
 use pg_codec::{Source, Watched};
-use pg_tool::pcid_audit;
+use pg_tool::{pcid_audit, plan};
 use std::alloc::AllocGlobal;
 use std::io::ErrorKind;
 use std::process::Abort;
@@ -48,7 +48,8 @@ pub fn answer_on<'a, T: AllocGlobal + Abort + Threads + Wait + Sync, R: Source>(
 ) {
     let mut output = Watched::new(Vec::new(rt.alloc()));
     let mut errors = Watched::new(Vec::new(rt.alloc()));
-    let status = pcid_audit(rt, case.words, no_file, input, &mut output, &mut errors);
+    let planned = plan(rt.alloc(), case.words);
+    let status = pcid_audit(rt, planned, no_file, input, &mut output, &mut errors);
     let is_right = is_answered(case, status, &output.inner, &errors.inner);
     assert!(rt; is_right, "{}, {at}: {status}", case.name);
 }
@@ -69,7 +70,7 @@ pub fn answer_by_bytes<'a, T: AllocGlobal + Abort + Threads + Wait + Sync>(
     let mut errors = Watched::new(Crumbs::new(rt.alloc(), None)?);
     let status = pcid_audit(
         rt,
-        case.words,
+        plan(rt.alloc(), case.words),
         no_file,
         &mut input,
         &mut output,
@@ -131,7 +132,7 @@ fn fail_write<'a, T: AllocGlobal + Abort + Threads + Wait + Sync>(
     let mut errors = Watched::new(Vec::new(rt.alloc()));
     let status = pcid_audit(
         rt,
-        case.words,
+        plan(rt.alloc(), case.words),
         no_file,
         &mut input,
         &mut output,

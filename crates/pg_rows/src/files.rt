@@ -5,7 +5,7 @@ use crate::pieces::Pieces;
 use crate::row::bytes_of;
 use crate::walks::FRESH_WALK;
 use pg_codec::Watched;
-use pg_tool::pcid_audit;
+use pg_tool::{pcid_audit, plan};
 use std::alloc::AllocGlobal;
 use std::io::ErrorKind;
 use std::process::Abort;
@@ -33,7 +33,8 @@ fn answer_of_file<'a, T: AllocGlobal + Abort + Threads + Wait + Sync>(rt: &T, ca
             None
         }
     };
-    let status = pcid_audit(rt, case.words, opener, &mut input, &mut output, &mut errors);
+    let planned = plan(rt.alloc(), case.words);
+    let status = pcid_audit(rt, planned, opener, &mut input, &mut output, &mut errors);
     let is_right = is_answered(case, status, &output.inner, &errors.inner);
     assert!(rt;
         is_right && input.inner.reads == 0,

@@ -56,6 +56,8 @@ mod streams;
 #[cfg(test)]
 mod tests;
 #[cfg(test)]
+mod texts;
+#[cfg(test)]
 mod upgrades;
 #[cfg(test)]
 mod versions;

@@ -5,7 +5,7 @@ use crate::certificates::{FRESH_WALK, ROWS};
 use crate::row::{Row, bytes_of};
 use crate::walks;
 use pg_codec::Watched;
-use pg_tool::pcid_audit;
+use pg_tool::{pcid_audit, plan};
 use std::alloc::AllocGlobal;
 use std::process::Abort;
 use std::sync::Wait;
@@ -40,7 +40,8 @@ fn expect_named<T: AllocGlobal + Abort + Threads + Wait + Sync>(
     let mut input = Watched::new(bytes.as_slice());
     let mut output = Watched::new(Vec::new(rt.alloc()));
     let mut errors = Watched::new(Vec::new(rt.alloc()));
-    let status = pcid_audit(rt, NAMING, no_file, &mut input, &mut output, &mut errors);
+    let planned = plan(rt.alloc(), NAMING);
+    let status = pcid_audit(rt, planned, no_file, &mut input, &mut output, &mut errors);
     assert!(rt; status == 0 && errors.inner.is_empty(), "{}", row.name);
     let checked = Case {
         name: row.name,

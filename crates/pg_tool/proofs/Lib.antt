@@ -1,2 +1,1 @@
 pub mod Guested
-pub mod Asked

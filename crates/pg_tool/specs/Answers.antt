@@ -1,19 +1,18 @@
--- What the whole program answers, by its words.
+-- What the whole program answers, by what its words ask for, or by why they ask for nothing.
 use Rattle.std.specs.Prelude.{◌≡◌, ◌⊎◌, ℕ, Bool, true, false, List, Option, Some, None}
-use Rattle.std.specs.Prelude.{string_bytes}
+use Rattle.std.specs.Prelude.{MatchOption, Result, Ok, Err, string_bytes}
 use Rattle.std.specs.Borrow.{Bor}
 use Rattle.std.specs.Fn.{FnReturnsAt, Shared}
 use Rattle.pg_codec.specs.declared.stream.Source as sources
 use Rattle.pg_plan.specs.declared.request.Command.{Command}
 use Rattle.pg_plan.specs.declared.request.Command.TheVariants.{Check, Certify, Run, RunOf}
 use Rattle.pg_plan.specs.declared.request.Command.TheVariants.{Explain, Show, Upgrade}
+use Rattle.pg_plan.specs.declared.request.Invocation.{Invocation}
 use Rattle.pg_plan.specs.declared.request.Plan.{Plan}
 use Rattle.pg_plan.specs.declared.request.Telling.{Telling}
 use Rattle.pg_plan.specs.declared.request.Telling.TheVariants.{First, All, Picture}
 use Rattle.pg_plan.specs.declared.request.Usage.{Usage}
 use Rattle.pg_plan.specs.declared.request.Usage.TheVariants.{Help, Version, Fault, Memory}
-use Rattle.pg_plan.specs.Commands.{Asks, AsksNone, AsksHelp, AsksVersion, NamesHelp}
-use Rattle.pg_plan.specs.Commands.{NamesVersion, IsFault, IsHelp, IsVersion}
 use Rattle.pg_report.specs.declared.error.AuditError.TheVariants.{Device}
 use Rattle.pg_report.specs.Changes.{Change, Fails, Works, Adds, AddsSome, drawn}
 use Rattle.pg_answers.specs.Certificates.{CertifiesRecord}
@@ -47,17 +46,6 @@ GivesUsage (Fault text) output errors status =
 GivesUsage Memory output errors status =
     StaysSame output × Tells errors memory_line × (status ≡ 3)
 
--- The words ask for no command, and are told why there is no plan. Help and the version are given
--- for no words but those that name them, and words that are just a flag for one are not told that
--- they are wrong.
-pub record AnswersUsage (words : List (List ℕ)) (s : Streams) (status : ℕ) : Type 0 where
-  pub why : Usage
-  pub help : IsHelp why → NamesHelp words
-  pub version : IsVersion why → NamesVersion words
-  pub asked_help : AsksHelp words → ¬ IsFault why
-  pub asked_version : AsksVersion words → ¬ IsFault why
-  pub gives : GivesUsage why s.output s.errors status
-
 -- by so many checkers whether some run has the record's events; or the record with moments for them
 abbrev pub CertifiesBy : ℕ → Bool → Streams → ℕ → Type 0
 CertifiesBy checkers false = CertifiesRecord checkers
@@ -90,10 +78,6 @@ DoesCommand Upgrade plan s status = Upgrades s status
 abbrev pub Does : Plan → Streams → ℕ → Type 0
 Does plan = DoesCommand plan.command plan
 
--- memory was refused before any input was read
-abbrev pub RefusesMemory : Type 0 → Streams → ℕ → Type 0
-RefusesMemory Unread s status = Unread × GivesUsage Memory s.output s.errors status
-
 -- what opening the file of a name may give: a source that is left changed so, or none
 abbrev pub Opening : Type 1
 Opening = List ℕ → Option Change → Type 0
@@ -112,15 +96,14 @@ DoesNamed Opens plan name output errors status =
     × Does plan (record { input = file; output = output; errors = errors }) status)
     ⊎ (Opens name None × StaysSame output × Tells errors (unopened_line name) × (status ≡ 66))
 
--- All that the program promises of its words, its streams and its status: by a command's words what
--- that command does of the input or, where they name a file, of that, with the input not read; or
--- that memory was refused before any input was read; by other words that the input was not read,
--- and why there is no plan.
-pub record Answers (words : List (List ℕ)) (Opens : Opening) (Unread : Type 0) (s : Streams)
-    (status : ℕ) : Type 0 where
-  pub asked : (plan : Plan) → Asks words plan None →
-      Does plan s status ⊎ RefusesMemory Unread s status
-  pub named : (plan : Plan) (name : List ℕ) → Asks words plan (Some name) →
-      (Unread × DoesNamed Opens plan name s.output s.errors status) ⊎ RefusesMemory Unread s status
-  pub unread : AsksNone words → Unread
-  pub usage : AsksNone words → AnswersUsage words s status
+-- what was asked for is done: of the input, or of the file that is named, with the input not read
+abbrev pub DoesAsked : Opening → Type 0 → Invocation → Streams → ℕ → Type 0
+DoesAsked Opens Unread asked s status = MatchOption asked.file (Does asked.plan s status)
+    (λ name. Unread × DoesNamed Opens asked.plan name.now s.output s.errors status)
+
+-- All that the program promises of its streams and its status, by what `plan` made of its words:
+-- what they ask for is done; or the input was not read, and it is told why there is no plan, by the
+-- text that `plan` gave.
+abbrev pub Answers : Result Invocation Usage → Opening → Type 0 → Streams → ℕ → Type 0
+Answers (Ok asked) Opens Unread s status = DoesAsked Opens Unread asked s status
+Answers (Err why) Opens Unread s status = Unread × GivesUsage why s.output s.errors status

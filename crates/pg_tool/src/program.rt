@@ -1,12 +1,12 @@
-//! The program by its words: which command they ask for, and what it reads.
+//! The program by what its words ask for: a command, and what it reads.
 
-ghost use Rattle.std.specs.Prelude.{◌≡◌};
-ghost use Rattle.pg_plan.specs.Commands.{AreFrom1To64, texts};
+ghost use Rattle.std.specs.Prelude.{◌≡◌, IfOk};
+ghost use Rattle.pg_plan.specs.Commands.{AreFrom1To64};
 ghost use Rattle.pg_pool.specs.Rounds.{AreCheckers};
 ghost use Rattle.pg_progress.specs.Seats.{counts};
 ghost use Rattle.pg_report.specs.Changes.{filled};
 ghost use Rattle.pg_tool.specs.Answers.{Answers, CertifiesBy, ChecksBy, ExplainsBy, Does};
-ghost use Rattle.pg_tool.specs.Answers.{DoesNamed, GivesText, opens};
+ghost use Rattle.pg_tool.specs.Answers.{DoesNamed, GivesText, GivesUsage, opens};
 ghost use Rattle.pg_tool.specs.Guests.{guest_error_status, run_error_status};
 ghost use Rattle.pg_tool.specs.Guests.{RunsGuest, TellsGuest};
 ghost use Rattle.pg_auditing.specs.Streams.{streams};
@@ -23,7 +23,7 @@ use pg_auditing::{
     MEMORY, REFUSED, UNOPENED, USAGE, YES, check, tell, tell_memory, tell_text, tell_unopened,
 };
 use pg_codec::{Sink, Source, put_all};
-use pg_plan::{Command, Plan, Telling, Usage, plan};
+use pg_plan::{Command, Invocation, Plan, Telling, Usage};
 use pg_progress::{Nobody, Onlooker};
 use pg_report::AuditError;
 use pg_runner::RunError;
@@ -229,13 +229,31 @@ fn tells_of_reading(plan: Plan) -> bool {
     plan.progress && plan.command != Command::Run
 }
 
-/// The whole program, over any streams: the words after its name, what opens a file, what it reads
-/// where the words name none, and what it writes to. It gives the exit status, which is 64 where
-/// the words are no command of it, and 66 where the file can't be opened. Where the words ask for
-/// progress the followers, which were told nothing before, come to know how far a record was read,
-/// or a run has come: telling of it is up to who made them.
+/// Tells why words give no plan, and gives the exit status.
+fn tell_usage<O: Sink, E: Sink>(why: Usage, output: &mut O, errors: &mut E) -> u8
+    ensures { GivesUsage why
+        (filled O.Sink output.old output.new) (filled E.Sink errors.old errors.new) result }
+{
+    match why {
+        Usage::Help(text) => give_text(text.as_str(), output, errors),
+        Usage::Version(text) => give_text(text.as_str(), output, errors),
+        Usage::Fault(text) => {
+            tell_text(errors, text.as_str());
+            USAGE
+        }
+        Usage::Memory => {
+            tell_memory(errors);
+            MEMORY
+        }
+    }
+}
+
+/// The whole program, over any streams: what `plan` made of the words after its name, what opens a
+/// file, what it reads where the words name none, and what it writes to. It gives the exit status,
+/// which is 64 where the words are no command of it, and 66 where the file can't be opened. Where
+/// the words ask for progress the followers, which were told nothing before, come to know how far a
+/// record was read, or a run has come: telling of it is up to who made them.
 pub fn pcid_audit_followed<
-    'a,
     T: AllocGlobal + Threads + Wait + Sync,
     F: Fn(&str) -> Option<S>,
     S: Source + Drop,
@@ -245,53 +263,51 @@ pub fn pcid_audit_followed<
     P: Onlooker + Drop,
 >(
     rt: &T,
-    words: &'a [&'a str],
+    planned: Result<Invocation<'_>, Usage>,
     opener: F,
     followers: Followers<'_, P>,
     input: &mut R,
     output: &mut O,
     errors: &mut E,
 ) -> u8
+    requires checkers { IfOk planned (λ asked. AreFrom1To64 asked.plan.checkers) }
     requires opener { F.IsAlwaysCallable opener }
     requires onlooker { P.told followers.onlooker ≡ counts 0 0 }
-    ensures { Answers (texts words.now) (opens F.Fn S.Source opener) (input.new ≡ input.old)
+    ensures { Answers planned.entry (opens F.Fn S.Source opener) (input.new ≡ input.old)
         (streams R.Source O.Sink E.Sink
         (input.old, output.old, errors.old) (input.new, output.new, errors.new)) result }
 {
     let Followers { reading, onlooker } = followers;
-    match plan(rt.alloc(), words) {
-        Ok(asked) => {
-            reading.set(tells_of_reading(asked.plan));
-            match asked.file {
-                None => perform(rt, asked.plan, input, output, errors, onlooker),
-                Some(name) => perform_on(rt, asked.plan, name, opener, output, errors, onlooker),
-            }
-        }
-        Err(Usage::Help(text)) => give_text(text.as_str(), output, errors),
-        Err(Usage::Version(text)) => give_text(text.as_str(), output, errors),
-        Err(Usage::Fault(text)) => {
-            tell_text(errors, text.as_str());
-            USAGE
-        }
-        Err(Usage::Memory) => {
-            tell_memory(errors);
-            MEMORY
-        }
+    let asked = match planned {
+        Ok(asked) => asked,
+        Err(why) => return tell_usage(why, output, errors),
+    };
+    reading.set(tells_of_reading(asked.plan));
+    match asked.file {
+        None => perform(rt, asked.plan, input, output, errors, onlooker),
+        Some(name) => perform_on(rt, asked.plan, name, opener, output, errors, onlooker),
     }
 }
 
 /// The whole program over streams that tell of no progress.
 pub fn pcid_audit<
-    'a,
     T: AllocGlobal + Threads + Wait + Sync,
     F: Fn(&str) -> Option<S>,
     S: Source + Drop,
     R: Source,
     O: Sink,
     E: Sink,
->(rt: &T, words: &'a [&'a str], opener: F, input: &mut R, output: &mut O, errors: &mut E) -> u8
-    requires { F.IsAlwaysCallable opener }
-    ensures { Answers (texts words.now) (opens F.Fn S.Source opener) (input.new ≡ input.old)
+>(
+    rt: &T,
+    planned: Result<Invocation<'_>, Usage>,
+    opener: F,
+    input: &mut R,
+    output: &mut O,
+    errors: &mut E,
+) -> u8
+    requires checkers { IfOk planned (λ asked. AreFrom1To64 asked.plan.checkers) }
+    requires opener { F.IsAlwaysCallable opener }
+    ensures { Answers planned.entry (opens F.Fn S.Source opener) (input.new ≡ input.old)
         (streams R.Source O.Sink E.Sink
         (input.old, output.old, errors.old) (input.new, output.new, errors.new)) result }
 {
@@ -299,5 +315,5 @@ pub fn pcid_audit<
         reading: &Cell::new(false),
         onlooker: Nobody,
     };
-    pcid_audit_followed(rt, words, opener, followers, input, output, errors)
+    pcid_audit_followed(rt, planned, opener, followers, input, output, errors)
 }

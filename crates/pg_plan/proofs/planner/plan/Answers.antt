@@ -1,11 +1,13 @@
-use Rattle.std.proofs.Common.{⊎_elim, codes, refl, sym, ap, subst, ◌≡◌, ◌∙◌, [], ◌∷◌, None, Some}
+use Rattle.std.proofs.Common.{⊎_elim, codes, refl, sym, ap, subst, ◌≡◌, ◌∙◌, List, [], ◌∷◌, Option, None, Some}
 use Rattle.clap.specs.Kinds.{Kinds}
-use Rattle.clap.specs.Walk.{first_of}
-use Rattle.clap.specs.Simple.{app_of, subcommand_rows_of}
+use Rattle.clap.specs.Walk.{Row, Text, first_of}
+use Rattle.clap.specs.Simple.{app_of, subcommand_of, subcommand_rows_of}
 use Rattle.clap.specs.declared.error.kind.ErrorKind.TheVariants.{DisplayHelp, DisplayVersion}
-use Rattle.pg_plan.specs.Commands.{IsFault, file_in, texts}
+use Rattle.pg_plan.specs.Commands.{IsFault, command_line, file_in, texts}
+use Rattle.pg_plan.specs.Texts.{TellsWrong}
 use Rattle.pg_plan.specs.declared.request.Usage.{Usage}
 use Rattle.pg_plan.proofs.Parses.{asked_range, fails_by_memory, text_named, gives_text, is_asked, parsed_taken, parsed_rows, plans_of}
+use Rattle.pg_plan.proofs.Told.{tells_wrong}
 use Rattle.pg_plan.proofs.planner.plan.Goals as goal
 
 pub returns-in-Some-clause-asked : goal.returns-in-Some-clause-asked
@@ -77,3 +79,20 @@ pub returns-clause-version_named : goal.returns-clause-version_named
 returns-clause-version_named c = λ is.
     let failed = c.in-Err-try_get_matches_from in
     text_named DisplayVersion (app_of c.in-Ok.line) (texts c.args.words.now) failed.error c.in-Ok.ensures.made.form failed.ensures.kinds (c.usage_of.ensures.version_named is) (λ e. cc)
+
+pub returns-in-Ok-try_get_matches_from-clause-wrong :
+    goal.returns-in-Ok-try_get_matches_from-clause-wrong
+returns-in-Ok-try_get_matches_from-clause-wrong c = λ taken.
+    let parsed = c.in-Ok-try_get_matches_from in
+    let words = texts c.args.words.now in
+    let rows = parsed_rows (app_of c.in-Ok.line) words parsed.matches c.in-Ok.ensures.made.form parsed.ensures.matches in
+    let P : Option (Text × List Row) → Type 0 = λ found. TellsWrong found c.fault.result in
+    subst P rows (tells_wrong (subcommand_rows_of parsed.matches) _ c.fault.result c.wrong_with.ensures c.fault.ensures)
+
+pub returns-clause-wrong : goal.returns-clause-wrong
+returns-clause-wrong c = λ taken.
+    let failed = c.in-Err-try_get_matches_from in
+    let words = texts c.args.words.now in
+    let memory = c.usage_of.ensures.memory (fails_by_memory (app_of c.in-Ok.line) words failed.error c.in-Ok.ensures.made.form failed.ensures.kinds taken) in
+    let P : Usage → Type 0 = TellsWrong (subcommand_of command_line words) in
+    subst P (sym memory) tt

@@ -1,0 +1,201 @@
+-- What stands behind an event that no moments witness is one, and so is its text.
+use Rattle.std.proofs.Common.{◌≡◌, ℕ, ◌+◌, ◌-◌, ◌<◌, ◌≤◌, Bool, true, false, ◌&&◌, ◌||◌, ◌==◌, nat_lt, List, [], ◌∷◌, ◌++◌, reverse, map, Option, Some, None, IfSome, IfNone, refl, ap, sym, ◌∙◌, subst, inl, inr, ◌⊎◌, arith}
+use Rattle.std.specs.Prelude.{slice_get}
+use Rattle.std.specs.List.{AllByRecursion}
+use Rattle.std.proofs.lemmas.Bool.{cases_lt, cases_Bool, eqb-true, ltb-true}
+use Rattle.std.proofs.lemmas.List.{reverse-reverse}
+use Rattle.pg_entry.specs.declared.Kind.{Kind}
+use Rattle.pg_entry.specs.Kinds.{kind_of}
+use Rattle.pg_event.specs.declared.event.Event.{Event}
+use Rattle.pg_event.specs.declared.event.Event.TheVariants.{Write, Access, Assist, MovCr3, Invlpg, Invpcid, MovCr4Pge}
+use Rattle.pg_event.specs.declared.event.Outcome.{Outcome}
+use Rattle.pg_event.specs.Heads.{Head}
+use Rattle.pg_event.specs.Values.{control_at}
+use Rattle.pg_event.specs.Walk.{Reading}
+use Rattle.pg_run_of.proofs.Standing.{none_from}
+use Rattle.pg_search.specs.declared.last.Last.{Last}
+use Rattle.pg_search.specs.Freshness.{is_as_fresh, is_as_fresh_back}
+use Rattle.pg_search.specs.Last.{IsLast, IsLastOf, HasNoLast}
+use Rattle.pg_search.specs.Law.{AreWitness}
+use Rattle.pg_explain.specs.declared.entry.WalkEntry.{WalkEntry}
+use Rattle.pg_explain.specs.declared.denial.Denial.{Denial}
+use Rattle.pg_explain.specs.Denied.{IsDenialOf, IsWalkNow, claimed_text, now_walk_text, given_text, denial_text}
+use Rattle.pg_explain.specs.Given.{given_now}
+use Rattle.pg_explain.specs.Lasts.{taken_by, taken_in}
+use Rattle.pg_explain.specs.Walk.{IsTold, IsWalk, IsWriter, is_written, writes_some, reading_at}
+
+some_same : {X : Type 0} (x y : X) → Some x ≡ Some y → x ≡ y
+some_same x y h = cc
+
+or_parts : (a b : Bool) → (a || b) ≡ true → (a ≡ true) ⊎ (b ≡ true)
+or_parts true b h = inl refl
+or_parts false b h = inr h
+
+and_both : (a b : Bool) → (a && b) ≡ true → (a ≡ true) × (b ≡ true)
+and_both true b h = (refl, h)
+and_both false b h = absurd (cc)
+
+-- ---- who wrote an entry
+
+-- none behind the one writes the word, so the other is not behind it
+not_behind : (events : List Event) (a w j k : ℕ) → is_written events a (j + 1) w ≡ false → writes_some a (slice_get events k) ≡ true → k < w → k ≤ j
+not_behind events a w j k none writes lt =
+    elim (cases_lt j k) as (λ _. k ≤ j) [
+      | inl behind ↦
+          let not : writes_some a (slice_get events k) ≡ false = none_from (λ i. writes_some a (slice_get events i)) (j + 1) (w - (j + 1)) k none (omega (arith, behind)) (omega (arith, behind, lt)) in
+          let both : true ≡ false = sym writes ∙ not in
+          absurd cc
+      | inr before ↦ omega (arith, before)
+    ]
+
+-- a word that no event wrote has no writer
+not_written : (events : List Event) (a w j : ℕ) → IsWriter events a w None → IsWriter events a w (Some j) → ⊥
+not_written events a w j h k =
+    let not : writes_some a (slice_get events j) ≡ false = none_from (λ i. writes_some a (slice_get events i)) 0 (w - 0) j h (omega arith) (omega (arith, k.0)) in
+    let both : true ≡ false = sym k.1 ∙ not in
+    absurd cc
+
+one_writer : (events : List Event) (a w : ℕ) (x y : Option ℕ) → IsWriter events a w x → IsWriter events a w y → x ≡ y
+one_writer events a w None None h k = refl
+one_writer events a w None (Some j) h k = absurd (not_written events a w j h k)
+one_writer events a w (Some j) None h k = absurd (not_written events a w j k h)
+one_writer events a w (Some i) (Some j) h k =
+    let low = not_behind events a w i j h.2 k.1 k.0 in
+    let high = not_behind events a w j i k.2 h.1 h.0 in
+    let same : i ≡ j = omega (arith, low, high) in
+    ap Some same
+
+-- ---- the entries of a walk
+
+-- an entry, by what was read
+abbrev entry_by : Reading → ℕ → Kind → Option ℕ → WalkEntry
+entry_by r pcid kind writer = record {
+  step = record { level = r.level; address = r.address; value = r.value; moment = r.moment; rights = r.rights };
+  pcid = pcid;
+  kind = kind;
+  writer = writer;
+}
+
+one_entry : (head : Head) (events : List Event) (p : ℕ) (x y : WalkEntry) → reading_at x ≡ reading_at y → IsTold head events p x → IsTold head events p y → x ≡ y
+one_entry head events p x y read h k =
+    let pcid = h.pcid ∙ ap (λ (r : Reading). (control_at head events p r.moment).pcid) read ∙ sym k.pcid in
+    let kind = h.kind ∙ ap (λ (r : Reading). kind_of head.cfg r.level r.value) read ∙ sym k.kind in
+    let there = subst (λ (r : Reading). IsWriter events r.address r.moment x.writer) read h.writer in
+    let writer = one_writer events y.step.address y.step.moment x.writer y.writer there k.writer in
+    ap (λ r. entry_by r x.pcid x.kind x.writer) read
+    ∙ ap (λ n. entry_by (reading_at y) n x.kind x.writer) pcid
+    ∙ ap (λ n. entry_by (reading_at y) y.pcid n x.writer) kind
+    ∙ ap (λ n. entry_by (reading_at y) y.pcid y.kind n) writer
+
+one_list : (head : Head) (events : List Event) (p : ℕ) (xs ys : List WalkEntry) → map reading_at xs ≡ map reading_at ys → AllByRecursion (IsTold head events p) xs → AllByRecursion (IsTold head events p) ys → xs ≡ ys
+one_list head events p [] [] read h k = refl
+one_list head events p [] (y ∷ ys) read h k = absurd cc
+one_list head events p (x ∷ xs) [] read h k = absurd cc
+one_list head events p (x ∷ xs) (y ∷ ys) read h k =
+    let first : reading_at x ≡ reading_at y = cc in
+    let rest : map reading_at xs ≡ map reading_at ys = cc in
+    let one = one_entry head events p x y first h.0 k.0 in
+    let all = one_list head events p xs ys rest h.1 k.1 in
+    cc
+
+one_walk : (head : Head) (events : List Event) (p la : ℕ) (moments : List ℕ) (xs ys : List WalkEntry) → IsWalk head events p la moments xs → IsWalk head events p la moments ys → xs ≡ ys
+one_walk head events p la moments xs ys h k = one_list head events p xs ys (h.read ∙ sym k.read) h.told k.told
+
+one_walk_now : (head : Head) (events : List Event) (i : ℕ) (e : Event) (xs ys : List WalkEntry) → IsWalkNow head events i e xs → IsWalkNow head events i e ys → xs ≡ ys
+one_walk_now head events i (Write p addr value) xs ys h k = h ∙ sym k
+one_walk_now head events i (Access p flags la outcome moments) xs ys h k = one_walk head events p la (i ∷ i ∷ i ∷ i ∷ []) xs ys h k
+one_walk_now head events i (Assist p flags la word moments) xs ys h k = one_walk head events p la (i ∷ i ∷ i ∷ i ∷ []) xs ys h k
+one_walk_now head events i (MovCr3 p operand) xs ys h k = h ∙ sym k
+one_walk_now head events i (Invlpg p la) xs ys h k = h ∙ sym k
+one_walk_now head events i (Invpcid p kind pcid la) xs ys h k = h ∙ sym k
+one_walk_now head events i (MovCr4Pge p on) xs ys h k = h ∙ sym k
+
+-- ---- when it would last have been witnessed
+
+back_antisym : (ws us : List ℕ) → is_as_fresh_back ws us ≡ true → is_as_fresh_back us ws ≡ true → ws ≡ us
+back_antisym [] [] h k = refl
+back_antisym [] (u ∷ us) h k = absurd cc
+back_antisym (w ∷ ws) [] h k = absurd cc
+back_antisym (w ∷ ws) (u ∷ us) h k =
+    elim (cases_Bool (nat_lt u w)) as (λ _. w ∷ ws ≡ u ∷ us) [
+      | inl t ↦ elim (or_parts (nat_lt w u) (u == w && is_as_fresh_back us ws) k) as (λ _. w ∷ ws ≡ u ∷ us) [
+        | inl s ↦ let below = ltb-true u w t in let above = ltb-true w u s in absurd (omega (arith, below, above))
+        | inr s ↦ let both = and_both (u == w) (is_as_fresh_back us ws) s in let below = ltb-true u w t in let same = eqb-true u w both.0 in absurd (omega (arith, below, same))
+      ]
+      | inr f ↦ elim (or_parts (nat_lt u w) (w == u && is_as_fresh_back ws us) h) as (λ _. w ∷ ws ≡ u ∷ us) [
+        | inl t ↦ let both : true ≡ false = sym t ∙ f in absurd cc
+        | inr s ↦
+            let both = and_both (w == u) (is_as_fresh_back ws us) s in
+            let same = eqb-true w u both.0 in
+            elim (or_parts (nat_lt w u) (u == w && is_as_fresh_back us ws) k) as (λ _. w ∷ ws ≡ u ∷ us) [
+              | inl r ↦ let above = ltb-true w u r in absurd (omega (arith, above, same))
+              | inr r ↦
+                  let other = and_both (u == w) (is_as_fresh_back us ws) r in
+                  let rest = back_antisym ws us both.1 other.1 in
+                  ap (λ n. n ∷ ws) same ∙ ap (λ ns. u ∷ ns) rest
+            ]
+      ]
+    ]
+
+fresh_antisym : (ws us : List ℕ) → is_as_fresh ws us ≡ true → is_as_fresh us ws ≡ true → ws ≡ us
+fresh_antisym ws us h k = sym (reverse-reverse ws) ∙ ap reverse (back_antisym (reverse ws) (reverse us) h k) ∙ reverse-reverse us
+
+not_later : (head : Head) (events : List Event) (i : ℕ) (e : Event) (x y : Last) → IsLastOf head events i e x → IsLastOf head events i e y → y.number ≤ x.number
+not_later head events i e x y h k =
+    elim (cases_lt x.number y.number) as (λ _. y.number ≤ x.number) [
+      | inl later ↦ absurd (h.none y.number (omega (arith, later)) k.before y.moments k.witness)
+      | inr low ↦ omega (arith, low)
+    ]
+
+abbrev last_by : ℕ → List ℕ → Last
+last_by number moments = record { number = number; moments = moments }
+
+one_last_of : (head : Head) (events : List Event) (i : ℕ) (e : Event) (x y : Last) → IsLastOf head events i e x → IsLastOf head events i e y → x ≡ y
+one_last_of head events i e x y h k =
+    let low = not_later head events i e x y h k in
+    let high = not_later head events i e y x k h in
+    let number : x.number ≡ y.number = omega (arith, low, high) in
+    let W : ℕ → List ℕ → Type 0 = λ n us. AreWitness head events n e us in
+    let first = h.freshest y.moments (subst (λ n. W n y.moments) (sym number) k.witness) in
+    let second = k.freshest x.moments (subst (λ n. W n x.moments) number h.witness) in
+    let moments = fresh_antisym x.moments y.moments first second in
+    ap (λ n. last_by n x.moments) number ∙ ap (λ ws. last_by y.number ws) moments
+
+-- one that there is, and none
+last_or_none : (head : Head) (events : List Event) (i : ℕ) (x : Last) → IsLast head events i x → HasNoLast head events i → ⊥
+last_or_none head events i x some none =
+    let same = some_same some.0 none.0 (sym some.1 ∙ none.1) in
+    let last = subst (λ e. IsLastOf head events i e x) same some.2 in
+    none.2 x.number (omega arith) last.before x.moments last.witness
+
+one_last : (head : Head) (events : List Event) (i : ℕ) (x y : Option Last) → IfSome x (IsLast head events i) → IfNone x (HasNoLast head events i) → IfSome y (IsLast head events i) → IfNone y (HasNoLast head events i) → x ≡ y
+one_last head events i None None some none some' none' = refl
+one_last head events i (Some x) None some none some' none' = absurd (last_or_none head events i x some none')
+one_last head events i None (Some y) some none some' none' = absurd (last_or_none head events i y some' none)
+one_last head events i (Some x) (Some y) some none some' none' =
+    let same = some_same some.0 some'.0 (sym some.1 ∙ some'.1) in
+    ap Some (one_last_of head events i some'.0 x y (subst (λ e. IsLastOf head events i e x) same some.2) some'.2)
+
+-- ---- all of it
+
+one_given : (event : Option Event) (head : Head) (events : List Event) (e : Event) (xs ys : List WalkEntry) (i : ℕ) → event ≡ Some e → IfSome event (λ e. IsWalkNow head events i e xs) → IfSome event (λ e. IsWalkNow head events i e ys) → xs ≡ ys
+one_given None head events e xs ys i there h k = absurd cc
+one_given (Some x) head events e xs ys i there h k = one_walk_now head events i x xs ys h k
+
+same_given : (event : Option Event) (e : Event) (given : Event → Option Outcome) (x y : Option Outcome) → event ≡ Some e → IfSome event (λ e. x ≡ given e) → IfSome event (λ e. y ≡ given e) → x ≡ y
+same_given None e given x y there h k = absurd cc
+same_given (Some z) e given x y there h k = h ∙ sym k
+
+abbrev told : List Event → ℕ → List WalkEntry → Option Outcome → Option Last → List ℕ
+told events number walk given last = claimed_text number (slice_get events number) ++ (now_walk_text walk ++ (given_text given ++ taken_by (taken_in events last) last))
+
+pub one_denial : (head : Head) (events : List Event) (i : ℕ) (e : Event) (x y : Denial) → slice_get events i ≡ Some e → IsDenialOf head events i x → IsDenialOf head events i y → denial_text events x ≡ denial_text events y
+one_denial head events i e x y there h k =
+    let number = h.number ∙ sym k.number in
+    let walk = one_given (slice_get events i) head events e x.walk.items y.walk.items i there h.walk k.walk in
+    let given = same_given (slice_get events i) e (given_now head events i) x.given y.given there h.given k.given in
+    let last = one_last head events i x.last y.last h.last h.never k.last k.never in
+    ap (λ n. told events n x.walk.items x.given x.last) number
+    ∙ ap (λ w. told events y.number w x.given x.last) walk
+    ∙ ap (λ g. told events y.number y.walk.items g x.last) given
+    ∙ ap (told events y.number y.walk.items y.given) last

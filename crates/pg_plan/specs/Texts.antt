@@ -1,0 +1,56 @@
+-- The texts of this program's own that are told where words give no plan. (`clap` makes those of help
+-- and of words that it does not take.)
+use Rattle.std.specs.Prelude.{◌≡◌, ◌⊎◌, List, ◌++◌, Option, Some, None, codes, string_bytes}
+use Rattle.clap.specs.Walk.{Row, Text}
+use Rattle.pg_plan.specs.Commands.{IsTellingOf}
+use Rattle.pg_plan.specs.declared.request.Telling.{Telling}
+use Rattle.pg_plan.specs.declared.request.Usage.{Usage}
+use Rattle.pg_plan.specs.declared.request.Usage.TheVariants.{Help, Version, Fault, Memory}
+
+-- the version of the program, and those of the records that it reads
+abbrev pub version_text : Text
+version_text = codes "pcid-audit 0.2.0 (record versions 1 and 2)\n"
+
+abbrev pub more_text : Text
+more_text = codes "\n\nFor more information, try '--help'.\n"
+
+-- a number, an address or a page is none
+abbrev pub number_text : Text
+number_text =
+    codes "error: a number is given by digits alone, an address by 0x and 1 to 16 hexadecimal digits,"
+    ++ (codes "\n  and a page by an address that is canonical" ++ more_text)
+
+-- options ask to be told of bad events in two ways, or of so many without all
+abbrev pub telling_text : Text
+telling_text =
+    codes "error: --most goes with --all alone, by digits alone, and --svg goes without --all"
+    ++ more_text
+
+-- The text is what is wrong with what a command's options spell, where `clap` takes the words: what
+-- they ask to be told of bad events, or else a number.
+abbrev pub IsWrong : Option (Text × List Row) → Text → Type 0
+IsWrong None text = text ≡ number_text
+IsWrong (Some (name, rows)) text =
+    (((telling : Telling) → ¬ IsTellingOf rows telling) × (text ≡ telling_text))
+    ⊎ ((telling : Telling) × IsTellingOf rows telling × (text ≡ number_text))
+
+-- the text is told as a fault, or memory was refused
+abbrev pub IsFaultOf : Text → Usage → Type 0
+IsFaultOf text (Fault told) = string_bytes told ≡ text
+IsFaultOf text Memory = Unit {0}
+IsFaultOf text (Help told) = ⊥
+IsFaultOf text (Version told) = ⊥
+
+-- what is wrong is told as a fault, or memory was refused
+abbrev pub TellsWrong : Option (Text × List Row) → Usage → Type 0
+TellsWrong found (Fault told) = IsWrong found (string_bytes told)
+TellsWrong found Memory = Unit {0}
+TellsWrong found (Help told) = ⊥
+TellsWrong found (Version told) = ⊥
+
+-- if it is the version, its text is that
+abbrev pub HasVersionText : Usage → Type 0
+HasVersionText (Version text) = string_bytes text ≡ version_text
+HasVersionText (Help text) = Unit {0}
+HasVersionText (Fault text) = Unit {0}
+HasVersionText Memory = Unit {0}
