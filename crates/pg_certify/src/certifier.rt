@@ -12,9 +12,10 @@ ghost use Rattle.pg_certify.specs.Shares.{IsDealt, IsLeastDenied};
 
 use crate::case::{Asks, Case, case_of};
 use crate::guesses::{Guesses, Part, Scope, key_of};
+use crate::mapped::Events;
 use crate::pcids::Pcids;
 use crate::share::Share;
-use crate::walk::{Walk, address_by, first_moments, is_global, last_of, walk_by};
+use crate::walk::{Walk, address_by, first_moments, is_global, last_of, tables_up_to, walk_by};
 use pg_check::{History, Memo, failing};
 use pg_entry::has_bit;
 use pg_event::{Event, Moments, Outcome, Reason};
@@ -37,6 +38,7 @@ pub enum Certified {
 pub(crate) struct Certifier<'a> {
     alloc: Global,
     seen: Seen<'a>,
+    events: Events<'a>,
     memo: Memo<'a>,
     guesses: Guesses,
     pcids: Pcids,
@@ -127,11 +129,23 @@ fn may_serve(event: &Event, address: Option<u64>) -> bool {
     }
 }
 
+/// The physical address that an access came to, if it was done.
+fn page_of(event: &Event) -> Option<u64> {
+    match *event {
+        Event::Access {
+            outcome: Outcome::Page(page),
+            ..
+        } => Some(page),
+        _ => None,
+    }
+}
+
 impl<'a> Certifier<'a> {
     /// One that is to find moments for so many events, by what was found before.
     pub(crate) fn new(
         alloc: Global,
         seen: Seen<'a>,
+        events: Events<'a>,
         guesses: Guesses,
         count: usize,
     ) -> Certifier<'a>
@@ -141,6 +155,7 @@ impl<'a> Certifier<'a> {
         Certifier {
             alloc,
             seen,
+            events,
             memo,
             guesses,
             pcids: Pcids::new(alloc),
@@ -537,6 +552,73 @@ impl<'a> Certifier<'a> {
         }
     }
 
+    /// The access to a page by walks that read the entry from when on the page was mapped: whole,
+    /// or by the tables that were found last near by, up to then.
+    fn guess_mapped_at(&mut self, event: &Event, case: Case, moment: u32) -> Option<Event>
+        requires well { broken_rule self.old.head event.now ≡ None }
+        requires processor { case.p < length self.old.head.processors }
+        ensures same { self.new ≡ self.old }
+        ensures found { IfSome result
+            (IsFoundFor self.old.head self.old.events case.i event.now) }
+    {
+        if let Some(found) = self.guess_walk(event, case, &[], moment) {
+            return Some(found);
+        }
+        let near = self.guesses.tables(case.p, case.pcid, case.la)?;
+        let tables = tables_up_to(&near, moment);
+        self.guess_walk(event, case, tables.as_slice(), moment)
+    }
+
+    /// The access to a page by the moments at which that was mapped last.
+    fn guess_mapped(&mut self, event: &Event, case: Case, page: u64) -> Option<Event>
+        requires well { broken_rule self.old.head event.now ≡ None }
+        requires processor { case.p < length self.old.head.processors }
+        ensures same { self.new ≡ self.old }
+        ensures found { IfSome result
+            (IsFoundFor self.old.head self.old.events case.i event.now) }
+    {
+        let moments = self.guesses.mapped(self.events, case.i, page)?;
+        for moment in moments {
+            if moment > 0 {
+                if let Some(found) = self.guess_mapped_at(event, case, moment) {
+                    return Some(found);
+                }
+            }
+        }
+        None
+    }
+
+    /// The assist by the tables of the one that was found last in the same table.
+    fn guess_assist(&mut self, event: &Event, case: Case, word: u64) -> Option<Event>
+        requires well { broken_rule self.old.head event.now ≡ None }
+        requires processor { case.p < length self.old.head.processors }
+        ensures same { self.new ≡ self.old }
+        ensures found { IfSome result
+            (IsFoundFor self.old.head self.old.events case.i event.now) }
+    {
+        let other = self.guesses.assist(case.p, case.pcid, word)?;
+        let all = other.as_slice();
+        self.guess_walk(event, case, &all[..all.len() - 1], case.i)
+    }
+
+    /// The event by what searches of all moments have told.
+    fn guess_learned(&mut self, event: &Event, case: Case) -> Option<Event>
+        requires well { broken_rule self.old.head event.now ≡ None }
+        requires processor { case.p < length self.old.head.processors }
+        ensures same { self.new ≡ self.old }
+        ensures found { IfSome result
+            (IsFoundFor self.old.head self.old.events case.i event.now) }
+    {
+        match case.asks {
+            Asks::Word(word) => self.guess_assist(event, case, word),
+            Asks::Entry => None,
+            Asks::Page => match page_of(event) {
+                Some(page) => self.guess_mapped(event, case, page),
+                None => None,
+            },
+        }
+    }
+
     /// The event by walks that are made anew: now, near by, or earlier.
     fn guess_new(&mut self, event: &Event, case: Case) -> Option<Event>
         requires well { broken_rule self.old.head event.now ≡ None }
@@ -548,10 +630,26 @@ impl<'a> Certifier<'a> {
         if let Some(found) = self.guess_now(event, case) {
             return Some(found);
         }
-        match self.guess_near(event, case) {
+        if let Some(found) = self.guess_near(event, case) {
+            return Some(found);
+        }
+        match self.guess_learned(event, case) {
             Some(found) => Some(found),
             None => self.guess_back(event, case),
         }
+    }
+
+    /// Keeps the moments that a search found, and begins to look when frames are mapped.
+    fn learn(&mut self, case: Case, moments: Moments)
+        requires { case.p < length self.old.head.processors }
+        ensures { self.new ≡ self.old }
+    {
+        let walk = walk_by(&self.seen, case.p, case.la, moments.as_slice(), case.i);
+        self.note_walk(case, &walk);
+        if let Asks::Word(word) = case.asks {
+            self.guesses.note_assist(case.p, case.pcid, word, moments);
+        }
+        self.guesses.look_for_frames(self.alloc);
     }
 
     /// The event with moments that witness it, by a search of all that there are, or `None` where
@@ -572,8 +670,7 @@ impl<'a> Certifier<'a> {
             return Ok(None);
         };
         moments_fit(moments);
-        let walk = walk_by(&self.seen, case.p, case.la, moments.as_slice(), case.i);
-        self.note_walk(case, &walk);
+        self.learn(case, moments);
         Ok(Some(with_moments(event, moments)))
     }
 
@@ -686,7 +783,14 @@ pub(crate) fn first_denied_of(
         history.now.head history.now.events) }
 {
     let count = share.size_of(history.len());
-    let mut certifier = Certifier::new(alloc, Seen::of(history), Guesses::new(alloc), count);
+    let events = Events::Whole(history.events());
+    let mut certifier = Certifier::new(
+        alloc,
+        Seen::of(history),
+        events,
+        Guesses::new(alloc),
+        count,
+    );
     for i in 0..history.len() {
         let asked = event_at(history, i);
         if share.has(asked) {
@@ -721,7 +825,14 @@ pub fn certify(alloc: Global, history: &History) -> Result<Certified, AllocError
     ensures { IfOk result (Certifies history.now.head history.now.events) }
 {
     let count = history.len() as usize;
-    let mut certifier = Certifier::new(alloc, Seen::of(history), Guesses::new(alloc), count);
+    let events = Events::Whole(history.events());
+    let mut certifier = Certifier::new(
+        alloc,
+        Seen::of(history),
+        events,
+        Guesses::new(alloc),
+        count,
+    );
     let mut found = Vec::new(alloc);
     for i in 0..history.len() {
         let asked = event_at(history, i);

@@ -1,6 +1,7 @@
 //! Moments that were found, kept to guess from. Nothing is claimed of a guess: it is judged before
 //! it is taken, so that a wrong one costs time alone.
 
+use crate::mapped::{Events, Mapped};
 use crate::walk::and_then;
 use pg_event::{Moments, bits_from};
 use std::alloc::Global;
@@ -23,9 +24,13 @@ pub(crate) enum Scope {
 pub(crate) struct Guesses {
     pages: HashMap<u64, [u32; 4]>,
     tables: HashMap<u64, Moments>,
+    /// The moments of assists, by the table that their word lies in.
+    assists: HashMap<u64, Moments>,
     flushes: HashMap<u64, u32>,
     has_large: bool,
     has_global: bool,
+    /// When frames were mapped, from the first search of all moments on.
+    mapped: Option<Mapped>,
 }
 
 /// A part of the linear address space, told by the upper bits of an address: a page by its size, or
@@ -73,6 +78,11 @@ fn globals_of(p: u16) -> u64 {
     (p as u64) << 32 | 3
 }
 
+/// A key that tells the table of a word, under a PCID of a processor.
+fn table_key(p: u16, pcid: u16, word: u64) -> u64 {
+    ((p as u64) << 52) ^ ((pcid as u64) << 40) ^ (word >> 12)
+}
+
 /// The page that a walk by so many moments comes to.
 fn page_by(count: usize) -> Part {
     match count {
@@ -88,9 +98,11 @@ impl Guesses {
         Guesses {
             pages: HashMap::new(alloc),
             tables: HashMap::new(alloc),
+            assists: HashMap::new(alloc),
             flushes: HashMap::new(alloc),
             has_large: false,
             has_global: false,
+            mapped: None,
         }
     }
 
@@ -113,6 +125,46 @@ impl Guesses {
             .get(&key_of(p, Scope::Tables(pcid), Part::Of1G, la))
         {
             Some(moments) => Some(*moments),
+            None => None,
+        }
+    }
+
+    /// Keeps moments that witness an assist for the others in its table.
+    pub(crate) fn note_assist(&mut self, p: u16, pcid: u16, word: u64, moments: Moments) {
+        let _refused = self
+            .assists
+            .insert(table_key(p, pcid, word), moments)
+            .is_err();
+    }
+
+    /// The moments that were found last for an assist in the table of a word.
+    pub(crate) fn assist(&self, p: u16, pcid: u16, word: u64) -> Option<Moments> {
+        match self.assists.get(&table_key(p, pcid, word)) {
+            Some(moments) => Some(*moments),
+            None => None,
+        }
+    }
+
+    /// Begins to look when frames are mapped: guesses have failed.
+    pub(crate) fn look_for_frames(&mut self, alloc: Global) {
+        if self.mapped.is_none() {
+            self.mapped = Some(Mapped::new(alloc));
+        }
+    }
+
+    /// The moments before an event at which a page with a physical address was mapped last, by its
+    /// size, if that is looked for.
+    pub(crate) fn mapped(
+        &mut self,
+        events: Events<'_>,
+        number: u32,
+        page: u64,
+    ) -> Option<[u32; 12]> {
+        match &mut self.mapped {
+            Some(mapped) => {
+                mapped.look(events, number);
+                Some(mapped.moments_of(page))
+            }
             None => None,
         }
     }

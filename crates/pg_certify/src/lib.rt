@@ -12,6 +12,7 @@ mod flags;
 mod guesses;
 mod keeping;
 mod laws;
+mod mapped;
 mod numbering;
 mod pcids;
 mod share;

@@ -56,6 +56,18 @@ pub(crate) fn first_moments(moments: &Moments, count: usize) -> Moments {
     first
 }
 
+/// The first three moments of a list, none of them later than this one.
+pub(crate) fn tables_up_to(moments: &Moments, moment: u32) -> Moments {
+    let all = moments.as_slice();
+    let mut tables = Moments::first(all[0].min(moment));
+    for other in &all[1..] {
+        if tables.len() < 3 {
+            tables = and_then(tables, moment.min(*other));
+        }
+    }
+    tables
+}
+
 /// The walk of a processor for an address that reads its first entries at these moments, and what
 /// comes below at one moment.
 pub(crate) fn walk_by(seen: &Seen<'_>, p: u16, la: u64, front: &[u32], moment: u32) -> Walk

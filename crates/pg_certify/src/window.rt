@@ -9,6 +9,7 @@ ghost use Rattle.pg_certify.specs.Windows.{IsFirstDenied};
 use crate::certifier::Certifier;
 use crate::guesses::Guesses;
 use crate::keeping::changes_something;
+use crate::mapped::Events;
 use pg_event::Event;
 use pg_search::{KeptRun, Seen};
 use std::alloc::{AllocError, Global};
@@ -74,7 +75,13 @@ pub(crate) fn first_denied_among(
     ensures { IfOk result (IsFirstDenied kept.now.head kept.now.events first window.now) }
 {
     let before = mem::replace(guesses, Guesses::new(alloc));
-    let mut certifier = Certifier::new(alloc, Seen::among(kept), before, window.len());
+    let mut certifier = Certifier::new(
+        alloc,
+        Seen::among(kept),
+        Events::Kept(kept),
+        before,
+        window.len(),
+    );
     let denied = first_denied_in(&mut certifier, first, window)?;
     *guesses = certifier.into_guesses();
     Ok(denied)
