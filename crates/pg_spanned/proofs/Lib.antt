@@ -1,0 +1,4 @@
+pub mod Places
+pub mod Found
+pub mod Bounds
+pub mod Orders
