@@ -2,3 +2,4 @@ pub mod Places
 pub mod Found
 pub mod Bounds
 pub mod Orders
+pub mod Ends

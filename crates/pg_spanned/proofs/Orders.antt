@@ -10,11 +10,18 @@ use Rattle.pg_event.specs.Form.{broken_rule, processor_of}
 use Rattle.pg_event.proofs.Events.{processor_within}
 use Rattle.pg_spanned.specs.Orders.{Spanned, StandsBefore, IsOrder}
 use Rattle.pg_spanned.specs.Places.{ArePlaces, KeepsSpans, KeepsPrograms}
-use Rattle.pg_spanned.proofs.Places.{stands_once}
+use Rattle.pg_spanned.proofs.Places.{AreAll, stands_once, stands_below}
 
 pub processors_within : (head : Head) (events : List Event) (n : ℕ) → n ≡ length head.processors → AllByRecursion (λ e. broken_rule head e ≡ None) events → AllByRecursion (λ e. processor_of e < n) events
 processors_within head [] n count well = tt
 processors_within head (e ∷ es) n count well = (subst (λ (k : ℕ). processor_of e < k) (sym count) (processor_within head e well.0), processors_within head es n count well.1)
+
+pub are_all : (s : Spanned) (order : List ℕ) → IsOrder s order → AreAll order (length s.events)
+are_all s order is = record { count = is.count; each = is.each }
+
+-- the numbers of an order are those of events
+pub order_within : (s : Spanned) (order : List ℕ) → IsOrder s order → (k i : ℕ) → slice_get order k ≡ Some i → i < length s.events
+order_within s order is k i at = stands_below order (length s.events) (are_all s order is) k i at
 
 -- each number below so many has a place
 abbrev pub AllPlaced : List ℕ → Type 0
@@ -54,8 +61,8 @@ all_placed s order places are is i lt = elim (cases_lt (get_or places i 0) (leng
 rises_by : (s : Spanned) (order places : List ℕ) → ArePlaces order places → IsOrder s order → (j i : ℕ) → j < length places → i < length places → StandsBefore order j i → get_or places j 0 < get_or places i 0
 rises_by s order places are is j i low lt before =
     let placed : AllPlaced places = all_placed s order places are is in
-    let first : before.place ≡ get_or places j 0 = stands_once order (length s.events) is.count is.each before.place (get_or places j 0) j before.first (at_place order places are placed j low) in
-    let second : before.later ≡ get_or places i 0 = stands_once order (length s.events) is.count is.each before.later (get_or places i 0) i before.second (at_place order places are placed i lt) in
+    let first : before.place ≡ get_or places j 0 = stands_once order (length s.events) (are_all s order is) before.place (get_or places j 0) j before.first (at_place order places are placed j low) in
+    let second : before.later ≡ get_or places i 0 = stands_once order (length s.events) (are_all s order is) before.later (get_or places i 0) i before.second (at_place order places are placed i lt) in
     omega (arith, first, second, before.rises)
 
 pub spans_by_order : (s : Spanned) (order places : List ℕ) → length s.backs ≡ length s.events → ArePlaces order places → IsOrder s order → KeepsSpans s.backs places

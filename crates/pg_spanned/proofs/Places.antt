@@ -3,7 +3,7 @@ use Rattle.std.proofs.Common.{◌≡◌, ℕ, zero, suc, ◌<◌, ◌≤◌, tru
 use Rattle.std.specs.Prelude.{slice_get}
 use Rattle.std.specs.List.{AllByRecursion, Contains, list_any}
 use Rattle.std.proofs.Math.Bool.{or-true}
-use Rattle.std.proofs.lemmas.Bool.{cases_eq}
+use Rattle.std.proofs.lemmas.Bool.{cases_eq, cases_lt}
 use Rattle.std.proofs.lemmas.Option.{slice_get-get_or, slice_get_within}
 use Rattle.std.proofs.lemmas.Map.Steps.{le-length_from_below}
 
@@ -52,19 +52,37 @@ stays (y ∷ ys) zero (suc k) x other h = any_at ys k x h
 stays (y ∷ ys) (suc a) zero x other h = any_here x y (without ys a) (cc)
 stays (y ∷ ys) (suc a) (suc k) x other h = any_there x y (without ys a) (stays ys a k x (λ same. other (ap suc same)) h)
 
--- where so many numbers have all below their count among them, none stands there twice
-pub stands_once : (xs : List ℕ) (n : ℕ) → length xs ≡ n → ((i : ℕ) → i < n → Contains xs i) → (a b i : ℕ) → slice_get xs a ≡ Some i → slice_get xs b ≡ Some i → a ≡ b
-stands_once xs n count each a b i at_a at_b = elim (cases_eq a b) [
+-- so many numbers that have all below their count among them
+pub record AreAll (xs : List ℕ) (n : ℕ) : Type 0 where
+  pub count : length xs ≡ n
+  pub each : (i : ℕ) → i < n → Contains xs i
+
+-- so each number has a place, and another than that of another number
+elsewhere : (xs : List ℕ) (n : ℕ) → AreAll xs n → (a i q : ℕ) → slice_get xs a ≡ Some i → (i ≡ q → ⊥) → q < n → list_any (eqb q) (without xs a) ≡ true
+elsewhere xs n all a i q at_a differs lt =
+    let there = all.each q lt in
+    let at_k : slice_get xs there.0 ≡ Some q = slice_get-get_or xs there.0 q there.1 ∙ ap Some there.2 in
+    stays xs a there.0 q (λ same. differs (some_same i q (sym at_a ∙ (ap (slice_get xs) (sym same) ∙ at_k)))) at_k
+
+-- none of them can be missed
+none_spare : (xs : List ℕ) (n : ℕ) → AreAll xs n → (a i : ℕ) → slice_get xs a ≡ Some i → ((q : ℕ) → q < n → list_any (eqb q) (without xs a) ≡ true) → ⊥
+none_spare xs n all a i at_a rest =
+    let many : n ≤ length (without xs a) = le-length_from_below (without xs a) n rest in
+    omega (arith, many, all.count, length-without xs a (slice_get_within xs a i at_a))
+
+-- so none stands there twice
+pub stands_once : (xs : List ℕ) (n : ℕ) → AreAll xs n → (a b i : ℕ) → slice_get xs a ≡ Some i → slice_get xs b ≡ Some i → a ≡ b
+stands_once xs n all a b i at_a at_b = elim (cases_eq a b) [
   | inl same ↦ same
-  | inr other ↦
-      let within : a < length xs = slice_get_within xs a i at_a in
-      let all : (q : ℕ) → q < n → list_any (eqb q) (without xs a) ≡ true = λ q lt. elim (cases_eq i q) [
-        | inl own ↦ stays xs a b q (λ same. other (sym same)) (at_b ∙ ap Some own)
-        | inr differs ↦
-            let there = each q lt in
-            let at_k : slice_get xs there.0 ≡ Some q = slice_get-get_or xs there.0 q there.1 ∙ ap Some there.2 in
-            stays xs a there.0 q (λ same. differs (some_same i q (sym at_a ∙ (ap (slice_get xs) (sym same) ∙ at_k)))) at_k
-      ] in
-      let many : n ≤ length (without xs a) = le-length_from_below (without xs a) n all in
-      absurd (omega (arith, many, count, length-without xs a within))
+  | inr other ↦ absurd (none_spare xs n all a i at_a (λ q lt. elim (cases_eq i q) [
+    | inl own ↦ stays xs a b q (λ same. other (sym same)) (at_b ∙ ap Some own)
+    | inr differs ↦ elsewhere xs n all a i q at_a differs lt
+  ]))
+]
+
+-- and each of them is below their count
+pub stands_below : (xs : List ℕ) (n : ℕ) → AreAll xs n → (a i : ℕ) → slice_get xs a ≡ Some i → i < n
+stands_below xs n all a i at_a = elim (cases_lt i n) [
+  | inl low ↦ low
+  | inr high ↦ absurd (none_spare xs n all a i at_a (λ q lt. elsewhere xs n all a i q at_a (λ same. omega (arith, same, high, lt)) lt))
 ]

@@ -1,0 +1,9 @@
+//! Whether the events of a record with no one order have an order in which some run of the machine
+//! has them.
+#![tactic(auto)]
+
+mod in_order;
+mod laws;
+
+pub use in_order::{InOrder, certify_in_order};
+pub use laws::{ordered_events_run, ordered_exactly_where_a_run_exists};
