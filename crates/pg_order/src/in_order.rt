@@ -2,6 +2,7 @@
 
 ghost use Rattle.std.specs.Prelude.{◌≡◌, IfOk};
 ghost use Rattle.pg_spanned.specs.Orders.{IsOrder};
+ghost use Rattle.pg_spanned.specs.Spanned.{IsSpanned};
 ghost use Rattle.pg_order.specs.Runs.{ordered, IsToldOf, HasRunIfCertified};
 
 use crate::laws::ordered_events_run;
@@ -30,10 +31,11 @@ fn history_in_order(
     order: &[u32],
 ) -> Result<History, AllocError>
     requires { IsOrder run.now order.now }
-    ensures { IfOk result (λ history. history ≡ record {
+    ensures events { IfOk result (λ history. history ≡ record {
       head = run.now.head;
       events = ordered run.now.events order.now;
     }) }
+    ensures spanned { IfOk result (λ history. IsSpanned run.now) }
 {
     let header = run.header().clone()?;
     let mut history = History::new(alloc, header)?;

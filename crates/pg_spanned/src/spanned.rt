@@ -2,7 +2,6 @@
 
 ghost use Rattle.std.specs.Prelude.{◌≡◌, ◌+◌, ◌<◌, ◌≤◌, ◌^◌, [], ◌∷◌, ◌++◌, length, None};
 ghost use Rattle.std.specs.Prelude.{IfOk, OnOk, OnErr};
-ghost use Rattle.std.specs.List.{AllByRecursion};
 ghost use Rattle.pg_event.specs.Form.{broken_rule};
 ghost use Rattle.pg_event.specs.Spelling.{IsHead};
 ghost use Rattle.pg_spanned.specs.Spanned.{IsSpanned};
@@ -99,7 +98,7 @@ impl SpannedRun {
     /// The events as they ended.
     pub fn events(&self) -> &[Event]
         ensures events { result.now ≡ self.now.events }
-        ensures well { AllByRecursion (λ e. broken_rule self.now.head e ≡ None) self.now.events }
+        ensures spanned { IsSpanned self.now }
     {
         self.events.as_slice()
     }
