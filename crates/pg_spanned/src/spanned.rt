@@ -1,7 +1,7 @@
 //! A run whose events have spans in the place of one order.
 
 ghost use Rattle.std.specs.Prelude.{◌≡◌, ◌+◌, ◌<◌, ◌≤◌, ◌^◌, [], ◌∷◌, ◌++◌, length, None};
-ghost use Rattle.std.specs.Prelude.{IfOk, OnOk, OnErr};
+ghost use Rattle.std.specs.Prelude.{IfOk, OnOk, OnErr, IfSome, slice_get, option_map};
 ghost use Rattle.pg_event.specs.Form.{broken_rule};
 ghost use Rattle.pg_event.specs.Spelling.{IsHead};
 ghost use Rattle.pg_spanned.specs.Spanned.{IsSpanned};
@@ -101,6 +101,18 @@ impl SpannedRun {
         ensures spanned { IsSpanned self.now }
     {
         self.events.as_slice()
+    }
+
+    /// The event with this number, if there is one.
+    pub fn event_at(&self, number: u32) -> Option<&Event>
+        ensures event { option_map (λ e. e.now) result ≡ slice_get self.now.events number }
+        ensures well { IfSome result (λ e. broken_rule self.now.head e.now ≡ None) }
+    {
+        if (number as usize) < self.events.len() {
+            Some(&self.events[number as usize])
+        } else {
+            None
+        }
     }
 
     /// For each event how many of those before it had not yet ended when it began.
