@@ -1,6 +1,6 @@
 -- Records with no one order: whether the events have an order in which some run of the machine has
 -- them (Intel SDM, vol. 3, 4.10).
-use Rattle.std.specs.Prelude.{◌≡◌, ℕ, ◌-◌, ◌^◌, ◌<◌, ◌≤◌, ◌↔◌, List, length, slice_get}
+use Rattle.std.specs.Prelude.{ℕ, ◌-◌, ◌^◌, ◌≤◌, ◌↔◌, List, length, slice_get}
 use Rattle.std.specs.List.{flat_map}
 use Rattle.std.specs.Option.{option_to_list}
 use Rattle.pg_event.specs.declared.event.Event.{Event}

@@ -123,7 +123,11 @@ impl<'a> Asker<'a> {
                 first_moments(&walk.moments, level + 1)
             }
         };
-        if self.judge(moments) { Some(moments) } else { None }
+        if self.judge(moments) {
+            Some(moments)
+        } else {
+            None
+        }
     }
 
     /// Moments of a walk that reads its first entries at these moments and the others at one.
@@ -179,7 +183,11 @@ impl<'a> Asker<'a> {
         for _ in 0..MOST_CHANGES {
             moment = self.seen.value_span(moment, word).from.checked_sub(1)?;
             for front in [[].as_slice(), [moment].as_slice(), [moment; 2].as_slice()] {
-                let below = if front.is_empty() { moment } else { self.number };
+                let below = if front.is_empty() {
+                    moment
+                } else {
+                    self.number
+                };
                 if let Some(found) = self.guess_walk(front, below, looked) {
                     return Some(found);
                 }

@@ -25,11 +25,7 @@ pub enum InOrder {
 }
 
 /// The events of a run in one of their orders.
-fn history_in_order(
-    alloc: Global,
-    run: &SpannedRun,
-    order: &[u32],
-) -> Result<History, AllocError>
+fn history_in_order(alloc: Global, run: &SpannedRun, order: &[u32]) -> Result<History, AllocError>
     requires { IsOrder run.now order.now }
     ensures events { IfOk result (λ history. history ≡ record {
       head = run.now.head;

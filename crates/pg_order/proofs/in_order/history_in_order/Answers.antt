@@ -1,11 +1,10 @@
-use Rattle.std.proofs.Common.{◌≡◌, ◌+◌, ◌<◌, ◌≤◌, ℕ, List, ◌∷◌, [], ◌++◌, length, take, get_or, arith, ap, sym, ◌∙◌, refl, subst, Some, None}
+use Rattle.std.proofs.Common.{◌≡◌, ◌+◌, ◌<◌, ℕ, List, ◌∷◌, [], ◌++◌, length, take, get_or, arith, ap, sym, ◌∙◌, refl, subst, Some, None}
 use Rattle.std.proofs.lemmas.List.{length-take}
 use Rattle.std.proofs.lemmas.Option.{slice_get-get_or}
 use Rattle.pg_event.specs.declared.event.Event.{Event}
 use Rattle.pg_event.specs.Heads.{Head}
 use Rattle.pg_event.specs.Form.{broken_rule}
 use Rattle.pg_event.specs.Spelling.{Recorded}
-use Rattle.pg_spanned.specs.Orders.{Spanned}
 use Rattle.pg_spanned.proofs.Orders.{order_within}
 use Rattle.pg_spanned.proofs.Places.{AllByRecursion-at}
 use Rattle.pg_order.specs.Runs.{ordered}

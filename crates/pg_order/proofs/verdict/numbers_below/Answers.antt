@@ -1,4 +1,4 @@
-use Rattle.std.proofs.Common.{◌≡◌, ◌∷◌, [], ◌++◌, ap, sym, ◌∙◌}
+use Rattle.std.proofs.Common.{◌∷◌, [], ◌++◌, ap, sym, ◌∙◌}
 use Rattle.pg_order.proofs.Numbers.{numbers_more}
 use Rattle.pg_order.proofs.verdict.numbers_below.Goals as goal
 
