@@ -110,10 +110,7 @@ fn is_told(alloc: Global, run: &SpannedRun, told: &Told) -> Result<bool, Fail> {
 
 /// Whether the events are certified in this order.
 fn is_certified_in(alloc: Global, run: &SpannedRun, order: &[u32]) -> Result<bool, Fail> {
-    Ok(matches!(
-        certify_in_order(alloc, run, order)?,
-        InOrder::Certified(_)
-    ))
+    Ok(matches!(certify_in_order(alloc, run, order)?, InOrder::Certified(_)))
 }
 
 fn is_so(alloc: Global, case: &Case) -> Result<bool, Fail> {
