@@ -1,5 +1,6 @@
 -- Where numbers stand in a list, and what keeps them in order there.
-use Rattle.std.specs.Prelude.{◌≡◌, ℕ, ◌-◌, ◌<◌, ◌≤◌, ◌↔◌, List, length, Some, slice_get, slice_index}
+use Rattle.std.specs.Prelude.{◌≡◌, ℕ, ◌-◌, ◌<◌, ◌≤◌, ◌↔◌, List, length, Some, slice_get}
+use Rattle.std.specs.Prelude.{slice_index}
 use Rattle.std.specs.List.{Contains}
 use Rattle.pg_event.specs.declared.event.Event.{Event}
 use Rattle.pg_spanned.specs.Orders.{AreOfOneProcessor}
