@@ -8,6 +8,8 @@ mod explanations;
 #[cfg(test)]
 mod machine;
 #[cfg(test)]
+mod orders;
+#[cfg(test)]
 mod runs;
 #[cfg(test)]
 mod searches;

@@ -109,7 +109,11 @@ pub(crate) fn event_of(written: &Written) -> Option<Event> {
 }
 
 /// MAXPHYADDR 40, WP and NXE, and so many processors with the PCID 1 and the root 0x1000.
-fn header_of(alloc: Global, version: Version, processors: usize) -> Result<Header, AllocError> {
+pub(crate) fn header_of(
+    alloc: Global,
+    version: Version,
+    processors: usize,
+) -> Result<Header, AllocError> {
     Ok(Header {
         version,
         cfg: Cfg {

@@ -1,0 +1,128 @@
+use crate::certificates::MAPPED;
+use crate::written::{INVLPG, READ, Written, event_of, header_of};
+use pg_event::{Outcome, Version, well_formed};
+use pg_order::{InOrder, Verdict, certify_in_order, find_ordered_run};
+use pg_spanned::{SpannedRun, is_order};
+use std::alloc::{AllocGlobal, Global};
+use std::test::Fail;
+
+/// An event behind the mapping, and how many before it had not ended when it began.
+type Spanned = (Written, u32);
+
+/// What is to be told.
+enum Told {
+    Yes,
+    No(u64),
+    Undecided(u64),
+}
+
+struct Case {
+    name: &'static str,
+    events: &'static [Spanned],
+    told: Told,
+    /// An order that has a run, or none.
+    order: &'static [u32],
+}
+
+/// Processor 1 reads the page that was there before event 5.
+const OLD_READ: Written = Written::Access {
+    p: 1,
+    flags: READ,
+    la: 0x5123,
+    outcome: Outcome::Page(0x9123),
+    at: &[0],
+};
+
+const OWN_INVLPG: Written = Written::Invlpg(1, 0x5000);
+
+const REMAP: Written = Written::Write(0, 0x4028, 0xb007);
+
+const CASES: [Case; 5] = [
+    Case {
+        name: "one order alone, which has a run",
+        events: &[(REMAP, 0), (OLD_READ, 0), (INVLPG, 0)],
+        told: Told::Yes,
+        order: &[0, 1, 2, 3, 4, 5, 6, 7],
+    },
+    Case {
+        name: "one order alone, which has none",
+        events: &[(REMAP, 0), (OWN_INVLPG, 0), (OLD_READ, 0)],
+        told: Told::No(7),
+        order: &[],
+    },
+    Case {
+        name: "an invalidation that began before the write had ended",
+        events: &[(REMAP, 0), (OWN_INVLPG, 1), (OLD_READ, 0)],
+        told: Told::Yes,
+        order: &[0, 1, 2, 3, 4, 6, 5, 7],
+    },
+    Case {
+        name: "an invalidation of another processor is of no account",
+        events: &[(REMAP, 0), (INVLPG, 0), (OLD_READ, 1)],
+        told: Told::Yes,
+        order: &[0, 1, 2, 3, 4, 5, 7, 6],
+    },
+    Case {
+        name: "an invalidation behind the write, and a read that overlaps it alone",
+        events: &[(REMAP, 0), (OWN_INVLPG, 0), (OLD_READ, 1)],
+        told: Told::Undecided(7),
+        order: &[],
+    },
+];
+
+fn push(run: &mut SpannedRun, written: &Written, back: u32) -> Result<(), Fail> {
+    let event = event_of(written).ok_or("moments")?;
+    if run.len() >= 10_000 || back as usize > run.len() {
+        return Err(Fail::from("span"));
+    }
+    match well_formed(run.header(), &event) {
+        Ok(()) => Ok(run.push(&event, back)?),
+        Err(_) => Err(Fail::from("malformed")),
+    }
+}
+
+fn run_of(alloc: Global, case: &Case) -> Result<SpannedRun, Fail> {
+    let header = header_of(alloc, Version::One, 2)?;
+    if !header.is_in_range() {
+        return Err(Fail::from("no header"));
+    }
+    let mut run = SpannedRun::new(alloc, header);
+    for written in MAPPED.iter() {
+        push(&mut run, written, 0)?;
+    }
+    for (written, back) in case.events {
+        push(&mut run, written, *back)?;
+    }
+    Ok(run)
+}
+
+/// Whether the verdict is what the case says.
+fn is_told(alloc: Global, run: &SpannedRun, told: &Told) -> Result<bool, Fail> {
+    Ok(match (find_ordered_run(alloc, run)?, told) {
+        (Verdict::Yes { order, found }, Told::Yes) => {
+            is_order(alloc, run, &order)? && found.len() == run.len()
+        }
+        (Verdict::No(event), Told::No(at)) => event == *at,
+        (Verdict::Undecided(event), Told::Undecided(at)) => event == *at,
+        _ => false,
+    })
+}
+
+/// Whether the events are certified in this order.
+fn is_certified_in(alloc: Global, run: &SpannedRun, order: &[u32]) -> Result<bool, Fail> {
+    Ok(matches!(certify_in_order(alloc, run, order)?, InOrder::Certified(_)))
+}
+
+fn is_so(alloc: Global, case: &Case) -> Result<bool, Fail> {
+    let run = run_of(alloc, case)?;
+    let certified = is_certified_in(alloc, &run, case.order)?;
+    Ok(is_told(alloc, &run, &case.told)? && certified != case.order.is_empty())
+}
+
+#[test]
+fn orders_are_found(rt: HostRuntime) -> Result<(), Fail> {
+    for case in CASES.iter() {
+        assert!(rt; is_so(rt.alloc(), case)?, "{}", case.name);
+    }
+    Ok(())
+}

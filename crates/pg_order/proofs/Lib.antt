@@ -1,0 +1,3 @@
+pub mod Ordered
+pub mod Meaning
+pub mod Numbers

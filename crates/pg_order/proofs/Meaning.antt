@@ -1,0 +1,60 @@
+-- What an answer means for runs of the machine.
+use Rattle.std.proofs.Common.{◌≡◌, ℕ, zero, suc, ◌+◌, ◌≤◌, List, [], ◌∷◌, length, take, map, arith, refl, sym, ap, subst, ◌∙◌, Option, Some, None}
+use Rattle.std.specs.Prelude.{slice_get}
+use Rattle.std.specs.Option.{option_to_list}
+use Rattle.std.proofs.lemmas.List.{length-append}
+use Rattle.pg_event.specs.declared.event.Event.{Event}
+use Rattle.pg_event.specs.Heads.{Head}
+use Rattle.pg_event.specs.Form.{broken_rule}
+use Rattle.pg_check.specs.Kept.{AreWellFormed}
+use Rattle.pg_check.proofs.Known.{AreWellFormed-append}
+use Rattle.pg_machine.specs.Machine.{visible}
+use Rattle.pg_run_of.specs.Converse.{without_moments}
+use Rattle.pg_search.specs.Law.{RunBeginsWith}
+use Rattle.pg_certify.specs.Certified.{IsDenied, HasRunButMoments, CertifiedEventsRun, CertifiedExactlyWhereARunExists, DeniedEventsHaveNoRun}
+use Rattle.pg_spanned.specs.Orders.{Spanned, IsOrder}
+use Rattle.pg_spanned.specs.Spanned.{IsSpanned}
+use Rattle.pg_spanned.specs.Laws.{NoneOverlap, NoOverlapNoOtherOrder}
+use Rattle.pg_spanned.proofs.Places.{AllByRecursion-at}
+use Rattle.pg_order.specs.Runs.{ordered, HasOrderedRun, OrderedEventsRun, OrderedExactlyWhereARunExists}
+
+well_one : (head : Head) (events : List Event) (i : ℕ) (o : Option Event) → slice_get events i ≡ o → AreWellFormed head events → AreWellFormed head (option_to_list o)
+well_one head events i None is well = tt
+well_one head events i (Some e) is well = (AllByRecursion-at (λ x. broken_rule head x ≡ None) events i e well is, tt)
+
+pub ordered-well : (head : Head) (events : List Event) (order : List ℕ) → AreWellFormed head events → AreWellFormed head (ordered events order)
+ordered-well head events [] well = tt
+ordered-well head events (i ∷ is) well = AreWellFormed-append head (option_to_list (slice_get events i)) (ordered events is) (well_one head events i (slice_get events i) refl well) (ordered-well head events is well)
+
+one_at_most : (o : Option Event) → length (option_to_list o) ≤ 1
+one_at_most None = omega arith
+one_at_most (Some e) = omega arith
+
+pub length-ordered : (events : List Event) (order : List ℕ) → length (ordered events order) ≤ length order
+length-ordered events [] = omega arith
+length-ordered events (i ∷ is) = omega (arith, length-append (option_to_list (slice_get events i)) (ordered events is), one_at_most (slice_get events i), length-ordered events is)
+
+pub ordered_events_run : CertifiedEventsRun → OrderedEventsRun
+ordered_events_run law s order found well is h = (order, is, law s.head (ordered s.events order) found (ordered-well s.head s.events order well) h)
+
+pub ordered_exactly_where_a_run_exists : CertifiedExactlyWhereARunExists → OrderedExactlyWhereARunExists
+ordered_exactly_where_a_run_exists law s well few =
+    let exactly = λ (order : List ℕ) (count : length order ≡ length s.events). law s.head (ordered s.events order) (ordered-well s.head s.events order well) (omega (arith, length-ordered s.events order, count, few)) in
+    (λ h. (h.0, h.1, (exactly h.0 h.1.count).0 h.2), λ h. (h.0, h.1, (exactly h.0 h.1.count).1 h.2))
+
+map_take : (k : ℕ) (xs : List Event) → map without_moments (take k xs) ≡ take k (map without_moments xs)
+map_take zero [] = refl
+map_take zero (x ∷ xs) = refl
+map_take (suc k) [] = refl
+map_take (suc k) (x ∷ xs) = ap (λ ys. without_moments x ∷ ys) (map_take k xs)
+
+-- a run with all events begins with the first of them
+begins : (head : Head) (events : List Event) (n : ℕ) → HasRunButMoments head events → RunBeginsWith head events n
+begins head events n run = (run.0, run.1, map_take (n + 1) events ∙ (ap (take (n + 1)) run.2 ∙ sym (map_take (n + 1) (visible run.0))))
+
+-- what is denied in the only order has no run in any
+pub denied_in_only_order : DeniedEventsHaveNoRun → NoOverlapNoOtherOrder → (s : Spanned) (order : List ℕ) (place : ℕ) → IsSpanned s → NoneOverlap s → IsOrder s order → IsDenied s.head (ordered s.events order) place → HasOrderedRun s → ⊥
+denied_in_only_order law only s order place spanned none is denied run =
+    let same : run.0 ≡ order = only s run.0 none run.1 ∙ sym (only s order none is) in
+    let here : HasRunButMoments s.head (ordered s.events order) = subst (λ (o : List ℕ). HasRunButMoments s.head (ordered s.events o)) same run.2 in
+    (law s.head (ordered s.events order) place (ordered-well s.head s.events order spanned.well) (omega (arith, length-ordered s.events order, is.count, spanned.count)) denied).0 (begins s.head (ordered s.events order) place here)

@@ -1,0 +1,50 @@
+-- Records with no one order: whether the events have an order in which some run of the machine has
+-- them (Intel SDM, vol. 3, 4.10).
+use Rattle.std.specs.Prelude.{ℕ, ◌-◌, ◌^◌, ◌≤◌, ◌↔◌, List, length, slice_get}
+use Rattle.std.specs.List.{flat_map}
+use Rattle.std.specs.Option.{option_to_list}
+use Rattle.pg_event.specs.declared.event.Event.{Event}
+use Rattle.pg_check.specs.Kept.{AreWellFormed}
+use Rattle.pg_certify.specs.Certified.{IsCertified, CanBeCertified, IsDenied, HasRunButMoments}
+use Rattle.pg_spanned.specs.Orders.{Spanned, IsOrder}
+use Rattle.pg_order.specs.declared.in_order.InOrder.{InOrder}
+use Rattle.pg_order.specs.declared.in_order.InOrder.TheVariants.{Certified, Denied, NoOrder}
+
+-- the events with these numbers
+abbrev pub ordered : List Event → List ℕ → List Event
+ordered events order = flat_map (λ i. option_to_list (slice_get events i)) order
+
+-- in some order of the events they are those of a run, but for their moments
+abbrev pub HasOrderedRun : Spanned → Type 0
+HasOrderedRun s =
+    (order : List ℕ) × IsOrder s order × HasRunButMoments s.head (ordered s.events order)
+
+-- in some order of the events some moments make them an accepted record
+abbrev pub CanBeOrdered : Spanned → Type 0
+CanBeOrdered s =
+    (order : List ℕ) × IsOrder s order × CanBeCertified s.head (ordered s.events order)
+
+-- what is told of the events in an order
+abbrev pub IsToldOf : Spanned → List ℕ → InOrder → Type 0
+IsToldOf s order (Certified found) =
+    IsOrder s order × IsCertified s.head (ordered s.events order) found.items
+IsToldOf s order (Denied place) = IsOrder s order × IsDenied s.head (ordered s.events order) place
+IsToldOf s order NoOrder = IsOrder s order → ⊥
+
+-- where they are certified, they have a run
+abbrev pub HasRunIfCertified : Spanned → InOrder → Type 0
+HasRunIfCertified s (Certified found) = HasOrderedRun s
+HasRunIfCertified s (Denied place) = Unit {0}
+HasRunIfCertified s NoOrder = Unit {0}
+
+-- well-formed events that moments certify in one of their orders have a run
+abbrev pub OrderedEventsRun : Type 0
+OrderedEventsRun = (s : Spanned) (order : List ℕ) (found : List Event) →
+    AreWellFormed s.head s.events → IsOrder s order →
+    IsCertified s.head (ordered s.events order) found → HasOrderedRun s
+
+-- so many well-formed events have an order with a run exactly where they have one in which moments
+-- certify them
+abbrev pub OrderedExactlyWhereARunExists : Type 0
+OrderedExactlyWhereARunExists = (s : Spanned) → AreWellFormed s.head s.events →
+    length s.events ≤ 2 ^ 32 - 1 → CanBeOrdered s ↔ HasOrderedRun s

@@ -1,0 +1,17 @@
+//! Whether the events of a record with no one order have an order in which some run of the machine
+//! has them.
+#![tactic(auto)]
+
+mod asking;
+mod guesses;
+mod in_order;
+mod laws;
+mod looked;
+mod queues;
+mod search;
+mod verdict;
+mod walk;
+
+pub use in_order::{InOrder, certify_in_order};
+pub use laws::{ordered_events_run, ordered_exactly_where_a_run_exists};
+pub use verdict::{Verdict, find_ordered_run};

@@ -1,0 +1,92 @@
+//! Whether the events of a run have an order with a run of the machine.
+
+ghost use Rattle.std.specs.Prelude.{◌≡◌, ℕ, ◌<◌, ◌↔◌, length, IfOk, IsTrue, slice_index};
+ghost use Rattle.std.specs.List.{range_with_len};
+ghost use Rattle.pg_spanned.specs.Spanned.{IsSpanned};
+ghost use Rattle.pg_spanned.specs.Laws.{NoneOverlap};
+ghost use Rattle.pg_order.specs.Verdicts.{IsVerdict};
+
+use crate::in_order::{InOrder, certify_in_order};
+use crate::search::{Sought, find_order};
+use pg_certify::denied_events_have_no_run;
+use pg_event::Event;
+use pg_spanned::{SpannedRun, ends_are_an_order, no_overlap_no_other_order};
+use std::alloc::{AllocError, Global};
+
+/// Whether the events of a run have an order in which some run of the machine has them.
+#[derive(Drop)]
+pub enum Verdict {
+    /// They have.
+    Yes {
+        order: Vec<u32>,
+        /// The events in this order, each with moments that witness it.
+        found: Vec<Event>,
+    },
+    /// They have none. The event, by its number, that no moments witness in their only order.
+    No(u64),
+    /// No order was found. It is not known whether there is one. The event, by its number, at which
+    /// the search gave up.
+    Undecided(u64),
+}
+
+/// Whether each event began after those before it had ended.
+fn none_overlap(backs: &[u32]) -> bool
+    ensures { IsTrue result ↔ ((i : ℕ) → i < length backs.now → slice_index backs.now i ≡ 0) }
+{
+    backs.iter().all(|back| *back == 0)
+}
+
+/// The numbers below one, in their order.
+fn numbers_below(alloc: Global, count: u32) -> Result<Vec<u32>, AllocError>
+    ensures { IfOk result (λ numbers. numbers.items ≡ range_with_len 0 count) }
+{
+    let mut numbers = Vec::with_capacity(alloc, count as usize)?;
+    for number in 0..count {
+        numbers.push(number)?;
+    }
+    Ok(numbers)
+}
+
+/// The verdict where no event overlaps another.
+fn verdict_in_only_order(alloc: Global, run: &SpannedRun) -> Result<Verdict, AllocError>
+    requires spanned { IsSpanned run.now }
+    requires none { NoneOverlap run.now }
+    ensures { IfOk result (IsVerdict run.now) }
+{
+    ends_are_an_order();
+    no_overlap_no_other_order();
+    denied_events_have_no_run();
+    let order = numbers_below(alloc, run.len() as u32)?;
+    match certify_in_order(alloc, run, &order)? {
+        InOrder::Certified(found) => Ok(Verdict::Yes { order, found }),
+        InOrder::Denied(place) => Ok(Verdict::No(place)),
+        InOrder::NoOrder => unreachable!(),
+    }
+}
+
+/// The verdict in an order that a search came to.
+fn verdict_in(alloc: Global, run: &SpannedRun, order: Vec<u32>) -> Result<Verdict, AllocError>
+    ensures { IfOk result (IsVerdict run.now) }
+{
+    match certify_in_order(alloc, run, &order)? {
+        InOrder::Certified(found) => Ok(Verdict::Yes { order, found }),
+        InOrder::Denied(place) => Ok(Verdict::Undecided(place)),
+        InOrder::NoOrder => Ok(Verdict::Undecided(0)),
+    }
+}
+
+/// Looks for an order of the events of a run in which some run of the machine has them. A yes has
+/// the order, and moments for the events in it. A no is told where the events have one order alone.
+///
+/// It fails only where memory is refused.
+pub fn find_ordered_run(alloc: Global, run: &SpannedRun) -> Result<Verdict, AllocError>
+    ensures { IfOk result (IsVerdict run.now) }
+{
+    if none_overlap(run.backs()) {
+        return verdict_in_only_order(alloc, run);
+    }
+    match find_order(alloc, run)? {
+        Sought::Order(order) => verdict_in(alloc, run, order),
+        Sought::Stuck(event) => Ok(Verdict::Undecided(event)),
+    }
+}

@@ -1,0 +1,5 @@
+pub mod Places
+pub mod Found
+pub mod Bounds
+pub mod Orders
+pub mod Ends

@@ -1,0 +1,4 @@
+pub mod Orders
+pub mod Spanned
+pub mod Places
+pub mod Laws

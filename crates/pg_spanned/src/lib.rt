@@ -1,0 +1,11 @@
+//! Records with no one order: of each event it is known when it began and ended, and of each
+//! processor its own order. Which orders may all events have had?
+#![tactic(auto)]
+
+mod laws;
+mod order;
+mod spanned;
+
+pub use laws::{ends_are_an_order, no_overlap_no_other_order};
+pub use order::is_order;
+pub use spanned::SpannedRun;
