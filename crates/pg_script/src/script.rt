@@ -33,8 +33,8 @@ impl Model for Script {
 
 impl Script {
     /// Reads a text. It answers the first line that is wrong. Memory is taken as the lines of
-    /// processors and of instructions come: want of it is answered only where a growth was
-    /// refused, with the line that made it.
+    /// processors and of instructions come: where memory runs out, the answer names the line that
+    /// wanted it.
     #[tactic(auto, unfolding(crate::specs::Reading::reading))]
     pub fn read(alloc: Global, bytes: &[u8]) -> Result<Script, ScriptError>
         requires { length bytes.now < 2 ^ 32 - 1 }

@@ -24,7 +24,8 @@ use pg_machine::Translation;
 /// What an event needs of an entry that a walk may read at its moment.
 #[derive(Clone, Copy, Drop)]
 pub(crate) enum Sought {
-    /// It is the one of the fault that an access claims: absent, or with a reserved bit set.
+    /// It is the one of the fault that an access claims: absent, or with a reserved bit set. Where
+    /// the access claims an answer or a denial instead, no entry is sought, but a translation.
     Fault(Claim),
     /// It is the one that an assist names: present with no reserved bit and, where the assist is
     /// dirty, a page whose rights allow the access (Intel SDM, vol. 3, 4.8).
