@@ -27,21 +27,34 @@ PACKAGES = {"gcc": "gcc", "cc": "gcc", "ld": "binutils", "objcopy": "binutils", 
             "/usr/share/bochs/BIOS-bochs-latest": "bochsbios",
             "/usr/share/vgabios/vgabios.bin": "vgabios",
             "/usr/share/seabios/bios-256k.bin": "seabios", "grub-mkrescue": "grub-common",
-            "xorriso": "xorriso", "mformat": "mtools", "/usr/lib/grub/i386-pc": "grub-pc-bin"}
+            "xorriso": "xorriso", "mformat": "mtools", "/usr/lib/grub/i386-pc": "grub-pc-bin",
+            "make": "make", "flex": "flex", "bison": "bison", "dpkg-source": "dpkg-dev",
+            "patch": "patch", "dpkg-deb": "dpkg", "zstd": "zstd"}
+EMULATORS = ("qemu-system-x86", "seabios", "bochs", "bochsbios", "vgabios")
 
 # Kinds of entries, events and accesses that can be left out: the bits of guest/probe.h.
 KINDS = ["reserved", "large", "global", "user", "writes", "fetches", "implicit", "implicit-ac",
          "self-maps", "pcids", "bare-faults", "clear-flag-faults"]
 DOORBELL, SERIAL, LOADER_STARTS, LOADER_TURNS = 1, 2, 4, 8
+SCRIPTS = 9  # of guest/directed.c, from 1 on
+
+
+inside = ""  # the folder that the emulators are taken from, where it is not the machine's root
 
 
 class Stop(Exception):
     """Nothing can be run: status 70."""
 
 
+def is_there(tool):
+    if inside and PACKAGES[tool] in EMULATORS:
+        return os.path.exists(inside + (tool if tool.startswith("/") else "/usr/bin/" + tool))
+    return os.path.exists(tool) if tool.startswith("/") else shutil.which(tool)
+
+
 def need(*tools):
     for tool in tools:
-        if not (os.path.exists(tool) if tool.startswith("/") else shutil.which(tool)):
+        if not is_there(tool):
             raise Stop(f"{tool} is missing: Debian has it in the package {PACKAGES[tool]}")
 
 
@@ -100,7 +113,7 @@ def settings_of(seed=1, seeds=1, events=2000, processors=1, version=1, without=(
 def script(text):
     """The number of a script, 0 for a random run."""
     number = int(text)
-    if number not in range(5):
+    if number not in range(SCRIPTS + 1):
         raise ValueError
     return number
 
@@ -117,10 +130,15 @@ def add_run_options(words, events=2000, script_type=script):
     words.add_argument("--processors", type=int, default=1, choices=range(1, 9), metavar="N")
     words.add_argument("--version", type=int, default=1, choices=(1, 2))
     words.add_argument("--script", type=script_type, default="0", metavar="N",
-                       help="a short sequence, 1 to 4, in place of a random run" +
+                       help=f"a short sequence, 1 to {SCRIPTS}, in place of a random run" +
                             ("; several, by commas" if script_type is scripts else ""))
     words.add_argument("--without", default="", metavar="KINDS",
                        help="leave these out, by commas: " + " ".join(KINDS))
+
+
+def add_folder_option(words):
+    words.add_argument("--in", dest="folder", metavar="FOLDER",
+                       help="the emulator of that folder, which probe/suite has filled")
 
 
 def kinds_of(chosen):
@@ -132,14 +150,20 @@ def kinds_of(chosen):
     return kinds + (["clear-flag-faults"] if chosen.version == 2 else [])
 
 
-def disk(path, settings):
-    """Writes a disk that boots the guest with these settings."""
+def flat_guest(settings):
+    """The guest's bytes as they lie in memory, with these settings filled in."""
     build()
     with open(os.path.join(OUT, "guest.bin"), "rb") as file:
         guest = bytearray(file.read())
     if struct.unpack_from("<Q", guest, SETTINGS)[0] != MAGIC:
         raise Stop("the guest has no settings at their place")
     struct.pack_into("<8Q", guest, SETTINGS + 8, *settings)
+    return bytes(guest)
+
+
+def disk(path, settings):
+    """Writes a disk that boots the guest with these settings."""
+    guest = flat_guest(settings)
     with open(os.path.join(OUT, "boot.bin"), "rb") as file:
         sector = file.read()
     size = CYLINDERS * HEADS * SECTORS * SECTOR

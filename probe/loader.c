@@ -321,6 +321,33 @@ static int make_machine(const char *guest)
     return load_guest(guest);
 }
 
+static int tells_file(const char *name, const char *path)
+{
+    FILE *const file = fopen(path, "r");
+    char line[400];
+
+    if (file == NULL)
+        return 0;
+    if (fgets(line, sizeof line, file) != NULL)
+        say("loader: %s %s", name, line);
+    fclose(file);
+    return 1;
+}
+
+/* Counts of KVM since the machine was made: a processor that hangs and one that exits to KVM again
+ * and again differ in them. */
+static void tell_exits(void)
+{
+    static const char *const counts[] = {"exits", "pf_taken", "pf_fixed", "pf_spurious"};
+    char path[64];
+    unsigned k;
+
+    for (k = 0; k < sizeof counts / sizeof counts[0]; k++) {
+        snprintf(path, sizeof path, "/sys/kernel/debug/kvm/%s", counts[k]);
+        tells_file(counts[k], path);
+    }
+}
+
 static void let_machine_go(void)
 {
     unsigned k;
@@ -369,6 +396,8 @@ static enum end carry_out(const char *guest, unsigned seconds, const char *text)
         if (make_processor(0))
             end = run_processor(0);
         alarm(0);
+        if (end == HUNG)
+            tell_exits();
         take_log();
     }
     let_machine_go();
@@ -391,19 +420,6 @@ static void name_intel(void)
             memcpy(&leaf->ecx, "ntel", 4);
         }
     }
-}
-
-static int tells_file(const char *name, const char *path)
-{
-    FILE *const file = fopen(path, "r");
-    char line[200];
-
-    if (file == NULL)
-        return 0;
-    if (fgets(line, sizeof line, file) != NULL)
-        say("loader: %s %s", name, line);
-    fclose(file);
-    return 1;
 }
 
 /* Whether KVM keeps shadow tables here. */
@@ -444,6 +460,7 @@ static void begin_system(void)
     mount("none", "/proc", "proc", 0, NULL);
     mount("none", "/sys", "sysfs", 0, NULL);
     mount("none", "/dev", "devtmpfs", 0, NULL);
+    mount("none", "/sys/kernel/debug", "debugfs", 0, NULL);
     if (iopl(3) != 0)
         fails("iopl");
     load_modules();
