@@ -16,6 +16,23 @@ class Run:
         self.output, self.said, self.system_said, self.hung = output, said, system_said, hung
 
 
+def use_folder(folder):
+    """Takes the emulators from a folder that probe/suite has filled, by changing the root; runs
+    have their files below it."""
+    image.inside = os.path.abspath(folder)
+    if not os.path.isdir(os.path.join(image.inside, "usr", "bin")):
+        raise image.Stop(f"{folder} is no folder that probe/suite has filled")
+    tempfile.tempdir = os.path.join(image.inside, "tmp")
+
+
+def words_inside(words, folder):
+    """What starts a program of that folder, as root or without."""
+    if not image.inside:
+        return words
+    return ["unshare", *([] if os.geteuid() == 0 else ["--map-root-user"]),
+            f"--root={image.inside}", f"--wd=/{os.path.relpath(folder, image.inside)}", *words]
+
+
 def read(path):
     if not os.path.exists(path):
         return b""
@@ -26,8 +43,9 @@ def read(path):
 def finish(words, limit, folder, **more):
     """Whether the system was still running at the end of the limit; its own words."""
     with open(os.path.join(folder, "system"), "wb") as said:
-        process = subprocess.Popen(words, stdin=subprocess.DEVNULL, cwd=folder, stderr=said,
-                                   start_new_session=True, **{"stdout": said, **more})
+        process = subprocess.Popen(words_inside(words, folder), stdin=subprocess.DEVNULL,
+                                   cwd=folder, stderr=said, start_new_session=True,
+                                   **{"stdout": said, **more})
         try:
             process.wait(limit)
             return False
