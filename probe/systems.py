@@ -115,6 +115,11 @@ def kvm(settings, limit):
         return Run(read(os.path.join(folder, "output")), said, said, late or b" hung," in said)
 
 
+def xen(settings, limit, parameters=None):
+    from xen import system  # which uses this module
+    return system.run(settings, limit, parameters)
+
+
 BOCHSRC = """\
 config_interface: textconfig
 display_library: rfb, options="timeout=0"
@@ -135,4 +140,4 @@ info: action=report
 debug: action=ignore
 plugin_ctrl: speaker=0
 """
-SYSTEMS = {"bochs": bochs, "kvm": kvm, "qemu": qemu}
+SYSTEMS = {"bochs": bochs, "kvm": kvm, "qemu": qemu, "xen": xen}
