@@ -2,8 +2,8 @@
 """Drives Unicorn, an emulator that is a library, with random paging operations, and has
 `pcid-audit certify` judge the record: an example for emulators that boot no guest. One processor
 without PCIDs does writes of table entries (all levels and page sizes, rights, reserved bits, A and
-D, global pages), reads, writes and fetches by ring 3 and ring 0, INVLPG, MOV to CR3 and changes of
-CR4.PGE. It does no implicit accesses. Output and status are the auditor's. It needs Unicorn 2.1 or
+D, global pages), reads, writes and fetches by ring 3 and ring 0, implicit accesses (LSL), INVLPG,
+MOV to CR3 and changes of CR4.PGE. Output and status are the auditor's. It needs Unicorn 2.1 or
 newer: pip's unicorn, or Debian's python3-unicorn of trixie. docs/PROBE.md says more."""
 import argparse
 import ctypes
@@ -19,7 +19,8 @@ import image  # noqa: E402
 import records  # noqa: E402
 
 LEAST = (2, 1)  # the version: earlier ones look for memory by the linear address
-KINDS = ("reserved", "large", "global", "user", "writes", "fetches", "bare-faults")
+KINDS = ("reserved", "large", "global", "user", "writes", "fetches", "implicit", "implicit-ac",
+         "bare-faults")
 # The tested indices of levels 1 to 4, and the pool's first and last frame of each level.
 INDICES = {1: (0, 1, 7, 100, 258, 511), 2: (16, 21, 30, 63), 3: (0, 1, 511), 4: (0, 255, 300, 511)}
 FRAMES = {4: (0, 3), 3: (3, 6), 2: (6, 10), 1: (10, 16)}
@@ -35,24 +36,27 @@ EFER, EFER_LONG, EFER_NXE = 0xC0000080, 0x500, 0x800
 # Ring 0: RBX is the linear address, RAX the value. Each is run up to its end.
 STUBS = {"read": b"\x48\x8b\x03", "write": b"\x48\x89\x03", "fetch": b"\xff\xe3",
          "invlpg": b"\x0f\x01\x3b", "cr3": b"\x0f\x22\xdb", "cr4": b"\x0f\x22\xe3",
+         "lsl": b"\x89\xc1\x31\xc0\x0f\x03\xc1", "lldt": b"\x0f\x00\xd0",
          "cpuid": b"\x0f\xa2", "iretq": b"\x48\xcf"}
-OPERATIONS = {"read": 0, "write": 1, "fetch": 2}
-OFFSETS = {"read": 0, "write": 24, "fetch": 8}  # in a slot
+OPERATIONS = {"read": 0, "write": 1, "fetch": 2, "lsl": 0}
+OFFSETS = {"read": 0, "write": 24, "fetch": 8, "lsl": 16}  # in a slot
+LOCAL, FIRST_OF_LOCAL = 0x30, 7  # selectors: of the local table, and of its first descriptor
+ZERO_FLAG = 1 << 6
 
 
 def load_library(folder):
     """Imports Unicorn, where a folder of probe/suite is named from there."""
     global unicorn, x86
-    if folder:
-        sys.path.insert(1, os.path.join(folder, "usr/lib/python3/dist-packages"))
-        # The package asks for its library by name: the one that is loaded already is taken.
-        ctypes.CDLL(os.path.join(folder, "usr/lib/x86_64-linux-gnu/libunicorn.so.2"))
     try:
+        if folder:
+            sys.path.insert(1, os.path.join(folder, "usr/lib/python3/dist-packages"))
+            # The package asks for its library by name: the one that is loaded already is taken.
+            ctypes.CDLL(os.path.join(folder, "usr/lib/x86_64-linux-gnu/libunicorn.so.2"))
         import unicorn
         from unicorn import x86_const as x86
-    except (ImportError, OSError):
-        raise image.Stop("unicorn is missing: Debian has it in the package python3-unicorn of "
-                         "trixie, pip as unicorn") from None
+    except (ImportError, OSError) as why:
+        raise image.Stop(f"unicorn is missing ({why}): Debian has it in the package "
+                         "python3-unicorn of trixie, pip as unicorn") from None
     if unicorn.uc_version()[:2] < LEAST:
         raise image.Stop("Unicorn 2.1 is needed: Debian 13 has it (probe/suite trixie, --in), "
                          "and pip as unicorn")
@@ -108,7 +112,7 @@ class Machine:
         uc.reg_write(x86.UC_X86_REG_CR3, POOL)
         uc.msr_write(EFER, EFER_LONG | (EFER_NXE if rules["nxe"] else 0))
         uc.reg_write(x86.UC_X86_REG_CR0, CR0 if rules["wp"] else CR0 & ~(1 << 16))
-        uc.reg_write(x86.UC_X86_REG_GDTR, (0, SUPERVISOR + DESCRIPTORS, 47, 0))
+        uc.reg_write(x86.UC_X86_REG_GDTR, (0, SUPERVISOR + DESCRIPTORS, 63, 0))
         self.cr4 = CR4_PAE | (CR4_SMEP if rules["smep"] else 0) | \
             (CR4_SMAP if rules["smap"] else 0)
         self.rest = uc.context_save()
@@ -140,6 +144,14 @@ class Machine:
         if stays:
             self.rest = uc.context_save()
         return self.vector
+
+    def load_local_table(self, linear):
+        """A local table whose first descriptor stands at the address."""
+        self.set_word(DESCRIPTORS + LOCAL, 0x000082000000000F | (linear & 0xFFFFFF) << 16 |
+                      (linear >> 24 & 0xFF) << 56)
+        self.set_word(DESCRIPTORS + LOCAL + 8, linear >> 32)
+        if self.run("lldt", 0, value=LOCAL, stays=True) is not None:
+            raise image.Stop("Unicorn takes no local descriptor table")
 
     def find_error_code(self):
         """Unicorn has no call for a fault's error code: where it stands in a saved context is
@@ -204,6 +216,8 @@ class Run:
         slot = frame + SLOT
         self.machine.set_word(slot, slot)
         self.machine.set_word(slot + 8, 0xB8 | slot + 8 << 8 | 0x900B0F << 40)
+        self.machine.set_word(slot + 16, frame >> 12 & 0xFFFF | 0xF20000000000 |
+                              (frame >> 28 & 15) << 48)
         self.machine.set_word(slot + 24, slot + 24)
 
     def page(self):
@@ -292,20 +306,33 @@ class Run:
         self.fill_slot(found[0])
         return found[0] + SLOT + OFFSETS["write"]
 
+    def answer(self, name, linear, value):
+        """The physical address that answered an access."""
+        left = self.machine.uc.reg_read(x86.UC_X86_REG_RAX)
+        if name == "write":
+            return self.written_at(value)
+        if name == "lsl":
+            if not self.machine.uc.reg_read(x86.UC_X86_REG_EFLAGS) & ZERO_FLAG:
+                raise image.Stop(f"no descriptor where LSL read, {linear:#x}")
+            return (left & 0xFFFFFFFF) << 12 | linear & 4095
+        return left if name == "read" else left & 0xFFFFFFFF
+
     def access(self):
-        kinds = [name for name, kind in (("read", None), ("write", "writes"), ("fetch", "fetches"))
-                 if kind is None or self.allows(kind)]
+        kinds = [name for name, kind in (("read", None), ("write", "writes"), ("fetch", "fetches"),
+                                         ("lsl", "implicit")) if kind is None or self.allows(kind)]
         name, is_user = self.dice.choice(kinds), self.allows("user") and self.chance(55)
         ac, linear = self.chance(50), self.likely_page() + SLOT + OFFSETS[name]
+        flags = OPERATIONS[name] | (4 if is_user else 0) | (8 if ac else 0)
         self.written += 1
         value = 0x5EED000000000001 | self.written << 8
+        if name == "lsl":  # it is recorded as what it is, a supervisor access with AC=0
+            ac = ac and self.allows("implicit-ac")
+            flags, value = OPERATIONS[name], FIRST_OF_LOCAL
+            self.machine.load_local_table(linear)
         vector = self.machine.run(name, linear, value, 2 | (AC if ac else 0), is_user)
-        flags = OPERATIONS[name] | (4 if is_user else 0) | (8 if ac else 0)
         asked = (0x11, 0, flags, linear)
         if vector is None:
-            answer = self.machine.uc.reg_read(x86.UC_X86_REG_RAX)
-            if name != "read":
-                answer = self.written_at(value) if name == "write" else answer & 0xFFFFFFFF
+            answer = self.answer(name, linear, value)
             self.machine.go_back()
             self.recorder.add("BBBQBQBI", *asked, 0, answer, 1, 0)
             return
