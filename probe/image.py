@@ -1,4 +1,7 @@
 """Builds the guest, and makes images of it with their settings filled in."""
+import argparse
+import contextlib
+import fcntl
 import glob
 import os
 import shutil
@@ -27,7 +30,12 @@ PACKAGES = {"gcc": "gcc", "cc": "gcc", "ld": "binutils", "objcopy": "binutils", 
             "/usr/share/bochs/BIOS-bochs-latest": "bochsbios",
             "/usr/share/vgabios/vgabios.bin": "vgabios",
             "/usr/share/seabios/bios-256k.bin": "seabios", "grub-mkrescue": "grub-common",
-            "xorriso": "xorriso", "mformat": "mtools", "/usr/lib/grub/i386-pc": "grub-pc-bin"}
+            "xorriso": "xorriso", "mformat": "mtools", "/usr/lib/grub/i386-pc": "grub-pc-bin",
+            "apt-get": "apt", "dpkg-deb": "dpkg"}
+BUILDERS = ("gcc", "ld", "objcopy", "nasm")
+
+# Exit statuses beside those of `certify`, which are below 10.
+EARLY_END, HANG, USAGE, LACKING = 10, 11, 64, 70
 
 # Kinds of entries, events and accesses that can be left out: the bits of guest/probe.h.
 KINDS = ["reserved", "large", "global", "user", "writes", "fetches", "implicit", "implicit-ac",
@@ -39,10 +47,25 @@ class Stop(Exception):
     """Nothing can be run: status 70."""
 
 
+class Words(argparse.ArgumentParser):
+    """A command line, whose faults have the status of the auditor's."""
+
+    def error(self, message):
+        self.print_usage(sys.stderr)
+        self.exit(USAGE, f"{self.prog}: {message}\n")
+
+
+def is_there(tool):
+    return os.path.exists(tool) if tool.startswith("/") else shutil.which(tool) is not None
+
+
 def need(*tools):
-    for tool in tools:
-        if not (os.path.exists(tool) if tool.startswith("/") else shutil.which(tool)):
-            raise Stop(f"{tool} is missing: Debian has it in the package {PACKAGES[tool]}")
+    """Stops where tools are missing, and names them all with Debian's packages."""
+    missing = [tool for tool in dict.fromkeys(tools) if not is_there(tool)]
+    if missing:
+        packages = " ".join(dict.fromkeys(PACKAGES[tool] for tool in missing))
+        raise Stop("\n".join([*(f"{tool} is missing: Debian has it in the package {PACKAGES[tool]}"
+                                for tool in missing), f"to install: apt-get install {packages}"]))
 
 
 def last_lines(said):
@@ -61,17 +84,40 @@ def is_newer(target, sources):
         os.path.getmtime(source) < os.path.getmtime(target) for source in sources)
 
 
+def sources():
+    """The guest's own."""
+    return sorted(glob.glob(os.path.join(HERE, "guest", "*")))
+
+
+def is_built():
+    header = os.path.join(TOP, "emit", "pcid_record.h")
+    return is_newer(ELF, [*sources(), header, os.path.abspath(__file__)])
+
+
+def builders():
+    """What has to be there to build the guest, where that is not done."""
+    return () if is_built() else BUILDERS
+
+
+@contextlib.contextmanager
+def alone():
+    """One at a time builds what lacks."""
+    os.makedirs(OUT, exist_ok=True)
+    with open(os.path.join(OUT, "lock"), "w") as lock:
+        fcntl.flock(lock, fcntl.LOCK_EX)
+        yield
+
+
 def build():
     """The guest's ELF file, built where it is missing or older than its sources."""
-    folder = os.path.join(HERE, "guest")
-    sources = sorted(glob.glob(os.path.join(folder, "*")))
-    header = os.path.join(TOP, "emit", "pcid_record.h")
-    if is_newer(ELF, [*sources, header, os.path.abspath(__file__)]):
-        return ELF
-    need("gcc", "ld", "objcopy", "nasm")
-    os.makedirs(OUT, exist_ok=True)
-    objects = []
-    for source in sources:
+    with alone():
+        return ELF if is_built() else build_anew()
+
+
+def build_anew():
+    need(*BUILDERS)
+    folder, objects = os.path.join(HERE, "guest"), []
+    for source in sources():
         name, kind = os.path.splitext(os.path.basename(source))
         made = os.path.join(OUT, name + ".o")
         if kind == ".c":
@@ -153,4 +199,4 @@ def stop_on_failure(main):
         sys.exit(main())
     except Stop as why:
         print(f"probe/{os.path.basename(sys.argv[0])}: {why}", file=sys.stderr)
-        sys.exit(70)
+        sys.exit(LACKING)

@@ -1,7 +1,9 @@
 """Runs the guest on a system: what it wrote, what it said, and how the run ended."""
 import os
+import re
 import signal
 import subprocess
+import sys
 import tempfile
 
 import image
@@ -11,9 +13,43 @@ BOCHS_BIOS = "/usr/share/bochs/BIOS-bochs-latest"
 BOCHS_VGA_BIOS = "/usr/share/vgabios/vgabios.bin"
 
 
+# What each needs beside what builds the guest.
+NEEDS = {"qemu": ("qemu-system-x86_64", "/usr/share/seabios/bios-256k.bin"),
+         "bochs": ("bochs", BOCHS_BIOS, BOCHS_VGA_BIOS), "kvm": ()}
+
+
+def need(system, *more):
+    """Stops where something lacks that a run takes, and names all of it."""
+    image.need(*image.builders(), *NEEDS[system], *more,
+               *(("gcc",) if system == "kvm" and not loader_is_built() else ()))
+    if system == "kvm" and not os.access("/dev/kvm", os.R_OK | os.W_OK):
+        raise image.Stop("/dev/kvm can't be opened: probe/nested has a KVM in an emulator")
+
+
 class Run:
+    """What a run wrote, and what the guest or its loader and the system said."""
+
     def __init__(self, output, said, system_said, hung):
         self.output, self.said, self.system_said, self.hung = output, said, system_said, hung
+
+    def tell(self, limit, cut):
+        """What the guest said, and how the run ended where it did not end well."""
+        for line in self.said.decode(errors="replace").splitlines():
+            print(f"probe: {line}", file=sys.stderr)
+        if self.hung:
+            print(f"probe: hang: the run did not end within {limit} s", file=sys.stderr)
+        if cut:
+            print(f"probe: the output is cut off: {cut}", file=sys.stderr)
+
+    def status(self, cut):
+        """The status of how the run ended, 0 where it came to its end."""
+        if self.hung:
+            return image.HANG
+        return image.EARLY_END if cut or ENDED_EARLY.search(self.said) else 0
+
+
+# What the guest says where it stops itself, and the loader of a run that failed.
+ENDED_EARLY = re.compile(rb"^(stopped: |loader: run \S+ failed)", re.M)
 
 
 def read(path):
@@ -40,7 +76,6 @@ def finish(words, limit, folder, **more):
 
 
 def qemu(settings, limit):
-    image.need("qemu-system-x86_64", "/usr/share/seabios/bios-256k.bin")
     with tempfile.TemporaryDirectory() as folder:
         image.disk(os.path.join(folder, "disk"), settings)
         # One thread: processors that wait for their turn give it up.
@@ -61,7 +96,6 @@ def write_bochsrc(folder, **values):
 
 
 def bochs(settings, limit):
-    image.need("bochs", BOCHS_BIOS, BOCHS_VGA_BIOS)
     with tempfile.TemporaryDirectory() as folder:
         image.disk(os.path.join(folder, "disk"), settings)
         # Few instructions a second, as the BIOS waits for seconds of the machine's time.
@@ -75,20 +109,25 @@ def bochs(settings, limit):
                    read(os.path.join(folder, "system")) + read(os.path.join(folder, "log")), hung)
 
 
+LOADER, LOADER_SOURCE = (os.path.join(image.OUT, "loader"),
+                         os.path.join(image.HERE, "loader.c"))
+
+
+def loader_is_built():
+    return image.is_newer(LOADER, [LOADER_SOURCE])
+
+
 def build_loader():
     """The loader's program, linked so that it needs nothing."""
-    made, source = os.path.join(image.OUT, "loader"), os.path.join(image.HERE, "loader.c")
-    if not image.is_newer(made, [source]):
-        image.need("gcc")
-        os.makedirs(image.OUT, exist_ok=True)
-        image.command("gcc", "-std=c99", "-Wall", "-Wextra", "-Wpedantic", "-Werror", "-O1",
-                      "-static", "-pthread", "-o", made, source)
-    return made
+    with image.alone():
+        if not loader_is_built():
+            image.need("gcc")
+            image.command("gcc", "-std=c99", "-Wall", "-Wextra", "-Wpedantic", "-Werror", "-O1",
+                          "-static", "-pthread", "-o", LOADER, LOADER_SOURCE)
+    return LOADER
 
 
 def kvm(settings, limit):
-    if not os.access("/dev/kvm", os.R_OK | os.W_OK):
-        raise image.Stop("/dev/kvm can't be opened: probe/nested has a KVM in an emulator")
     words = [build_loader(), image.build(), str(limit), ":".join(map(str, settings))]
     with tempfile.TemporaryDirectory() as folder:
         with open(os.path.join(folder, "output"), "wb") as output:

@@ -92,8 +92,8 @@ void shut_down(void)
     const char *word = "Shutdown";
 
     hand_over();
-    while ((settings.ways & SERIAL) && (in_byte(SERIAL_STATUS) & 0x40) == 0)
-        pause();
+    while (!(settings.ways & DOORBELL) && (in_byte(SERIAL_STATUS) & 0x40) == 0)
+        pause(); /* the last byte is still on its way */
     out_byte(EXIT_PORT, 0);
     while (*word != 0)
         out_byte(BOCHS_EXIT_PORT, (uint8_t)*word++);
