@@ -77,14 +77,39 @@ class Shrinking:
         return without_parts(self.shows, next(filter(self.shows, tried), list(range(self.number))))
 
     def with_answers(self, kept):
-        """What is left with an answer put back, the page's by its frame, which shows what was
-        cached: the latest of the bad event's own kind first, as it may have a cache of its own, and
-        the latest of any kind. Each is a list of events that is a no as before."""
+        """What is left with an answer put back, of the bad event's page by its frame, which shows
+        what was cached. Those come first that the tables gave as they stood, so that they fill a
+        cache where the events are carried out again; of these such of the bad event's own kind, as
+        each kind may have a cache of its own, and the latest. Each is a list of events that is a no
+        as before."""
         reader, events = self.reader, self.record.events
         last = events[self.number]
-        alike = [at for at in reversed(range(self.number))
+        alike = [at for at in range(self.number)
                  if reader.is_answer(events[at]) and reader.told(events[at]) == reader.told(last)]
         same = [at for at in alike if reader.flags(events[at]) == reader.flags(last)]
-        for at in dict.fromkeys([*same[:1], *alike[:1], *alike[1:4]]):
+        found = []
+        for at in dict.fromkeys([*self.latest(same, kept), *self.latest(alike, kept)]):
             if at not in kept and self.shows(sorted([*kept, at])):
-                yield sorted([*kept, at])
+                found.append(sorted([*kept, at]))
+                if self.is_fresh(found[-1], at):
+                    yield found[-1]
+        yield from found
+
+    def latest(self, numbers, kept):
+        """Of these events the latest before each that is kept, from the last on."""
+        for end in [self.number, *reversed(kept)]:
+            before = [at for at in numbers if at < end]
+            if before:
+                yield before[-1]
+
+    def is_fresh(self, kept, at):
+        """Whether the tables as they stood gave this answer: an INVLPG before it changes nothing."""
+        event, place = self.record.events[at], self.reader.place
+        drop = bytes([0x13]) + event[1:place] + event[place + 1:place + 9]
+        numbers = [*kept, self.number]
+        events = [self.record.events[it] for it in numbers]
+        events.insert(numbers.index(at), drop)
+        words = self.notes.get(self.number)
+        cause = causes.cause_of(self.record, events,
+                                {} if words is None else {len(numbers): words})
+        return cause is not None and cause.number == len(numbers)

@@ -5,6 +5,7 @@ import signal
 import subprocess
 import sys
 import tempfile
+import time
 
 import image
 
@@ -59,27 +60,45 @@ def read(path):
         return file.read()
 
 
+def has_locked_up(folder):
+    """Whether a kernel in the system said that it no longer comes on."""
+    said = read(os.path.join(folder, "said"))
+    return b"soft lockup" in said or b"detected stalls" in said or b"hard LOCKUP" in said
+
+
+def wait_for(process, limit, folder):
+    """Whether it ended within the limit, and before what it runs locked up."""
+    end = time.monotonic() + limit
+    while not has_locked_up(folder):
+        try:
+            process.wait(max(0, min(5, end - time.monotonic())))
+            return True
+        except subprocess.TimeoutExpired:
+            if time.monotonic() >= end:
+                return False
+    return False
+
+
 def finish(words, limit, folder, **more):
-    """Whether the system was still running at the end of the limit; its own words."""
+    """Whether the system was still running at the end of the limit, or had locked up; then it is
+    ended. What it says is kept."""
     with open(os.path.join(folder, "system"), "wb") as said:
         process = subprocess.Popen(words, stdin=subprocess.DEVNULL, cwd=folder, stderr=said,
                                    start_new_session=True, **{"stdout": said, **more})
         try:
-            process.wait(limit)
-            return False
-        except subprocess.TimeoutExpired:
-            return True
+            return not wait_for(process, limit, folder)
         finally:
             if process.poll() is None:
                 os.killpg(process.pid, signal.SIGKILL)  # a system may be a script that starts it
                 process.wait()
 
 
-def qemu(settings, limit):
+def qemu(settings, limit, replay=b""):
     with tempfile.TemporaryDirectory() as folder:
-        image.disk(os.path.join(folder, "disk"), settings)
+        image.disk(os.path.join(folder, "disk"), settings, replay)
         # One thread: processors that wait for their turn give it up.
-        hung = finish(["qemu-system-x86_64", "-accel", "tcg,thread=single", "-cpu", "max",
+        threads = "multi" if settings[6] & image.AT_ONCE else "single"
+        hung = finish(["qemu-system-x86_64", "-accel", f"tcg,thread={threads}", "-cpu", "max",
                        "-smp", str(settings[3]), "-m", str(MEMORY), "-display", "none",
                        "-nodefaults", "-no-reboot", "-drive", "format=raw,file=disk",
                        "-debugcon", "file:output", "-serial", "file:said",
@@ -95,9 +114,9 @@ def write_bochsrc(folder, **values):
         file.write("c\n")  # Debian's is built with its debugger, which waits for this
 
 
-def bochs(settings, limit):
+def bochs(settings, limit, replay=b""):
     with tempfile.TemporaryDirectory() as folder:
-        image.disk(os.path.join(folder, "disk"), settings)
+        image.disk(os.path.join(folder, "disk"), settings, replay)
         # Few instructions a second, as the BIOS waits for seconds of the machine's time.
         write_bochsrc(folder, processors=settings[3], memory=MEMORY, ips=1000000, boot="disk",
                       drive=f"type=disk, path=disk, mode=flat, cylinders={image.CYLINDERS}, "
@@ -127,9 +146,12 @@ def build_loader():
     return LOADER
 
 
-def kvm(settings, limit):
-    words = [build_loader(), image.build(), str(limit), ":".join(map(str, settings))]
+def kvm(settings, limit, replay=b""):
     with tempfile.TemporaryDirectory() as folder:
+        guest = os.path.join(folder, "guest.elf")
+        with open(guest, "wb") as file:
+            file.write(image.guest_file(replay))
+        words = [build_loader(), guest, str(limit), ":".join(map(str, settings))]
         with open(os.path.join(folder, "output"), "wb") as output:
             late = finish(words, limit + 10, folder, stdout=output)
         said = read(os.path.join(folder, "system"))

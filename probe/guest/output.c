@@ -103,7 +103,10 @@ void shut_down(void)
 
 void stop(const char *why, uint64_t number)
 {
-    pcid_record_end(&record);
+    if (acts_at_once())
+        hand_out_logs(0);
+    else
+        pcid_record_end(&record);
     hand_over();
     say(why, number);
     shut_down();
