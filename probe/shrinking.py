@@ -4,6 +4,9 @@ import image
 import records
 
 
+MOST_TRIED = 20  # answers that are looked at
+
+
 def guesses(record, reader, number, taker):
     """Numbers of events before a bad one that may be enough, the fewest first: what its walk and
     that of the taker can have read, and then what the processor did."""
@@ -76,40 +79,55 @@ class Shrinking:
         tried = guesses(self.record, self.reader, self.number, self.cause.taker)
         return without_parts(self.shows, next(filter(self.shows, tried), list(range(self.number))))
 
+    def answers_before(self):
+        """The answers of the bad event's page by its frame: those of its own kind, and all."""
+        reader, events = self.reader, self.record.events
+        last = events[self.number]
+        alike = [at for at in range(self.number)
+                 if reader.is_answer(events[at]) and reader.told(events[at]) == reader.told(last)]
+        return [at for at in alike if reader.flags(events[at]) == reader.flags(last)], alike
+
     def with_answers(self, kept):
         """What is left with an answer put back, of the bad event's page by its frame, which shows
         what was cached. Those come first that the tables gave as they stood, so that they fill a
         cache where the events are carried out again; of these such of the bad event's own kind, as
         each kind may have a cache of its own, and the latest. Each is a list of events that is a no
         as before."""
-        reader, events = self.reader, self.record.events
-        last = events[self.number]
-        alike = [at for at in range(self.number)
-                 if reader.is_answer(events[at]) and reader.told(events[at]) == reader.told(last)]
-        same = [at for at in alike if reader.flags(events[at]) == reader.flags(last)]
         found = []
-        for at in dict.fromkeys([*self.latest(same, kept), *self.latest(alike, kept)]):
-            if at not in kept and self.shows(sorted([*kept, at])):
-                found.append(sorted([*kept, at]))
-                if self.is_fresh(found[-1], at):
-                    yield found[-1]
+        for numbers in self.answers_before():
+            for at in self.latest(numbers, kept):
+                if at not in kept and self.shows(sorted([*kept, at])):
+                    found.append(sorted([*kept, at]))
+                    if self.is_fresh(kept, at):
+                        yield found[-1]
+        yield from self.cuts_around_answers()
         yield from found
 
     def latest(self, numbers, kept):
         """Of these events the latest before each that is kept, from the last on."""
-        for end in [self.number, *reversed(kept)]:
-            before = [at for at in numbers if at < end]
-            if before:
-                yield before[-1]
+        return dict.fromkeys(max(at for at in numbers if at < end)
+                             for end in [self.number, *reversed(kept)]
+                             if any(at < end for at in numbers))
 
     def is_fresh(self, kept, at):
-        """Whether the tables as they stood gave this answer: an INVLPG before it changes nothing."""
+        """Whether the tables as these events left them gave an answer, and no cache: behind an
+        INVLPG it is right too."""
         event, place = self.record.events[at], self.reader.place
         drop = bytes([0x13]) + event[1:place] + event[place + 1:place + 9]
-        numbers = [*kept, self.number]
-        events = [self.record.events[it] for it in numbers]
-        events.insert(numbers.index(at), drop)
-        words = self.notes.get(self.number)
-        cause = causes.cause_of(self.record, events,
-                                {} if words is None else {len(numbers): words})
-        return cause is not None and cause.number == len(numbers)
+        before = [self.record.events[it] for it in kept if it < at]
+        return causes.answer_of(self.record.bytes([*before, drop, event])) is None
+
+    def cuts_around_answers(self):
+        """What is left where such an answer stays from the start: the latest that the tables gave,
+        of the bad event's own kind and of any."""
+        all_before = range(self.number)
+        fresh = [next((at for at in reversed(numbers[-MOST_TRIED:])
+                       if self.is_fresh([it for it in all_before if it != at], at)), None)
+                 for numbers in self.answers_before()]
+        for at in dict.fromkeys(at for at in fresh if at is not None):
+            def shows(rest, at=at):
+                return self.is_fresh(rest, at) and self.shows(sorted([*rest, at]))
+
+            rest = [it for it in all_before if it != at]
+            if shows(rest):
+                yield sorted([*without_parts(shows, rest), at])
