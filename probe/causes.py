@@ -84,12 +84,13 @@ def key_of(taken, report, words):
 
 
 def page_of(report):
-    """The size of the page that last answered, else of that which the tables have now."""
+    """The size of the page that last answered, else of that which the tables have now, else the
+    level at which the walk ends now."""
     by = re.search(r"^last: moment \d+ by ([\d ]+);", report, re.M)
     if by:
         return PAGES[5 - len(by.group(1).split())]
-    leaf = re.findall(r"^now: level (\d) ", report, re.M)
-    return PAGES[int(leaf[-1])] if leaf else "no page"
+    level, kind = re.findall(r"^now: level (\d) \[\w+\] = \w+ (\w+)", report, re.M)[-1]
+    return PAGES[int(level)] if kind == "leaf" else f"{kind} at level {level}"
 
 
 class Reader:
