@@ -35,29 +35,33 @@ def fetch(asked, folder):
 
 
 class Kernel:
-    """An unpacked kernel: fetched where it is not there yet."""
+    """A kernel that is fetched and unpacked where it is not there yet."""
 
     def __init__(self, asked=None):
+        self.asked = asked or "linux-image-amd64"
         self.folder = os.path.join(FOLDER, re.sub(r"[^\w.+-]", "-", asked or "own"))
-        if not self.find("boot/vmlinuz-*", "usr/lib/modules/*/vmlinuz"):
-            self.unpack(asked or "linux-image-amd64")
 
-    def find(self, *forms):
-        return [path for form in forms for path in glob.glob(os.path.join(self.folder, form))]
+    def find(self):
+        return [path for form in ("boot/vmlinuz-*", "usr/lib/modules/*/vmlinuz")
+                for path in glob.glob(os.path.join(self.folder, form))]
 
-    def unpack(self, asked):
-        image.need("dpkg-deb")
-        os.makedirs(image.OUT, exist_ok=True)
+    def needs(self):
+        """What fetching and unpacking it takes."""
+        return () if self.find() else ("apt-get", "dpkg-deb")
+
+    def prepare(self):
+        if self.find():
+            return
         with tempfile.TemporaryDirectory(dir=image.OUT) as folder:
             tree = os.path.join(folder, "tree")
-            for package in fetch(asked, folder):
+            for package in fetch(self.asked, folder):
                 image.command("dpkg-deb", "-x", package, tree)
             shutil.rmtree(self.folder, ignore_errors=True)
             os.makedirs(FOLDER, exist_ok=True)
             os.rename(tree, self.folder)
 
     def image(self):
-        found = self.find("boot/vmlinuz-*", "usr/lib/modules/*/vmlinuz")
+        found = self.find()
         if not found:
             raise image.Stop(f"{self.folder} has no kernel")
         return found[0]

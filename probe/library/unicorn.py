@@ -5,7 +5,6 @@ without PCIDs does writes of table entries (all levels and page sizes, rights, r
 D, global pages), reads, writes and fetches by ring 3 and ring 0, implicit accesses (LSL), INVLPG,
 MOV to CR3 and changes of CR4.PGE. Output and status are the auditor's. It needs Unicorn 2.1 or
 newer: pip's unicorn, or Debian's python3-unicorn of trixie. docs/PROBE.md says more."""
-import argparse
 import ctypes
 import os
 import random
@@ -363,7 +362,7 @@ class Run:
 
 
 def main():
-    words = argparse.ArgumentParser(prog="probe/library/unicorn.py", description=__doc__)
+    words = image.Words(prog="probe/library/unicorn.py", description=__doc__)
     words.add_argument("--seed", type=int, default=1, metavar="N")
     words.add_argument("--events", type=int, default=2000, metavar="N")
     words.add_argument("--without", default="", metavar="KINDS",
@@ -377,6 +376,7 @@ def main():
         if kind not in KINDS:
             raise image.Stop(f"no such kind: {kind}; there are {' '.join(KINDS)}")
     load_library(chosen.folder)
+    records.ready()
     record = Run(chosen.seed, chosen.events, left_out).carry_out()
     if chosen.keep:
         with open(chosen.keep, "wb") as file:

@@ -22,6 +22,10 @@ start:  cli
         mov edi, GUEST
         mov ecx, (guest_end - guest + 3) / 4
         rep movsd
+        mov esi, replay
+        mov edi, REPLAY         ; of image.py
+        mov ecx, (replay_end - replay + 3) / 4
+        rep movsd
 
         mov edi, ROOT
         mov ecx, 3 * 4096 / 4
@@ -73,3 +77,6 @@ descriptors:
         align 16
 guest:  incbin "guest"
 guest_end:
+        align 4
+replay: incbin "replay"         ; a record that is carried out again
+replay_end:

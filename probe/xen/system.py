@@ -13,27 +13,27 @@ MEMORY, DOMAIN_MEMORY = 3072, 1400  # MB
 WAYS = 7  # the place of the ways in the settings
 
 
-def write_kernel(folder, settings):
+def write_kernel(folder, settings, replay):
     """The kernel that Xen boots: the guest with its settings behind a start for the mode PVH."""
-    image.need("nasm", "ld")
-    with open(os.path.join(folder, "guest"), "wb") as file:
-        file.write(image.flat_guest(settings))
+    for name, data in (("guest", image.flat_guest(settings)), ("replay", replay)):
+        with open(os.path.join(folder, name), "wb") as file:
+            file.write(data)
     made = os.path.join(folder, "kernel")
-    image.command("nasm", "-f", "elf32", "-I", folder + "/", "-o", made + ".o",
+    image.command("nasm", "-f", "elf32", f"-DREPLAY={image.REPLAY_ADDRESS}", "-I", folder + "/",
+                  "-o", made + ".o",
                   os.path.join(HERE, "start.asm"))
     image.command("ld", "-m", "elf_i386", *image.LINK[1:], "-T", os.path.join(HERE, "link.ld"),
                   "-o", made, made + ".o")
 
 
-def run(settings, limit, parameters=None):
+def run(settings, limit, replay=b"", parameters=None):
     """Xen has port 0xE9 for itself, so the record goes to the first serial line, and Xen's own
     lines to the second."""
-    image.need("qemu-system-x86_64", "/usr/share/seabios/bios-256k.bin")
     if not os.path.exists(XEN):
         raise image.Stop("there is no Xen with shadow paging: run probe/xen/build")
     before, after = settings[:WAYS - 1], settings[WAYS:]
     with tempfile.TemporaryDirectory() as folder:
-        write_kernel(folder, (*before, settings[WAYS - 1] | image.SERIAL, *after))
+        write_kernel(folder, (*before, settings[WAYS - 1] | image.SERIAL, *after), replay)
         shutil.copy(XEN, os.path.join(folder, "xen"))
         hung = systems.finish(
             ["qemu-system-x86_64", "-accel", "tcg,thread=single", "-cpu", "max,+svm",
