@@ -12,6 +12,7 @@ import image
 MEMORY = 1152  # MB: the first 128 MB of two GBs
 BOCHS_BIOS = "/usr/share/bochs/BIOS-bochs-latest"
 BOCHS_VGA_BIOS = "/usr/share/vgabios/vgabios.bin"
+XEN = os.path.join(image.OUT, "xen", "xen")  # probe/xen/build writes it
 
 
 # What each needs beside what builds the guest.
@@ -26,6 +27,8 @@ def need(system, *more):
                *(("gcc",) if system == "kvm" and not loader_is_built() else ()))
     if system == "kvm" and not os.access("/dev/kvm", os.R_OK | os.W_OK):
         raise image.Stop("/dev/kvm can't be opened: probe/nested has a KVM in an emulator")
+    if system == "xen" and not os.path.exists(XEN):
+        raise image.Stop("there is no Xen with shadow paging: run probe/xen/build")
 
 
 class Run:

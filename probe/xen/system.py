@@ -7,7 +7,6 @@ import image
 import systems
 
 HERE = os.path.dirname(os.path.abspath(__file__))
-XEN = os.path.join(image.OUT, "xen", "xen")  # probe/xen/build writes it
 SHADOW = "dom0=pvh,shadow"
 MEMORY, DOMAIN_MEMORY = 3072, 1400  # MB
 WAYS = 7  # the place of the ways in the settings
@@ -29,12 +28,10 @@ def write_kernel(folder, settings, replay):
 def run(settings, limit, replay=b"", parameters=None):
     """Xen has port 0xE9 for itself, so the record goes to the first serial line, and Xen's own
     lines to the second."""
-    if not os.path.exists(XEN):
-        raise image.Stop("there is no Xen with shadow paging: run probe/xen/build")
     before, after = settings[:WAYS - 1], settings[WAYS:]
     with tempfile.TemporaryDirectory() as folder:
         write_kernel(folder, (*before, settings[WAYS - 1] | image.SERIAL, *after), replay)
-        shutil.copy(XEN, os.path.join(folder, "xen"))
+        shutil.copy(systems.XEN, os.path.join(folder, "xen"))
         hung = systems.finish(
             ["qemu-system-x86_64", "-accel", "tcg,thread=single", "-cpu", "max,+svm",
              "-machine", "q35,kernel-irqchip=off", "-device", "intel-iommu,intremap=off",
