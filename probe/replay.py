@@ -1,6 +1,6 @@
-"""Lays out a record's events for the guest to carry them out again (guest/replay.c): where each table
-and each frame goes, and one step an event. A record of the guest's own stays where it was; of another
-the tables and frames are moved to where the guest has place for them."""
+"""Lays out a record's events for the guest to carry them out again (guest/replay.c): where each
+table and each frame goes, and one step an event. A record of the guest's own stays where it was; of
+another the tables and frames are moved to where the guest has place for them."""
 import struct
 
 import causes
@@ -163,7 +163,7 @@ class Place:
         return address if self.stays else self.moved.get(address, NOWHERE)
 
     def entry(self, table, value):
-        """An entry as it is written, and whether a bit above the record's addresses is set in it."""
+        """An entry as it is written, and whether it has a bit above the record's addresses."""
         source = self.source
         flag = HIGH_RESERVED if value & (1 << 52) - (1 << source.m) else 0
         levels = source.levels.get(table, {1})

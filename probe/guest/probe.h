@@ -252,6 +252,7 @@ uint64_t word_now(uint32_t frame, uint64_t index); /* of the pool: as recorded, 
 
 /* streams.c and focus.c */
 enum { FOCUSES = 5 };
+int others_are_done(void);
 void run_at_once(uint64_t seed);
 void follow_stream(void);
 void write_focus_tables(void);
