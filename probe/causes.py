@@ -1,5 +1,5 @@
-"""Why a record is a no: what `pcid-audit certify` says of it, in the form that shrinking has to keep
-and by which a hunt tells one no from another."""
+"""Why a record is a no: what `pcid-audit certify` says of it, in the form that shrinking has to
+keep and by which a hunt tells one no from another."""
 import re
 import struct
 
@@ -44,7 +44,7 @@ def is_yes_as_explicit(record, events, number, words):
 
 
 def cause_of(record, events, notes):
-    """The cause of these events' no, None where they are a yes. Notes are by the events' numbers."""
+    """The cause of these events' no, None where they are a yes. Notes are by events' numbers."""
     report = answer_of(record.bytes(events))
     if report is None:
         return None
@@ -73,7 +73,7 @@ def taker_of(event):
 
 
 def key_of(taken, report, words):
-    """One line for all noes alike: what took the moments away, which access, and the page's size."""
+    """One line for noes alike: what took the moments away, which access, and the page's size."""
     access = re.search(r"^event: \d+ cpu \d+ (.*)$", report, re.M).group(1)
     kind, answer = re.fullmatch(r"(.*) 0x[0-9a-f]+(?: \[.*)? -> (.*?)(?: moments .*)?",
                                 access).groups() if " -> " in access else (access, "assist")

@@ -132,8 +132,8 @@ def is_first(folder, key):
 
 
 def carry_out(plan, folder, seed, known):
-    """One job. A run that hung or ended early is a cause of its own; what stands whole of its record
-    is judged too, and a no of it goes before."""
+    """One job. A run that hung or ended early is a cause of its own; what stands whole of its
+    record is judged too, and a no of it goes before."""
     os.makedirs(place_of(folder, seed), exist_ok=True)
     done = systems.SYSTEMS[plan.system](plan.settings(seed), plan.limit)
     found, cut = records.split(done.output)

@@ -3,9 +3,9 @@
  *
  *     loader GUEST SECONDS RUN..
  *
- * GUEST is the guest's ELF file. Each RUN is ten numbers, by colons, in the order of struct settings
- * (guest/probe.h): seed, seeds, events, processors, version, kinds left out, ways, script, burst,
- * focus.
+ * GUEST is the guest's ELF file. Each RUN is ten numbers, by colons, in the order of struct
+ * settings (guest/probe.h): seed, seeds, events, processors, version, kinds left out, ways, script,
+ * burst, focus.
  * Of the ways, 8 gives all processors their turns by one thread; without it each has a thread of
  * its own. Records go to standard output, all else to standard error.
  *

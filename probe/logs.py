@@ -1,4 +1,4 @@
-"""Logs of single processors (docs/FORMAT.md): found in an output, cut where a run hung, and kept."""
+"""Logs of single processors (docs/FORMAT.md): found in an output, cut where a run hung, kept."""
 import os
 import struct
 import subprocess
@@ -14,7 +14,7 @@ END = (1 << 64) - 1
 
 
 class Log:
-    """A header and events, each with its stamps and its bytes. It is whole where its end mark is."""
+    """A header and events, each with its stamps and bytes. It is whole where its end mark is."""
 
     def __init__(self, head, events, is_whole):
         self.head, self.events, self.is_whole = head, events, is_whole

@@ -1,6 +1,6 @@
-"""Lays out a record's events for the guest to carry them out again (guest/replay.c): where each table
-and each frame goes, and one step an event. A record of the guest's own stays where it was; of another
-the tables and frames are moved to where the guest has place for them."""
+"""Lays out a record's events for the guest to carry them out again (guest/replay.c): where each
+table and each frame goes, and one step an event. A record of the guest's own stays where it was; of
+another the tables and frames are moved to where the guest has place for them."""
 import struct
 
 import causes
@@ -17,7 +17,7 @@ OWN_WORDS, SLOT_WORDS = 1, 2
 HIGH_RESERVED = 1
 IMPLICIT = 3
 GIGABYTE_PAGES, PCIDS = 1, 2
-P, PS, XD = 1, 1 << 7, 1 << 63
+P, A, D, PS, XD = 1, 1 << 5, 1 << 6, 1 << 7, 1 << 63
 # Where frames may be: those that the guest's random runs have, and what else it leaves alone.
 LOW_FRAMES = (0, 0x1000, 0x7000, 0x64000, 0x102000, 0x1FF000)
 FREE = ((POOL, 0x600000), (0x1000000, 0x8000000), (GIGABYTE, GIGABYTE + 0x8000000))
@@ -86,6 +86,17 @@ class Source:
             self.steps.append(Step(what, processor, kind=kind, pcid=pcid, address=linear))
         elif what == 0x15:
             self.steps.append(Step(what, processor, value=event[place]))
+        elif what == records.ASSIST and not self.is_served(number):
+            flags = A | (D if event[place] & 16 else 0)
+            self.steps.append(Step(what, processor, address=reader.words(event, 9), value=flags))
+
+    def is_served(self, number):
+        """Whether the access follows that an assist serves, whose processor sets the flags."""
+        events, reader = self.record.events, self.reader
+        own = [event for event in events[number:] if reader.is_access(event) and
+               reader.processor(event) == reader.processor(events[number])]
+        access = next((event for event in own if event[0] == records.ACCESS), None)
+        return access is not None and reader.words(access, 1) == reader.words(events[number], 1)
 
     def asked(self, number, event):
         """The operation and what carries it out. Where no note tells, a read at the place of a
@@ -163,7 +174,7 @@ class Place:
         return address if self.stays else self.moved.get(address, NOWHERE)
 
     def entry(self, table, value):
-        """An entry as it is written, and whether a bit above the record's addresses is set in it."""
+        """An entry as it is written, and whether it has a bit above the record's addresses."""
         source = self.source
         flag = HIGH_RESERVED if value & (1 << 52) - (1 << source.m) else 0
         levels = source.levels.get(table, {1})
@@ -210,6 +221,8 @@ def laid_out(record, notes):
             if table in source.answers and (step.address & 4095) // 32 == slot:
                 continue
             step.value, step.flags = place.entry(table, step.value)
+            step.address = place.frame(table) | step.address & 4095
+        elif step.what == records.ASSIST:
             step.address = place.frame(table) | step.address & 4095
         elif step.what == 0x12:
             step.address = (step.address & ~source.address_bits |

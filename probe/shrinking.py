@@ -5,6 +5,7 @@ import records
 
 
 MOST_TRIED = 20  # answers that are looked at
+MASK = (1 << 64) - 1
 
 
 def guesses(record, reader, number, taker):
@@ -93,7 +94,7 @@ class Shrinking:
         cache where the events are carried out again; of these such of the bad event's own kind, as
         each kind may have a cache of its own, and the latest. Each is a list of events that is a no
         as before."""
-        found = []
+        kept, found = self.with_loads(kept), []
         for numbers in self.answers_before():
             for at in self.latest(numbers, kept):
                 if at not in kept and self.shows(sorted([*kept, at])):
@@ -102,6 +103,21 @@ class Shrinking:
                         yield found[-1]
         yield from self.cuts_around_answers()
         yield from found
+
+    def with_loads(self, kept):
+        """Where a MOV to CR3 that keeps took the last moments away, the load of the same root and
+        PCID before is put back, with those behind it, where they can stay: what is kept of a PCID
+        is from when it was used."""
+        reader, events, taker = self.reader, self.record.events, self.cause.taker
+        if taker is None or events[taker][0] != records.LOAD_ROOT or \
+                not reader.words(events[taker]) >> 63:
+            return kept
+        own = [at for at in range(taker) if events[at][0] == records.LOAD_ROOT
+               and reader.processor(events[at]) == reader.processor(events[taker])]
+        before = [at for at in own
+                  if (reader.words(events[at]) ^ reader.words(events[taker])) << 1 & MASK == 0]
+        more = sorted({*kept, *(at for at in own if before and at >= before[-1])})
+        return more if self.shows(more) else kept
 
     def latest(self, numbers, kept):
         """Of these events the latest before each that is kept, from the last on."""

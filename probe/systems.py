@@ -32,7 +32,8 @@ def need(system, *more):
 
 
 class Run:
-    """What a run wrote, and what the guest or its loader and the system said."""
+    """What a run wrote, what the guest or its loader and the system said, and why it was ended,
+    where it did not end by itself."""
 
     def __init__(self, output, said, system_said, hung):
         self.output, self.said, self.system_said, self.hung = output, said, system_said, hung
@@ -42,7 +43,8 @@ class Run:
         for line in self.said.decode(errors="replace").splitlines():
             print(f"probe: {line}", file=sys.stderr)
         if self.hung:
-            print(f"probe: hang: the run did not end within {limit} s", file=sys.stderr)
+            why = LOCKED_UP if self.hung == LOCKED_UP else f"the run did not end within {limit} s"
+            print(f"probe: hang: {why}", file=sys.stderr)
         if cut:
             print(f"probe: the output is cut off: {cut}", file=sys.stderr)
 
@@ -53,6 +55,7 @@ class Run:
         return image.EARLY_END if cut or ENDED_EARLY.search(self.said) else 0
 
 
+LATE, LOCKED_UP = "late", "what the system runs locked up, and it was ended"
 # What the guest says where it stops itself, and the loader of a run that failed.
 ENDED_EARLY = re.compile(rb"^(stopped: |loader: run \S+ failed)", re.M)
 
@@ -88,27 +91,28 @@ def has_locked_up(folder):
 
 
 def wait_for(process, limit, folder):
-    """Whether it ended within the limit, and before what it runs locked up."""
+    """Why it is to be ended: that is past the limit, or what it runs locked up. Nothing where it
+    ended."""
     end = time.monotonic() + limit
     while not has_locked_up(folder):
         try:
             process.wait(max(0, min(5, end - time.monotonic())))
-            return True
+            return ""
         except subprocess.TimeoutExpired:
             if time.monotonic() >= end:
-                return False
-    return False
+                return LATE
+    return LOCKED_UP
 
 
 def finish(words, limit, folder, **more):
-    """Whether the system was still running at the end of the limit, or had locked up; then it is
-    ended. What it says is kept."""
+    """Runs a system, and ends it at the end of the limit or where it locks up. Answers why it was
+    ended, nothing where it ended by itself. What it says is kept."""
     with open(os.path.join(folder, "system"), "wb") as said:
         process = subprocess.Popen(words_inside(words, folder), stdin=subprocess.DEVNULL,
                                    cwd=folder, stderr=said, start_new_session=True,
                                    **{"stdout": said, **more})
         try:
-            return not wait_for(process, limit, folder)
+            return wait_for(process, limit, folder)
         finally:
             if process.poll() is None:
                 os.killpg(process.pid, signal.SIGKILL)  # a system may be a script that starts it
@@ -177,7 +181,8 @@ def kvm(settings, limit, replay=b""):
         with open(os.path.join(folder, "output"), "wb") as output:
             late = finish(words, limit + 10, folder, stdout=output)
         said = read(os.path.join(folder, "system"))
-        return Run(read(os.path.join(folder, "output")), said, said, late or b" hung," in said)
+        hung = late or (LATE if b" hung," in said else "")
+        return Run(read(os.path.join(folder, "output")), said, said, hung)
 
 
 def xen(settings, limit, replay=b"", parameters=None):

@@ -12,7 +12,7 @@
 
 enum { TO_TABLES = 1, TO_PAGE, TO_DIRECTORIES, BY_SEED, ABSENT_OR_NOT };
 enum { ROOT = 0, PDPT = 3, DIRECTORY = 6, OTHER_DIRECTORY = 7, TABLE_FRAME = 10, OTHER_TABLE = 11 };
-enum { SOUND = 0x67, PAGE_SIZE_BIT = 0x80, USER_BIT = 4, TESTED = 6 };
+enum { SOUND = 0x67, MOST_ROUNDS = 20000, PAGE_SIZE_BIT = 0x80, USER_BIT = 4, TESTED = 6 };
 
 static uint64_t focus(void)
 {
@@ -79,7 +79,8 @@ static void race_with_absent(uint64_t *again)
     uint64_t round;
 
     if (own_number() == 0) {
-        for (round = 0; counter_page[0] < until && round < 400; round++)
+        for (round = 0; counter_page[0] < until && round < MOST_ROUNDS && !others_are_done();
+             round++)
             pause();
         store_focus(*again ^= 1);
     } else if (!access_at_once(&access)) {

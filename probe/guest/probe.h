@@ -84,7 +84,8 @@ struct order {
 /* A processor: entry.asm knows the first ten fields. Its area holds its stacks too. */
 struct processor {
     uint64_t saved_stack, vector, error, fault_address, rax, rip, flags;
-    uint64_t begin, end, counter; /* the stamps of an access; where its code finds the counter, or 0 */
+    uint64_t begin, end; /* the stamps of an access */
+    uint64_t counter;    /* where its code finds the counter, or 0 */
     volatile uint64_t waits; /* for the order to be carried out */
     struct order order;
     uint64_t cr3, pge;       /* as the record has them; cr3 without bit 63 */
@@ -252,6 +253,7 @@ uint64_t word_now(uint32_t frame, uint64_t index); /* of the pool: as recorded, 
 
 /* streams.c and focus.c */
 enum { FOCUSES = 5 };
+int others_are_done(void);
 void run_at_once(uint64_t seed);
 void follow_stream(void);
 void write_focus_tables(void);

@@ -121,6 +121,16 @@ static void write_again(const struct replay *replay, const struct step *step)
     write_word(frame_of(step->address), (step->address & 4095) / 8, value);
 }
 
+/* The flags of an assist whose access is not carried out again are set by a write. */
+static void set_flags(const struct step *step)
+{
+    const uint32_t frame = frame_of(step->address);
+    const uint64_t index = (step->address & 4095) / 8, word = held[frame][index];
+
+    if ((word | step->value) != word)
+        write_word(frame, index, word | step->value);
+}
+
 static void access_again(const struct step *step)
 {
     const struct access access = {(enum operation)(step->flags & 3), (step->flags & IS_USER) != 0,
@@ -154,6 +164,9 @@ static void carry_out_again(const struct replay *replay, const struct step *step
         break;
     case 0x15:
         set_pge(step->value);
+        break;
+    case 0x16:
+        set_flags(step);
         break;
     default:
         stop("stopped: a step of kind", step->what);

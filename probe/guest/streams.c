@@ -15,6 +15,7 @@ static uint64_t count_of_pages, share, upper_share, events_each;
 static volatile uint64_t recent[RECENT];
 static uint16_t pcids[4];
 static volatile uint64_t arrived __attribute__((aligned(64)));
+static volatile uint64_t finished; /* processors that have done their events */
 
 struct planned {
     enum work work;
@@ -236,12 +237,22 @@ static void carry_out_plan(void)
     own()->planned = 0;
 }
 
-/* Until so many have come to a meeting, those of earlier ones counted in. */
-static void meet(uint64_t all)
+static void count_one(volatile uint64_t *counter)
 {
     uint64_t one = 1;
 
-    __asm__ volatile("lock xaddq %0,%1" : "+r"(one), "+m"(arrived)::"memory", "cc");
+    __asm__ volatile("lock xaddq %0,%1" : "+r"(one), "+m"(*counter)::"memory", "cc");
+}
+
+int others_are_done(void)
+{
+    return finished + 1 >= count_of_processors;
+}
+
+/* Until so many have come to a meeting, those of earlier ones counted in. */
+static void meet(uint64_t all)
+{
+    count_one(&arrived);
     while (arrived < all)
         pause();
 }
@@ -252,13 +263,22 @@ static void run_freely(void)
     const uint64_t end = count_of_logged(number) + events_each;
 
     while (count_of_logged(number) < end && has_room(number)) {
-        if (settings.focus != 0) {
-            focus_event(&own()->again, &own()->follows_up);
-        } else {
-            plan_event();
-            carry_out_plan();
-        }
+        plan_event();
+        carry_out_plan();
     }
+}
+
+/* Processor 0 goes on for as long as the others do. */
+static void run_focused(void)
+{
+    const uint32_t number = own_number();
+    const uint64_t end = count_of_logged(number) + events_each;
+
+    while (has_room(number) && (number == 0 && count_of_processors > 1
+                                    ? !others_are_done()
+                                    : count_of_logged(number) < end))
+        focus_event(&own()->again, &own()->follows_up);
+    count_one(&finished);
 }
 
 static void run_in_bursts(void)
@@ -279,7 +299,9 @@ void follow_stream(void)
 {
     own()->cr3 = processors[own_number()].processor.cr3;
     meet(count_of_processors);
-    if (settings.burst == 0 || settings.focus != 0)
+    if (settings.focus != 0)
+        run_focused();
+    else if (settings.burst == 0)
         run_freely();
     else
         run_in_bursts();
@@ -333,7 +355,8 @@ static void begin_streams(uint64_t seed)
         processor->pge = allows(GLOBAL_PAGES) && settings.focus == 0 && percent(75);
         streams[k].count_of_answered = streams[k].planned = 0;
         streams[k].follows_up = NO_INVALIDATION;
-        streams[k].last_page = streams[k].again = pages[0];
+        streams[k].last_page = pages[0];
+        streams[k].again = 0;
         seed_random_of(k, seed);
         begin_log(k);
     }
@@ -351,7 +374,7 @@ void run_at_once(uint64_t seed)
         stop("stopped: settings of a run at once", settings.focus);
     seed_random(seed);
     counter_page[0] = 1;
-    arrived = 0;
+    arrived = finished = 0;
     rest_all();
     choose(seed);
     choose_slot();
