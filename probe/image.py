@@ -1,4 +1,7 @@
 """Builds the guest, and makes images of it with their settings filled in."""
+import argparse
+import contextlib
+import fcntl
 import glob
 import os
 import shutil
@@ -12,9 +15,12 @@ OUT = os.path.join(HERE, "out")
 ELF = os.path.join(OUT, "guest.elf")
 SECTOR = 512
 PART = 32  # sectors that the boot sector loads at once
-CYLINDERS, HEADS, SECTORS = 2, 16, 63  # of the disk
+CYLINDERS, HEADS, SECTORS = 4, 16, 63  # of the disk
 SETTINGS = 16  # where they stand in the guest
+PARTS = 508  # where the boot sector has the parts of a record that is carried out again
+REPLAY_ADDRESS = 0x700000
 MAGIC = 0x5350494350424F52
+MEMORY = 0xFFFF800000000000  # where the guest has physical memory
 COMPILE = ["gcc", "-std=c99", "-Wall", "-Wextra", "-Wpedantic", "-Werror", "-O1", "-ffreestanding",
            "-fno-stack-protector", "-fpie", "-mno-red-zone", "-mgeneral-regs-only",
            "-fno-jump-tables", "-fno-tree-loop-distribute-patterns",
@@ -27,22 +33,53 @@ PACKAGES = {"gcc": "gcc", "cc": "gcc", "ld": "binutils", "objcopy": "binutils", 
             "/usr/share/bochs/BIOS-bochs-latest": "bochsbios",
             "/usr/share/vgabios/vgabios.bin": "vgabios",
             "/usr/share/seabios/bios-256k.bin": "seabios", "grub-mkrescue": "grub-common",
-            "xorriso": "xorriso", "mformat": "mtools", "/usr/lib/grub/i386-pc": "grub-pc-bin"}
+            "xorriso": "xorriso", "mformat": "mtools", "/usr/lib/grub/i386-pc": "grub-pc-bin",
+            "apt-get": "apt", "dpkg-deb": "dpkg", "make": "make", "flex": "flex",
+            "bison": "bison", "dpkg-source": "dpkg-dev", "patch": "patch", "zstd": "zstd"}
+EMULATORS = ("qemu-system-x86", "seabios", "bochs", "bochsbios", "vgabios")
+BUILDERS = ("gcc", "ld", "objcopy", "nasm")
+
+# Exit statuses beside those of `certify`, which are below 10.
+EARLY_END, HANG, USAGE, LACKING = 10, 11, 64, 70
 
 # Kinds of entries, events and accesses that can be left out: the bits of guest/probe.h.
 KINDS = ["reserved", "large", "global", "user", "writes", "fetches", "implicit", "implicit-ac",
          "self-maps", "pcids", "bare-faults", "clear-flag-faults"]
-DOORBELL, SERIAL, LOADER_STARTS, LOADER_TURNS = 1, 2, 4, 8
+DOORBELL, SERIAL, LOADER_STARTS, LOADER_TURNS, REPLAY = 1, 2, 4, 8, 16
+AT_ONCE = 32
+SCRIPTS = 9  # of guest/directed.c, from 1 on
+# How all processors act at once: the events of a burst, and the focus of guest/focus.c.
+MODES = {"free": (0, 0), "bursts": (8, 0), "tables": (0, 1), "page": (0, 2),
+         "directories": (0, 3), "mixed": (0, 4), "absent": (0, 5)}
+
+inside = ""  # the folder that the emulators are taken from, where it is not the machine's root
 
 
 class Stop(Exception):
     """Nothing can be run: status 70."""
 
 
+class Words(argparse.ArgumentParser):
+    """A command line, whose faults have the status of the auditor's."""
+
+    def error(self, message):
+        self.print_usage(sys.stderr)
+        self.exit(USAGE, f"{self.prog}: {message}\n")
+
+
+def is_there(tool):
+    if inside and PACKAGES[tool] in EMULATORS:
+        return os.path.exists(inside + (tool if tool.startswith("/") else "/usr/bin/" + tool))
+    return os.path.exists(tool) if tool.startswith("/") else shutil.which(tool) is not None
+
+
 def need(*tools):
-    for tool in tools:
-        if not (os.path.exists(tool) if tool.startswith("/") else shutil.which(tool)):
-            raise Stop(f"{tool} is missing: Debian has it in the package {PACKAGES[tool]}")
+    """Stops where tools are missing, and names them all with Debian's packages."""
+    missing = [tool for tool in dict.fromkeys(tools) if not is_there(tool)]
+    if missing:
+        packages = " ".join(dict.fromkeys(PACKAGES[tool] for tool in missing))
+        raise Stop("\n".join([*(f"{tool} is missing: Debian has it in the package {PACKAGES[tool]}"
+                                for tool in missing), f"to install: apt-get install {packages}"]))
 
 
 def last_lines(said):
@@ -61,17 +98,40 @@ def is_newer(target, sources):
         os.path.getmtime(source) < os.path.getmtime(target) for source in sources)
 
 
+def sources():
+    """The guest's own."""
+    return sorted(glob.glob(os.path.join(HERE, "guest", "*")))
+
+
+def is_built():
+    header = os.path.join(TOP, "emit", "pcid_record.h")
+    return is_newer(ELF, [*sources(), header, os.path.abspath(__file__)])
+
+
+def builders():
+    """What has to be there to build the guest, where that is not done."""
+    return () if is_built() else BUILDERS
+
+
+@contextlib.contextmanager
+def alone():
+    """One at a time builds what lacks."""
+    os.makedirs(OUT, exist_ok=True)
+    with open(os.path.join(OUT, "lock"), "w") as lock:
+        fcntl.flock(lock, fcntl.LOCK_EX)
+        yield
+
+
 def build():
     """The guest's ELF file, built where it is missing or older than its sources."""
-    folder = os.path.join(HERE, "guest")
-    sources = sorted(glob.glob(os.path.join(folder, "*")))
-    header = os.path.join(TOP, "emit", "pcid_record.h")
-    if is_newer(ELF, [*sources, header, os.path.abspath(__file__)]):
-        return ELF
-    need("gcc", "ld", "objcopy", "nasm")
-    os.makedirs(OUT, exist_ok=True)
-    objects = []
-    for source in sources:
+    with alone():
+        return ELF if is_built() else build_anew()
+
+
+def build_anew():
+    need(*BUILDERS)
+    folder, objects = os.path.join(HERE, "guest"), []
+    for source in sources():
         name, kind = os.path.splitext(os.path.basename(source))
         made = os.path.join(OUT, name + ".o")
         if kind == ".c":
@@ -91,16 +151,16 @@ def build():
 
 
 def settings_of(seed=1, seeds=1, events=2000, processors=1, version=1, without=(), ways=0,
-                script=0):
+                script=0, burst=0, focus=0):
     """The words of struct settings behind its magic."""
     left_out = sum(1 << KINDS.index(kind) for kind in set(without))
-    return seed, seeds, events, processors, version, left_out, ways, script
+    return seed, seeds, events, processors, version, left_out, ways, script, burst, focus
 
 
 def script(text):
     """The number of a script, 0 for a random run."""
     number = int(text)
-    if number not in range(5):
+    if number not in range(SCRIPTS + 1):
         raise ValueError
     return number
 
@@ -113,35 +173,82 @@ def scripts(text):
 def add_run_options(words, events=2000, script_type=script):
     """What each program says of a run."""
     words.add_argument("--seed", type=int, default=1, metavar="N")
+    add_common_options(words, events)
+    words.add_argument("--script", type=script_type, default="0", metavar="N",
+                       help=f"a short sequence, 1 to {SCRIPTS}, in place of a random run" +
+                            ("; several, by commas" if script_type is scripts else ""))
+
+
+def add_at_once(words):
+    words.add_argument("--at-once", nargs="?", const="free", choices=list(MODES), metavar="HOW",
+                       help="all processors act at once, each by a random stream and with a log of "
+                            "its own: " + ", ".join(MODES))
+
+
+def add_common_options(words, events=2000):
+    """What a hunt says of all its runs."""
     words.add_argument("--events", type=int, default=events, metavar="N")
     words.add_argument("--processors", type=int, default=1, choices=range(1, 9), metavar="N")
     words.add_argument("--version", type=int, default=1, choices=(1, 2))
-    words.add_argument("--script", type=script_type, default="0", metavar="N",
-                       help="a short sequence, 1 to 4, in place of a random run" +
-                            ("; several, by commas" if script_type is scripts else ""))
     words.add_argument("--without", default="", metavar="KINDS",
                        help="leave these out, by commas: " + " ".join(KINDS))
 
 
-def kinds_of(chosen):
+def add_folder_option(words):
+    words.add_argument("--in", dest="folder", metavar="FOLDER",
+                       help="the emulator of that folder, which probe/suite has filled")
+
+
+def kinds_of(chosen, version=None):
     """The kinds that are left out: in version 2 also faults whose walk meets A=0."""
     kinds = [kind for kind in chosen.without.split(",") if kind]
     for kind in kinds:
         if kind not in KINDS:
             raise Stop(f"no such kind: {kind}; there are {' '.join(KINDS)}")
-    return kinds + (["clear-flag-faults"] if chosen.version == 2 else [])
+    return kinds + (["clear-flag-faults"] if (version or chosen.version) == 2 else [])
 
 
-def disk(path, settings):
-    """Writes a disk that boots the guest with these settings."""
+def guest_file(replay=b""):
+    """The guest's ELF file as bytes, with a segment more for records that are carried out again."""
+    with open(build(), "rb") as file:
+        data = file.read()
+    count, = struct.unpack_from("<H", data, 56)
+    first, = struct.unpack_from("<Q", data, 32)
+    parts, bodies = [], []
+    at = (64 + 56 * (count + 1) + 4095) & ~4095
+    for k in range(count):
+        part = list(struct.unpack_from("<IIQQQQQQ", data, first + 56 * k))
+        bodies.append(data[part[2]:part[2] + part[5]].ljust(-(-part[5] // 4096) * 4096, b"\0"))
+        part[2], at = at, at + len(bodies[-1])
+        parts.append(part)
+    parts.append([1, 6, at, MEMORY + REPLAY_ADDRESS, REPLAY_ADDRESS, len(replay), len(replay),
+                  4096])
+    head = bytearray(data[:64])
+    struct.pack_into("<QQ", head, 32, 64, 0)  # no sections
+    struct.pack_into("<HHHH", head, 56, len(parts), 0, 0, 0)
+    table = b"".join(struct.pack("<IIQQQQQQ", *part) for part in parts)
+    return (head + table).ljust((64 + len(table) + 4095) & ~4095, b"\0") + b"".join(bodies) + replay
+
+
+def flat_guest(settings):
+    """The guest's bytes as they lie in memory, with these settings filled in."""
     build()
     with open(os.path.join(OUT, "guest.bin"), "rb") as file:
         guest = bytearray(file.read())
     if struct.unpack_from("<Q", guest, SETTINGS)[0] != MAGIC:
         raise Stop("the guest has no settings at their place")
-    struct.pack_into("<8Q", guest, SETTINGS + 8, *settings)
+    struct.pack_into("<10Q", guest, SETTINGS + 8, *settings)
+    return bytes(guest)
+
+
+def disk(path, settings, replay=b""):
+    """Writes a disk that boots the guest with these settings."""
+    guest = flat_guest(settings)
     with open(os.path.join(OUT, "boot.bin"), "rb") as file:
-        sector = file.read()
+        sector = bytearray(file.read())
+    part = SECTOR * PART
+    guest = guest.ljust(-(-len(guest) // part) * part, b"\0") + replay
+    struct.pack_into("<H", sector, PARTS, -(-len(replay) // part))
     size = CYLINDERS * HEADS * SECTORS * SECTOR
     with open(path, "wb") as file:
         file.write((sector + guest).ljust(size, b"\0"))
@@ -153,4 +260,4 @@ def stop_on_failure(main):
         sys.exit(main())
     except Stop as why:
         print(f"probe/{os.path.basename(sys.argv[0])}: {why}", file=sys.stderr)
-        sys.exit(70)
+        sys.exit(LACKING)

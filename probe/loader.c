@@ -3,8 +3,9 @@
  *
  *     loader GUEST SECONDS RUN..
  *
- * GUEST is the guest's ELF file. Each RUN is eight numbers, by colons, in the order of struct
- * settings (guest/probe.h): seed, seeds, events, processors, version, kinds left out, ways, script.
+ * GUEST is the guest's ELF file. Each RUN is ten numbers, by colons, in the order of struct
+ * settings (guest/probe.h): seed, seeds, events, processors, version, kinds left out, ways, script,
+ * burst, focus.
  * Of the ways, 8 gives all processors their turns by one thread; without it each has a thread of
  * its own. Records go to standard output, all else to standard error.
  *
@@ -44,8 +45,10 @@ enum {
     TEXT_PORT = 0x3F8,
     RECORD_PORT = 0xE9
 };
-enum { MOST_PROCESSORS = 8, SETTINGS = 8, WAYS = 6, PROCESSORS = 3 };
-enum { DOORBELL = 1, LOADER_STARTS = 4, LOADER_TURNS = 8 };
+enum { MOST_PROCESSORS = 8, SETTINGS = 10, WAYS = 6, PROCESSORS = 3 };
+enum { DOORBELL = 1, LOADER_STARTS = 4, LOADER_TURNS = 8, AT_ONCE = 32 };
+/* Where the guest has the logs of processors that act at once (guest/logs.c). */
+enum { LOGS_ADDRESS = 0x1000000, LOG_SIZE = 0x200000, LOG_BYTES = 64 };
 enum end { GOES_ON, GIVES_BACK, ENDED, FAILED, HUNG };
 
 #define MEMORY_SIZE (1152ull << 20)
@@ -113,6 +116,20 @@ static void take_log(void)
     if (address < MEMORY_SIZE && length <= MEMORY_SIZE - address)
         write_record(memory + address, length);
     settings->log_length = 0;
+}
+
+/* The logs that the guest did not come to hand over: as far as they came. */
+static void take_logs_at_once(void)
+{
+    uint64_t number, length;
+
+    for (number = 0; number < MOST_PROCESSORS && number < settings->value[PROCESSORS]; number++) {
+        const uint8_t *const log = memory + LOGS_ADDRESS + LOG_SIZE * number;
+
+        memcpy(&length, log, sizeof length);
+        if (length <= LOG_SIZE - LOG_BYTES)
+            write_record(log + LOG_BYTES, length);
+    }
 }
 
 /* Long mode on the boot tables, at the guest's entry, with the number in RDI. */
@@ -277,7 +294,7 @@ static int load_guest(const char *path)
     for (k = 0; k < head.e_phnum; k++) {
         if (pread(file, &part, sizeof part, (off_t)(head.e_phoff + k * sizeof part)) != sizeof part)
             return fails("the guest is cut off");
-        if (part.p_type == PT_LOAD && (part.p_paddr > 1 << 20 || part.p_filesz > 1 << 20))
+        if (part.p_type == PT_LOAD && (part.p_paddr > 8 << 20 || part.p_filesz > 1 << 20))
             return fails("the guest is out of place");
         if (part.p_type == PT_LOAD && pread(file, memory + part.p_paddr, part.p_filesz,
                                             (off_t)part.p_offset) != (ssize_t)part.p_filesz)
@@ -321,7 +338,34 @@ static int make_machine(const char *guest)
     return load_guest(guest);
 }
 
-static void let_machine_go(void)
+static int tells_file(const char *name, const char *path)
+{
+    FILE *const file = fopen(path, "r");
+    char line[400];
+
+    if (file == NULL)
+        return 0;
+    if (fgets(line, sizeof line, file) != NULL)
+        say("loader: %s %s", name, line);
+    fclose(file);
+    return 1;
+}
+
+/* Counts of KVM since the machine was made: a processor that hangs and one that exits to KVM again
+ * and again differ in them. */
+static void tell_exits(void)
+{
+    static const char *const counts[] = {"exits", "pf_taken", "pf_fixed", "pf_spurious"};
+    char path[64];
+    unsigned k;
+
+    for (k = 0; k < sizeof counts / sizeof counts[0]; k++) {
+        snprintf(path, sizeof path, "/sys/kernel/debug/kvm/%s", counts[k]);
+        tells_file(counts[k], path);
+    }
+}
+
+static void end_threads(void)
 {
     unsigned k;
 
@@ -331,6 +375,15 @@ static void let_machine_go(void)
             pthread_kill(processors[k].thread, SIGUSR1);
             pthread_join(processors[k].thread, NULL);
         }
+        processors[k].has_thread = 0;
+    }
+}
+
+static void let_machine_go(void)
+{
+    unsigned k;
+
+    for (k = 0; k < MOST_PROCESSORS; k++) {
         if (processors[k].file > 0) {
             munmap(processors[k].run, run_size);
             close(processors[k].file);
@@ -349,7 +402,7 @@ static double now(void)
     return (double)time.tv_sec + (double)time.tv_nsec * 1e-9;
 }
 
-/* One run, as its eight numbers tell. */
+/* One run, as its ten numbers tell. */
 static enum end carry_out(const char *guest, unsigned seconds, const char *text)
 {
     const double start = now();
@@ -369,8 +422,14 @@ static enum end carry_out(const char *guest, unsigned seconds, const char *text)
         if (make_processor(0))
             end = run_processor(0);
         alarm(0);
+        if (end == HUNG)
+            tell_exits();
+        end_threads();
         take_log();
+        if (end != ENDED && (settings->value[WAYS] & AT_ONCE))
+            take_logs_at_once();
     }
+    end_threads();
     let_machine_go();
     say("loader: run %s %s, %.2f s\n", text,
         end == ENDED ? "ended" : end == HUNG ? "hung" : "failed", now() - start);
@@ -391,19 +450,6 @@ static void name_intel(void)
             memcpy(&leaf->ecx, "ntel", 4);
         }
     }
-}
-
-static int tells_file(const char *name, const char *path)
-{
-    FILE *const file = fopen(path, "r");
-    char line[200];
-
-    if (file == NULL)
-        return 0;
-    if (fgets(line, sizeof line, file) != NULL)
-        say("loader: %s %s", name, line);
-    fclose(file);
-    return 1;
 }
 
 /* Whether KVM keeps shadow tables here. */
@@ -444,6 +490,7 @@ static void begin_system(void)
     mount("none", "/proc", "proc", 0, NULL);
     mount("none", "/sys", "sysfs", 0, NULL);
     mount("none", "/dev", "devtmpfs", 0, NULL);
+    mount("none", "/sys/kernel/debug", "debugfs", 0, NULL);
     if (iopl(3) != 0)
         fails("iopl");
     load_modules();

@@ -1,10 +1,11 @@
 """Records as bytes: found in an output, cut into events, and put together again."""
 import os
+import re
 import struct
 import subprocess
 import tempfile
 
-from image import OUT, TOP, command, need
+from image import OUT, Stop, TOP, command, need
 
 MAGIC = b"PGRECORD"
 SIZES = {0x10: 16, 0x12: 8, 0x13: 8, 0x14: 11, 0x15: 1}
@@ -35,7 +36,8 @@ class Record:
 
     def __init__(self, head, version, processors, events):
         self.head, self.version, self.processors = head, version, processors
-        self.events = events
+        self.events, self.notes = events, {}
+        self.segment, = struct.unpack_from("<I", head, 12 + version)
 
     def bytes(self, events=None, segment=1024):
         """The record of these events, in segments of this size."""
@@ -90,6 +92,65 @@ def read_record(data, at=0):
             events.append(read_event(source, version))
 
 
+class Kept:
+    """A record as bytes, and its notes: by the numbers of its implicit accesses what carried each
+    out, of which the record has no word: `user` for ring 3, `ac` for EFLAGS.AC=1."""
+
+    def __init__(self, data, notes=None):
+        self.data, self.notes = data, notes or {}
+
+    def write(self, path):
+        """The record there, and its notes beside it."""
+        for name, data in ((path, self.data), (path + NOTES, spelled(self.notes).encode())):
+            with open(name, "wb") as file:
+                file.write(data)
+
+
+NOTES = ".notes"
+
+
+def spelled(notes):
+    return "".join(" ".join([str(number), "implicit", *words]) + "\n"
+                   for number, words in sorted(notes.items()))
+
+
+def read_notes(path):
+    """The notes beside a record, none where there is no such file."""
+    if not os.path.exists(path + NOTES):
+        return {}
+    with open(path + NOTES) as file:
+        lines = [re.fullmatch(r"(\d+) implicit((?: user)?(?: ac)?)", line.strip()) for line in file]
+    if None in lines:
+        raise Stop(f"{path + NOTES} has a line that is no note")
+    return {int(line[1]): tuple(line[2].split()) for line in lines}
+
+
+def read_kept(path):
+    """The record of a file, and its notes."""
+    try:
+        with open(path, "rb") as file:
+            return read_record(file.read())[0], read_notes(path)
+    except OSError as why:
+        raise Stop(f"{path}: {why.strerror}") from None
+    except Cut:
+        raise Stop(f"{path} is no whole record of version 1 or 2") from None
+
+
+def take_notes(data):
+    """Of a record as the guest writes it the notes, and the record without them: an implicit access
+    has a second number where moments stand, and its bits say what carried it out."""
+    record, _ = read_record(data)
+    place = 1 + record.version + 9
+    for number, event in enumerate(record.events):
+        moments = place + (3 if event[0] == ACCESS and event[place] else 9)
+        if event[0] == ACCESS and event[moments] == 2:
+            mark, = struct.unpack_from("<I", event, moments + 5)
+            record.notes[number] = tuple(word for bit, word in ((2, "user"), (4, "ac"))
+                                         if mark & bit)
+            record.events[number] = event[:moments] + b"\1" + event[moments + 1:moments + 5]
+    return Kept(record.bytes(segment=record.segment), record.notes)
+
+
 def close(data):
     """What stands whole of a record whose end is cut, by emit/close.c, and what that says."""
     need("cc")
@@ -101,18 +162,18 @@ def close(data):
 
 
 def split(output):
-    """The records of an output, each as bytes, and what was said of those that were cut."""
+    """The records of an output, with their notes, and what was said of those that were cut."""
     found, at, said = [], output.find(MAGIC), []
     while at >= 0:
         after = output.find(MAGIC, at + len(MAGIC))
         piece = output[at:after] if after > 0 else output[at:]
         try:
-            found.append(piece[:read_record(piece)[1]])
+            found.append(take_notes(piece[:read_record(piece)[1]]))
         except Cut:
             closed, words = close(piece)
             said.append(words)
             if closed:
-                found.append(closed)
+                found.append(take_notes(closed))
         at = after
     return found, "; ".join(said)
 
@@ -128,3 +189,15 @@ def certify(program, data, words=()):
 
 def program():
     return os.path.abspath(os.environ.get("PCID_AUDIT") or os.path.join(TOP, "pcid-audit"))
+
+
+def ready():
+    """Has the auditor built where it is not yet, which it tells on standard error before it starts.
+    To read a record is what it has to be built for."""
+    try:
+        done = subprocess.run([program(), "show", os.path.join(TOP, "samples/fresh_walk.record")],
+                              stdin=subprocess.DEVNULL, stdout=subprocess.DEVNULL)
+    except OSError as why:
+        raise Stop(f"{program()}: {why.strerror}") from None
+    if done.returncode != 0:
+        raise Stop(f"{program()} can't be run: it ends with status {done.returncode}")

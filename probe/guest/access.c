@@ -140,13 +140,36 @@ static void record_changes(uint32_t flags, uint64_t linear)
             record_change(&change[k], level, flags, linear);
 }
 
-static void record_fault(const struct processor *processor, uint32_t flags, uint64_t linear)
+/* In the place of moments, which nobody names: one 0, and of an implicit access, whose flags don't
+ * tell what carried it out, a second number that does. probe/records.py reads it as a note. */
+static uint32_t marks_of(const struct access *access, uint32_t marks[2])
 {
+    marks[0] = 0;
+    marks[1] = 1u | (access->is_user ? 2u : 0) | (access->ac ? 4u : 0);
+    return access->operation == LOAD_LIMIT ? 2 : 1;
+}
+
+static void record_answer(const struct access *access, uint64_t answer)
+{
+    uint32_t marks[2];
+    const uint32_t count = marks_of(access, marks);
+
+    taken(pcid_record_answer(&record, acting, flags_of(access), linear_of(access), answer, marks,
+                             count));
+}
+
+static void record_fault(const struct access *access, const struct processor *processor)
+{
+    const uint64_t linear = linear_of(access);
+    uint32_t marks[2];
+    const uint32_t count = marks_of(access, marks);
+
     if (processor->fault_address != linear) {
         say("an access of linear address", linear);
         stop("stopped: it left in CR2", processor->fault_address);
     }
-    taken(pcid_record_fault_unnamed(&record, acting, flags, linear, (uint32_t)processor->error));
+    taken(pcid_record_fault(&record, acting, flags_of(access), linear, (uint32_t)processor->error,
+                            marks, count));
 }
 
 int access_page(const struct access *access)
@@ -168,10 +191,10 @@ int access_page(const struct access *access)
     answer = is_fault ? 0 : answer_of(access, processor, value); /* puts back what was written */
     record_changes(flags, linear);
     if (!is_fault) {
-        taken(pcid_record_answer_unnamed(&record, acting, flags, linear, answer));
+        record_answer(access, answer);
         return 1;
     }
-    record_fault(processor, flags, linear);
+    record_fault(access, processor);
     if (!allows(BARE_FAULTS))
         invalidate_page(linear);
     return 0;

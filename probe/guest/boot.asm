@@ -32,7 +32,27 @@ load:   push cx
         add dword [packet.sector], 32
         add word [packet.segment], 32 * 512 / 16
         loop load
-        cli
+        mov word [packet.segment], 0x8000
+        mov cx, [parts]
+        jcxz loaded
+more:   push cx                 ; a record that is carried out again goes to 0x700000
+        push dx
+        mov ah, 0x42
+        mov si, packet
+        int 0x13
+        jc no_disk
+        mov ah, 0x87            ; moves a block above 1 MB
+        mov cx, 32 * 512 / 2
+        mov si, move
+        int 0x15
+        jc no_disk
+        pop dx
+        pop cx
+        add dword [packet.sector], 32
+        add word [move.low], 32 * 512
+        adc byte [move.high], 0
+        loop more
+loaded: cli
 
         mov di, ROOT
         mov cx, 3 * 4096 / 4
@@ -92,5 +112,13 @@ packet: db 16, 0
 .segment: dw 0x1000
 .sector: dd 1
         dd 0
-        times 510 - ($ - $$) db 0
+move:   times 16 db 0           ; descriptors, of which the BIOS fills in the others
+        dw 0xFFFF, 0            ; from 0x80000
+        db 8, 0x93, 0, 0
+        dw 0xFFFF
+.low:   dw 0
+.high:  db 0x70, 0x93, 0, 0
+        times 16 db 0
+        times 508 - ($ - $$) db 0
+parts:  dw 0                    ; of 32 sectors, of that record: filled in by who writes the disk
         dw 0xAA55

@@ -14,7 +14,7 @@ unsigned level_of_frame(uint32_t frame)
 {
     unsigned level = 4;
 
-    while (frame >= (uint32_t)first_of_level[level] + count_of_level[level])
+    while (level > 1 && frame >= (uint32_t)first_of_level[level] + count_of_level[level])
         level--;
     return level;
 }
@@ -75,7 +75,7 @@ static uint64_t random_bits_of(int is_leaf, int is_sound)
         entry |= percent(3) ? XD : 0;
     if (allows(GLOBAL_PAGES))
         entry |= percent(is_leaf ? 35 : 10) ? G : 0;
-    return entry;
+    return acts_at_once() ? entry | A | D : entry; /* no processor sets a flag then */
 }
 
 static uint64_t random_leaf(unsigned level, int is_sound)
@@ -144,7 +144,7 @@ uint64_t random_entry(unsigned level, int is_sound)
 
 static int is_pooled(uint64_t address)
 {
-    return address - POOL_ADDRESS < POOL * 4096;
+    return address - POOL_ADDRESS < (uint64_t)count_of_tables * 4096;
 }
 
 /* The word of the level that the tables give for the address, or that above it where the walk ends.
@@ -157,7 +157,7 @@ unsigned find_word(uint64_t cr3, uint64_t linear, unsigned level, uint32_t *fram
     for (at = 4;; at--) {
         *frame = (uint32_t)((table - POOL_ADDRESS) >> 12);
         *index = index_of(linear, at);
-        entry = held[*frame][*index];
+        entry = word_now(*frame, *index);
         if (at == level || kind_of(at, entry) != TABLE || !is_pooled(address_of(entry)))
             return at;
         table = address_of(entry);

@@ -13,8 +13,11 @@ FAULT_ADDRESS   equ 24
 RAX_LEFT        equ 32
 RIP_LEFT        equ 40
 FLAGS_LEFT      equ 48
+BEGIN_LEFT      equ 56
+END_LEFT        equ 64
+COUNTER         equ 72
 
-        extern processors, first_starts, other_starts, stray
+        extern processors, first_starts, other_starts, stray, counter_page
 
 ; At 0x10000 of physical memory. rdi is the processor's number.
         section .start
@@ -31,6 +34,8 @@ settings:                       ; struct settings of probe.h
         dq 0                    ; kinds that are left out
         dq 0                    ; ways
         dq 0                    ; script
+        dq 0                    ; events of a burst
+        dq 0                    ; focus
         dq 0                    ; address of the log
         dq 0                    ; its length
 begin:  mov rax, rdi
@@ -44,7 +49,8 @@ begin:  mov rax, rdi
 
         section .text
 ; carry_out(rdi processor, rsi code, rdx linear, rcx value, r8 flags, r9 is user): runs the code in
-; ring 0 or 3 with rbx = linear and rax = value, until an exception of any kind.
+; ring 0 or 3 with rbx = linear and rax = value, until an exception of any kind. Stamps are taken
+; where the processor has a counter: r10 is its address, r8 the first, r9 the second or 0.
         global carry_out
 carry_out:
         push rbx
@@ -55,9 +61,12 @@ carry_out:
         push r15
         pushfq
         mov [rdi + SAVED_STACK], rsp
+        mov r10, [rdi + COUNTER]
         mov rbx, rdx
         mov rax, rcx
-        test r9, r9
+        mov r11, r9
+        xor r9d, r9d
+        test r11, r11
         jnz .user
         push r8
         popfq
@@ -92,6 +101,15 @@ handle: cld
         and rbx, -AREA
         cmp qword [rbx + SAVED_STACK], 0
         je .stray
+        mov [rbx + BEGIN_LEFT], r8
+        test r10, r10
+        jz .stamped
+        test r9, r9
+        jnz .stamped
+        mov r9d, 1
+        lock xadd [counter_page], r9
+.stamped:
+        mov [rbx + END_LEFT], r9
         pop qword [rbx + RIP_LEFT]      ; rbx as it was, which nobody wants
         pop qword [rbx + RAX_LEFT]
         pop qword [rbx + VECTOR]
@@ -146,6 +164,35 @@ stub_implicit:
         mov ecx, eax
         xor eax, eax
         lsl eax, ecx
+        ud2
+        align 16
+; The same with a stamp before and, where it comes to that, behind.
+        global stamped_read, stamped_write, stamped_fetch, stamped_implicit
+%macro stamp 1
+        mov %{1}d, 1
+        lock xadd [r10], %1
+%endmacro
+stamped_read:
+        stamp r8
+        mov rax, [rbx]
+        stamp r9
+        ud2
+        align 16
+stamped_write:
+        stamp r8
+        mov [rbx], rax
+        stamp r9
+        ud2
+        align 16
+stamped_fetch:
+        stamp r8
+        jmp rbx
+        align 16
+stamped_implicit:
+        mov ecx, eax
+        xor eax, eax
+        stamp r8
+        lsl eax, ecx            ; (its ZF is wanted: the handler takes the second stamp)
         ud2
         align 16
 stubs_end:

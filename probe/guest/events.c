@@ -9,10 +9,19 @@ int is_self_mapped;
 
 /* The pool's words that were ever written in this record. */
 static struct {
-    uint16_t word[POOL * 512];
-    uint8_t is_listed[POOL * 512];
+    uint16_t word[MOST_TABLES * 512];
+    uint8_t is_listed[MOST_TABLES * 512];
     uint32_t count;
-} written;
+} written FAR;
+
+void clear_words(void)
+{
+    uint32_t k;
+
+    written.count = 0;
+    for (k = 0; k < MOST_TABLES * 512; k++)
+        written.is_listed[k] = 0;
+}
 
 void begin_words(void)
 {

@@ -50,12 +50,22 @@ void first_starts(void)
         stop("stopped: processors", settings.processors);
     start_processors();
     lay_out_frames();
+    clear_words();
+    count_of_tables = POOL;
     for (seed = settings.seed; seed < settings.seed + settings.seeds; seed++) {
-        begin_record(seed);
-        if (settings.script != 0)
-            run_script(settings.script);
-        else
-            run_random(seed);
+        if (acts_at_once()) {
+            run_at_once(seed);
+            continue;
+        }
+        if (settings.ways & REPLAY) {
+            run_replay(seed);
+        } else {
+            begin_record(seed);
+            if (settings.script != 0)
+                run_script(settings.script);
+            else
+                run_random(seed);
+        }
         pcid_record_end(&record);
         hand_over();
     }

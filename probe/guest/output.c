@@ -92,8 +92,8 @@ void shut_down(void)
     const char *word = "Shutdown";
 
     hand_over();
-    while ((settings.ways & SERIAL) && (in_byte(SERIAL_STATUS) & 0x40) == 0)
-        pause();
+    while (!(settings.ways & DOORBELL) && (in_byte(SERIAL_STATUS) & 0x40) == 0)
+        pause(); /* the last byte is still on its way */
     out_byte(EXIT_PORT, 0);
     while (*word != 0)
         out_byte(BOCHS_EXIT_PORT, (uint8_t)*word++);
@@ -103,7 +103,10 @@ void shut_down(void)
 
 void stop(const char *why, uint64_t number)
 {
-    pcid_record_end(&record);
+    if (acts_at_once())
+        hand_out_logs(0);
+    else
+        pcid_record_end(&record);
     hand_over();
     say(why, number);
     shut_down();

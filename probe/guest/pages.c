@@ -13,12 +13,14 @@
 #include "probe.h"
 
 struct data_frames frames;
-uint64_t held[POOL][512];
+uint64_t held[MOST_TABLES][512] FAR;
+uint32_t count_of_tables;
 uint64_t home_root[512] __attribute__((aligned(4096)));
 static uint64_t home_pdpt[512] __attribute__((aligned(4096)));
 static uint64_t home_pd[3][512] __attribute__((aligned(4096)));
 static uint64_t ring_3_tables[3][512] __attribute__((aligned(4096)));
 static uint8_t ring_3_page[4096] __attribute__((aligned(4096)));
+volatile uint64_t counter_page[512] __attribute__((aligned(4096)));
 
 enum { MEMORY_GIGABYTES = 2, DEVICES_GIGABYTE = 3, LOW_MEMORY = 128 << 20 };
 
@@ -40,6 +42,7 @@ void lay_out_home(void)
     ring_3_tables[0][0] = physical_of(ring_3_tables[1]) | 0x27;
     ring_3_tables[1][0] = physical_of(ring_3_tables[2]) | 0x27;
     ring_3_tables[2][0] = physical_of(ring_3_page) | 0x25;
+    ring_3_tables[2][1] = physical_of((const void *)counter_page) | 0x67;
     home_root[MEMORY_SLOT] = physical_of(home_pdpt) | 0x23;
     home_root[RING_3_SLOT] = physical_of(ring_3_tables[0]) | 0x27;
 }
@@ -71,7 +74,7 @@ void lay_out_frames(void)
     add_frames(POOL_ADDRESS);
 }
 
-/* One of these for a seed; four times each, and what follows it, is no tested index. */
+/* One for a record; four times each, and what follows it, is no tested index. */
 static uint64_t slot_number;
 uint64_t slot_offset(void)
 {
@@ -97,20 +100,31 @@ static void clear_frame(uint64_t address)
         *word_at(address + 8 * k) = 0;
 }
 
+void choose_slot(void)
+{
+    static const uint8_t slots[] = {2, 3, 19, 40, 62, 90, 126};
+
+    /* (behind the slot each processor that acts at once has a word that it writes) */
+    slot_number = slots[below(acts_at_once() ? sizeof slots - 1 : sizeof slots)];
+}
+
+void set_slot(uint64_t number)
+{
+    slot_number = number;
+}
+
 /* All frames as they are at the start of a record. */
 void begin_frames(void)
 {
-    static const uint8_t slots[] = {2, 3, 19, 40, 62, 90, 126};
     unsigned k, word;
 
-    slot_number = slots[below(sizeof slots)];
     for (k = 0; k < frames.count; k++) {
         clear_frame(frames.address[k]);
         for (word = 0; word < 4; word++)
             *word_at(frames.address[k] + slot_offset() + 8 * word) =
                 slot_word(frames.address[k] + slot_offset(), word);
     }
-    for (k = 0; k < POOL; k++) {
+    for (k = 0; k < count_of_tables; k++) {
         clear_frame(POOL_FRAME(k));
         for (word = 0; word < 512; word++)
             held[k][word] = 0;
@@ -134,7 +148,7 @@ int find_written(uint64_t value, uint64_t offset, uint64_t *physical)
     int count = 0;
     unsigned k;
 
-    for (k = 0; k < frames.count + POOL; k++) {
+    for (k = 0; k < frames.count + count_of_tables; k++) {
         frame = k < frames.count ? frames.address[k] : POOL_FRAME(k - frames.count);
         if (found_at(frame + offset, value)) {
             *physical = frame + offset;

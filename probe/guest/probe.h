@@ -4,7 +4,8 @@
  * Physical memory, of which the first 128 MB of the first two GBs are used:
  *     0x2000     the boot tables           0x8000      the start of other processors
  *     0x10000    the guest                 0x400000    the pool of table frames
- *     0x800000   the log
+ *     0x600000   what is kept of tables  0x700000   a record that is carried out again
+ *     0x800000   the log          0x1000000  the logs of processors that act at once
  * and the frames of pages.c, which tested addresses lead to.
  *
  * Linear memory: slot 256 of each root maps physical memory for ring 0, slot 257 the stubs of
@@ -26,7 +27,7 @@ enum { MEMORY_SLOT = 256, RING_3_SLOT = 257 };
 
 /* Filled in by who loads the guest, at a fixed place (entry.asm). docs/PROBE.md lists the bits. */
 struct settings {
-    uint64_t magic, seed, seeds, events, processors, version, left_out, ways, script;
+    uint64_t magic, seed, seeds, events, processors, version, left_out, ways, script, burst, focus;
     volatile uint64_t log_address, log_length;
 };
 extern struct settings settings;
@@ -47,8 +48,17 @@ enum {
     CLEAR_FLAG_FAULTS = 1 << 11 /* faults whose walk meets A=0 */
 };
 
-/* Ways: of the log, of the start of other processors, of turns. */
-enum { DOORBELL = 1 << 0, SERIAL = 1 << 1, LOADER_STARTS = 1 << 2, LOADER_TURNS = 1 << 3 };
+/* Ways: of the log, of the start of other processors, of turns; whether records are carried out
+ * again (replay.c), whose numbers then stand in the place of seeds; whether all processors act at
+ * once (streams.c). */
+enum {
+    DOORBELL = 1 << 0,
+    SERIAL = 1 << 1,
+    LOADER_STARTS = 1 << 2,
+    LOADER_TURNS = 1 << 3,
+    REPLAY = 1 << 4,
+    AT_ONCE = 1 << 5
+};
 
 /* What the machine offers. */
 struct machine {
@@ -65,15 +75,17 @@ extern struct rules rules;
 
 enum { MOST_PROCESSORS = 8, AREA = 16384, RING_3_STACK = 8192 };
 
-enum work { REST, BEGIN, ACCESS, MOV_CR3, INVLPG, INVPCID, SET_PGE, STORE };
+enum work { REST, BEGIN, ACCESS, MOV_CR3, INVLPG, INVPCID, SET_PGE, STORE, STREAM };
 struct order {
     enum work work;
     uint64_t operand[6];
 };
 
-/* A processor: entry.asm knows the first seven fields. Its area holds its stacks too. */
+/* A processor: entry.asm knows the first ten fields. Its area holds its stacks too. */
 struct processor {
     uint64_t saved_stack, vector, error, fault_address, rax, rip, flags;
+    uint64_t begin, end; /* the stamps of an access */
+    uint64_t counter;    /* where its code finds the counter, or 0 */
     volatile uint64_t waits; /* for the order to be carried out */
     struct order order;
     uint64_t cr3, pge;       /* as the record has them; cr3 without bit 63 */
@@ -86,10 +98,19 @@ struct area {
 };
 extern struct area processors[MOST_PROCESSORS];
 extern uint32_t count_of_processors;
+/* The number of the processor that runs this: its stacks lie in its area. */
+static inline uint32_t own_number(void)
+{
+    uint64_t stack;
+
+    __asm__ volatile("mov %%rsp,%0" : "=r"(stack));
+    return (uint32_t)((stack - (uint64_t)processors) / AREA);
+}
 
 /* entry.asm */
 extern const uint64_t handlers[32];
 extern uint8_t stubs_begin[], stub_read[], stub_write[], stub_implicit[], stubs_end[];
+extern uint8_t stamped_read[], stamped_write[], stamped_fetch[], stamped_implicit[];
 extern uint8_t start_begin[], start_end[];
 extern volatile uint64_t arrivals;
 void carry_out(struct processor *processor, uint64_t code, uint64_t linear, uint64_t value,
@@ -114,15 +135,20 @@ void start_processors(void);
 void other_starts(uint64_t number);
 struct processor *carry_out_by(uint32_t number, enum work work, uint64_t a, uint64_t b, uint64_t c,
                                uint64_t d, uint64_t e, uint64_t f);
+void send_off(uint32_t number); /* on its stream: see await */
+void await(uint32_t number);
+void follow_access(struct processor *processor, const uint64_t operand[6]);
 
-/* random.c */
+/* random.c: a sequence for each processor */
 void seed_random(uint64_t seed);
+void seed_random_of(uint32_t number, uint64_t seed);
 uint64_t random_bits(void);
 uint64_t below(uint64_t count);
 int percent(uint64_t chance);
 
 /* pages.c */
-enum { ROOTS = 3, POOL = 16, MOST_FRAMES = 96, SLOT = 32 };
+enum { ROOTS = 3, POOL = 16, MOST_TABLES = 96, MOST_FRAMES = 256, SLOT = 32 };
+#define FAR __attribute__((section(".far"))) /* at 0x600000: cleared by who uses it */
 #define POOL_ADDRESS 0x400000u
 #define POOL_FRAME(number) (POOL_ADDRESS + 4096 * (uint64_t)(number))
 struct data_frames {
@@ -130,8 +156,11 @@ struct data_frames {
     uint32_t count, wanted; /* the first `wanted` are mapped on purpose */
 };
 extern struct data_frames frames;
-extern uint64_t held[POOL][512]; /* the pool's words as the record has them */
+extern uint32_t count_of_tables;        /* of the pool: more than POOL in a replay alone */
+extern uint64_t held[MOST_TABLES][512]; /* the pool's words as the record has them */
 extern uint64_t home_root[512];
+#define COUNTER_OF_RING_3 (RING_3 + 4096)
+extern volatile uint64_t counter_page[512]; /* the first word counts stamps */
 static inline volatile uint64_t *word_at(uint64_t physical)
 {
     return (volatile uint64_t *)(MEMORY + physical);
@@ -142,6 +171,8 @@ static inline uint64_t physical_of(const void *place)
 }
 void lay_out_home(void);
 void lay_out_frames(void);
+void choose_slot(void);
+void set_slot(uint64_t number);
 void begin_frames(void);
 uint64_t slot_offset(void);
 uint64_t slot_word(uint64_t slot, unsigned number);
@@ -165,6 +196,7 @@ extern struct pcid_record record;
 extern uint32_t acting; /* the processor of the next event */
 extern int is_self_mapped;
 int allows(uint64_t kind);
+void clear_words(void);
 void begin_words(void);
 int next_changed(uint32_t *at, uint32_t *frame, uint64_t *index);
 void taken(enum pcid_record_status status);
@@ -185,8 +217,47 @@ struct access {
 int access_page(const struct access *access);
 uint32_t flags_of(const struct access *access);
 
-/* scenario.c and directed.c */
+/* scenario.c, directed.c and replay.c */
+void rest_all(void);
+void begin_header(void);
+void begin_all(void);
 void begin_record(uint64_t seed);
+void run_replay(uint64_t number);
+void choose_rules(uint64_t seed);
+
+/* logs.c: a log for each processor that acts at once */
+static inline uint64_t stamp(void)
+{
+    uint64_t value = 1;
+
+    __asm__ volatile("lock xaddq %0,%1" : "+r"(value), "+m"(counter_page[0])::"memory", "cc");
+    return value;
+}
+void begin_log(uint32_t number);
+uint64_t count_of_logged(uint32_t number);
+int has_room(uint32_t number);
+void log_event(uint8_t tag, uint64_t begin, uint64_t end);
+void log_field(uint64_t value, unsigned bytes);
+void log_end(void); /* the event is whole */
+void hand_out_logs(int are_whole);
+
+/* at_once.c: events of the processor that runs this, and their log */
+void store_at_once(uint32_t frame, uint64_t index, uint64_t value);
+void load_cr3_at_once(uint64_t operand);
+void invalidate_page_at_once(uint64_t linear);
+void invalidate_pcid_at_once(uint64_t type, uint64_t pcid, uint64_t linear);
+void set_pge_at_once(uint64_t pge);
+int access_at_once(const struct access *access);
+int acts_at_once(void);
+uint64_t word_now(uint32_t frame, uint64_t index); /* of the pool: as recorded, or as it is */
+
+/* streams.c and focus.c */
+enum { FOCUSES = 5 };
+int others_are_done(void);
+void run_at_once(uint64_t seed);
+void follow_stream(void);
+void write_focus_tables(void);
+void focus_event(uint64_t *again, int *follows_up);
 void run_random(uint64_t seed);
 void run_script(uint64_t number);
 

@@ -92,7 +92,7 @@ static void begin(uint64_t cr3, uint64_t pge)
     drop_everything();
 }
 
-static void carry_out_access(struct processor *processor, const uint64_t *operand)
+void follow_access(struct processor *processor, const uint64_t operand[6])
 {
     const uint64_t linear = operand[1];
 
@@ -120,7 +120,7 @@ static void follow(struct processor *processor)
         begin(operand[0], operand[1]);
         break;
     case ACCESS:
-        carry_out_access(processor, operand);
+        follow_access(processor, operand);
         break;
     case MOV_CR3:
         write_cr3(operand[0]);
@@ -137,6 +137,9 @@ static void follow(struct processor *processor)
         break;
     case STORE:
         *word_at(operand[0]) = operand[1];
+        break;
+    case STREAM:
+        follow_stream();
         break;
     }
 }
@@ -168,6 +171,20 @@ struct processor *carry_out_by(uint32_t number, enum work work, uint64_t a, uint
         out_byte(LOADER_TURN_PORT, (uint8_t)number);
     wait_for(processor, number);
     return processor;
+}
+
+/* Has another processor go on by itself. */
+void send_off(uint32_t number)
+{
+    const struct order order = {STREAM, {0, 0, 0, 0, 0, 0}};
+
+    processors[number].processor.order = order;
+    processors[number].processor.waits = 1;
+}
+
+void await(uint32_t number)
+{
+    wait_for(&processors[number].processor, number);
 }
 
 static void give_turn_back(void)

@@ -38,7 +38,7 @@ static void choose_pages(void)
 }
 
 /* The settings of a seed: its low bits, so that 16 seeds in a row have all of them. */
-static void choose_rules(uint64_t seed)
+void choose_rules(uint64_t seed)
 {
     rules.wp = seed & 1;
     rules.nxe = seed >> 1 & 1;
@@ -49,7 +49,18 @@ static void choose_rules(uint64_t seed)
     is_self_mapped = allows(SELF_MAPS) && allows(RESERVED_BITS) && percent(33);
 }
 
-static void begin_header(void)
+static void choose_starts(void)
+{
+    uint32_t k;
+
+    for (k = 0; k < count_of_processors; k++) {
+        processors[k].processor.cr3 = POOL_FRAME(0) | pcids[below(4)];
+        processors[k].processor.pge = allows(GLOBAL_PAGES) && percent(75);
+    }
+}
+
+/* Of processors whose CR3 and PGE are chosen. */
+void begin_header(void)
 {
     struct pcid_record_start start[MOST_PROCESSORS];
     const struct pcid_record_header header = {
@@ -62,8 +73,6 @@ static void begin_header(void)
     uint32_t k;
 
     for (k = 0; k < count_of_processors; k++) {
-        processors[k].processor.cr3 = POOL_FRAME(0) | pcids[below(4)];
-        processors[k].processor.pge = allows(GLOBAL_PAGES) && percent(75);
         start[k].cr3 = processors[k].processor.cr3;
         start[k].pge = (uint32_t)processors[k].processor.pge;
     }
@@ -85,23 +94,39 @@ static void write_own_words(void)
                        slot_word(POOL_FRAME(frame) + slot_offset(), word));
 }
 
-void begin_record(uint64_t seed)
+/* All processors on the guest's own tables. */
+void rest_all(void)
 {
     uint32_t k;
 
-    seed_random(seed);
     for (k = 0; k < count_of_processors; k++)
         carry_out_by(k, REST, 0, 0, 0, 0, 0, 0);
-    choose_rules(seed);
-    choose_pages();
-    begin_frames();
-    begin_words();
-    acting = 0;
-    begin_header();
-    write_own_words();
+}
+
+/* All on the record's. */
+void begin_all(void)
+{
+    uint32_t k;
+
     for (k = 0; k < count_of_processors; k++)
         carry_out_by(k, BEGIN, processors[k].processor.cr3, processors[k].processor.pge, 0, 0, 0,
                      0);
+}
+
+void begin_record(uint64_t seed)
+{
+    seed_random(seed);
+    rest_all();
+    choose_rules(seed);
+    choose_pages();
+    choose_slot();
+    begin_frames();
+    begin_words();
+    acting = 0;
+    choose_starts();
+    begin_header();
+    write_own_words();
+    begin_all();
 }
 
 static void write_all_tables(void)

@@ -1,0 +1,265 @@
+"""Lays out a record's events for the guest to carry them out again (guest/replay.c): where each
+table and each frame goes, and one step an event. A record of the guest's own stays where it was; of
+another the tables and frames are moved to where the guest has place for them."""
+import struct
+
+import causes
+import image
+import records
+
+ADDRESS = 0x700000
+MOST_BYTES = 0x100000
+MAGIC = b"GPREPLAY"
+MOST_PROCESSORS, MOST_TABLES, MOST_FRAMES = 8, 96, 256
+POOL, PIECE, GIGABYTE = 0x400000, 0x200000, 1 << 30
+OWN_SLOTS = (256, 257)  # of each root
+OWN_WORDS, SLOT_WORDS = 1, 2
+HIGH_RESERVED = 1
+IMPLICIT = 3
+GIGABYTE_PAGES, PCIDS = 1, 2
+P, A, D, PS, XD = 1, 1 << 5, 1 << 6, 1 << 7, 1 << 63
+# Where frames may be: those that the guest's random runs have, and what else it leaves alone.
+LOW_FRAMES = (0, 0x1000, 0x7000, 0x64000, 0x102000, 0x1FF000)
+FREE = ((POOL, 0x600000), (0x1000000, 0x8000000), (GIGABYTE, GIGABYTE + 0x8000000))
+PLACE_OF_FRAMES, PLACE_OF_PIECES = 0x1000000, 0x2000000
+NOWHERE = 0x1FFF000  # for frames that no access of the record can reach
+OFFSETS = {0: 0, 1: 24, 2: 8, IMPLICIT: 16}
+SLOTS = (2, 3, 19, 40, 62, 90, 126)
+STEP = struct.Struct("<BBBBIQQ")
+
+
+def stop(why):
+    raise image.Stop(f"the record can't be placed: {why}")
+
+
+class Step:
+    """An event as it is carried out again."""
+
+    def __init__(self, what, processor=0, flags=0, kind=0, pcid=0, address=0, value=0):
+        self.what, self.processor, self.flags, self.kind = what, processor, flags, kind
+        self.pcid, self.address, self.value = pcid, address, value
+
+    def bytes(self):
+        return STEP.pack(self.what, self.processor, self.flags, self.kind, self.pcid,
+                         self.address & (1 << 64) - 1, self.value)
+
+
+class Source:
+    """What a record says: its settings, starts, events and the walks of its accesses."""
+
+    def __init__(self, record, notes):
+        if record.processors > MOST_PROCESSORS:
+            stop(f"it has {record.processors} processors, and the guest {MOST_PROCESSORS}")
+        self.record, self.notes, self.reader = record, notes, causes.Reader(record)
+        self.m, self.rules = record.head[10], record.head[11]
+        place = 12 + record.version + 4
+        self.starts = [struct.unpack_from("<QB", record.head, place + 9 * k)
+                       for k in range(record.processors)]
+        self.address_bits = (1 << self.m) - 4096
+        self.steps, self.values, self.answers = [], {}, set()
+        for number, event in enumerate(record.events):
+            self.take(number, event)
+        self.roots = {cr3 & self.address_bits for cr3, _ in self.starts} | {
+            step.address & self.address_bits for step in self.steps if step.what == 0x12}
+        self.pages = {step.address & ~4095 for step in self.steps if step.what == records.ACCESS}
+        self.levels, self.leaves, self.read = {}, {}, set()
+        for root in self.roots:
+            for page in self.pages or {0}:
+                self.walk(root, page, 4)
+
+    def take(self, number, event):
+        reader, what = self.reader, event[0]
+        processor, place = reader.processor(event), reader.place
+        if what == records.WRITE:
+            address, value = reader.words(event), reader.words(event, 8)
+            self.values.setdefault(address, []).append(value)
+            self.steps.append(Step(what, processor, address=address, value=value))
+        elif what == records.ACCESS:
+            self.steps.append(Step(what, processor, *self.asked(number, event),
+                                   address=reader.words(event, 1)))
+            if reader.is_answer(event):
+                self.answers.add(reader.words(event, 10) & ~4095)
+        elif what in (0x12, 0x13):
+            self.steps.append(Step(what, processor, address=reader.words(event)))
+        elif what == 0x14:
+            kind, pcid, linear = struct.unpack_from("<BHQ", event, place)
+            self.steps.append(Step(what, processor, kind=kind, pcid=pcid, address=linear))
+        elif what == 0x15:
+            self.steps.append(Step(what, processor, value=event[place]))
+        elif what == records.ASSIST and not self.is_served(number):
+            flags = A | (D if event[place] & 16 else 0)
+            self.steps.append(Step(what, processor, address=reader.words(event, 9), value=flags))
+
+    def is_served(self, number):
+        """Whether the access follows that an assist serves, whose processor sets the flags."""
+        events, reader = self.record.events, self.reader
+        own = [event for event in events[number:] if reader.is_access(event) and
+               reader.processor(event) == reader.processor(events[number])]
+        access = next((event for event in own if event[0] == records.ACCESS), None)
+        return access is not None and reader.words(access, 1) == reader.words(events[number], 1)
+
+    def asked(self, number, event):
+        """The operation and what carries it out. Where no note tells, a read at the place of a
+        slot's descriptor is an implicit access, which the guest made."""
+        flags = event[self.reader.place]
+        words = self.notes.get(number)
+        if words is None and not self.notes and flags & 15 == 0 and self.reader.words(event, 1) \
+                % 32 == OFFSETS[IMPLICIT]:
+            words = ("ac",)
+        if words is None:
+            return (flags & 15,)
+        return (IMPLICIT | (4 if "user" in words else 0) | (8 if "ac" in words else 0),)
+
+    def kind(self, level, entry):
+        """Whether an entry is a table, or a leaf; None where it is absent or has a reserved bit."""
+        is_large = bool(entry & PS) and level in (2, 3)
+        reserved = (1 << 52) - (1 << self.m) | (PS if level == 4 else 0)
+        reserved |= {2: 0x1FE000, 3: 0x3FFFE000}[level] if is_large else 0
+        reserved |= 0 if self.rules & 2 else XD
+        if not entry & P or entry & reserved:
+            return None
+        return "leaf" if level == 1 or is_large else "table"
+
+    def walk(self, table, page, level):
+        """All that a walk of the page can ever meet at this table."""
+        self.levels.setdefault(table, set()).add(level)
+        word = table + 8 * (page >> 3 + 9 * level & 511)
+        self.read.add(word)
+        for value in dict.fromkeys(self.values.get(word, ())):
+            kind, base = self.kind(level, value), value & self.address_bits
+            if kind == "table":
+                self.walk(base, page, level - 1)
+            elif kind == "leaf":
+                size = 1 << 3 + 9 * level
+                self.leaves.setdefault(level, set()).add(base & ~(size - 1))
+                self.answers.add(base & ~(size - 1) | page & size - 4096)
+
+
+class Place:
+    """Where the tables and frames of a record go."""
+
+    def __init__(self, source):
+        self.source, self.moved = source, {}
+        self.tables = source.roots | {word & ~4095 for word in source.values}
+        # (a frame that no word was written in may serve as a table too, of absent entries)
+        self.frames = (source.answers | set(source.levels)) - self.tables
+        self.stays = all(POOL <= it < POOL + 4096 * MOST_TABLES for it in self.tables) and all(
+            it in LOW_FRAMES or any(low <= it < high for low, high in FREE) for it in self.frames)
+        if not self.stays:
+            self.move()
+        if len(self.tables) > MOST_TABLES or len(self.frames) > MOST_FRAMES:
+            stop(f"it has {len(self.tables)} tables and {len(self.frames)} frames, of which the "
+                 f"guest takes {MOST_TABLES} and {MOST_FRAMES}")
+
+    def move(self):
+        source = self.source
+        if source.leaves.get(3):
+            stop("a 1-GB page lies elsewhere than the guest's memory")
+        if any(len(levels) > 1 for levels in source.levels.values()):
+            stop("a table serves at several levels, and lies elsewhere than the guest's")
+        pieces = {base: PLACE_OF_PIECES + PIECE * k
+                  for k, base in enumerate(sorted(source.leaves.get(2, ())))}
+        if any(table & -PIECE in pieces for table in self.tables):
+            stop("a table lies within a large page, and elsewhere than the guest's tables")
+        if len(pieces) > 48:
+            stop(f"it has {len(pieces)} pages of 2 MB")
+        self.moved = {table: POOL + 4096 * k for k, table in enumerate(sorted(self.tables))}
+        for k, frame in enumerate(sorted(self.frames)):
+            self.moved[frame] = (pieces[frame & -PIECE] | frame & PIECE - 1
+                                 if frame & -PIECE in pieces else PLACE_OF_FRAMES + 4096 * k)
+        self.pieces = pieces
+
+    def frame(self, address):
+        """Where a frame is."""
+        return address if self.stays else self.moved.get(address, NOWHERE)
+
+    def entry(self, table, value):
+        """An entry as it is written, and whether it has a bit above the record's addresses."""
+        source = self.source
+        flag = HIGH_RESERVED if value & (1 << 52) - (1 << source.m) else 0
+        levels = source.levels.get(table, {1})
+        kinds = {source.kind(level, value) for level in levels}
+        if self.stays or kinds == {None}:
+            return value, flag
+        level, base = min(levels), value & source.address_bits
+        if "leaf" in kinds and level == 2:
+            return value & ~(source.address_bits & -PIECE) | self.pieces.get(base & -PIECE,
+                                                                            NOWHERE & -PIECE), flag
+        return value & ~source.address_bits | self.frame(base), flag
+
+    def slot(self):
+        """A slot's number: that of the record where the guest made it, else one that no word of a
+        table which answers accesses has."""
+        offsets = {(step.address & 4095) - OFFSETS[step.flags & 3] for step in self.source.steps
+                   if step.what == records.ACCESS}
+        own = [it // 32 for it in offsets if it >= 0 and it % 32 == 0] if len(offsets) == 1 else []
+        used = {word & 4095 for word in {*self.source.values, *self.source.read}
+                if word & ~4095 in self.frames or word & ~4095 in self.source.answers}
+        free = [it for it in SLOTS if not used & set(range(32 * it, 32 * it + 32))]
+        if not own and not free:
+            stop("words of tables that answer accesses stand where the guest's marks would")
+        return (own or free)[0]
+
+
+def laid_out(record, notes):
+    """The bytes for the guest, and a line that says where all is."""
+    source = Source(record, notes)
+    place = Place(source)
+    for page in source.pages:
+        if page >> 39 & 511 in OWN_SLOTS:
+            stop(f"it has an access to {page:#x}, where the guest itself is")
+    slot = place.slot()
+    # Each root gets the guest's own words, and each table that answers accesses a slot.
+    steps = [Step(OWN_WORDS, address=place.frame(root)) for root in sorted(source.roots)]
+    steps += [Step(SLOT_WORDS, address=place.frame(table))
+              for table in sorted(place.tables & source.answers)]
+    for step in source.steps:
+        table = step.address & ~4095
+        if step.what == records.WRITE:
+            if table in source.roots and step.address >> 3 & 511 in OWN_SLOTS:
+                continue
+            if table in source.answers and (step.address & 4095) // 32 == slot:
+                continue
+            step.value, step.flags = place.entry(table, step.value)
+            step.address = place.frame(table) | step.address & 4095
+        elif step.what == records.ASSIST:
+            step.address = place.frame(table) | step.address & 4095
+        elif step.what == 0x12:
+            step.address = (step.address & ~source.address_bits |
+                            place.frame(step.address & source.address_bits))
+        steps.append(step)
+    needs = GIGABYTE_PAGES if source.leaves.get(3) else 0
+    has_pcids = any(cr3 & 4095 for cr3, _ in source.starts) or any(
+        step.what == 0x14 or (step.what == 0x12 and step.address & (4095 | 1 << 63))
+        for step in source.steps)
+    needs |= PCIDS if has_pcids else 0
+    starts = [(cr3 & 4095 | place.frame(cr3 & source.address_bits), pge)
+              for cr3, pge in source.starts] + [(0, 0)] * (MOST_PROCESSORS - record.processors)
+    frames = sorted(map(place.frame, place.frames))
+    tables = max((place.frame(it) - POOL) // 4096 + 1 for it in place.tables)
+    body = b"".join([*(struct.pack("<QQ", *start) for start in starts),
+                     *(struct.pack("<Q", frame) for frame in frames),
+                     *(step.bytes() for step in steps)])
+    head = struct.pack("<8s9Q", MAGIC, 80 + len(body), record.processors, source.rules, source.m,
+                       needs, slot, tables, len(frames), len(steps))
+    said = (f"{len(source.steps)} events, {len(place.tables)} tables, {len(frames)} frames, " +
+            ("where they were" if place.stays else "moved"))
+    return head + body, said
+
+
+def of_files(paths):
+    """Of several records the bytes for the guest, the most processors, and a line for each. An
+    accepted record may have no event that is carried out again."""
+    parts, processors, said = [], 1, []
+    for path in paths:
+        record, notes = records.read_kept(path)
+        try:
+            data, line = laid_out(record, notes)
+        except image.Stop as why:
+            raise image.Stop(f"{path}: {why}") from None
+        parts.append(data)
+        said.append(line)
+        processors = max(processors, record.processors)
+    if sum(map(len, parts)) + 8 > MOST_BYTES:
+        raise image.Stop(f"{sum(map(len, parts))} bytes to carry out: the guest takes {MOST_BYTES}")
+    return b"".join(parts), processors, said

@@ -1,0 +1,46 @@
+"""Runs the guest as the first domain of Xen, in QEMU: Xen keeps shadow tables of it."""
+import os
+import shutil
+import tempfile
+
+import image
+import systems
+
+HERE = os.path.dirname(os.path.abspath(__file__))
+SHADOW = "dom0=pvh,shadow"
+MEMORY, DOMAIN_MEMORY = 3072, 1400  # MB
+WAYS = 7  # the place of the ways in the settings
+
+
+def write_kernel(folder, settings, replay):
+    """The kernel that Xen boots: the guest with its settings behind a start for the mode PVH."""
+    for name, data in (("guest", image.flat_guest(settings)), ("replay", replay)):
+        with open(os.path.join(folder, name), "wb") as file:
+            file.write(data)
+    made = os.path.join(folder, "kernel")
+    image.command("nasm", "-f", "elf32", f"-DREPLAY={image.REPLAY_ADDRESS}", "-I", folder + "/",
+                  "-o", made + ".o",
+                  os.path.join(HERE, "start.asm"))
+    image.command("ld", "-m", "elf_i386", *image.LINK[1:], "-T", os.path.join(HERE, "link.ld"),
+                  "-o", made, made + ".o")
+
+
+def run(settings, limit, replay=b"", parameters=None):
+    """Xen has port 0xE9 for itself, so the record goes to the first serial line, and Xen's own
+    lines to the second."""
+    before, after = settings[:WAYS - 1], settings[WAYS:]
+    with tempfile.TemporaryDirectory() as folder:
+        write_kernel(folder, (*before, settings[WAYS - 1] | image.SERIAL, *after), replay)
+        shutil.copy(systems.XEN, os.path.join(folder, "xen"))
+        hung = systems.finish(
+            ["qemu-system-x86_64", "-accel", "tcg,thread=single", "-cpu", "max,+svm",
+             "-machine", "q35,kernel-irqchip=off", "-device", "intel-iommu,intremap=off",
+             "-smp", "1", "-m", str(MEMORY), "-display", "none", "-nodefaults", "-no-reboot",
+             "-kernel", "xen", "-initrd", "kernel", "-append",
+             f"console=com2 com2=115200,8n1 {parameters or SHADOW} dom0_mem={DOMAIN_MEMORY}M "
+             f"dom0_max_vcpus={settings[3]} loglvl=all guest_loglvl=all noreboot",
+             "-serial", "file:output", "-serial", "file:said",
+             "-device", "isa-debug-exit,iobase=0xf4"], limit, folder)
+        said = systems.read(os.path.join(folder, "said"))
+        return systems.Run(systems.read(os.path.join(folder, "output")), b"",
+                           said + systems.read(os.path.join(folder, "system")), hung)
