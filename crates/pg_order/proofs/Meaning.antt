@@ -16,7 +16,8 @@ use Rattle.pg_spanned.specs.Orders.{Spanned, IsOrder}
 use Rattle.pg_spanned.specs.Spanned.{IsSpanned}
 use Rattle.pg_spanned.specs.Laws.{NoneOverlap, NoOverlapNoOtherOrder}
 use Rattle.pg_spanned.proofs.Places.{AllByRecursion-at}
-use Rattle.pg_order.specs.Runs.{ordered, HasOrderedRun, OrderedEventsRun, OrderedExactlyWhereARunExists}
+use Rattle.pg_spanned.specs.Orders.{ordered}
+use Rattle.pg_order.specs.Runs.{HasOrderedRun, OrderedEventsRun, OrderedExactlyWhereARunExists}
 
 well_one : (head : Head) (events : List Event) (i : ℕ) (o : Option Event) → slice_get events i ≡ o → AreWellFormed head events → AreWellFormed head (option_to_list o)
 well_one head events i None is well = tt

@@ -6,7 +6,7 @@ use Rattle.std.proofs.lemmas.Grind.{flat_map-append}
 use Rattle.std.proofs.lemmas.List.{take_more}
 use Rattle.std.proofs.lemmas.Option.{slice_get-get_or}
 use Rattle.pg_event.specs.declared.event.Event.{Event}
-use Rattle.pg_order.specs.Runs.{ordered}
+use Rattle.pg_spanned.specs.Orders.{ordered}
 
 -- one event more
 pub ordered_more : (events : List Event) (order : List ℕ) (k i : ℕ) (e : Event) → k < length order → i ≡ get_or order k 0 → i < length events → e ≡ get_or events i e → ordered events (take (k + 1) order) ≡ ordered events (take k order) ++ e ∷ []

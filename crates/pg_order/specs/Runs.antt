@@ -1,18 +1,12 @@
 -- Records with no one order: whether the events have an order in which some run of the machine has
 -- them (Intel SDM, vol. 3, 4.10).
-use Rattle.std.specs.Prelude.{ℕ, ◌-◌, ◌^◌, ◌≤◌, ◌↔◌, List, length, slice_get}
-use Rattle.std.specs.List.{flat_map}
-use Rattle.std.specs.Option.{option_to_list}
+use Rattle.std.specs.Prelude.{ℕ, ◌-◌, ◌^◌, ◌≤◌, ◌↔◌, List, length}
 use Rattle.pg_event.specs.declared.event.Event.{Event}
 use Rattle.pg_check.specs.Kept.{AreWellFormed}
 use Rattle.pg_certify.specs.Certified.{IsCertified, CanBeCertified, IsDenied, HasRunButMoments}
-use Rattle.pg_spanned.specs.Orders.{Spanned, IsOrder}
+use Rattle.pg_spanned.specs.Orders.{Spanned, IsOrder, ordered}
 use Rattle.pg_order.specs.declared.in_order.InOrder.{InOrder}
 use Rattle.pg_order.specs.declared.in_order.InOrder.TheVariants.{Certified, Denied, NoOrder}
-
--- the events with these numbers
-abbrev pub ordered : List Event → List ℕ → List Event
-ordered events order = flat_map (λ i. option_to_list (slice_get events i)) order
 
 -- in some order of the events they are those of a run, but for their moments
 abbrev pub HasOrderedRun : Spanned → Type 0

@@ -1,9 +1,10 @@
 -- What is told of a record with no one order.
 use Rattle.std.specs.Prelude.{ℕ, List}
 use Rattle.pg_event.specs.declared.event.Event.{Event}
-use Rattle.pg_certify.specs.Certified.{IsCertified}
-use Rattle.pg_spanned.specs.Orders.{Spanned, IsOrder}
-use Rattle.pg_order.specs.Runs.{ordered, HasOrderedRun}
+use Rattle.pg_certify.specs.Certified.{IsCertified, IsDenied}
+use Rattle.pg_spanned.specs.Orders.{Spanned, IsOrder, ordered}
+use Rattle.pg_spanned.specs.Laws.{ends, NoneOverlap}
+use Rattle.pg_order.specs.Runs.{HasOrderedRun}
 use Rattle.pg_order.specs.declared.verdict.Verdict.{Verdict}
 use Rattle.pg_order.specs.declared.verdict.Verdict.TheVariants.{Yes, No, Undecided}
 
@@ -13,8 +14,16 @@ pub record IsOrderedRun (s : Spanned) (order : List ℕ) (found : List Event) : 
   pub certified : IsCertified s.head (ordered s.events order) found
   pub run : HasOrderedRun s
 
--- a yes has an order with a run, a no says that none has; what is undecided says nothing
+-- no event overlaps another, and the event is the least that no moments witness in the one order
+-- that they have; so none has a run
+pub record HasNoOrderedRun (s : Spanned) (event : ℕ) : Type 0 where
+  pub none : NoneOverlap s
+  pub denied : IsDenied s.head (ordered s.events (ends s)) event
+  pub run : HasOrderedRun s → ⊥
+
+-- a yes has an order with a run, a no says that none has; where no event overlaps another it is one
+-- of both
 abbrev pub IsVerdict : Spanned → Verdict → Type 0
 IsVerdict s (Yes order found) = IsOrderedRun s order.items found.items
-IsVerdict s (No event) = HasOrderedRun s → ⊥
-IsVerdict s (Undecided event) = Unit {0}
+IsVerdict s (No event) = HasNoOrderedRun s event
+IsVerdict s (Undecided event) = NoneOverlap s → ⊥

@@ -2,14 +2,14 @@
 
 ghost use Rattle.std.specs.Prelude.{◌≡◌, ◌<◌, ◌≤◌, ◌^◌, true, length, None, IfSome};
 ghost use Rattle.pg_event.specs.Form.{broken_rule, processor_of};
-ghost use Rattle.pg_search.specs.Law.{names_moments, with_moments};
+ghost use Rattle.pg_search.specs.Law.{names_moments};
 
 use crate::guesses::{Guesses, Scope};
 use crate::looked::Looked;
 use crate::walk::{Walk, first_moments, walk_by};
 use pg_check::{Memo, failing};
 use pg_event::{Event, Moments, Outcome, uses_last, want_of};
-use pg_search::{KeptRun, Seen, find_moments_at};
+use pg_search::{KeptRun, Seen, find_moments_at, with_moments};
 use std::alloc::{AllocError, Global};
 
 /// So many changes of a word are looked at.
@@ -48,45 +48,6 @@ pub(crate) fn question_of(event: &Event) -> Option<Question>
         | Event::Invlpg { .. }
         | Event::Invpcid { .. }
         | Event::MovCr4Pge { .. } => None,
-    }
-}
-
-/// The event with these moments in place of its own, if it names some.
-fn with_moments(event: &Event, chosen: Moments) -> Event
-    ensures { result ≡ with_moments chosen event.now }
-{
-    match *event {
-        Event::Access {
-            p,
-            flags,
-            la,
-            outcome,
-            ..
-        } => Event::Access {
-            p,
-            flags,
-            la,
-            outcome,
-            moments: chosen,
-        },
-        Event::Assist {
-            p,
-            flags,
-            la,
-            word,
-            ..
-        } => Event::Assist {
-            p,
-            flags,
-            la,
-            word,
-            moments: chosen,
-        },
-        Event::Write { .. }
-        | Event::MovCr3 { .. }
-        | Event::Invlpg { .. }
-        | Event::Invpcid { .. }
-        | Event::MovCr4Pge { .. } => *event,
     }
 }
 

@@ -3,7 +3,8 @@
 ghost use Rattle.std.specs.Prelude.{◌≡◌, IfOk};
 ghost use Rattle.pg_spanned.specs.Orders.{IsOrder};
 ghost use Rattle.pg_spanned.specs.Spanned.{IsSpanned};
-ghost use Rattle.pg_order.specs.Runs.{ordered, IsToldOf, HasRunIfCertified};
+ghost use Rattle.pg_spanned.specs.Orders.{ordered};
+ghost use Rattle.pg_order.specs.Runs.{IsToldOf, HasRunIfCertified};
 
 use crate::laws::ordered_events_run;
 use pg_certify::{Certified, certify};

@@ -22,10 +22,11 @@ pub enum Verdict {
         /// The events in this order, each with moments that witness it.
         found: Vec<Event>,
     },
-    /// They have none. The event, by its number, that no moments witness in their only order.
+    /// They have none: no event overlaps another. The event, by its number, that no moments witness
+    /// in their only order.
     No(u64),
     /// No order was found. It is not known whether there is one. The event, by its number, at which
-    /// the search gave up.
+    /// the search gave up, or that no moments witness in the order that the search came to.
     Undecided(u64),
 }
 
@@ -64,19 +65,29 @@ fn verdict_in_only_order(alloc: Global, run: &SpannedRun) -> Result<Verdict, All
     }
 }
 
+/// The number that stands at a place, or 0 where none does.
+fn number_at(order: &[u32], place: u64) -> u64 {
+    match order.get(place as usize) {
+        Some(number) => *number as u64,
+        None => 0,
+    }
+}
+
 /// The verdict in an order that a search came to.
 fn verdict_in(alloc: Global, run: &SpannedRun, order: Vec<u32>) -> Result<Verdict, AllocError>
+    requires { NoneOverlap run.now → ⊥ }
     ensures { IfOk result (IsVerdict run.now) }
 {
     match certify_in_order(alloc, run, &order)? {
         InOrder::Certified(found) => Ok(Verdict::Yes { order, found }),
-        InOrder::Denied(place) => Ok(Verdict::Undecided(place)),
+        InOrder::Denied(place) => Ok(Verdict::Undecided(number_at(&order, place))),
         InOrder::NoOrder => Ok(Verdict::Undecided(0)),
     }
 }
 
 /// Looks for an order of the events of a run in which some run of the machine has them. A yes has
-/// the order, and moments for the events in it. A no is told where the events have one order alone.
+/// the order, and moments for the events in it. A no is told where no event overlaps another, and a
+/// yes or a no always then.
 ///
 /// It fails only where memory is refused.
 pub fn find_ordered_run(alloc: Global, run: &SpannedRun) -> Result<Verdict, AllocError>

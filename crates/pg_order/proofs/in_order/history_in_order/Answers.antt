@@ -7,7 +7,7 @@ use Rattle.pg_event.specs.Form.{broken_rule}
 use Rattle.pg_event.specs.Spelling.{Recorded}
 use Rattle.pg_spanned.proofs.Orders.{order_within}
 use Rattle.pg_spanned.proofs.Places.{AllByRecursion-at}
-use Rattle.pg_order.specs.Runs.{ordered}
+use Rattle.pg_spanned.specs.Orders.{ordered}
 use Rattle.pg_order.proofs.Meaning.{length-ordered}
 use Rattle.pg_order.proofs.Ordered.{ordered_more}
 use Rattle.pg_order.proofs.in_order.history_in_order.Goals as goal

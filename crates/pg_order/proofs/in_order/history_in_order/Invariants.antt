@@ -1,5 +1,5 @@
 use Rattle.std.proofs.Common.{◌≡◌, take}
-use Rattle.pg_order.specs.Runs.{ordered}
+use Rattle.pg_spanned.specs.Orders.{ordered}
 use Rattle.pg_order.proofs.in_order.history_in_order.Given as goal
 
 abbrev pub invariant-loop-number : goal.invariant-loop-number
