@@ -4,7 +4,7 @@ import subprocess
 
 # A line of a list: a name, two spaces at least, and what it says.
 COMMAND = re.compile(r"  ([a-z][a-z-]*)  +(\S.*)")
-OPTION = re.compile(r"  (?:(-\w), |    )--([a-z][a-z-]*)(?: <([^>]+)>)?  +(\S.*)")
+OPTION = re.compile(r"  (?:(-\w), |    )--([a-z][a-z-]*)(?: <([^>]+)>)?(?:\.\.\.)?  +(\S.*)")
 
 
 class Option:
@@ -18,13 +18,12 @@ class Option:
 
 
 class Help:
-    """A help text: its first line, its commands with what each does, its options, whether it takes a file."""
+    """A help text: its first line, its commands with what each does, its options, whether it takes files."""
 
     def __init__(self, text):
         lines = text.split("\n")
         self.about, self.commands, self.options = lines[0], [], []
-        self.takes_file = any(line.startswith("  [FILE]") for line in lines)
-        heading = ""
+        self.takes_file, heading = "Arguments:" in lines, ""
         for line in lines[1:]:
             if re.fullmatch(r"[A-Z]\w*:", line):
                 heading = line
