@@ -11,8 +11,11 @@ mod number;
 mod peeked;
 mod reader;
 mod refusal;
+mod spelling;
 
 pub use error::SpannedError;
+pub use laws::{no_bytes_spell_two_runs, reading_of_spanned_spelling, spelled_where_read};
 pub use peeked::Peeked;
 pub use reader::read_spanned;
 pub use refusal::SpannedRefusal;
+pub use spelling::spell_spanned;
