@@ -1,10 +1,10 @@
 -- Steps of reading, whatever they are refused with.
-use Rattle.std.proofs.Common.{◌≡◌, ℕ, Bool, true, false, cond, List, Result, Ok, Err, refl, ap, subst}
+use Rattle.std.proofs.Common.{◌≡◌, ℕ, Bool, true, false, cond, List, Result, Ok, Err, refl, ap}
 use Rattle.pg_event.specs.declared.refusal.Refusal.{Refusal}
 use Rattle.pg_event.specs.Reading.{◌>>=◌, Part, passing}
 use Rattle.pg_event.proofs.Fields.{passing_ok}
 use Rattle.pg_span_codec.specs.declared.refusal.SpannedRefusal.{SpannedRefusal}
-use Rattle.pg_span_codec.specs.Reading.{SpannedPart, plain}
+use Rattle.pg_span_codec.specs.Reading.{plain}
 
 -- a step that is not refused goes on with its value
 pub bind_on : {A B : Type 0} (r : Result A SpannedRefusal) (f : A → Result B SpannedRefusal) (x : A) → r ≡ Ok x → (r >>= f) ≡ f x

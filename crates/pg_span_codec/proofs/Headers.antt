@@ -1,5 +1,5 @@
 -- A header of version 3 or 4 that is read is spelled so, and one that is spelled so is read again: it is one of version 1 or 2 but for the number of the version.
-use Rattle.std.proofs.Common.{◌≡◌, ℕ, zero, suc, ◌+◌, ◌^◌, ◌<◌, ◌≤◌, Bool, true, false, cond, ltb, eqb, ◌||◌, List, [], ◌∷◌, ◌++◌, length, take, drop, get_or, Result, Ok, Err, refl, sym, ap, subst, ◌∙◌, append_assoc, take-append-drop, arith, inl, inr}
+use Rattle.std.proofs.Common.{◌≡◌, ℕ, ◌^◌, ◌<◌, Bool, true, false, cond, ltb, eqb, ◌||◌, List, [], ◌∷◌, ◌++◌, length, take, drop, get_or, Ok, Err, refl, sym, ap, subst, ◌∙◌, take-append-drop, arith, inl, inr}
 use Rattle.std.specs.Prelude.{codes}
 use Rattle.std.specs.List.{flat_map}
 use Rattle.std.specs.Int.{w16, w32, to_le_bytes}
@@ -11,14 +11,14 @@ use Rattle.pg_event.specs.declared.version.Version.{Version}
 use Rattle.pg_event.specs.declared.version.Version.TheVariants as versions
 use Rattle.pg_event.specs.Heads.{Head}
 use Rattle.pg_event.specs.Spelling.{version_number, processor_bytes, start_bytes, header_bytes, IsHead}
-use Rattle.pg_event.specs.Reading.{◌>>=◌, Part, number_at, passing, magic_at, version_at, header_at}
+use Rattle.pg_event.specs.Reading.{number_at, magic_at, version_at, header_at}
 use Rattle.pg_event.specs.Laws.{AreBytes}
 use Rattle.pg_event.proofs.Fields.{IsBytes, IsBytes-drop, from_bind, from_passing, ok_bind, ok_is, test_ok, Takes, Takes-then, passing_again, wide16, number_takes, number_again}
 use Rattle.pg_event.proofs.Chunks.{all_append}
 use Rattle.pg_event.proofs.Headers.{header_again, header_takes}
 use Rattle.pg_event.proofs.Spellings.{bytes_at}
 use Rattle.pg_codec.proofs.Next.{all_bytes}
-use Rattle.pg_span_codec.specs.Spelling.{spans_number, spans_settings_bytes, spans_header_bytes}
+use Rattle.pg_span_codec.specs.Spelling.{spans_number, spans_header_bytes}
 use Rattle.pg_span_codec.specs.Reading.{spans_version_of, spans_version_at, spans_front_at, settings_behind, spans_header_at}
 
 -- ---- the magic and the version
@@ -92,7 +92,6 @@ front_takes bytes x fits e =
 
 -- ---- what stands behind the version
 
-
 -- a header behind its version
 abbrev settings_tail : Head → List ℕ
 settings_tail head =
@@ -105,13 +104,13 @@ as_header version bytes = ok_bind _ _ _ (magic_again (to_le_bytes w16 (version_n
 
 old_in_parts : (version : Version) (m flags count size : ℕ) (starts : List ℕ)
     → codes "PGRECORD" ++ to_le_bytes w16 (version_number version) ++ (m ∷ flags ∷ []) ++ processor_bytes version count ++ to_le_bytes w32 size ++ starts
-      ≡ codes "PGRECORD" ++ (to_le_bytes w16 (version_number version) ++ (m ∷ flags ∷ (processor_bytes version count ++ (to_le_bytes w32 size ++ starts))))
+    ≡ codes "PGRECORD" ++ (to_le_bytes w16 (version_number version) ++ (m ∷ flags ∷ (processor_bytes version count ++ (to_le_bytes w32 size ++ starts))))
 old_in_parts versions.One m flags count size starts = refl
 old_in_parts versions.Two m flags count size starts = refl
 
 new_in_parts : (version : Version) (m flags count size : ℕ) (starts : List ℕ)
     → (codes "PGRECORD" ++ to_le_bytes w16 (spans_number version) ++ (m ∷ flags ∷ []) ++ processor_bytes version count ++ to_le_bytes w32 size) ++ starts
-      ≡ codes "PGRECORD" ++ (to_le_bytes w16 (spans_number version) ++ (m ∷ flags ∷ (processor_bytes version count ++ (to_le_bytes w32 size ++ starts))))
+    ≡ codes "PGRECORD" ++ (to_le_bytes w16 (spans_number version) ++ (m ∷ flags ∷ (processor_bytes version count ++ (to_le_bytes w32 size ++ starts))))
 new_in_parts versions.One m flags count size starts = refl
 new_in_parts versions.Two m flags count size starts = refl
 

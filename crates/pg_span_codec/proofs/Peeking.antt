@@ -1,12 +1,12 @@
 -- What a source whose first bytes were looked at has left.
-use Rattle.std.proofs.Common.{◌≡◌, ℕ, ◌+◌, ◌-◌, ◌≤◌, ◌<◌, Bool, eqb, ◌||◌, List, [], ◌++◌, length, take, drop, Option, Some, None, Ok, Err, refl, sym, ap, ◌∙◌, subst, arith, append_assoc, take-append-drop, length-append}
+use Rattle.std.proofs.Common.{◌≡◌, ℕ, ◌+◌, ◌-◌, ◌≤◌, ◌<◌, Bool, eqb, ◌||◌, List, ◌++◌, length, take, drop, Option, Some, None, Ok, Err, refl, sym, ap, ◌∙◌, arith, append_assoc, take-append-drop}
 use Rattle.std.specs.Prelude.{IfSome}
 use Rattle.std.specs.List.{slice_range}
 use Rattle.std.specs.Int.{w16}
 use Rattle.std.specs.Io.KnownBytes.{Keeps, Consumes, IsAtEnd}
 use Rattle.std.proofs.lemmas.List.{nil_from_length, length-take-le, length-drop}
 use Rattle.pg_event.specs.declared.refusal.Refusal.TheVariants as refusals
-use Rattle.pg_event.specs.Reading.{◌>>=◌, Part, number_at, magic_at}
+use Rattle.pg_event.specs.Reading.{Part, number_at, magic_at}
 use Rattle.pg_codec.specs.Reads.{left_of}
 use Rattle.pg_codec.proofs.Local.{IsLocal, extended, number_local, done_local, then_local, bounded_local, near}
 use Rattle.pg_codec.proofs.Widths.{magic_local}

@@ -1,5 +1,5 @@
 -- Bytes spell a run exactly where they are read as that run.
-use Rattle.std.proofs.Common.{◌≡◌, ℕ, zero, suc, ◌+◌, ◌^◌, ◌<◌, ◌≤◌, Bool, true, eqb, List, [], ◌∷◌, ◌++◌, length, None, Ok, Err, refl, sym, ap, subst, ◌∙◌, append_assoc, arith, inl}
+use Rattle.std.proofs.Common.{◌≡◌, ℕ, zero, suc, ◌+◌, ◌^◌, ◌<◌, ◌≤◌, true, eqb, List, [], ◌∷◌, ◌++◌, length, None, Ok, refl, sym, ap, subst, ◌∙◌, append_assoc, arith, inl}
 use Rattle.std.specs.Prelude.{slice_index}
 use Rattle.std.specs.List.{zip, AllByRecursion}
 use Rattle.std.proofs.lemmas.Bool.{eqb-true}
@@ -9,21 +9,17 @@ use Rattle.pg_event.specs.declared.refusal.Refusal.TheVariants as refusals
 use Rattle.pg_event.specs.Heads.{Head}
 use Rattle.pg_event.specs.Form.{processor_of, broken_rule}
 use Rattle.pg_event.specs.Spelling.{end_bytes, FitsEvent, IsHead}
-use Rattle.pg_event.specs.Reading.{◌>>=◌}
-use Rattle.pg_event.specs.Laws.{AreBytes}
 use Rattle.pg_event.proofs.Fields.{IsBytes, Takes, Takes-then}
 use Rattle.pg_event.proofs.Events.{processor_within}
 use Rattle.pg_event.proofs.Headers.{most_processors_le}
 use Rattle.pg_event.proofs.Spellings.{bytes_at}
 use Rattle.pg_spanned.specs.Orders.{Spanned}
 use Rattle.pg_spanned.specs.Spanned.{IsSpanned}
-use Rattle.pg_span_codec.specs.declared.refusal.SpannedRefusal.{SpannedRefusal}
-use Rattle.pg_span_codec.specs.declared.refusal.SpannedRefusal.TheVariants.{Plain, Back}
+use Rattle.pg_span_codec.specs.declared.refusal.SpannedRefusal.TheVariants.{Plain}
 use Rattle.pg_span_codec.specs.Spelling.{IsBare, Timed, timed, spans_header_bytes, timed_segments_bytes, spanned_bytes, IsSpelled, SpellsSpanned}
 use Rattle.pg_span_codec.specs.Reading.{plain, spans_header_at, next_segments_at, no_events, spanned_reading}
 use Rattle.pg_span_codec.specs.Laws.{NoBytesSpellTwoRuns, ReadingOfSpannedSpelling, SpelledWhereRead}
 use Rattle.pg_span_codec.proofs.Binds.{bind_on, bind_from, plain_on, plain_from, value_is, test_from}
-use Rattle.pg_span_codec.proofs.TimedEvents.{IsTimed}
 use Rattle.pg_span_codec.proofs.Runs.{events_of, backs_of, grown, AreTimed, events_count}
 use Rattle.pg_span_codec.proofs.Segments.{AreSegments, segments_count_le, segments_again, TakesSegments, segments_take}
 use Rattle.pg_span_codec.proofs.Headers.{spans_header_again, spans_header_takes}

@@ -1,6 +1,6 @@
 -- Events with spans that are read behind a run are spelled so, and what is spelled so is read again.
-use Rattle.std.proofs.Common.{◌≡◌, ℕ, zero, suc, ◌+◌, ◌-◌, ◌^◌, ◌<◌, ◌≤◌, Bool, true, false, cond, leb, List, [], ◌∷◌, ◌++◌, length, Option, Some, None, Ok, Err, refl, sym, ap, subst, ◌∙◌, append_assoc, arith}
-use Rattle.std.specs.List.{flat_map, AllByRecursion}
+use Rattle.std.proofs.Common.{◌≡◌, ℕ, zero, suc, ◌+◌, ◌≤◌, Bool, cond, leb, List, [], ◌∷◌, ◌++◌, length, Option, Some, None, Ok, Err, refl, sym, ap, subst, ◌∙◌, append_assoc, arith}
+use Rattle.std.specs.List.{flat_map}
 use Rattle.std.proofs.lemmas.Bool.{leb-true, le-leb}
 use Rattle.std.proofs.lemmas.List.{append-nil, length-append}
 use Rattle.pg_event.specs.declared.event.Event.{Event}
@@ -10,12 +10,11 @@ use Rattle.pg_event.specs.Form.{broken_rule}
 use Rattle.pg_event.specs.Reading.{◌>>=◌}
 use Rattle.pg_event.proofs.Fields.{IsBytes, Takes, Takes-then}
 use Rattle.pg_spanned.specs.Orders.{Spanned}
-use Rattle.pg_span_codec.specs.declared.refusal.SpannedRefusal.{SpannedRefusal}
-use Rattle.pg_span_codec.specs.declared.refusal.SpannedRefusal.TheVariants.{Plain, Back}
+use Rattle.pg_span_codec.specs.declared.refusal.SpannedRefusal.TheVariants.{Back}
 use Rattle.pg_span_codec.specs.Spelling.{Timed, timed_bytes}
 use Rattle.pg_span_codec.specs.Reading.{plain, timed_at, with_event, judged, next_event_at, next_events_at}
 use Rattle.pg_span_codec.proofs.Binds.{bind_on, bind_from, plain_on, plain_from, value_is, test_from}
-use Rattle.pg_span_codec.proofs.TimedEvents.{IsTimed, timed_again, TakesTimed, timed_takes}
+use Rattle.pg_span_codec.proofs.TimedEvents.{IsTimed, timed_again, timed_takes}
 
 abbrev pub events_of : List Timed → List Event
 events_of [] = []

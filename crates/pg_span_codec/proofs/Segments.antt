@@ -7,13 +7,12 @@ use Rattle.std.proofs.lemmas.List.{length-take, length-drop, length-append, take
 use Rattle.pg_event.specs.declared.refusal.Refusal.TheVariants as refusals
 use Rattle.pg_event.specs.Heads.{Head}
 use Rattle.pg_event.specs.Spelling.{end_bytes}
-use Rattle.pg_event.specs.Reading.{◌>>=◌, byte_at, number_at, passing}
+use Rattle.pg_event.specs.Reading.{◌>>=◌, byte_at, number_at}
 use Rattle.pg_event.proofs.Fields.{IsBytes, Takes, Takes-then, passing_again, byte_takes, wide32, number_takes, number_again}
 use Rattle.pg_spanned.specs.Orders.{Spanned}
-use Rattle.pg_span_codec.specs.declared.refusal.SpannedRefusal.{SpannedRefusal}
-use Rattle.pg_span_codec.specs.declared.refusal.SpannedRefusal.TheVariants.{Plain, Back}
+use Rattle.pg_span_codec.specs.declared.refusal.SpannedRefusal.TheVariants.{Plain}
 use Rattle.pg_span_codec.specs.Spelling.{Timed, timed_bytes, timed_segment_bytes, timed_segments_bytes}
-use Rattle.pg_span_codec.specs.Reading.{SpannedPart, plain, next_events_at, next_segment_at, total_at, was_full, next_segments_at}
+use Rattle.pg_span_codec.specs.Reading.{SpannedPart, next_segment_at, total_at, was_full, next_segments_at}
 use Rattle.pg_span_codec.proofs.Binds.{bind_on, bind_from, plain_on, field_from, value_is}
 use Rattle.pg_span_codec.proofs.Runs.{grown, grown_none, grown_twice, grown_count, AreTimed, timed_cut, timed_joined, events_again, TakesEvents, events_take}
 

@@ -1,7 +1,7 @@
 -- An event without moments that is read is spelled so, and one that is spelled so is read again.
-use Rattle.std.proofs.Common.{◌≡◌, ℕ, zero, suc, ◌+◌, ◌^◌, ◌<◌, ◌≤◌, Bool, true, false, cond, eqb, List, [], ◌∷◌, ◌++◌, length, Option, Some, None, Ok, Err, refl, sym, ap, subst, ◌∙◌, append_assoc, arith, drop}
-use Rattle.std.specs.List.{flat_map, AllByRecursion}
-use Rattle.std.specs.Int.{w16, w32, w64, to_le_bytes}
+use Rattle.std.proofs.Common.{◌≡◌, ℕ, ◌^◌, ◌<◌, ◌≤◌, Bool, true, false, cond, eqb, List, [], ◌∷◌, ◌++◌, Option, None, Ok, refl, sym, ap, subst, ◌∙◌, append_assoc, arith, drop}
+use Rattle.std.specs.List.{AllByRecursion}
+use Rattle.std.specs.Int.{w32, w64, to_le_bytes}
 use Rattle.std.proofs.lemmas.Bool.{eqb-true, eqb-false}
 use Rattle.pg_event.specs.declared.event.Event.{Event}
 use Rattle.pg_event.specs.declared.event.Event.TheVariants.{Write, Access, Assist, MovCr3, Invlpg, Invpcid, MovCr4Pge}
@@ -12,10 +12,10 @@ use Rattle.pg_event.specs.declared.version.Version.{Version}
 use Rattle.pg_event.specs.Heads.{Head}
 use Rattle.pg_event.specs.Form.{processor_of, broken_rule}
 use Rattle.pg_event.specs.Spelling.{processor_bytes, outcome_bytes, tag_of, field_bytes, event_bytes, FitsEvent, FitsOutcome}
-use Rattle.pg_event.specs.Reading.{◌>>=◌, Part, byte_at, number_at, passing, is_between, processor_at, outcome_at, fields_at, last_tag, well_formed_at, event_at}
+use Rattle.pg_event.specs.Reading.{byte_at, number_at, is_between, processor_at, outcome_at, fields_at, last_tag, well_formed_at, event_at}
 use Rattle.pg_event.specs.Laws.{AreBytes}
-use Rattle.pg_event.proofs.Fields.{IsBytes, bind_ok, from_bind, from_passing, ok_bind, ok_is, Takes, Takes-then, passing_ok, passing_again, byte_takes, wide16, wide32, wide64, number_takes, number_again}
-use Rattle.pg_event.proofs.Events.{bounds_of, processor_again, processor_takes, outcome_again, outcome_takes, fields_again, IsEvent, event_again, event_takes}
+use Rattle.pg_event.proofs.Fields.{IsBytes, from_bind, from_passing, ok_bind, ok_is, Takes, Takes-then, passing_again, byte_takes, wide32, wide64, number_takes, number_again}
+use Rattle.pg_event.proofs.Events.{processor_again, processor_takes, outcome_again, outcome_takes, fields_again, IsEvent, event_again, event_takes}
 use Rattle.pg_event.proofs.Chunks.{all_parts, all_append}
 use Rattle.pg_event.proofs.Spellings.{bytes_at}
 use Rattle.pg_codec.proofs.Next.{all_bytes}

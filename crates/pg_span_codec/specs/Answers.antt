@@ -1,5 +1,5 @@
 -- What a call that reads answers, against the reading function on lists.
-use Rattle.std.specs.Prelude.{◌≡◌, List, ℕ, Result, Ok, Err}
+use Rattle.std.specs.Prelude.{◌≡◌, Result, Ok, Err}
 use Rattle.pg_span_codec.specs.declared.refusal.SpannedRefusal.{SpannedRefusal}
 use Rattle.pg_span_codec.specs.declared.error.SpannedError.{SpannedError}
 use Rattle.pg_span_codec.specs.declared.error.SpannedError.TheVariants.{Refused, Memory}

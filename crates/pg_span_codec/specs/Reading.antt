@@ -7,7 +7,6 @@ use Rattle.std.specs.Int.{w16, w32, w64}
 use Rattle.pg_event.specs.declared.event.Event.{Event}
 use Rattle.pg_event.specs.declared.event.Event.TheVariants as events
 use Rattle.pg_event.specs.declared.event.Malformed.{Malformed}
-use Rattle.pg_event.specs.declared.refusal.Refusal.{Refusal}
 use Rattle.pg_event.specs.declared.refusal.Refusal.TheVariants as refusals
 use Rattle.pg_event.specs.declared.version.Version.{Version}
 use Rattle.pg_event.specs.declared.version.Version.TheVariants as versions
@@ -158,8 +157,8 @@ next_segments_at (suc n) s number full bytes = do
   tag ← plain (tag_at bytes)
   if tag.0 == 2 then total_at s tag.1 else
       if full then
-          (next_segment_at s number tag.1
-          >>= λ more. next_segments_at n more.0 (number + 1) (was_full s more.0) more.1)
+      (next_segment_at s number tag.1
+      >>= λ more. next_segments_at n more.0 (number + 1) (was_full s more.0) more.1)
       else Err (Plain refusals.SegmentCount)
 
 -- a run with no event yet

@@ -127,10 +127,7 @@ fn last_tag(version: Version) -> u8
 
 /// An event, and how many of those before it had not yet ended when it began. It is not yet judged.
 #[tactic(auto, unfolding(crate::specs::Reading::timed_at))]
-pub(crate) fn timed_of(
-    version: Version,
-    bytes: &[u8],
-) -> Result<((Event, u32), &[u8]), Refusal>
+pub(crate) fn timed_of(version: Version, bytes: &[u8]) -> Result<((Event, u32), &[u8]), Refusal>
     ensures { Gives (λ x. (x.0, x.1.now)) result (timed_at version bytes.now) }
 {
     let (tag, rest) = byte_of(bytes)?;

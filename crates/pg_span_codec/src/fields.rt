@@ -80,4 +80,3 @@ pub(crate) fn outcome_of(bytes: &[u8]) -> Result<(Outcome, &[u8]), Refusal>
     let (code, rest) = u16_of(rest)?;
     Ok((Outcome::Fault(code), rest))
 }
-

@@ -145,12 +145,22 @@ fn push_bare(bytes: &mut Vec<u8>, event: &Event) -> Result<(), AllocError>
             push_u64(bytes, addr)?;
             push_u64(bytes, value)
         }
-        Event::Access { flags, la, outcome, .. } => {
+        Event::Access {
+            flags,
+            la,
+            outcome,
+            ..
+        } => {
             bytes.push(flags)?;
             push_u64(bytes, la)?;
             push_outcome(bytes, outcome)
         }
-        Event::Assist { flags, la, word, .. } => {
+        Event::Assist {
+            flags,
+            la,
+            word,
+            ..
+        } => {
             bytes.push(flags)?;
             push_u64(bytes, la)?;
             push_u64(bytes, word)?;

@@ -1,4 +1,4 @@
-use Rattle.std.proofs.Common.{◌≡◌, ◌+◌, ◌-◌, ◌<◌, ◌^◌, length}
+use Rattle.std.proofs.Common.{◌≡◌, ◌-◌, ◌<◌, ◌^◌, length}
 use Rattle.std.specs.List.{AllByRecursion}
 use Rattle.pg_event.specs.Reading.{starts_at}
 use Rattle.pg_codec.specs.Parts.{with_front}

@@ -1,6 +1,6 @@
 use Rattle.std.proofs.Common.{◌≡◌, ◌∙◌, sym, length, true, false, rules}
 use Rattle.std.proofs.lemmas.Result.{err_from_is_err_and}
-use Rattle.pg_span_codec.proofs.Steps.{error_answers, tag_fails, end_tag, after_short, segments_fail, segments_on, segments_done, filled_is}
+use Rattle.pg_span_codec.proofs.Steps.{error_answers, tag_fails, end_tag, after_short, segments_fail, segments_on, filled_is}
 use Rattle.pg_span_codec.proofs.reader.read_segments.Goals as goal
 
 pub returns-in_err-tag : goal.returns-in_err-tag

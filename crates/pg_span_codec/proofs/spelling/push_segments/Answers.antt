@@ -2,7 +2,6 @@ use Rattle.std.proofs.Common.{◌≡◌, ℕ, ◌-◌, ◌<◌, min, List, ◌++
 use Rattle.std.specs.List.{zip}
 use Rattle.std.proofs.lemmas.List.{length-drop}
 use Rattle.pg_event.specs.declared.event.Event.{Event}
-use Rattle.pg_event.specs.declared.version.Version.{Version}
 use Rattle.pg_event.specs.Heads.{Head, most_processors}
 use Rattle.pg_event.specs.Form.{processor_of}
 use Rattle.pg_event.proofs.Chunks.{all_cut}

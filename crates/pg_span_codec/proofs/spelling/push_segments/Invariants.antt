@@ -1,4 +1,4 @@
-use Rattle.std.proofs.Common.{◌≡◌, ℕ, ◌+◌, ◌≤◌, ◌++◌, length}
+use Rattle.std.proofs.Common.{◌≡◌, ◌+◌, ◌≤◌, ◌++◌, length}
 use Rattle.std.specs.List.{zip}
 use Rattle.pg_codec.specs.Writing.{FitVersion}
 use Rattle.pg_span_codec.specs.Spelling.{timed_segments_bytes}
