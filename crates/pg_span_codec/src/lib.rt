@@ -12,6 +12,8 @@ mod peeked;
 mod reader;
 mod refusal;
 mod spelling;
+#[cfg(test)]
+mod tests;
 
 pub use error::SpannedError;
 pub use laws::{no_bytes_spell_two_runs, reading_of_spanned_spelling, spelled_where_read};
