@@ -22,6 +22,7 @@ use Rattle.pg_span_codec.specs.Laws.{NoBytesSpellTwoRuns, ReadingOfSpannedSpelli
 use Rattle.pg_span_codec.proofs.Binds.{bind_on, bind_from, plain_on, plain_from, value_is, test_from}
 use Rattle.pg_span_codec.proofs.Runs.{events_of, backs_of, grown, AreTimed, events_count}
 use Rattle.pg_span_codec.proofs.Segments.{AreSegments, segments_count_le, segments_again, TakesSegments, segments_take}
+use Rattle.pg_span_codec.proofs.Zips.{zip_count}
 use Rattle.pg_span_codec.proofs.Headers.{spans_header_again, spans_header_takes}
 
 -- ---- events and their spans, in one list and in two
@@ -36,11 +37,6 @@ zip_backs [] [] h = refl
 zip_backs [] (b ∷ bs) h = absurd (omega (arith, h))
 zip_backs (e ∷ es) [] h = absurd (omega (arith, h))
 zip_backs (e ∷ es) (b ∷ bs) h = ap (λ (l : List ℕ). b ∷ l) (zip_backs es bs (omega (arith, h)))
-
-zip_count : (es : List Event) (bs : List ℕ) → length bs ≡ length es → length (zip es bs) ≡ length es
-zip_count [] bs h = refl
-zip_count (e ∷ es) [] h = absurd (omega (arith, h))
-zip_count (e ∷ es) (b ∷ bs) h = ap suc (zip_count es bs (omega (arith, h)))
 
 unzipped : (xs : List Timed) → zip (events_of xs) (backs_of xs) ≡ xs
 unzipped [] = refl
