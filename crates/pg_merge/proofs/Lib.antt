@@ -6,3 +6,4 @@ pub mod Starts
 pub mod Readings
 pub mod Runs
 pub mod Whole
+pub mod Kept

@@ -35,10 +35,6 @@ pub filter_none : {X : Type 0} (p : X → Bool) (xs : List X) → AllByRecursion
 filter_none p [] all = refl
 filter_none p (x ∷ xs) all = rw (all.0, filter_none p xs all.1) refl
 
-
-
-
-
 pub filter_twice : {X : Type 0} (p q : X → Bool) (xs : List X) → filter p (filter q xs) ≡ filter (λ x. p x && q x) xs
 filter_twice p q [] = refl
 filter_twice p q (x ∷ xs) = elim (cases_Bool (q x)) [

@@ -62,11 +62,10 @@ own_parts : (logs : List Logged) → AllByRecursion IsLog logs → AllPairs Apar
 own_parts [] are apart = tt
 own_parts (l ∷ ls) are apart =
     let later : AllPairs Apart ls = λ i j d lt within. apart (suc i) (suc j) d (omega (arith, lt)) (omega (arith, within)) in
-    let others : AllByRecursion (λ m. l.head.own ≡ m.head.own → ⊥) ls = recursion_from_All (λ (m : Logged). l.head.own ≡ m.head.own → ⊥) ls (λ k d lt. apart 0 (suc k) d (omega arith) (omega (arith, lt))) in
-    (
+    let others : AllByRecursion (λ m. l.head.own ≡ m.head.own → ⊥) ls = recursion_from_All (λ (m : Logged). l.head.own ≡ m.head.own → ⊥) ls (λ k d lt. apart 0 (suc k) d (omega arith) (omega (arith, lt))) in (
       filter-append (is_of l.head.own) l.events (events_of ls)
-      ∙ (ap (λ (xs : List Stamped). xs ++ filter (is_of l.head.own) (events_of ls)) (own_all l are.0)
-        ∙ (ap (λ (xs : List Stamped). l.events ++ xs) (none_of l.head.own ls are.1 others) ∙ append-nil l.events)),
+          ∙ (ap (λ (xs : List Stamped). xs ++ filter (is_of l.head.own) (events_of ls)) (own_all l are.0)
+          ∙ (ap (λ (xs : List Stamped). l.events ++ xs) (none_of l.head.own ls are.1 others) ∙ append-nil l.events)),
       each_both (λ m. l.head.own ≡ m.head.own → ⊥) (λ m. filter (is_of m.head.own) (events_of ls) ≡ m.events) (λ m. filter (is_of m.head.own) (l.events ++ events_of ls) ≡ m.events) (λ m other own. behind m other own) ls others (own_parts ls are.1 later),
     )
   where
@@ -83,4 +82,4 @@ own_kept logs all are apart ties rises = All-from_recursion (λ (log : Logged). 
     one : (log : Logged) → IsLog log → filter (is_of log.head.own) (events_of logs) ≡ log.events → filter (is_of log.head.own) all ≡ log.events
     one log is own = same_by_ends (filter (is_of log.head.own) all) log.events (up_filter (is_of log.head.own) all (up_first all rises)) (up_rise 0 log.events is.rises)
         (λ k. filter_twice (ends_at k) (is_of log.head.own) all
-          ∙ (ties log.head.own k ∙ (sym (filter_twice (ends_at k) (is_of log.head.own) (events_of logs)) ∙ ap (filter (ends_at k)) own)))
+        ∙ (ties log.head.own k ∙ (sym (filter_twice (ends_at k) (is_of log.head.own) (events_of logs)) ∙ ap (filter (ends_at k)) own)))

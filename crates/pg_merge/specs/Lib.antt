@@ -6,3 +6,4 @@ pub mod Numbers
 pub mod Runs
 pub mod Merged
 pub mod Parts
+pub mod Laws

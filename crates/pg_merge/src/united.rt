@@ -38,7 +38,7 @@ fn unlike(header: &LogHeader, logs: &[Log]) -> Option<(usize, Setting)>
     ensures { MatchOption result
         (All (IsLike header.now) logs.now)
         (λ x. (b : Logged) × (slice_get logs.now x.0 ≡ Some b)
-            × (AgreesOn x.1 header.now b.head → ⊥)) }
+        × (AgreesOn x.1 header.now b.head → ⊥)) }
 {
     for (i, log) in logs.iter().enumerate() {
         if let Some(setting) = difference(header, log.header()) {
@@ -71,13 +71,7 @@ fn earlier(logs: &[Log], processor: u16, place: usize) -> Option<usize>
 {
     match place_of(logs, processor) {
         None => None,
-        Some(first) => {
-            if first < place {
-                Some(first)
-            } else {
-                None
-            }
-        }
+        Some(first) => { if first < place { Some(first) } else { None } }
     }
 }
 
@@ -96,11 +90,7 @@ fn twice(logs: &[Log]) -> Option<(usize, usize)>
 }
 
 /// For each processor of a run how it starts, by its log.
-fn starts_of(
-    alloc: Global,
-    logs: &[Log],
-    processors: u16,
-) -> Result<Vec<(u64, bool)>, MergeError>
+fn starts_of(alloc: Global, logs: &[Log], processors: u16) -> Result<Vec<(u64, bool)>, MergeError>
     requires { (a : Logged) × (slice_get logs.now 0 ≡ Some a) × (a.head.processors ≡ processors) }
     ensures { MatchResult result
         (λ starts. AreStarts logs.now processors starts.items)

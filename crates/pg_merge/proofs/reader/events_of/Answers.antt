@@ -40,8 +40,8 @@ loop-i-preserved c =
     let pushed : c.push.new.events.items ≡ c.loop-i.events.items ++ event ∷ [] = c.in_ok-push-in-Some.ensures in
     record {
       read = c.loop-i.invariant.read
-      ∙ (read_more c.loop-i.events.items n m c.args.header.now c.args.own c.loop-i.i c.loop-i.last c.loop-i.rest.now event c.in-Ok.after.now one next
-        ∙ ap (λ (xs : List Stamped). followed xs (events_at m c.args.header.now c.args.own (c.loop-i.i + 1) event.end c.in-Ok.after.now)) (sym pushed));
+          ∙ (read_more c.loop-i.events.items n m c.args.header.now c.args.own c.loop-i.i c.loop-i.last c.loop-i.rest.now event c.in-Ok.after.now one next
+          ∙ ap (λ (xs : List Stamped). followed xs (events_at m c.args.header.now c.args.own (c.loop-i.i + 1) event.end c.in-Ok.after.now)) (sym pushed));
       own = subst (AllByRecursion (IsOwn c.args.header.now c.args.own)) (sym pushed) (each_push (IsOwn c.args.header.now c.args.own) c.loop-i.events.items event c.loop-i.invariant.own own);
       rises = subst (λ (xs : List Stamped). RisesTo 0 xs event.end) (sym pushed) (rises_more 0 c.loop-i.events.items c.loop-i.last event c.loop-i.invariant.rises above);
     }

@@ -8,9 +8,12 @@ use Rattle.pg_merge.proofs.Starts.{start_more}
 use Rattle.pg_merge.proofs.united.starts_of.Goals as goal
 
 pub returns-in-None : goal.returns-in-None
-returns-in-None c =
-    (c.requires.0, c.requires.1, omega (arith, c.requires.2),
-      λ has. all_found (λ (log : Logged). log.head.own ≡ c.loop-processor.processor → ⊥) c.args.logs.now has.place has.log c.in-None.ensures has.there has.own)
+returns-in-None c = (
+  c.requires.0,
+  c.requires.1,
+  omega (arith, c.requires.2),
+  λ has. all_found (λ (log : Logged). log.head.own ≡ c.loop-processor.processor → ⊥) c.args.logs.now has.place has.log c.in-None.ensures has.there has.own,
+)
 
 pub loop-processor-preserved : goal.loop-processor-preserved
 loop-processor-preserved c =

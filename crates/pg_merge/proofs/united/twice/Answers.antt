@@ -6,10 +6,14 @@ use Rattle.pg_merge.proofs.united.twice.Goals as goal
 
 pub returns-in-Some : goal.returns-in-Some
 returns-in-Some c =
-    let one = c.in-Some.ensures.1 in
-    (c.in-Some.ensures.0, one.log, c.index-logs-second.result, one.there,
+    let one = c.in-Some.ensures.1 in (
+      c.in-Some.ensures.0,
+      one.log,
+      c.index-logs-second.result,
+      one.there,
       found c.args.logs.now c.loop-second.second c.index-logs-second.result c.loop-second-test.true c.index-logs-second.is,
-      one.own ∙ ap (λ (h : LogHeader). h.own) c.header.ensures.header)
+      one.own ∙ ap (λ (h : LogHeader). h.own) c.header.ensures.header,
+    )
 
 pub loop-second-preserved : goal.loop-second-preserved
 loop-second-preserved c =

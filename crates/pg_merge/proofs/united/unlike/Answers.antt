@@ -6,9 +6,11 @@ use Rattle.pg_merge.proofs.Places.{found, one_more}
 use Rattle.pg_merge.proofs.united.unlike.Goals as goal
 
 pub returns-in-Some : goal.returns-in-Some
-returns-in-Some c =
-    (c.index-logs-i.result, found c.args.logs.now c.loop-i.i c.index-logs-i.result c.loop-i-test.true c.index-logs-i.is,
-      subst (λ (h : LogHeader). AgreesOn c.in-Some.setting c.args.header.now h → ⊥) c.header.ensures.header c.in-Some.ensures)
+returns-in-Some c = (
+  c.index-logs-i.result,
+  found c.args.logs.now c.loop-i.i c.index-logs-i.result c.loop-i-test.true c.index-logs-i.is,
+  subst (λ (h : LogHeader). AgreesOn c.in-Some.setting c.args.header.now h → ⊥) c.header.ensures.header c.in-Some.ensures,
+)
 
 pub loop-i-preserved : goal.loop-i-preserved
 loop-i-preserved c =
