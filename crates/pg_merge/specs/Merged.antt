@@ -1,5 +1,6 @@
 -- The run with spans that logs of single processors make.
-use Rattle.std.specs.Prelude.{◌≡◌, ℕ, ◌+◌, ◌-◌, ◌<◌, ◌≤◌, ◌⊎◌, Bool, ◌==◌, nat_lt, List, length, map}
+use Rattle.std.specs.Prelude.{◌≡◌, ℕ, ◌+◌, ◌-◌, ◌<◌, ◌≤◌, ◌⊎◌, Bool, ◌==◌, nat_lt}
+use Rattle.std.specs.Prelude.{List, length, map}
 use Rattle.std.specs.Prelude.{Some, slice_get, slice_index, count_by}
 use Rattle.std.specs.List.{All, AllAdjacentBelow, filter}
 use Rattle.pg_event.specs.Form.{processor_of}

@@ -5,7 +5,8 @@ use Rattle.pg_event.specs.Heads.{Head, most_segment}
 use Rattle.pg_merge.specs.declared.log.LogHeader.{LogHeader}
 use Rattle.pg_merge.specs.declared.log.Stamped.{Stamped}
 use Rattle.pg_merge.specs.declared.error.Setting.{Setting}
-use Rattle.pg_merge.specs.declared.error.Setting.TheVariants.{Version, Maxphyaddr, Flags, Processors}
+use Rattle.pg_merge.specs.declared.error.Setting.TheVariants.{Version, Maxphyaddr, Flags}
+use Rattle.pg_merge.specs.declared.error.Setting.TheVariants.{Processors}
 use Rattle.pg_merge.specs.declared.error.MergeError.{MergeError}
 use Rattle.pg_merge.specs.declared.error.MergeError.TheVariants.{NoLogs, Differs, Twice, Missing}
 use Rattle.pg_merge.specs.declared.error.MergeError.TheVariants.{TooMany, Memory}

@@ -4,7 +4,8 @@ ghost use Rattle.std.specs.Prelude.{◌≡◌, ◌≤◌, None, IfOk};
 ghost use Rattle.pg_event.specs.Form.{broken_rule};
 ghost use Rattle.pg_event.specs.Reading.{write_at, mov_cr3_at, invlpg_at, invpcid_at};
 ghost use Rattle.pg_event.specs.Reading.{mov_cr4_pge_at, last_tag};
-ghost use Rattle.pg_merge.specs.Bare.{bare_access_at, bare_assist_at, bare_fields_at, bare_event_at};
+ghost use Rattle.pg_merge.specs.Bare.{bare_access_at, bare_assist_at, bare_fields_at};
+ghost use Rattle.pg_merge.specs.Bare.{bare_event_at};
 ghost use Rattle.pg_merge.specs.Answers.{Gives};
 
 use crate::fields::{byte_of, outcome_of, processor_number, u16_of, u64_of};

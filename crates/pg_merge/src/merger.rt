@@ -57,8 +57,8 @@ fn spanned(
     Ok(run)
 }
 
-/// The run with spans of which these are the logs, in any order: all their events as they ended, and
-/// for each how many of those before it had not ended when it began. Each span is longer than its
+/// The run with spans of which these are the logs, in any order: all their events as they ended,
+/// and for each how many of those before it had not ended when it began. Each span is longer than its
 /// stamps say by `error` ticks on both sides, as where stamps come from clocks that differ so much.
 /// Where end stamps are the same, the event of the processor with the least number comes first.
 ///
