@@ -5,3 +5,5 @@ mod Prefixes
 mod Covering
 mod Entering
 mod Refuting
+mod Taken
+mod Listing

@@ -1,8 +1,8 @@
 //! Events that no order of a run with spans can witness.
 #![tactic(auto)]
 
+mod held;
+mod precede;
 mod slot;
 mod table;
-
-pub use slot::Slot;
-pub use table::Table;
+mod words;
