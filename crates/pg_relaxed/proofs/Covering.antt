@@ -146,7 +146,7 @@ module _ (s : Spanned) (slot : Slot) (la : ℕ) (k : Known) (filled : IsFilled s
 
   module _ (holds : (a : ℕ) → MayHold s slot a (st.memory a)) where
     taken : (level : Level) (b : ℕ) (from : Parent) → Agree level b la → MayRead st slot.p b level from →
-        IsTaken s.head la k (record { level = level; pcid = (st.control slot.p).pcid; from = from }) (entry_now st b level from)
+        IsTaken s.head.cfg la k (record { level = level; pcid = (st.control slot.p).pcid; from = from }) (entry_now st b level from)
     taken level b from agree may =
         let t : Table = record { level = level; pcid = (st.control slot.p).pcid; from = from } in
         let value : st.memory (word_in la t) ≡ entry_now st b level from = ap st.memory (sym (same_address from.table level b la agree)) in

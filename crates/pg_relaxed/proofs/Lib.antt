@@ -7,3 +7,6 @@ mod Entering
 mod Refuting
 mod Taken
 mod Listing
+mod Passing
+mod Versions
+mod Handing

@@ -112,3 +112,12 @@ held_value s slot a writes values are each zero_in v (inr h) =
       | inl written ↦ absurd (h.1 written.by.number (written.by.value, are.only written.by written.there) written.past)
       | inr there ↦ subst (λ n. IsIn n values) (sym h.0) there
     ]
+
+-- what is known of a write once it was looked at
+abbrev pub IsSeen : Spanned → Slot → List Written → List ℕ → Written → Type 0
+IsSeen s slot writes values w = IsToCome s slot w.number ⊎ (IsOverwritten s slot writes w.number ⊎ IsIn w.value values)
+
+pub seen_still : (s : Spanned) (slot : Slot) (writes : List Written) (values more : List ℕ) (w : Written) → IsSeen s slot writes values w → IsSeen s slot writes (values ++ more) w
+seen_still s slot writes values more w (inl a) = inl a
+seen_still s slot writes values more w (inr (inl b)) = inr (inl b)
+seen_still s slot writes values more w (inr (inr h)) = inr (inr (in_left w.value values more h))

@@ -64,3 +64,16 @@ one_more_get P xs i d lt before here y h =
       | inl a ↦ before y a
       | inr b ↦ elim b [ inl e ↦ subst P e here | inr none ↦ absurd none ]
     ]
+
+pub all_more : {X : Type 0} (P : X → Type 0) (xs : List X) (x : X) → AllByRecursion P xs → P x → AllByRecursion P (xs ++ x ∷ [])
+all_more P [] x all h = (h, tt)
+all_more P (y ∷ ys) x all h = (all.0, all_more P ys x all.1 h)
+
+pub got_last : {X : Type 0} (xs : List X) (x : X) → slice_get (xs ++ x ∷ []) (length xs) ≡ Some x
+got_last [] x = refl
+got_last (y ∷ ys) x = got_last ys x
+
+pub none_at : {X : Type 0} (xs : List X) (i : ℕ) → length xs ≤ i → slice_get xs i ≡ None
+none_at [] i le = refl
+none_at (y ∷ ys) zero le = absurd (omega (arith, le))
+none_at (y ∷ ys) (suc i) le = none_at ys i (omega (arith, le))

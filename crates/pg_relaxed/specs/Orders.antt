@@ -2,7 +2,8 @@
 -- vol. 3, 4.10).
 use Rattle.std.specs.Prelude.{◌≡◌, ℕ, List, Option, Some, None, slice_get}
 use Rattle.pg_event.specs.declared.event.Event.{Event}
-use Rattle.pg_event.specs.declared.event.Event.TheVariants.{Assist}
+use Rattle.pg_event.specs.declared.event.Outcome.{Outcome}
+use Rattle.pg_event.specs.declared.event.Event.TheVariants.{Access, Assist}
 use Rattle.pg_machine.specs.declared.step.Step.{Step}
 use Rattle.pg_machine.specs.Machine.{IsRun, visible}
 use Rattle.pg_run_of.specs.Converse.{AreSameButMoments}
@@ -20,3 +21,8 @@ abbrev pub HasNoAssist : List Event → Type 0
 HasNoAssist events =
     (j p flags la word : ℕ) (moments : List ℕ) →
     slice_get events j ≡ Some (Assist p flags la word moments) → ⊥
+
+-- event i is this access, whatever its moments
+abbrev pub IsAccess : List Event → ℕ → ℕ → ℕ → ℕ → Outcome → Type 0
+IsAccess events i p flags la outcome =
+    (moments : List ℕ) × (slice_get events i ≡ Some (Access p flags la outcome moments))

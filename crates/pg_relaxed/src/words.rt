@@ -139,6 +139,18 @@ fn put_values(
     Ok(())
 }
 
+/// The place of a word, if it is there.
+fn find_place(words: &[Word], address: u64) -> Option<usize>
+    ensures { IfSome result (λ place. IsPlaceOf words.now place address) }
+{
+    for (place, word) in words.iter().enumerate() {
+        if word.address == address {
+            return Some(place);
+        }
+    }
+    None
+}
+
 impl Words {
     pub(crate) fn new(alloc: Global) -> Words
         ensures { result.words.items ≡ [] }
@@ -162,10 +174,8 @@ impl Words {
         ensures { IfOk result (λ place. AreWordsOf events.now self.new.words.items
             × IsPlaceOf self.new.words.items place address) }
     {
-        for (place, word) in self.words.iter().enumerate() {
-            if word.address == address {
-                return Ok(place);
-            }
+        if let Some(place) = find_place(&self.words, address) {
+            return Ok(place);
         }
         let place = self.words.len();
         let writes = writes_to(alloc, events, address)?;
