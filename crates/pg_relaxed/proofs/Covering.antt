@@ -1,12 +1,10 @@
 -- What a processor has in a run, whatever the order, is known in the slot.
-use Rattle.std.proofs.Common.{◌≡◌, ◌⊎◌, ℕ, zero, suc, ◌==◌, ◌<◌, ◌&&◌, Bool, true, false, cond, not, List, [], ◌∷◌, filter, refl, ap, sym, ◌∙◌, subst, arith, inl, inr, Option, Some, None}
-use Rattle.std.specs.Prelude.{slice_get}
-use Rattle.std.proofs.lemmas.Bool.{cases_Bool, cases_eq, eq-eqb, ne_eqb, eqb-true, not-true, and_parts}
+use Rattle.std.proofs.Common.{◌≡◌, ◌⊎◌, ℕ, suc, ◌==◌, ◌<◌, ◌&&◌, Bool, true, cond, not, List, [], ◌∷◌, filter, refl, ap, sym, ◌∙◌, subst, arith, inl, inr, Option, Some}
+use Rattle.std.proofs.lemmas.Bool.{cases_Bool, cases_eq, ne_eqb, eqb-true}
 use Rattle.pg_entry.specs.declared.Kind.{Kind}
-use Rattle.pg_entry.specs.declared.Kind.TheVariants as kinds
 use Rattle.pg_entry.specs.declared.Level.{Level}
 use Rattle.pg_entry.specs.declared.Level.TheVariants.{Four, Three, Two, One}
-use Rattle.pg_entry.specs.Kinds.{dirty, kind_of, table_of}
+use Rattle.pg_entry.specs.Kinds.{dirty, kind_of}
 use Rattle.pg_entry.specs.Permission.{joined}
 use Rattle.pg_event.specs.declared.control.Control.{Control}
 use Rattle.pg_event.specs.declared.event.Event.{Event}
@@ -14,9 +12,9 @@ use Rattle.pg_event.specs.declared.event.Event.TheVariants.{Write, Access, Assis
 use Rattle.pg_event.specs.declared.walk.Parent.{Parent}
 use Rattle.pg_event.specs.Form.{processor_of}
 use Rattle.pg_event.specs.Heads.{Head}
-use Rattle.pg_event.specs.Invalidation.{structure_key, translation_key, bits_from, level_shift, must_drop_structure, must_drop_translation, translation_matches}
-use Rattle.pg_event.specs.Values.{controlled, started, loaded}
-use Rattle.pg_event.specs.Walk.{below, entry_address, root_of}
+use Rattle.pg_event.specs.Invalidation.{structure_key, bits_from, level_shift, translation_matches}
+use Rattle.pg_event.specs.Values.{controlled, loaded}
+use Rattle.pg_event.specs.Walk.{root_of}
 use Rattle.pg_event.specs.Wants.{is_table}
 use Rattle.pg_machine.specs.declared.step.Member.{Member}
 use Rattle.pg_machine.specs.declared.step.Member.TheVariants as members
@@ -25,16 +23,16 @@ use Rattle.pg_machine.specs.declared.step.Step.TheVariants.{Fill4, Fill3, Fill2,
 use Rattle.pg_machine.specs.declared.step.Structure.{Structure}
 use Rattle.pg_machine.specs.declared.step.Translation.{Translation}
 use Rattle.pg_machine.specs.Machine.{State, IsIn, MayRead, FindsTable, FindsLeaf, entry_now, structure_at, translation_at, with_table, with_leaf, without, same_structure, same_translation, changed_at, after_event}
-use Rattle.pg_spanned.specs.Orders.{Spanned, MustPrecede, IsOrder}
+use Rattle.pg_spanned.specs.Orders.{Spanned, IsOrder}
 use Rattle.pg_relaxed.specs.declared.slot.Slot.{Slot}
 use Rattle.pg_relaxed.specs.declared.table.Table.{Table}
-use Rattle.pg_relaxed.specs.Caches.{Known, table_by, table_below, word_in, IsTaken, IsFilled, Grows, IsLeft}
+use Rattle.pg_relaxed.specs.Caches.{Known, table_by, table_below, word_in, IsTaken, IsFilled, Grows}
 use Rattle.pg_relaxed.specs.Memory.{IsOwn, MayHold}
 use Rattle.pg_relaxed.specs.Orders.{HasNoAssist}
-use Rattle.pg_relaxed.proofs.History.{state_after, count, IsAt, Came, Before, IsFront, before_more, before_less, front, not_before, own_at, processor_at, once}
-use Rattle.pg_relaxed.proofs.Holding.{Holds, memory_holds, may_hold}
+use Rattle.pg_relaxed.proofs.History.{state_after, count, IsAt, Came, Before, IsFront, before_more, before_less, processor_at}
+use Rattle.pg_relaxed.proofs.Holding.{memory_holds, may_hold}
 use Rattle.pg_relaxed.proofs.Prefixes.{Agree, agree_above, same_address, shift_is}
-use Rattle.pg_relaxed.proofs.Same.{controlled_same, processor_same, structure_same, translation_same}
+use Rattle.pg_relaxed.proofs.Same.{processor_same}
 
 -- the structure entry that a level gives for an address
 abbrev pub entry_of : ℕ → Level → ℕ → Parent → Structure
@@ -161,15 +159,15 @@ module _ (s : Spanned) (slot : Slot) (la : ℕ) (k : Known) (filled : IsFilled s
           let to : Parent = table_by s.head.cfg.m from entry in
           elim (in_pushed q slot.p (entry_of pcid up la f) (structure_at st q b level to) st.structures h) [
             | inl e ↦
-              let parts = parts_of up level pcid (st.control q).pcid la b f to e.1 in
-              let agree : Agree level b la = subst (λ l. Agree l b la) (sym parts.depth) parts.agree in
-              let may : MayRead st slot.p b level from = subst (λ r. MayRead st r b level from) (sym e.0) found.1.1 in
-              let is : is_table (kind_of s.head.cfg level entry) ≡ true = ap is_table found.1.3 in
-              let got : IsIn (table_below level (st.control slot.p).pcid to) k.tables = (taken level b from agree may).table is in
-              let own : (st.control slot.p).pcid ≡ pcid = ap (λ r. (st.control r).pcid) e.0 ∙ parts.context in
-              subst (λ l. IsIn (table_below l pcid f) k.tables) parts.depth
-              (subst (λ g. IsIn (table_below level pcid g) k.tables) parts.table
-              (subst (λ n. IsIn (table_below level n to) k.tables) own got))
+                let parts = parts_of up level pcid (st.control q).pcid la b f to e.1 in
+                let agree : Agree level b la = subst (λ l. Agree l b la) (sym parts.depth) parts.agree in
+                let may : MayRead st slot.p b level from = subst (λ r. MayRead st r b level from) (sym e.0) found.1.1 in
+                let is : is_table (kind_of s.head.cfg level entry) ≡ true = ap is_table found.1.3 in
+                let got : IsIn (table_below level (st.control slot.p).pcid to) k.tables = (taken level b from agree may).table is in
+                let own : (st.control slot.p).pcid ≡ pcid = ap (λ r. (st.control r).pcid) e.0 ∙ parts.context in
+                subst (λ l. IsIn (table_below l pcid f) k.tables) parts.depth
+                (subst (λ g. IsIn (table_below level pcid g) k.tables) parts.table
+                (subst (λ n. IsIn (table_below level n to) k.tables) own got))
             | inr i ↦ known.tables up pcid f high i
           ];
       translations = known.translations;
@@ -191,17 +189,17 @@ module _ (s : Spanned) (slot : Slot) (la : ℕ) (k : Known) (filled : IsFilled s
           tables = known.tables;
           translations = λ x h matches. elim (in_pushed q slot.p x _ st.translations h) [
             | inl e ↦
-              let number : bits_from shift b ≡ bits_from shift la = ap (λ (y : Translation). y.key.number) e.1 ∙ (eqb-true x.key.number (bits_from x.key.shift la) matches
-                  ∙ ap (λ (y : Translation). bits_from y.key.shift la) (sym e.1)) in
-              let agree : Agree level b la = subst (λ n. bits_from n b ≡ bits_from n la) size number in
-              let may : MayRead st slot.p b level from = subst (λ r. MayRead st r b level from) (sym e.0) finds.1 in
-              let here : k.control ≡ st.control q = sym known.control ∙ ap st.control e.0 in
-              let gives : translation_at k.control la (joined from.rights entry) entry (kind_of s.head.cfg level entry) ≡ Some x =
-                  ap (λ (c : Control). translation_at c la (joined from.rights entry) entry (kind_of s.head.cfg level entry)) here
-                  ∙ (ap (give la) finds.3
-                  ∙ (ap (λ n. let y : Translation = record { key = record { pcid = (st.control q).pcid; shift = shift; number = n; global = g && (st.control q).pge }; frame = frame; rights = joined from.rights entry; dirty = dirty entry } in Some y) (sym number)
-                  ∙ ap Some e.1)) in
-              (taken level b from agree may).leaf x gives
+                let number : bits_from shift b ≡ bits_from shift la = ap (λ (y : Translation). y.key.number) e.1 ∙ (eqb-true x.key.number (bits_from x.key.shift la) matches
+                ∙ ap (λ (y : Translation). bits_from y.key.shift la) (sym e.1)) in
+                let agree : Agree level b la = subst (λ n. bits_from n b ≡ bits_from n la) size number in
+                let may : MayRead st slot.p b level from = subst (λ r. MayRead st r b level from) (sym e.0) finds.1 in
+                let here : k.control ≡ st.control q = sym known.control ∙ ap st.control e.0 in
+                let gives : translation_at k.control la (joined from.rights entry) entry (kind_of s.head.cfg level entry) ≡ Some x =
+                ap (λ (c : Control). translation_at c la (joined from.rights entry) entry (kind_of s.head.cfg level entry)) here
+                ∙ (ap (give la) finds.3
+                ∙ (ap (λ n. let y : Translation = record { key = record { pcid = (st.control q).pcid; shift = shift; number = n; global = g && (st.control q).pge }; frame = frame; rights = joined from.rights entry; dirty = dirty entry } in Some y) (sym number)
+                ∙ ap Some e.1)) in
+                (taken level b from agree may).leaf x gives
             | inr i ↦ known.translations x i matches
           ];
         })
@@ -282,9 +280,9 @@ fill_covers s slot la k l none own enters grows filled order past is came here =
     go (Do e ∷ past) came here = elim (cases_eq (processor_of e) slot.p) [
       | inl mine ↦ entered (Do e ∷ past) came here mine
       | inr other ↦
-        let t = go past came.0 (other_front s slot.p order (count past) slot.next e came.1 other here) in
-        record {
-          known = other_known s.head (state_after s.head past) slot.p la l e other t.known;
-          come = λ j lt. before_more order (count past) j (t.come j lt);
-        }
+          let t = go past came.0 (other_front s slot.p order (count past) slot.next e came.1 other here) in
+          record {
+            known = other_known s.head (state_after s.head past) slot.p la l e other t.known;
+            come = λ j lt. before_more order (count past) j (t.come j lt);
+          }
     ]

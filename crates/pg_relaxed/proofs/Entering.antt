@@ -1,19 +1,15 @@
 -- What is known is handed on from slot to slot.
-use Rattle.std.proofs.Common.{◌≡◌, ◌⊎◌, ℕ, zero, suc, ◌==◌, ◌<◌, ◌&&◌, Bool, true, false, not, List, [], ◌∷◌, length, refl, ap, sym, ◌∙◌, subst, arith, inl, inr, Option, Some, None}
+use Rattle.std.proofs.Common.{◌≡◌, ◌⊎◌, ℕ, suc, ◌==◌, ◌<◌, ◌&&◌, Bool, true, false, not, List, [], ◌∷◌, length, refl, ap, sym, ◌∙◌, subst, arith, inl, inr, Some}
 use Rattle.std.specs.Prelude.{slice_get}
 use Rattle.std.proofs.lemmas.Bool.{cases_eq, eq-eqb, not-true}
 use Rattle.std.proofs.lemmas.Option.{slice_get_within}
-use Rattle.pg_entry.specs.declared.Level.{Level}
-use Rattle.pg_entry.specs.declared.Level.TheVariants.{One}
 use Rattle.pg_event.specs.declared.control.Control.{Control}
 use Rattle.pg_event.specs.declared.event.Event.{Event}
 use Rattle.pg_event.specs.declared.keys.StructureKey.{StructureKey}
-use Rattle.pg_event.specs.declared.walk.Parent.{Parent}
 use Rattle.pg_event.specs.Form.{processor_of}
 use Rattle.pg_event.specs.Heads.{Head}
 use Rattle.pg_event.specs.Invalidation.{structure_key, must_drop_structure, must_drop_translation}
 use Rattle.pg_event.specs.Values.{controlled, started}
-use Rattle.pg_machine.specs.declared.step.Step.{Step}
 use Rattle.pg_machine.specs.declared.step.Step.TheVariants.{Fill4, Fill3, Fill2, FillLeaf, Drop, Do}
 use Rattle.pg_machine.specs.declared.step.Structure.{Structure}
 use Rattle.pg_machine.specs.declared.step.Translation.{Translation}
@@ -21,8 +17,8 @@ use Rattle.pg_machine.specs.Machine.{State, after_event}
 use Rattle.pg_spanned.specs.Orders.{Spanned, MustPrecede, IsOrder}
 use Rattle.pg_relaxed.specs.Caches.{Known, IsLeft}
 use Rattle.pg_relaxed.specs.Memory.{IsOwn}
-use Rattle.pg_relaxed.proofs.History.{state_after, count, IsAt, Came, Before, IsFront, before_more, before_less, front, front_next, not_before, own_at, processor_at}
-use Rattle.pg_relaxed.proofs.Covering.{entry_of, IsKnown, HasEntered, HaveCome, IsThere, Covers, Enters, in_filtered}
+use Rattle.pg_relaxed.proofs.History.{state_after, count, IsAt, Before, IsFront, before_more, before_less, front, front_next, not_before, own_at}
+use Rattle.pg_relaxed.proofs.Covering.{entry_of, IsKnown, IsThere, Covers, Enters, in_filtered}
 use Rattle.pg_relaxed.proofs.Same.{controlled_same, processor_same, structure_same, translation_same}
 
 -- of the first so many events each had come, or must come before event i
@@ -73,10 +69,10 @@ module _ (s : Spanned) (p la c ended later : ℕ) (x : Event) (k l : Known) (the
       elim (cases_eq n c) [
         | inl e ↦ e
         | inr ne ↦
-          let low : n < suc c = here.below n own (w, omega arith, place) in
-          let lt : n < c = omega (arith, low, ne) in
-          let c_came : Before order w c = before_less order w n c place (λ e. ne (sym e)) (here.come c own_c (omega arith)) in
-          absurd (not_before s order is w n place (front s order is w n c c_came (own_precedes s p n c lt (slice_get_within s.events c x there) own own_c)))
+            let low : n < suc c = here.below n own (w, omega arith, place) in
+            let lt : n < c = omega (arith, low, ne) in
+            let c_came : Before order w c = before_less order w n c place (λ e. ne (sym e)) (here.come c own_c (omega arith)) in
+            absurd (not_before s order is w n place (front s order is w n c c_came (own_precedes s p n c lt (slice_get_within s.events c x there) own own_c)))
       ]
 
   front_c : (order : List ℕ) (w : ℕ) → IsOrder s order → slice_get order w ≡ Some c → IsFront s p order (suc w) (suc c) → IsFront s p order w c

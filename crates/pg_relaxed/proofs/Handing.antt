@@ -1,19 +1,16 @@
 -- What is known is handed on over an event, and tells at last that an event cannot come.
-use Rattle.std.proofs.Common.{◌≡◌, ◌⊎◌, ℕ, zero, suc, ◌+◌, ◌<◌, ◌≤◌, max, List, [], ◌∷◌, length, get_or, refl, ap, sym, ◌∙◌, subst, arith, inl, inr, Some, None}
+use Rattle.std.proofs.Common.{◌≡◌, ℕ, suc, ◌+◌, ◌<◌, max, length, refl, ap, ◌∙◌, subst, arith, inl, inr, Some}
 use Rattle.std.specs.Prelude.{slice_get}
 use Rattle.std.proofs.lemmas.Bool.{cases_lt}
-use Rattle.std.proofs.lemmas.Option.{slice_get-get_or}
-use Rattle.pg_event.specs.declared.control.Control.{Control}
 use Rattle.pg_event.specs.declared.event.Event.{Event}
 use Rattle.pg_event.specs.declared.event.Event.TheVariants.{Access}
 use Rattle.pg_event.specs.declared.event.Outcome.{Outcome}
 use Rattle.pg_event.specs.Form.{access_kind, processor_of}
 use Rattle.pg_event.specs.Values.{controlled}
 use Rattle.pg_event.specs.Wants.{want_of}
-use Rattle.pg_spanned.specs.Orders.{Spanned, MustPrecede, ended_before}
+use Rattle.pg_spanned.specs.Orders.{Spanned, ended_before}
 use Rattle.pg_relaxed.specs.declared.slot.Slot.{Slot}
 use Rattle.pg_relaxed.specs.Caches.{Known, Grows, IsFilled, IsLeft, CannotCome}
-use Rattle.pg_relaxed.specs.Memory.{IsOwn}
 use Rattle.pg_relaxed.specs.Orders.{HasNoAssist, HasRunInSomeOrder, IsAccess}
 use Rattle.pg_relaxed.proofs.History.{own_at, processor_at}
 use Rattle.pg_relaxed.proofs.Covering.{Covers, Enters, fill_covers}

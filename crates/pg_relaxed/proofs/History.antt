@@ -1,5 +1,5 @@
 -- Runs of the machine from their latest step back, and how far they have come in an order.
-use Rattle.std.proofs.Common.{◌≡◌, ℕ, zero, suc, ◌+◌, ◌<◌, List, [], ◌∷◌, length, refl, ap, sym, ◌∙◌, subst, arith, inl, inr, Option, Some, None}
+use Rattle.std.proofs.Common.{◌≡◌, ℕ, suc, ◌<◌, List, [], ◌∷◌, length, ap, sym, ◌∙◌, arith, Some}
 use Rattle.std.specs.Prelude.{slice_get}
 use Rattle.std.specs.Option.{option_map}
 use Rattle.pg_event.specs.declared.event.Event.{Event}
@@ -12,8 +12,7 @@ use Rattle.pg_run_of.specs.Converse.{without_moments}
 use Rattle.pg_spanned.specs.Orders.{Spanned, MustPrecede, StandsBefore, IsOrder}
 use Rattle.pg_spanned.proofs.Places.{stands_once, some_same}
 use Rattle.pg_spanned.proofs.Orders.{are_all}
-use Rattle.pg_relaxed.specs.Memory.{IsOwn, IsPast, IsToCome}
-use Rattle.pg_relaxed.specs.declared.slot.Slot.{Slot}
+use Rattle.pg_relaxed.specs.Memory.{IsOwn}
 
 -- the state after steps, the latest first
 abbrev pub state_after : Head → List Step → State

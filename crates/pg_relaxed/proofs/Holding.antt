@@ -1,5 +1,5 @@
 -- What memory holds in a run whose events have an order.
-use Rattle.std.proofs.Common.{◌≡◌, ◌⊎◌, ℕ, zero, suc, ◌==◌, ◌<◌, Bool, true, false, cond, List, [], ◌∷◌, length, refl, ap, sym, ◌∙◌, subst, arith, inl, inr, Option, Some, None}
+use Rattle.std.proofs.Common.{◌≡◌, ◌⊎◌, ℕ, suc, ◌==◌, ◌<◌, true, false, cond, List, [], ◌∷◌, refl, ap, sym, ◌∙◌, subst, arith, inl, inr, Option, Some, None}
 use Rattle.std.specs.Prelude.{slice_get}
 use Rattle.std.proofs.lemmas.Bool.{cases_Bool, cases_eq, eq-eqb, eqb-true}
 use Rattle.pg_event.specs.declared.event.Event.{Event}
@@ -13,7 +13,7 @@ use Rattle.pg_machine.specs.declared.step.Translation.{Translation}
 use Rattle.pg_machine.specs.Machine.{State, with_leaf, without}
 use Rattle.pg_spanned.specs.Orders.{Spanned, MustPrecede, IsOrder}
 use Rattle.pg_relaxed.specs.declared.slot.Slot.{Slot}
-use Rattle.pg_relaxed.specs.Memory.{Writes, WritesTo, IsOwn, IsPast, IsToCome, MayBeLast, MayHold}
+use Rattle.pg_relaxed.specs.Memory.{Writes, WritesTo, IsOwn, IsPast, MayHold}
 use Rattle.pg_relaxed.specs.Orders.{HasNoAssist}
 use Rattle.pg_relaxed.proofs.History.{state_after, count, IsAt, Came, Before, IsFront, before_more, before_less, front, not_before}
 use Rattle.pg_relaxed.proofs.Same.{written_same}
@@ -32,11 +32,14 @@ some_event x y h = cc
 
 -- an event that does not write to the word
 other_event : (s : Spanned) (order : List ℕ) (w a v i : ℕ) → slice_get order w ≡ Some i → (WritesTo s.events a i → ⊥) → Holds s order w a v → Holds s order (suc w) a v
-other_event s order w a v i here none (inl h) = inl (h.0, record {
-  writes = h.1.writes;
-  came = before_more order w h.0 h.1.came;
-  last = λ x to before must. h.1.last x to (before_less order w i x here (λ e. none (subst (WritesTo s.events a) e to)) before) must;
-})
+other_event s order w a v i here none (inl h) = inl (
+  h.0,
+  record {
+    writes = h.1.writes;
+    came = before_more order w h.0 h.1.came;
+    last = λ x to before must. h.1.last x to (before_less order w i x here (λ e. none (subst (WritesTo s.events a) e to)) before) must;
+  },
+)
 other_event s order w a v i here none (inr h) = inr (h.0, λ x to before. h.1 x to (before_less order w i x here (λ e. none (subst (WritesTo s.events a) e to)) before))
 
 not_itself : (s : Spanned) (order : List ℕ) → IsOrder s order → (i : ℕ) → MustPrecede s i i → ⊥
@@ -46,14 +49,17 @@ not_itself s order is i must =
 
 -- an event that writes to it
 own_event : (s : Spanned) (order : List ℕ) → IsOrder s order → (w a v i : ℕ) → slice_get order w ≡ Some i → Writes s.events a v i → Holds s order (suc w) a v
-own_event s order is w a v i here writes = inl (i, record {
-  writes = writes;
-  came = (w, omega arith, here);
-  last = λ x to before must. elim (cases_eq x i) [
-    | inl e ↦ not_itself s order is i (subst (MustPrecede s i) e must)
-    | inr ne ↦ not_before s order is w i here (front s order is w i x (before_less order w i x here ne before) must)
-  ];
-})
+own_event s order is w a v i here writes = inl (
+  i,
+  record {
+    writes = writes;
+    came = (w, omega arith, here);
+    last = λ x to before must. elim (cases_eq x i) [
+      | inl e ↦ not_itself s order is i (subst (MustPrecede s i) e must)
+      | inr ne ↦ not_before s order is w i here (front s order is w i x (before_less order w i x here ne before) must)
+    ];
+  },
+)
 
 no_write : (s : Spanned) (a i : ℕ) (x : Event) → slice_get s.events i ≡ Some x → ((q v : ℕ) → x ≡ Write q a v → ⊥) → WritesTo s.events a i → ⊥
 no_write s a i x there none to = none to.1.0 to.0 (some_event x (Write to.1.0 a to.0) (sym there ∙ to.1.1))
@@ -64,7 +70,7 @@ after_write s order is none w a v i (Write q addr new) here there h =
     elim (cases_Bool (addr == a)) [
       | inl t ↦ subst (Holds s order (suc w) a) (sym (ap (λ b. cond b new v) t)) (own_event s order is w a new i here (q, there ∙ ap (λ n. Some (Write q n new)) (eqb-true addr a t)))
       | inr f ↦ subst (Holds s order (suc w) a) (sym (ap (λ b. cond b new v) f)) (other_event s order w a v i here
-        (no_write s a i (Write q addr new) there (λ r u e. let same : addr ≡ a = cc in let no : true ≡ false = sym (eq-eqb addr a same) ∙ f in absurd (cc))) h)
+          (no_write s a i (Write q addr new) there (λ r u e. let same : addr ≡ a = cc in let no : true ≡ false = sym (eq-eqb addr a same) ∙ f in absurd (cc))) h)
     ]
 after_write s order is none w a v i (Access q flags la outcome ws) here there h = other_event s order w a v i here (no_write s a i _ there (λ r u e. absurd (cc))) h
 after_write s order is none w a v i (Assist q flags la word ws) here there h = absurd (none i q flags la word ws there)
@@ -104,13 +110,16 @@ may_hold s order is slot w a v own here ended h =
     let next_left : Before order w slot.next → ⊥ = λ b. let lt : slot.next < slot.next = here.below slot.next own b in omega (arith, lt) in
     let past_came : (i : ℕ) → IsPast s slot i → Before order w i = λ i past. elim past [ inl lt ↦ ended i lt | inr mine ↦ here.come i mine.1 mine.0 ] in
     elim h [
-      | inl m ↦ inl (m.0, record {
-        writes = m.1.writes;
-        came = λ to_come. elim to_come [
-          | inl e ↦ next_left (subst (Before order w) e m.1.came)
-          | inr must ↦ next_left (front s order is w slot.next m.0 m.1.came must)
-        ];
-        last = λ i to past must. m.1.last i to (past_came i past) must;
-      })
+      | inl m ↦ inl (
+        m.0,
+        record {
+          writes = m.1.writes;
+          came = λ to_come. elim to_come [
+            | inl e ↦ next_left (subst (Before order w) e m.1.came)
+            | inr must ↦ next_left (front s order is w slot.next m.0 m.1.came must)
+          ];
+          last = λ i to past must. m.1.last i to (past_came i past) must;
+        },
+      )
       | inr z ↦ inr (z.0, λ i to past. z.1 i to (past_came i past))
     ]

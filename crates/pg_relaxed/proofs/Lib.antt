@@ -8,5 +8,4 @@ mod Refuting
 mod Taken
 mod Listing
 mod Passing
-mod Versions
 mod Handing

@@ -1,18 +1,15 @@
 -- Lists of writes.
-use Rattle.std.proofs.Common.{◌≡◌, ◌⊎◌, ℕ, zero, suc, ◌+◌, ◌<◌, ◌≤◌, true, false, List, [], ◌∷◌, ◌++◌, length, get_or, take, refl, ap, sym, ◌∙◌, subst, arith, inl, inr, Option, Some, None}
+use Rattle.std.proofs.Common.{◌≡◌, ◌⊎◌, ℕ, zero, suc, ◌+◌, ◌<◌, List, [], ◌∷◌, ◌++◌, length, get_or, take, refl, ap, sym, ◌∙◌, subst, arith, inl, inr, Some}
 use Rattle.std.specs.Prelude.{slice_get}
-use Rattle.std.specs.List.{AllByRecursion}
 use Rattle.std.proofs.lemmas.List.{take_more, length-take}
-use Rattle.std.proofs.lemmas.Option.{slice_get_within, slice_get-get_or}
-use Rattle.std.proofs.lemmas.Bool.{cases_lt, cases_eq}
+use Rattle.std.proofs.lemmas.Option.{slice_get_within}
 use Rattle.pg_event.specs.declared.event.Event.{Event}
 use Rattle.pg_event.specs.declared.event.Event.TheVariants.{Write}
 use Rattle.pg_machine.specs.Machine.{IsIn}
-use Rattle.pg_spanned.specs.Orders.{Spanned, MustPrecede}
+use Rattle.pg_spanned.specs.Orders.{Spanned}
 use Rattle.pg_relaxed.specs.declared.slot.Slot.{Slot}
 use Rattle.pg_relaxed.specs.declared.words.Written.{Written}
-use Rattle.pg_relaxed.specs.declared.words.Word.{Word}
-use Rattle.pg_relaxed.specs.Memory.{Writes, WritesTo, IsPast, IsToCome, MayBeLast, MayHold}
+use Rattle.pg_relaxed.specs.Memory.{Writes, IsToCome, MayBeLast, MayHold}
 use Rattle.pg_relaxed.specs.Words.{WritesValue, AreWritesTo, AreBelow, IsOverwritten, IsWritten}
 use Rattle.pg_relaxed.proofs.Taken.{in_left, in_right, in_either}
 
@@ -52,7 +49,7 @@ written_more events a writes e v are is = record {
   ];
   only = λ w h. elim (in_either w writes _ h) [
     | inl k ↦ let before : Writes events a w.value w.number = are.only w k in
-      (before.0, got_front events e w.number (slice_get_within events w.number (Write before.0 a w.value) before.1) ∙ before.1)
+        (before.0, got_front events e w.number (slice_get_within events w.number (Write before.0 a w.value) before.1) ∙ before.1)
     | inr k ↦ elim k [
       | inl same ↦ subst (λ (x : Written). Writes (events ++ e ∷ []) a x.value x.number) same (is.0, got_last events e ∙ ap Some is.1)
       | inr none ↦ absurd none
@@ -62,6 +59,7 @@ written_more events a writes e v are is = record {
   where
     value_is : (u q : ℕ) → Write is.0 a v ≡ Write q a u → v ≡ u
     value_is u q h = cc
+
     this : (u j : ℕ) → v ≡ u → j ≡ length events → (let w : Written = record { number = length events; value = v } in w) ≡ record { number = j; value = u }
     this u j same at = ap (λ n. let w : Written = record { number = length events; value = n } in w) same ∙ ap (λ n. let w : Written = record { number = n; value = u } in w) (sym at)
 

@@ -1,5 +1,5 @@
 -- What is known grows in a slot, and is left by an event.
-use Rattle.std.proofs.Common.{◌≡◌, ◌⊎◌, ℕ, ◌+◌, ◌<◌, ◌≤◌, Bool, true, false, not, List, [], ◌∷◌, ◌++◌, filter, take, get_or, length, refl, ap, sym, ◌∙◌, subst, arith, inl, inr, Some, None}
+use Rattle.std.proofs.Common.{◌≡◌, ℕ, ◌+◌, ◌<◌, ◌≤◌, Bool, true, false, not, List, [], ◌∷◌, ◌++◌, filter, take, get_or, length, refl, ap, sym, ◌∙◌, subst, arith, inl, inr}
 use Rattle.std.proofs.lemmas.List.{append-nil, append_assoc, take-append-le, length-append}
 use Rattle.std.proofs.lemmas.Bool.{cases_Bool}
 use Rattle.pg_entry.specs.declared.Cfg.{Cfg}

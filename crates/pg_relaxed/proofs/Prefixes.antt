@@ -1,5 +1,5 @@
 -- Addresses that agree down to a level.
-use Rattle.std.proofs.Common.{◌≡◌, ◌≢◌, ℕ, ◌+◌, ◌*◌, ◌/◌, ◌%◌, ◌^◌, Bool, cond, not, true, false, Option, Some, None, ap, sym, ◌∙◌}
+use Rattle.std.proofs.Common.{◌≡◌, ℕ, ◌+◌, ◌*◌, ◌/◌, ◌%◌, ◌^◌, Bool, cond, not, true, false, Some, None, ap, sym, ◌∙◌}
 use Rattle.std.proofs.lemmas.Nat.{field_of, shr-shr}
 use Rattle.std.proofs.Math.Pow.{mod-mod-pow}
 use Rattle.pg_entry.specs.declared.Cfg.{Cfg}

@@ -1,41 +1,38 @@
 -- An event that nothing known gives has no run in any order.
-use Rattle.std.proofs.Common.{◌≡◌, ◌⊎◌, ℕ, zero, suc, ◌+◌, ◌<◌, ◌≤◌, ◌&&◌, Bool, true, false, List, [], ◌∷◌, ◌++◌, length, map, refl, ap, sym, ◌∙◌, subst, arith, inl, inr, Option, Some, None, get_or}
+use Rattle.std.proofs.Common.{◌≡◌, ℕ, zero, suc, ◌+◌, ◌<◌, true, List, [], ◌∷◌, ◌++◌, length, refl, ap, sym, ◌∙◌, subst, arith, inl, inr, Option, Some, None}
 use Rattle.std.specs.Prelude.{slice_get}
-use Rattle.std.specs.List.{flat_map}
 use Rattle.std.specs.Option.{option_map, option_to_list}
 use Rattle.std.proofs.lemmas.Bool.{cases_eq, cases_lt, and_parts}
 use Rattle.std.proofs.lemmas.Option.{slice_get-map, slice_get_within, slice_get-get_or}
-use Rattle.pg_entry.specs.declared.AccessKind.{AccessKind}
 use Rattle.pg_entry.specs.declared.Cause.{Cause}
 use Rattle.pg_entry.specs.declared.Cause.TheVariants as causes
 use Rattle.pg_entry.specs.declared.Kind.{Kind}
 use Rattle.pg_entry.specs.declared.Kind.TheVariants as kinds
-use Rattle.pg_entry.specs.Kinds.{kind_of}
 use Rattle.pg_event.specs.declared.control.Control.{Control}
 use Rattle.pg_event.specs.declared.event.Event.{Event}
 use Rattle.pg_event.specs.declared.event.Event.TheVariants.{Write, Access, Assist, MovCr3, Invlpg, Invpcid, MovCr4Pge}
 use Rattle.pg_event.specs.declared.event.Outcome.{Outcome}
 use Rattle.pg_event.specs.declared.event.Want.{Want}
 use Rattle.pg_event.specs.declared.event.Want.TheVariants as wants
-use Rattle.pg_event.specs.Form.{processor_of, access_kind}
+use Rattle.pg_event.specs.Form.{access_kind}
 use Rattle.pg_event.specs.Heads.{Head}
 use Rattle.pg_event.specs.Invalidation.{translation_matches}
 use Rattle.pg_event.specs.Wants.{want_of}
 use Rattle.pg_machine.specs.declared.step.Step.{Step}
 use Rattle.pg_machine.specs.declared.step.Step.TheVariants.{Fill4, Fill3, Fill2, FillLeaf, Drop, Do}
-use Rattle.pg_machine.specs.Machine.{State, start, HasOutcome, MayCome, Faults, RunsFrom, IsRun, visible, is_usable, entry_now}
+use Rattle.pg_machine.specs.Machine.{State, HasOutcome, MayCome, Faults, RunsFrom, IsRun, visible, is_usable, entry_now}
 use Rattle.pg_run_of.specs.Converse.{without_moments, AreSameButMoments}
-use Rattle.pg_spanned.specs.Orders.{Spanned, MustPrecede, IsOrder, ordered}
+use Rattle.pg_spanned.specs.Orders.{Spanned, IsOrder, ordered}
 use Rattle.pg_spanned.proofs.Orders.{order_within}
 use Rattle.pg_spanned.proofs.Places.{some_same}
 use Rattle.pg_relaxed.specs.declared.slot.Slot.{Slot}
 use Rattle.pg_relaxed.specs.declared.table.Table.{Table}
 use Rattle.pg_relaxed.specs.Caches.{Known, word_in, IsFilled, HasNoFault, CannotCome}
 use Rattle.pg_relaxed.specs.Memory.{IsOwn, MayHold}
-use Rattle.pg_relaxed.specs.Orders.{HasNoAssist, HasRunInSomeOrder}
+use Rattle.pg_relaxed.specs.Orders.{HasNoAssist}
 use Rattle.pg_relaxed.proofs.History.{state_after, count, IsAt, Came, Before, IsFront, front, front_next, not_before, own_at}
 use Rattle.pg_relaxed.proofs.Holding.{memory_holds, may_hold}
-use Rattle.pg_relaxed.proofs.Covering.{IsKnown, HaveCome, IsThere, Covers, readable}
+use Rattle.pg_relaxed.proofs.Covering.{IsThere, Covers, readable}
 use Rattle.pg_relaxed.proofs.Entering.{HasEnded, own_precedes}
 
 -- what is given by a function was given something
@@ -99,9 +96,9 @@ module _ (s : Spanned) (slot : Slot) (la ended flags : ℕ) (outcome : Outcome) 
       | inr high ↦ absurd (not_before s order is w slot.next place (elim (cases_eq j slot.next) [
         | inl e ↦ subst (Before order w) e b
         | inr ne ↦
-          let lt : slot.next < j = omega (arith, high, ne) in
-          let j_in : j < length s.events = order_within s order is b.0 j b.2 in
-          front s order is w slot.next j b (own_precedes s slot.p slot.next j lt j_in own mine)
+            let lt : slot.next < j = omega (arith, high, ne) in
+            let j_in : j < length s.events = order_within s order is b.0 j b.2 in
+            front s order is w slot.next j b (own_precedes s slot.p slot.next j lt j_in own mine)
       ]))
     ];
     come = λ j mine lt. front_next s order is w j slot.next place (own_precedes s slot.p j slot.next lt within mine own);
@@ -175,7 +172,7 @@ module _ (s : Spanned) (slot : Slot) (la ended flags : ℕ) (outcome : Outcome) 
       let theirs = mapped_some without_moments (slice_get (visible steps) found.0) _ (sym (seen found.0) ∙ ap (option_map without_moments) mine) in
       let zero_first : (n : ℕ) → n ≡ 0 + n = λ n. omega arith in
       goes steps [] tt run (λ n e h.
-          let ours = mapped_some without_moments (slice_get (ordered s.events order) n) (without_moments e) (seen n ∙ ap (option_map without_moments) h) in
-          let from = ordered_from s.events order low n ours.0 ours.1 in
-          subst (λ w. IsAt s order w e) (zero_first n) (record { number = from.0; event = ours.0; place = from.1; there = from.2; same = sym ours.2 }))
+      let ours = mapped_some without_moments (slice_get (ordered s.events order) n) (without_moments e) (seen n ∙ ap (option_map without_moments) h) in
+      let from = ordered_from s.events order low n ours.0 ours.1 in
+      subst (λ w. IsAt s order w e) (zero_first n) (record { number = from.0; event = ours.0; place = from.1; there = from.2; same = sym ours.2 }))
       found.0 (subst (λ w. slice_get order w ≡ Some slot.next) (zero_first found.0) place) theirs.0 theirs.1

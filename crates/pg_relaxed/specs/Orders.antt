@@ -1,6 +1,6 @@
 -- Records with no one order: whether some order of the events has a run of the machine (Intel SDM,
 -- vol. 3, 4.10).
-use Rattle.std.specs.Prelude.{◌≡◌, ℕ, List, Option, Some, None, slice_get}
+use Rattle.std.specs.Prelude.{◌≡◌, ℕ, List, Some, slice_get}
 use Rattle.pg_event.specs.declared.event.Event.{Event}
 use Rattle.pg_event.specs.declared.event.Outcome.{Outcome}
 use Rattle.pg_event.specs.declared.event.Event.TheVariants.{Access, Assist}

@@ -120,13 +120,7 @@ impl Caches {
     }
 
     /// What an entry gives that is read in a table.
-    fn take(
-        &mut self,
-        cfg: Cfg,
-        la: u64,
-        table: Table,
-        entry: Entry,
-    ) -> Result<(), AllocError>
+    fn take(&mut self, cfg: Cfg, la: u64, table: Table, entry: Entry) -> Result<(), AllocError>
         requires width { (36 ≤ cfg.m) × (cfg.m ≤ 52) }
         ensures more { OnOk result (Extends (known_of self.old) (known_of self.new)) }
         ensures taken { OnOk result (IsTaken cfg la (known_of self.new) table entry.0) }
@@ -246,9 +240,9 @@ impl Caches {
             ≡ controlled m (processor_of event.now) self.old.control event.now }
     {
         let control = self.control;
-        self.tables.retain(|held| may_stay(control, event, la, held.get()));
-        self.translations
-            .retain(|held| !must_drop_translation(control, event, held.get().key));
+        self.tables
+            .retain(|held| may_stay(control, event, la, held.get()));
+        self.translations.retain(|held| !must_drop_translation(control, event, held.get().key));
         self.control = controlled(m, processor_of(event), control, event);
     }
 }

@@ -1,4 +1,5 @@
-//! Events that no order of a run with spans can witness.
+//! Events that no order of a run with spans can witness: what a processor may have cached while it
+//! stands between two of its events, whatever the order of the others.
 #![tactic(auto)]
 
 mod caches;

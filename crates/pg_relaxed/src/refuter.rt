@@ -82,7 +82,8 @@ fn gives(
         Outcome::Page(page) => {
             is_allowed && page == translation.frame + page_offset(la, key.shift)
         }
-        Outcome::Fault(code) => !is_allowed && code == error_code(header.cfg, access, Cause::Denied),
+        Outcome::Fault(code) => !is_allowed
+            && code == error_code(header.cfg, access, Cause::Denied),
     }
 }
 
@@ -93,7 +94,14 @@ fn has_no_answer(header: &Header, caches: &Caches, asked: Asked) -> bool
 {
     let access = access_kind(asked.flags);
     for held in &caches.translations {
-        if gives(header, caches.control, asked.la, access, asked.outcome, &held.get()) {
+        if gives(
+            header,
+            caches.control,
+            asked.la,
+            access,
+            asked.outcome,
+            &held.get(),
+        ) {
             return false;
         }
     }

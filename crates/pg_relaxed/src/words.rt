@@ -44,13 +44,7 @@ fn value_written(event: &Event, address: u64) -> Option<u64>
     ensures none { IfNone result ((value : ℕ) → WritesValue address value event.now → ⊥) }
 {
     match *event {
-        Event::Write { addr, value, .. } => {
-            if addr == address {
-                Some(value)
-            } else {
-                None
-            }
-        }
+        Event::Write { addr, value, .. } => { if addr == address { Some(value) } else { None } }
         Event::Access { .. }
         | Event::Assist { .. }
         | Event::MovCr3 { .. }

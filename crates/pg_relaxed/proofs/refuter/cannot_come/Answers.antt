@@ -1,4 +1,4 @@
-use Rattle.std.proofs.Common.{◌≡◌, sym, subst, ◌∙◌}
+use Rattle.std.proofs.Common.{sym, subst, ◌∙◌}
 use Rattle.std.specs.Prelude.{IfOk, IsTrue}
 use Rattle.pg_event.specs.declared.event.Want.{Want}
 use Rattle.pg_event.specs.Form.{access_kind}

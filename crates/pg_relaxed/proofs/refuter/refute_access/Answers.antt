@@ -52,34 +52,34 @@ loop-next-preserved c =
     let high : s.head.cfg.m ≤ 52 = c.header-header.ensures.head.high in
     elim c.if-processor_of-p.branch [
       | then-processor_of-p+in_ok-fill+else-not-branch w ↦
-        let mine : processor_of e ≡ p = sym c.processor_of.ensures ∙ w.if-processor_of-p.true in
-        let before : Known = known_of c.loop-next.caches in
-        let filled : Known = known_of w.fill.new.self in
-        let left : Known = known_of w.pass.new.self in
-        let grows : Grows before filled = w.in_ok-fill.ensures.grows w.if-not-branch.false in
-        let control : left.control ≡ controlled s.head.cfg.m (processor_of e) filled.control e = w.pass.ensures.control ∙ ap (λ (k : ℕ). controlled k (processor_of e) filled.control e) m in
-        let later : w.max-ended.result ≡ max c.loop-next.ended (ended_before s n) = w.max-ended.ensures ∙ ap (max c.loop-next.ended) w.ended_before.ensures.count in
-        let root : left.control.root < 2 ^ 52 =
-        subst (λ (d : Control). d.root < 2 ^ 52) (sym control)
-        (root-controlled s.head.cfg.m (processor_of e) filled.control e (omega (arith, low)) high (subst (λ (d : Control). d.root < 2 ^ 52) (sym grows.control) c.loop-next.invariant.root)) in
-        let on : Enters s p la (n + 1) w.max-ended.result left =
-        hands_on s p la n c.loop-next.ended w.max-ended.result e before filled left c.requires.assists there mine within c.loop-next.invariant.enters grows
-        (w.in_ok-fill.ensures.filled w.if-not-branch.false) w.pass.ensures.left control later in
-        record {
-          words = subst (λ (v : Words). AreWordsOf s.events v.words.items) (sym w.words-is) w.in_ok-fill.ensures.words;
-          root = subst (λ (v : Caches). v.control.root < 2 ^ 52) (sym w.caches-is) root;
-          enters = subst (λ (v : Caches). Enters s p la (n + 1) c.if-processor_of-p.ended (known_of v)) (sym w.caches-is)
-              (subst (λ (k : ℕ). Enters s p la (n + 1) k left) (sym w.ended-is) on);
-        }
+          let mine : processor_of e ≡ p = sym c.processor_of.ensures ∙ w.if-processor_of-p.true in
+          let before : Known = known_of c.loop-next.caches in
+          let filled : Known = known_of w.fill.new.self in
+          let left : Known = known_of w.pass.new.self in
+          let grows : Grows before filled = w.in_ok-fill.ensures.grows w.if-not-branch.false in
+          let control : left.control ≡ controlled s.head.cfg.m (processor_of e) filled.control e = w.pass.ensures.control ∙ ap (λ (k : ℕ). controlled k (processor_of e) filled.control e) m in
+          let later : w.max-ended.result ≡ max c.loop-next.ended (ended_before s n) = w.max-ended.ensures ∙ ap (max c.loop-next.ended) w.ended_before.ensures.count in
+          let root : left.control.root < 2 ^ 52 =
+          subst (λ (d : Control). d.root < 2 ^ 52) (sym control)
+          (root-controlled s.head.cfg.m (processor_of e) filled.control e (omega (arith, low)) high (subst (λ (d : Control). d.root < 2 ^ 52) (sym grows.control) c.loop-next.invariant.root)) in
+          let on : Enters s p la (n + 1) w.max-ended.result left =
+          hands_on s p la n c.loop-next.ended w.max-ended.result e before filled left c.requires.assists there mine within c.loop-next.invariant.enters grows
+          (w.in_ok-fill.ensures.filled w.if-not-branch.false) w.pass.ensures.left control later in
+          record {
+            words = subst (λ (v : Words). AreWordsOf s.events v.words.items) (sym w.words-is) w.in_ok-fill.ensures.words;
+            root = subst (λ (v : Caches). v.control.root < 2 ^ 52) (sym w.caches-is) root;
+            enters = subst (λ (v : Caches). Enters s p la (n + 1) c.if-processor_of-p.ended (known_of v)) (sym w.caches-is)
+                (subst (λ (k : ℕ). Enters s p la (n + 1) k left) (sym w.ended-is) on);
+          }
       | else-processor_of-p w ↦
-        let on : Enters s p la (n + 1) c.loop-next.ended (known_of c.loop-next.caches) =
-        hands_over s p la n c.loop-next.ended e (known_of c.loop-next.caches) there (λ h. w.if-processor_of-p.false (c.processor_of.ensures ∙ h)) c.loop-next.invariant.enters in
-        record {
-          words = subst (λ (v : Words). AreWordsOf s.events v.words.items) (sym w.words-is) c.loop-next.invariant.words;
-          root = subst (λ (v : Caches). v.control.root < 2 ^ 52) (sym w.caches-is) c.loop-next.invariant.root;
-          enters = subst (λ (v : Caches). Enters s p la (n + 1) c.if-processor_of-p.ended (known_of v)) (sym w.caches-is)
-              (subst (λ (k : ℕ). Enters s p la (n + 1) k (known_of c.loop-next.caches)) (sym w.ended-is) on);
-        }
+          let on : Enters s p la (n + 1) c.loop-next.ended (known_of c.loop-next.caches) =
+          hands_over s p la n c.loop-next.ended e (known_of c.loop-next.caches) there (λ h. w.if-processor_of-p.false (c.processor_of.ensures ∙ h)) c.loop-next.invariant.enters in
+          record {
+            words = subst (λ (v : Words). AreWordsOf s.events v.words.items) (sym w.words-is) c.loop-next.invariant.words;
+            root = subst (λ (v : Caches). v.control.root < 2 ^ 52) (sym w.caches-is) c.loop-next.invariant.root;
+            enters = subst (λ (v : Caches). Enters s p la (n + 1) c.if-processor_of-p.ended (known_of v)) (sym w.caches-is)
+                (subst (λ (k : ℕ). Enters s p la (n + 1) k (known_of c.loop-next.caches)) (sym w.ended-is) on);
+          }
     ]
 
 pub returns : goal.returns

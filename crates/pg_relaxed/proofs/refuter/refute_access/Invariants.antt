@@ -1,4 +1,4 @@
-use Rattle.std.proofs.Common.{◌≡◌, ◌<◌, ◌^◌, ℕ}
+use Rattle.std.proofs.Common.{◌<◌, ◌^◌}
 use Rattle.pg_relaxed.specs.Caches.{known_of}
 use Rattle.pg_relaxed.specs.Words.{AreWordsOf}
 use Rattle.pg_relaxed.proofs.Covering.{Enters}

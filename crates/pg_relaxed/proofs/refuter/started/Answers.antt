@@ -1,4 +1,4 @@
-use Rattle.std.proofs.Common.{◌≡◌, ◌<◌, ◌≤◌, ◌^◌, ℕ, List, length, sym, ap, subst, ◌∙◌, arith, None, Bool}
+use Rattle.std.proofs.Common.{◌≡◌, ◌<◌, ◌^◌, length, sym, ap, subst, arith, None}
 use Rattle.std.specs.Prelude.{slice_get}
 use Rattle.pg_entry.proofs.Bounds.{field-below}
 use Rattle.pg_event.specs.declared.control.Control.{Control}

@@ -1,4 +1,3 @@
-use Rattle.std.proofs.Common.{sym}
 use Rattle.pg_relaxed.proofs.Taken.{in_get}
 use Rattle.pg_relaxed.proofs.words.is_overwritten.Goals as goal
 

@@ -1,4 +1,4 @@
-use Rattle.std.proofs.Common.{◌≡◌, ◌⊎◌, ℕ, ◌+◌, ◌≤◌, ◌∷◌, [], ◌++◌, List, length, take, get_or, refl, sym, ap, subst, ◌∙◌, inl, inr, Vec, Global}
+use Rattle.std.proofs.Common.{◌≡◌, ℕ, ◌+◌, ◌∷◌, [], ◌++◌, List, length, take, get_or, refl, sym, ap, subst, ◌∙◌, inl, inr, Vec, Global}
 use Rattle.pg_machine.specs.Machine.{IsIn}
 use Rattle.pg_event.specs.declared.event.Event.{Event}
 use Rattle.pg_spanned.specs.Orders.{Spanned}
@@ -6,10 +6,9 @@ use Rattle.pg_relaxed.specs.declared.slot.Slot.{Slot}
 use Rattle.pg_relaxed.specs.declared.words.Written.{Written}
 use Rattle.pg_relaxed.specs.Words.{AreWritesTo, AreBelow}
 use Rattle.pg_relaxed.proofs.Listing.{IsSeen, are_below, held_value, seen_still}
-use Rattle.pg_relaxed.proofs.Taken.{in_get, in_left, in_right, one_more_get, take_all}
+use Rattle.pg_relaxed.proofs.Taken.{in_get, in_right, one_more_get, take_all}
 use Rattle.pg_relaxed.proofs.words.put_values.Goals as goal
 use Rattle.pg_relaxed.proofs.words.put_values.Goals.{then-may_be_last+in_ok-push, else-may_be_last}
-
 
 below : (events : List Event) (a : ℕ) (items writes : List Written) → writes ≡ items → AreWritesTo events a items → AreBelow (length events) writes
 below events a items writes is are = subst (AreBelow (length events)) (sym is) (are_below events a items are)
@@ -30,15 +29,15 @@ loop-written-preserved c =
     let w0 : Written = get_or writes n (record { number = 0; value = 0 }) in
     elim c.if-may_be_last.branch [
       | then-may_be_last+in_ok-push w ↦
-        let items : c.if-may_be_last.values.items ≡ old ++ w0.value ∷ [] = ap (λ (v : Vec ℕ Global). v.items) w.values-is ∙ w.in_ok-push.ensures.items in
-        subst (λ vs. (x : Written) → IsIn x (take (n + 1) writes) → IsSeen s slot writes vs x) (sym items)
-        (one_more_get (IsSeen s slot writes (old ++ w0.value ∷ [])) writes n (record { number = 0; value = 0 }) c.loop-written-test.true
-        (λ x h. seen_still s slot writes old (w0.value ∷ []) x (c.loop-written.invariant x h)) (inr (inr (in_right w0.value old (w0.value ∷ []) (inl refl)))))
+          let items : c.if-may_be_last.values.items ≡ old ++ w0.value ∷ [] = ap (λ (v : Vec ℕ Global). v.items) w.values-is ∙ w.in_ok-push.ensures.items in
+          subst (λ vs. (x : Written) → IsIn x (take (n + 1) writes) → IsSeen s slot writes vs x) (sym items)
+          (one_more_get (IsSeen s slot writes (old ++ w0.value ∷ [])) writes n (record { number = 0; value = 0 }) c.loop-written-test.true
+          (λ x h. seen_still s slot writes old (w0.value ∷ []) x (c.loop-written.invariant x h)) (inr (inr (in_right w0.value old (w0.value ∷ []) (inl refl)))))
       | else-may_be_last w ↦
-        let items : c.if-may_be_last.values.items ≡ old = ap (λ (v : Vec ℕ Global). v.items) w.values-is in
-        subst (λ vs. (x : Written) → IsIn x (take (n + 1) writes) → IsSeen s slot writes vs x) (sym items)
-        (one_more_get (IsSeen s slot writes old) writes n (record { number = 0; value = 0 }) c.loop-written-test.true c.loop-written.invariant
-        (elim (c.may_be_last.ensures w.if-may_be_last.false) [ inl a ↦ inl a | inr b ↦ inr (inl b) ]))
+          let items : c.if-may_be_last.values.items ≡ old = ap (λ (v : Vec ℕ Global). v.items) w.values-is in
+          subst (λ vs. (x : Written) → IsIn x (take (n + 1) writes) → IsSeen s slot writes vs x) (sym items)
+          (one_more_get (IsSeen s slot writes old) writes n (record { number = 0; value = 0 }) c.loop-written-test.true c.loop-written.invariant
+          (elim (c.may_be_last.ensures w.if-may_be_last.false) [ inl a ↦ inl a | inr b ↦ inr (inl b) ]))
     ]
 
 pub returns-in_ok-push-2 : goal.returns-in_ok-push-2

@@ -1,7 +1,4 @@
-use Rattle.std.proofs.Common.{ℕ, take}
-use Rattle.pg_machine.specs.Machine.{IsIn}
-use Rattle.pg_relaxed.specs.declared.words.Written.{Written}
-use Rattle.pg_relaxed.specs.Memory.{Writes}
+use Rattle.std.proofs.Common.{take}
 use Rattle.pg_relaxed.specs.Words.{AreWritesTo}
 use Rattle.pg_relaxed.proofs.words.writes_to.Given as goal
 

@@ -1,4 +1,4 @@
-use Rattle.std.proofs.Common.{◌≡◌, ◌+◌, ◌<◌, ◌≤◌, ℕ, List, length, take, get_or, sym, ap, subst, ◌∙◌, refl, arith}
+use Rattle.std.proofs.Common.{◌≡◌, ◌+◌, ◌<◌, ◌≤◌, ℕ, length, take, get_or, sym, subst, arith}
 use Rattle.pg_entry.specs.declared.Level.TheVariants.{Four}
 use Rattle.pg_event.specs.Walk.{root_of}
 use Rattle.pg_machine.specs.Machine.{IsIn}
@@ -30,16 +30,16 @@ loop-place-preserved c =
     let is : c.get-table.result ≡ get_or old.tables n c.get-table.result = got_at old.tables n c.get-table.result c.index.result.now c.get-table.ensures.value c.index.ensures in
     elim c.else-table-pcid.branch [
       | else-table-pcid-via-then-table-pcid+in_ok-take_from+else-not-branch w ↦
-        let new : Known = known_of w.take_from.new.self in
-        let more : Extends old new = w.in_ok-take_from.ensures.more in
-        record {
-          more = subst (λ (v : Caches). Extends first (known_of v)) (sym w.self-is) (extends_on first old new c.loop-place.invariant.more more);
-          root = subst (λ (v : Caches). IsIn root v.tables.items) (sym w.self-is) (table_still old new more root c.loop-place.invariant.root);
-          words = subst (λ (v : Words). AreWordsOf c.args.run.now.events v.words.items) (sym w.words-is) w.in_ok-take_from.ensures.words;
-          within = subst (λ (v : Caches). n + 1 ≤ length v.tables.items) (sym w.self-is) (longer old new (n + 1) more (omega (arith, lt)));
-          taken = subst (λ (v : Caches). AreTaken c.args.run.now c.args.slot c.args.la pcid (known_of v) (take (n + 1) v.tables.items)) (sym w.self-is)
-              (taken_more c.args.run.now c.args.slot c.args.la pcid old new n c.get-table.result more lt is c.loop-place.invariant.taken (λ p. w.in_ok-take_from.ensures.taken w.if-not-branch.false));
-        }
+          let new : Known = known_of w.take_from.new.self in
+          let more : Extends old new = w.in_ok-take_from.ensures.more in
+          record {
+            more = subst (λ (v : Caches). Extends first (known_of v)) (sym w.self-is) (extends_on first old new c.loop-place.invariant.more more);
+            root = subst (λ (v : Caches). IsIn root v.tables.items) (sym w.self-is) (table_still old new more root c.loop-place.invariant.root);
+            words = subst (λ (v : Words). AreWordsOf c.args.run.now.events v.words.items) (sym w.words-is) w.in_ok-take_from.ensures.words;
+            within = subst (λ (v : Caches). n + 1 ≤ length v.tables.items) (sym w.self-is) (longer old new (n + 1) more (omega (arith, lt)));
+            taken = subst (λ (v : Caches). AreTaken c.args.run.now c.args.slot c.args.la pcid (known_of v) (take (n + 1) v.tables.items)) (sym w.self-is)
+                (taken_more c.args.run.now c.args.slot c.args.la pcid old new n c.get-table.result more lt is c.loop-place.invariant.taken (λ p. w.in_ok-take_from.ensures.taken w.if-not-branch.false));
+          }
       | else-table-pcid-via-else-table-pcid w ↦ record {
         more = subst (λ (v : Caches). Extends first (known_of v)) (sym w.self-is) c.loop-place.invariant.more;
         root = subst (λ (v : Caches). IsIn root v.tables.items) (sym w.self-is) c.loop-place.invariant.root;
