@@ -112,7 +112,7 @@ const CASES: [Case; 15] = [
     },
     Case {
         name: "a fault of an absent entry at the time of the write of the leaf",
-        events: &[(ABSENT, 1)],
+        events: &[(ABSENT, 2)],
         refuted: false,
     },
     Case {
