@@ -26,7 +26,7 @@ const NEW_READ: Written = Written::Access {
 const UNMAPPED_READ: Written = Written::Access {
     p: 1,
     flags: READ,
-    la: 0x6123,
+    la: 0x8123,
     outcome: Outcome::Page(0x9123),
     at: &[0],
 };

@@ -119,3 +119,6 @@ pub seen_still : (s : Spanned) (slot : Slot) (writes : List Written) (values mor
 seen_still s slot writes values more w (inl a) = inl a
 seen_still s slot writes values more w (inr (inl b)) = inr (inl b)
 seen_still s slot writes values more w (inr (inr h)) = inr (inr (in_left w.value values more h))
+
+pub overwritten_in : (s : Spanned) (slot : Slot) (writes part : List Written) (j : ℕ) → ((w : Written) → IsIn w part → IsIn w writes) → IsOverwritten s slot part j → IsOverwritten s slot writes j
+overwritten_in s slot writes part j inside over = record { by = over.by; there = inside over.by over.there; past = over.past; follows = over.follows }

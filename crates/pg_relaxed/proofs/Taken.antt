@@ -1,5 +1,5 @@
 -- Elements of the front of a list.
-use Rattle.std.proofs.Common.{◌≡◌, ◌⊎◌, ℕ, zero, suc, ◌+◌, ◌<◌, ◌≤◌, List, [], ◌∷◌, ◌++◌, length, get_or, take, refl, ap, sym, ◌∙◌, subst, arith, inl, inr, Some, None}
+use Rattle.std.proofs.Common.{◌≡◌, ◌⊎◌, ℕ, zero, suc, ◌+◌, ◌<◌, ◌≤◌, List, [], ◌∷◌, ◌++◌, length, get_or, take, drop, refl, ap, sym, ◌∙◌, subst, arith, inl, inr, Some, None}
 use Rattle.std.specs.Prelude.{slice_get}
 use Rattle.std.specs.List.{AllByRecursion}
 use Rattle.std.proofs.lemmas.List.{take_more}
@@ -77,3 +77,20 @@ pub none_at : {X : Type 0} (xs : List X) (i : ℕ) → length xs ≤ i → slice
 none_at [] i le = refl
 none_at (y ∷ ys) zero le = absurd (omega (arith, le))
 none_at (y ∷ ys) (suc i) le = none_at ys i (omega (arith, le))
+
+-- what is behind the first so many is in the list
+pub in_drop : {X : Type 0} (xs : List X) (n : ℕ) (x : X) → IsIn x (drop n xs) → IsIn x xs
+in_drop [] zero x h = absurd h
+in_drop [] (suc n) x h = absurd h
+in_drop (y ∷ ys) zero x h = h
+in_drop (y ∷ ys) (suc n) x h = inr (in_drop ys n x h)
+
+pub in_front : {X : Type 0} (xs : List X) (n : ℕ) (x : X) → IsIn x (take n xs) → IsIn x xs
+in_front [] zero x h = absurd h
+in_front [] (suc n) x h = absurd h
+in_front (y ∷ ys) zero x h = absurd h
+in_front (y ∷ ys) (suc n) x (inl e) = inl e
+in_front (y ∷ ys) (suc n) x (inr h) = inr (in_front ys n x h)
+
+pub in_part : {X : Type 0} (xs : List X) (n m : ℕ) (x : X) → IsIn x (take m (drop n xs)) → IsIn x xs
+in_part xs n m x h = in_drop xs n x (in_front (drop n xs) m x h)

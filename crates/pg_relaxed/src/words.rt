@@ -1,6 +1,6 @@
 //! What words may hold in a slot.
 
-ghost use Rattle.std.specs.Prelude.{◌≡◌, ℕ, ◌+◌, ◌<◌, ◌≤◌, ◌^◌, length, IfOk, OnOk, IsTrue, IsFalse, [], ◌⊎◌};
+ghost use Rattle.std.specs.Prelude.{◌≡◌, ◌⊎◌, ℕ, ◌<◌, ◌^◌, [], length, IfOk, OnOk, IsTrue, IsFalse};
 ghost use Rattle.std.specs.Prelude.{IfSome, IfNone};
 ghost use Rattle.pg_machine.specs.Machine.{IsIn};
 ghost use Rattle.pg_relaxed.specs.Memory.{MayHold, IsToCome};
@@ -122,8 +122,9 @@ fn put_values(
         IsIn value values.new.items) }
 {
     let writes = word.writes.as_slice();
-    for written in writes {
-        if may_be_last(run, slot, writes, *written) {
+    for (place, written) in writes.iter().enumerate() {
+        // Those that follow come later in the list.
+        if may_be_last(run, slot, &writes[place..], *written) {
             values.push(written.value)?;
         }
     }
