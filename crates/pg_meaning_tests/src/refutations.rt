@@ -87,7 +87,11 @@ const CASES: [Case; 15] = [
     },
     Case {
         name: "an old leaf behind a load of CR3 that drops nothing",
-        events: &[(REMAP, 0), (Written::Cr3(1, 0x8000_0000_0000_1001), 0), (OLD_READ, 0)],
+        events: &[
+            (REMAP, 0),
+            (Written::Cr3(1, 0x8000_0000_0000_1001), 0),
+            (OLD_READ, 0),
+        ],
         refuted: false,
     },
     Case {
