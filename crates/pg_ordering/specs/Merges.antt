@@ -5,10 +5,10 @@ use Rattle.pg_merge.specs.declared.error.LogRefusal.{LogRefusal}
 use Rattle.pg_merge.specs.declared.error.LogRefusal.TheVariants.{Field, Stamps, Processor}
 use Rattle.pg_merge.specs.declared.error.MergeError.{MergeError}
 use Rattle.pg_merge.specs.declared.error.MergeError.TheVariants as merging
-use Rattle.pg_merge.specs.declared.error.Setting.{Setting}
 use Rattle.pg_merge.specs.declared.error.Setting.TheVariants as settings
 use Rattle.pg_merge.specs.Logs.{Logged}
 use Rattle.pg_merge.specs.Merged.{IsMerged}
+use Rattle.pg_merge.specs.Numbers.{merge_error_number}
 use Rattle.pg_merge.specs.Reading.{log_reading}
 use Rattle.pg_merge.specs.Runs.{AreOfOneRun, Explains}
 use Rattle.pg_report.specs.declared.error.AuditError.TheVariants as audits
@@ -33,9 +33,9 @@ log_refusal_text (Field refusal) =
     refusal_text (error_number (audits.Refused refusal)) (error_name (audits.Refused refusal))
     ++ place_text (audits.Refused refusal)
 log_refusal_text (Stamps event) =
-    refusal_text 16 (codes "stamps") ++ (codes " event " ++ decimal event)
+    codes "pcid-audit: refused 16 stamps event " ++ decimal event
 log_refusal_text (Processor event) =
-    refusal_text 17 (codes "other processor") ++ (codes " event " ++ decimal event)
+    codes "pcid-audit: refused 17 other processor event " ++ decimal event
 
 -- the name of the log that is told of
 abbrev pub in_file : List ℕ → List ℕ
@@ -44,32 +44,24 @@ in_file name = codes " in" ++ (codes " " ++ (name ++ codes "\n"))
 abbrev pub log_line : List ℕ → LogRefusal → List ℕ
 log_line name refusal = log_refusal_text refusal ++ in_file name
 
-abbrev pub setting_name : Setting → List ℕ
-setting_name settings.Version = codes "version"
-setting_name settings.Maxphyaddr = codes "MAXPHYADDR"
-setting_name settings.Flags = codes "flags"
-setting_name settings.Processors = codes "number of processors"
-
 -- the name at a place
 abbrev pub name_at : List (List ℕ) → ℕ → List ℕ
 name_at names place = unwrap_or (slice_get names place) []
 
--- the log at a place
-abbrev pub in_log : List (List ℕ) → ℕ → List ℕ
-in_log names place = in_file (name_at names place)
+abbrev pub merge_name : MergeError → List ℕ
+merge_name merging.NoLogs = codes "no log"
+merge_name (merging.Differs log settings.Version) = codes "other version"
+merge_name (merging.Differs log settings.Maxphyaddr) = codes "other MAXPHYADDR"
+merge_name (merging.Differs log settings.Flags) = codes "other flags"
+merge_name (merging.Differs log settings.Processors) = codes "other number of processors"
+merge_name (merging.Twice first second) = codes "two logs of one processor"
+merge_name (merging.Missing processor) = codes "no log of a processor"
+merge_name merging.TooMany = codes "too many events"
+merge_name merging.Memory = codes "memory"
 
--- `pcid-audit: refused 19 other flags in b.log`
-abbrev pub merge_line : List (List ℕ) → MergeError → List ℕ
-merge_line names merging.NoLogs = refusal_text 18 (codes "no log") ++ codes "\n"
-merge_line names (merging.Differs log setting) =
-    refusal_text 19 (codes "other") ++ (codes " " ++ (setting_name setting ++ in_log names log))
-merge_line names (merging.Twice first second) =
-    refusal_text 20 (codes "processor twice") ++ in_log names second
-merge_line names (merging.Missing processor) =
-    refusal_text 21 (codes "no log of processor")
-    ++ ((codes " " ++ decimal processor) ++ codes "\n")
-merge_line names merging.TooMany = refusal_text 22 (codes "too many events") ++ codes "\n"
-merge_line names merging.Memory = refusal_line audits.Memory
+-- `pcid-audit: refused 19 other flags`
+abbrev pub merge_line : MergeError → List ℕ
+merge_line e = refusal_text (merge_error_number e) (merge_name e) ++ codes "\n"
 
 -- ---- reading and merging
 
@@ -138,9 +130,9 @@ StopsAt Opens names output errors status = (place : ℕ) × (why : Untaken)
     × TellsUntaken (name_at names place) why output errors status
 
 -- the logs make no run, and it is told why
-abbrev pub RefusesLogs : List (List ℕ) → List Logged → Change → Change → ℕ → Type 0
-RefusesLogs names logs output errors status = (e : MergeError) × Explains logs e
-    × StaysSame output × Tells errors (merge_line names e) × (status ≡ merge_status e)
+abbrev pub RefusesLogs : List Logged → Change → Change → ℕ → Type 0
+RefusesLogs logs output errors status = (e : MergeError) × Explains logs e
+    × StaysSame output × Tells errors (merge_line e) × (status ≡ merge_status e)
 
 -- the record of a run is written, or memory ran out
 abbrev pub GivesRun : Spanned → Change → Change → ℕ → Type 0
@@ -148,16 +140,16 @@ GivesRun s output errors status =
     GivesOut (spanned_bytes s) 0 output errors status ⊎ WantsMemory output errors status
 
 -- what is answered of logs that were read: the record of the run that they make
-abbrev pub AnswersLogs : List (List ℕ) → List Logged → ℕ → Change → Change → ℕ → Type 0
-AnswersLogs names logs error output errors status =
+abbrev pub AnswersLogs : List Logged → ℕ → Change → Change → ℕ → Type 0
+AnswersLogs logs error output errors status =
     ((s : Spanned) × AreOfOneRun logs s.head × IsMerged logs error s
     × GivesRun s output errors status)
-    ⊎ RefusesLogs names logs output errors status
+    ⊎ RefusesLogs logs output errors status
 
 -- all that is promised of merging the logs of these names, whose spans are longer on both sides by
 -- so many ticks
 abbrev pub Merges : Opening → List (List ℕ) → ℕ → Change → Change → ℕ → Type 0
 Merges Opens names error output errors status =
     ((logs : List Logged) × AreLogsOf Opens names logs
-    × AnswersLogs names logs error output errors status)
+    × AnswersLogs logs error output errors status)
     ⊎ StopsAt Opens names output errors status ⊎ WantsMemory output errors status

@@ -1,5 +1,5 @@
 -- What opening the file of a name may give.
-use Rattle.std.specs.Prelude.{◌≡◌, ℕ, List, Option, Some, None, Unit}
+use Rattle.std.specs.Prelude.{◌≡◌, ℕ, List, Option, Some, None}
 use Rattle.std.specs.Borrow.{Bor}
 use Rattle.std.specs.Fn.{FnReturnsAt, Shared}
 use Rattle.pg_codec.specs.declared.stream.Source as sources

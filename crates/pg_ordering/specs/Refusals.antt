@@ -10,5 +10,4 @@ use Rattle.pg_span_codec.specs.declared.refusal.SpannedRefusal.TheVariants.{Plai
 abbrev pub spans_line : SpannedRefusal → List ℕ
 spans_line (Plain refusal) = refusal_line (audits.Refused refusal)
 spans_line (Back event) =
-    codes "pcid-audit: refused 7 malformed"
-    ++ ((codes " event " ++ decimal event) ++ codes " rule 7\n")
+    (codes "pcid-audit: refused 7 malformed event " ++ decimal event) ++ codes " rule 7\n"

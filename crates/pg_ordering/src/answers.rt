@@ -1,7 +1,7 @@
 //! Whether the events of a record with spans have an order in which some run of the machine has
 //! them, as `certify` writes it.
 
-ghost use Rattle.std.specs.Prelude.{◌≡◌, ◌<◌, ◌^◌, length};
+ghost use Rattle.std.specs.Prelude.{◌≡◌, ◌≢◌, ◌<◌, ◌^◌, length};
 ghost use Rattle.pg_check.specs.Kept.{AreWellFormed};
 ghost use Rattle.pg_event.specs.Spelling.{IsHead, record_bytes};
 ghost use Rattle.pg_report.specs.Changes.{drawn, filled};

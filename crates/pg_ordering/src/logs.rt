@@ -1,6 +1,7 @@
 //! The logs of files.
 
 ghost use Rattle.std.specs.Prelude.{◌≡◌, map, MatchResult};
+ghost use Rattle.pg_codec.specs.Reads.{seen};
 ghost use Rattle.pg_ordering.specs.Merges.{IsLogOf, IsUntaken, ReadsLog, TakesLogs};
 ghost use Rattle.pg_ordering.specs.Openings.{opens};
 
@@ -72,7 +73,8 @@ pub(crate) fn logs_of<F: Fn(&str) -> Option<S>, S: Source + Drop>(
     names: &[&str],
 ) -> Result<Vec<Log>, Stop>
     requires { F.IsAlwaysCallable opener.now }
-    ensures { TakesLogs (opens F.Fn S.Source opener.now) (map (λ s. s.now) names.now) result }
+    ensures { TakesLogs (opens F.Fn S.Source opener.now) (map (λ s. s.now) names.now)
+        (seen (λ v. v.items) result) }
 {
     let mut logs = Vec::new(alloc);
     for (place, name) in names.iter().enumerate() {

@@ -7,16 +7,17 @@ ghost use Rattle.pg_codec.specs.Writing.{Puts};
 ghost use Rattle.pg_report.specs.Changes.{filled};
 ghost use Rattle.pg_span_codec.specs.Spelling.{spanned_bytes};
 ghost use Rattle.pg_ordering.specs.Answers.{GivesOut, WantsMemory};
-ghost use Rattle.pg_ordering.specs.Merges.{AnswersLogs, Merges, TellsUntaken, setting_name};
-ghost use Rattle.pg_ordering.specs.Merges.{log_line, log_refusal_text, merge_line, merge_status};
-ghost use Rattle.pg_ordering.specs.Merges.{name_at, in_log, GivesRun};
+ghost use Rattle.pg_auditing.specs.Refusals.{Tells};
+ghost use Rattle.pg_ordering.specs.Merges.{AnswersLogs, Merges, TellsUntaken, GivesRun};
+ghost use Rattle.pg_ordering.specs.Merges.{log_line, log_refusal_text, merge_line, merge_name};
+ghost use Rattle.pg_ordering.specs.Merges.{merge_status, name_at};
 ghost use Rattle.pg_ordering.specs.Openings.{opens};
 
 use crate::answers::{give_out, tell_memory};
 use crate::logs::{Stop, Untaken, logs_of};
 use pg_auditing::{
-    MEMORY, REFUSED, UNOPENED, YES, put_error, put_line, put_name, put_number, put_place,
-    put_refusal, tell, tell_unopened,
+    MEMORY, REFUSED, UNOPENED, YES, put_line, put_name, put_number, put_place, put_refusal, tell,
+    tell_unopened,
 };
 use pg_codec::{Failed, Sink, Source, put_all};
 use pg_merge::{Log, LogRefusal, MergeError, Setting, merge_logs};
@@ -35,12 +36,10 @@ fn put_log_refusal<W: Sink>(errors: &mut W, refusal: LogRefusal) -> Result<(), F
             put_place(errors, error)
         }
         LogRefusal::Stamps { event } => {
-            put_refusal(errors, 16, "stamps")?;
-            put_number(errors, b" event ", event)
+            put_number(errors, b"pcid-audit: refused 16 stamps event ", event)
         }
         LogRefusal::Processor { event } => {
-            put_refusal(errors, 17, "other processor")?;
-            put_number(errors, b" event ", event)
+            put_number(errors, b"pcid-audit: refused 17 other processor event ", event)
         }
     }
 }
@@ -53,17 +52,6 @@ fn put_log_line<W: Sink>(errors: &mut W, name: &str, refusal: LogRefusal) -> Res
     put_name(errors, name)
 }
 
-fn setting_name(setting: Setting) -> &'static str
-    ensures { result.now ≡ setting_name setting }
-{
-    match setting {
-        Setting::Version => "version",
-        Setting::Maxphyaddr => "MAXPHYADDR",
-        Setting::Flags => "flags",
-        Setting::Processors => "number of processors",
-    }
-}
-
 /// The name at a place.
 fn name_at<'a>(names: &[&'a str], place: usize) -> &'a str
     ensures { result.now ≡ name_at (map (λ s. s.now) names.now) place }
@@ -74,39 +62,30 @@ fn name_at<'a>(names: &[&'a str], place: usize) -> &'a str
     }
 }
 
-/// The end of a line that names a log.
-fn put_in<W: Sink>(errors: &mut W, names: &[&str], place: usize) -> Result<(), Failed>
-    ensures { Puts W.Sink (in_log (map (λ s. s.now) names.now) place)
-        errors.old errors.new result }
-{
-    put_all(errors, b" in")?;
-    put_name(errors, name_at(names, place))
-}
-
-fn put_merge_line<W: Sink>(errors: &mut W, names: &[&str], error: MergeError) -> Result<(), Failed>
-    ensures { Puts W.Sink (merge_line (map (λ s. s.now) names.now) error)
-        errors.old errors.new result }
+/// What is wrong with logs that make no run.
+fn merge_name(error: MergeError) -> &'static str
+    ensures { result.now ≡ merge_name error }
 {
     match error {
-        MergeError::NoLogs => put_line(errors, 18, "no log"),
-        MergeError::Differs { log, setting } => {
-            put_refusal(errors, 19, "other")?;
-            put_all(errors, b" ")?;
-            put_all(errors, setting_name(setting).as_bytes())?;
-            put_in(errors, names, log)
-        }
-        MergeError::Twice { second, .. } => {
-            put_refusal(errors, 20, "processor twice")?;
-            put_in(errors, names, second)
-        }
-        MergeError::Missing { processor } => {
-            put_refusal(errors, 21, "no log of processor")?;
-            put_number(errors, b" ", processor as u64)?;
-            put_all(errors, b"\n")
-        }
-        MergeError::TooMany => put_line(errors, 22, "too many events"),
-        MergeError::Memory => put_error(errors, AuditError::Memory),
+        MergeError::NoLogs => "no log",
+        MergeError::Differs { setting, .. } => match setting {
+            Setting::Version => "other version",
+            Setting::Maxphyaddr => "other MAXPHYADDR",
+            Setting::Flags => "other flags",
+            Setting::Processors => "other number of processors",
+        },
+        MergeError::Twice { .. } => "two logs of one processor",
+        MergeError::Missing { .. } => "no log of a processor",
+        MergeError::TooMany => "too many events",
+        MergeError::Memory => "memory",
     }
+}
+
+/// Tells why logs make no run.
+fn tell_unmerged<E: Sink>(errors: &mut E, error: MergeError)
+    ensures { Tells (filled E.Sink errors.old errors.new) (merge_line error) }
+{
+    let _ = put_line(errors, error.number(), merge_name(error));
 }
 
 fn merge_status(error: MergeError) -> u8
@@ -163,19 +142,18 @@ fn give_run<O: Sink, E: Sink>(
 /// Merges logs, and writes the record.
 fn answer_logs<O: Sink, E: Sink>(
     alloc: Global,
-    names: &[&str],
     logs: &[Log],
     error: u32,
     output: &mut O,
     errors: &mut E,
 ) -> u8
-    ensures { AnswersLogs (map (λ s. s.now) names.now) logs.now error
+    ensures { AnswersLogs logs.now error
         (filled O.Sink output.old output.new) (filled E.Sink errors.old errors.new) result }
 {
     match merge_logs(alloc, logs, error as u64) {
         Ok(run) => give_run(alloc, &run, output, errors),
         Err(why) => {
-            let _ = put_merge_line(errors, names, why);
+            tell_unmerged(errors, why);
             merge_status(why)
         }
     }
@@ -198,7 +176,7 @@ pub fn merge<F: Fn(&str) -> Option<S>, S: Source + Drop, O: Sink, E: Sink>(
         (filled O.Sink output.old output.new) (filled E.Sink errors.old errors.new) result }
 {
     match logs_of(alloc, opener, names) {
-        Ok(logs) => answer_logs(alloc, names, &logs, error, output, errors),
+        Ok(logs) => answer_logs(alloc, &logs, error, output, errors),
         Err(Stop::At { place, why }) => {
             tell_untaken(output, errors, name_at(names, place), why)
         }

@@ -1,6 +1,6 @@
 //! A whole record with spans, from a source.
 
-ghost use Rattle.std.specs.Prelude.{◌≡◌, IfOk, IfSome, OnErr, Err};
+ghost use Rattle.std.specs.Prelude.{Some};
 ghost use Rattle.pg_codec.specs.Streams.{FailsWithDevice};
 ghost use Rattle.pg_span_codec.specs.Spelling.{SpellsSpanned};
 ghost use Rattle.pg_ordering.specs.Readings.{is_device, ReadsRun};

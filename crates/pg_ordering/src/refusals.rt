@@ -17,8 +17,7 @@ fn put_refusal<W: Sink>(errors: &mut W, refusal: SpannedRefusal) -> Result<(), F
     match refusal {
         SpannedRefusal::Plain(refusal) => put_error(errors, AuditError::Refused(refusal)),
         SpannedRefusal::Back { event } => {
-            put_all(errors, b"pcid-audit: refused 7 malformed")?;
-            put_number(errors, b" event ", event)?;
+            put_number(errors, b"pcid-audit: refused 7 malformed event ", event)?;
             put_all(errors, b" rule 7\n")
         }
     }

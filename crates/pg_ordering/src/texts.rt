@@ -1,6 +1,6 @@
 //! What is written of a record with no one order.
 
-ghost use Rattle.std.specs.Prelude.{◌≡◌, ◌++◌, IfOk, string_bytes};
+ghost use Rattle.std.specs.Prelude.{◌≡◌, ◌++◌, IfOk, codes, decimal, string_bytes};
 ghost use Rattle.pg_ordering.specs.Texts.{told_text, order_text, segments_of, counts_of};
 ghost use Rattle.pg_ordering.specs.Texts.{head_text};
 

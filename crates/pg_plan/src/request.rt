@@ -78,7 +78,7 @@ pub struct Plan {
 }
 
 /// What the words of a command line ask for, and of which files.
-#[derive(Drop)]
+#[derive(Debug, Drop, PartialEq, Eq)]
 pub struct Invocation<'a> {
     pub plan: Plan,
     /// The name of the file that is read in the place of standard input, where the words have one
