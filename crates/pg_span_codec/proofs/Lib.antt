@@ -1,0 +1,10 @@
+pub mod Steps
+pub mod Binds
+pub mod Peeking
+pub mod TimedEvents
+pub mod Runs
+pub mod Segments
+pub mod Headers
+pub mod Readings
+pub mod Zips
+pub mod Pushes

@@ -1,0 +1,96 @@
+-- Records of versions 3 and 4, whose events have spans, and the one spelling of each.
+use Rattle.std.specs.Prelude.{◌≡◌, ℕ, zero, suc, ◌+◌, List, [], ◌∷◌, ◌++◌, length, take, drop, codes}
+use Rattle.std.specs.List.{flat_map, zip, AllByRecursion}
+use Rattle.std.specs.Int.{w16, w32, w64, to_le_bytes}
+use Rattle.pg_event.specs.declared.event.Event.{Event}
+use Rattle.pg_event.specs.declared.event.Event.TheVariants.{Write, Access, Assist, MovCr3, Invlpg}
+use Rattle.pg_event.specs.declared.event.Event.TheVariants.{Invpcid, MovCr4Pge}
+use Rattle.pg_event.specs.declared.version.Version.{Version}
+use Rattle.pg_event.specs.Heads.{Head}
+use Rattle.pg_event.specs.Form.{processor_of}
+use Rattle.pg_event.specs.Spelling.{version_number, processor_bytes, outcome_bytes, tag_of}
+use Rattle.pg_event.specs.Spelling.{field_bytes, start_bytes, end_bytes, FitsEvent}
+use Rattle.pg_spanned.specs.Orders.{Spanned}
+use Rattle.pg_spanned.specs.Spanned.{IsSpanned}
+
+-- events of version 1 have spans in version 3, and those of version 2 in version 4
+abbrev pub spans_number : Version → ℕ
+spans_number version = version_number version + 2
+
+-- the moments of an access or an assist that names none
+abbrev pub no_moments : List ℕ
+no_moments = 0 ∷ []
+
+-- an event that names no moments
+abbrev pub IsBare : Event → Type 0
+IsBare (Access p flags la outcome moments) = moments ≡ no_moments
+IsBare (Assist p flags la word moments) = moments ≡ no_moments
+IsBare (Write p addr value) = Unit {0}
+IsBare (MovCr3 p operand) = Unit {0}
+IsBare (Invlpg p la) = Unit {0}
+IsBare (Invpcid p kind pcid la) = Unit {0}
+IsBare (MovCr4Pge p on) = Unit {0}
+
+-- the fields of an event without its moments
+abbrev pub bare_bytes : Event → List ℕ
+bare_bytes (Access p flags la outcome moments) =
+    flags ∷ (to_le_bytes w64 la ++ outcome_bytes outcome)
+bare_bytes (Assist p flags la word moments) =
+    flags ∷ (to_le_bytes w64 la ++ to_le_bytes w64 word)
+bare_bytes (Write p addr value) = field_bytes (Write p addr value)
+bare_bytes (MovCr3 p operand) = field_bytes (MovCr3 p operand)
+bare_bytes (Invlpg p la) = field_bytes (Invlpg p la)
+bare_bytes (Invpcid p kind pcid la) = field_bytes (Invpcid p kind pcid la)
+bare_bytes (MovCr4Pge p on) = field_bytes (MovCr4Pge p on)
+
+-- an event, and how many of those before it had not yet ended when it began
+abbrev pub Timed : Type 0
+Timed = Event × ℕ
+
+-- tag, processor, span, fields
+abbrev pub timed_bytes : Version → Timed → List ℕ
+timed_bytes version x =
+    tag_of x.0
+    ∷ (processor_bytes version (processor_of x.0) ++ to_le_bytes w32 x.1 ++ bare_bytes x.0)
+
+-- a header without its processors, as in version 1 or 2 but for the number of the version
+abbrev pub spans_settings_bytes : Head → List ℕ
+spans_settings_bytes head =
+    codes "PGRECORD" ++ to_le_bytes w16 (spans_number head.version)
+    ++ (head.cfg.m ∷ head.cfg.flags.0 ∷ [])
+    ++ processor_bytes head.version (length head.processors) ++ to_le_bytes w32 head.segment
+
+abbrev pub spans_header_bytes : Head → List ℕ
+spans_header_bytes head = spans_settings_bytes head ++ flat_map start_bytes head.processors
+
+-- a segment with its number
+abbrev pub timed_segment_bytes : Version → ℕ → List Timed → List ℕ
+timed_segment_bytes version number events =
+    1 ∷ to_le_bytes w32 number ++ to_le_bytes w32 (length events)
+    ++ flat_map (timed_bytes version) events
+
+-- segments from a number on, each full but the last; n bounds how many
+abbrev pub timed_segments_bytes : Head → ℕ → ℕ → List Timed → List ℕ
+timed_segments_bytes head number n [] = []
+timed_segments_bytes head number zero events = []
+timed_segments_bytes head number (suc n) events =
+    timed_segment_bytes head.version number (take head.segment events)
+    ++ timed_segments_bytes head (number + 1) n (drop head.segment events)
+
+-- each event with its span
+abbrev pub timed : Spanned → List Timed
+timed s = zip s.events s.backs
+
+abbrev pub spanned_bytes : Spanned → List ℕ
+spanned_bytes s =
+    spans_header_bytes s.head ++ timed_segments_bytes s.head 0 (length s.events) (timed s)
+    ++ end_bytes (length s.events)
+
+-- a run that has a spelling: fields are within their widths, and events name no moments
+pub record IsSpelled (s : Spanned) : Type 0 where
+  pub spanned : IsSpanned s
+  pub fits : AllByRecursion FitsEvent s.events
+  pub bare : AllByRecursion IsBare s.events
+
+abbrev pub SpellsSpanned : List ℕ → Spanned → Type 0
+SpellsSpanned bytes s = IsSpelled s × (bytes ≡ spanned_bytes s)

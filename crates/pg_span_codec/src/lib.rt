@@ -1,0 +1,23 @@
+//! Records of versions 3 and 4, whose events have spans in the place of one order, as bytes.
+#![tactic(auto)]
+
+mod bare;
+mod error;
+mod fields;
+mod front;
+mod header;
+mod laws;
+mod number;
+mod peeked;
+mod reader;
+mod refusal;
+mod spelling;
+#[cfg(test)]
+mod tests;
+
+pub use error::SpannedError;
+pub use laws::{no_bytes_spell_two_runs, reading_of_spanned_spelling, spelled_where_read};
+pub use peeked::Peeked;
+pub use reader::read_spanned;
+pub use refusal::SpannedRefusal;
+pub use spelling::spell_spanned;
