@@ -1,0 +1,8 @@
+pub mod Logs
+pub mod Bare
+pub mod Reading
+pub mod Answers
+pub mod Numbers
+pub mod Runs
+pub mod Merged
+pub mod Parts
