@@ -10,6 +10,8 @@ mod machine;
 #[cfg(test)]
 mod orders;
 #[cfg(test)]
+mod refutations;
+#[cfg(test)]
 mod runs;
 #[cfg(test)]
 mod searches;

@@ -7,7 +7,7 @@ use std::alloc::{AllocGlobal, Global};
 use std::test::Fail;
 
 /// An event behind the mapping, and how many before it had not ended when it began.
-type Spanned = (Written, u32);
+pub(crate) type Spanned = (Written, u32);
 
 /// What is to be told.
 enum Told {
@@ -25,7 +25,7 @@ struct Case {
 }
 
 /// Processor 1 reads the page that was there before event 5.
-const OLD_READ: Written = Written::Access {
+pub(crate) const OLD_READ: Written = Written::Access {
     p: 1,
     flags: READ,
     la: 0x5123,
@@ -33,9 +33,9 @@ const OLD_READ: Written = Written::Access {
     at: &[0],
 };
 
-const OWN_INVLPG: Written = Written::Invlpg(1, 0x5000);
+pub(crate) const OWN_INVLPG: Written = Written::Invlpg(1, 0x5000);
 
-const REMAP: Written = Written::Write(0, 0x4028, 0xb007);
+pub(crate) const REMAP: Written = Written::Write(0, 0x4028, 0xb007);
 
 const CASES: [Case; 5] = [
     Case {
@@ -81,7 +81,8 @@ fn push(run: &mut SpannedRun, written: &Written, back: u32) -> Result<(), Fail> 
     }
 }
 
-fn run_of(alloc: Global, case: &Case) -> Result<SpannedRun, Fail> {
+/// The mapping, and these events behind it.
+pub(crate) fn run_of(alloc: Global, events: &[Spanned]) -> Result<SpannedRun, Fail> {
     let header = header_of(alloc, Version::One, 2)?;
     if !header.is_in_range() {
         return Err(Fail::from("no header"));
@@ -90,7 +91,7 @@ fn run_of(alloc: Global, case: &Case) -> Result<SpannedRun, Fail> {
     for written in MAPPED.iter() {
         push(&mut run, written, 0)?;
     }
-    for (written, back) in case.events {
+    for (written, back) in events {
         push(&mut run, written, *back)?;
     }
     Ok(run)
@@ -114,7 +115,7 @@ fn is_certified_in(alloc: Global, run: &SpannedRun, order: &[u32]) -> Result<boo
 }
 
 fn is_so(alloc: Global, case: &Case) -> Result<bool, Fail> {
-    let run = run_of(alloc, case)?;
+    let run = run_of(alloc, case.events)?;
     let certified = is_certified_in(alloc, &run, case.order)?;
     Ok(is_told(alloc, &run, &case.told)? && certified != case.order.is_empty())
 }

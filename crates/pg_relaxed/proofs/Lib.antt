@@ -1,0 +1,11 @@
+mod Same
+mod History
+mod Holding
+mod Prefixes
+mod Covering
+mod Entering
+mod Refuting
+mod Taken
+mod Listing
+mod Passing
+mod Handing

@@ -1,0 +1,178 @@
+-- An event that nothing known gives has no run in any order.
+use Rattle.std.proofs.Common.{◌≡◌, ℕ, zero, suc, ◌+◌, ◌<◌, true, List, [], ◌∷◌, ◌++◌, length, refl, ap, sym, ◌∙◌, subst, arith, inl, inr, Option, Some, None}
+use Rattle.std.specs.Prelude.{slice_get}
+use Rattle.std.specs.Option.{option_map, option_to_list}
+use Rattle.std.proofs.lemmas.Bool.{cases_eq, cases_lt, and_parts}
+use Rattle.std.proofs.lemmas.Option.{slice_get-map, slice_get_within, slice_get-get_or}
+use Rattle.pg_entry.specs.declared.Cause.{Cause}
+use Rattle.pg_entry.specs.declared.Cause.TheVariants as causes
+use Rattle.pg_entry.specs.declared.Kind.{Kind}
+use Rattle.pg_entry.specs.declared.Kind.TheVariants as kinds
+use Rattle.pg_event.specs.declared.control.Control.{Control}
+use Rattle.pg_event.specs.declared.event.Event.{Event}
+use Rattle.pg_event.specs.declared.event.Event.TheVariants.{Write, Access, Assist, MovCr3, Invlpg, Invpcid, MovCr4Pge}
+use Rattle.pg_event.specs.declared.event.Outcome.{Outcome}
+use Rattle.pg_event.specs.declared.event.Want.{Want}
+use Rattle.pg_event.specs.declared.event.Want.TheVariants as wants
+use Rattle.pg_event.specs.Form.{access_kind}
+use Rattle.pg_event.specs.Heads.{Head}
+use Rattle.pg_event.specs.Invalidation.{translation_matches}
+use Rattle.pg_event.specs.Wants.{want_of}
+use Rattle.pg_machine.specs.declared.step.Step.{Step}
+use Rattle.pg_machine.specs.declared.step.Step.TheVariants.{Fill4, Fill3, Fill2, FillLeaf, Drop, Do}
+use Rattle.pg_machine.specs.Machine.{State, HasOutcome, MayCome, Faults, RunsFrom, IsRun, visible, is_usable, entry_now}
+use Rattle.pg_run_of.specs.Converse.{without_moments, AreSameButMoments}
+use Rattle.pg_spanned.specs.Orders.{Spanned, IsOrder, ordered}
+use Rattle.pg_spanned.proofs.Orders.{order_within}
+use Rattle.pg_spanned.proofs.Places.{some_same}
+use Rattle.pg_relaxed.specs.declared.slot.Slot.{Slot}
+use Rattle.pg_relaxed.specs.declared.table.Table.{Table}
+use Rattle.pg_relaxed.specs.Caches.{Known, word_in, IsFilled, HasNoFault, CannotCome}
+use Rattle.pg_relaxed.specs.Memory.{IsOwn, MayHold}
+use Rattle.pg_relaxed.specs.Orders.{HasNoAssist}
+use Rattle.pg_relaxed.proofs.History.{state_after, count, IsAt, Came, Before, IsFront, front, front_next, not_before, own_at}
+use Rattle.pg_relaxed.proofs.Holding.{memory_holds, may_hold}
+use Rattle.pg_relaxed.proofs.Covering.{IsThere, Covers, readable}
+use Rattle.pg_relaxed.proofs.Entering.{HasEnded, own_precedes}
+
+-- what is given by a function was given something
+mapped_some : {X Y : Type 0} (f : X → Y) (o : Option X) (y : Y) → option_map f o ≡ Some y → (x : X) × (o ≡ Some x) × (f x ≡ y)
+mapped_some f None y h = absurd (cc)
+mapped_some f (Some x) y h = (x, refl, cc)
+
+there_is : (events : List Event) (i : ℕ) → i < length events → (e : Event) × (slice_get events i ≡ Some e)
+there_is [] i lt = absurd (omega (arith, lt))
+there_is (e ∷ es) zero lt = (e, refl)
+there_is (e ∷ es) (suc i) lt = there_is es i (omega (arith, lt))
+
+-- the events in an order, by its places
+one_more : (events : List Event) (i : ℕ) (order : List ℕ) (e : Event) → slice_get events i ≡ Some e → ordered events (i ∷ order) ≡ e ∷ ordered events order
+one_more events i order e there = ap (λ o. option_to_list o ++ ordered events order) there
+
+ordered_at : (events : List Event) (order : List ℕ) → ((k i : ℕ) → slice_get order k ≡ Some i → i < length events) → (k i : ℕ) (e : Event) →
+    slice_get order k ≡ Some i → slice_get events i ≡ Some e → slice_get (ordered events order) k ≡ Some e
+ordered_at events [] low k i e place there = absurd (cc)
+ordered_at events (j ∷ order) low zero i e place there =
+    let same : j ≡ i = cc in
+    ap (λ es. slice_get es 0) (one_more events j order e (ap (slice_get events) same ∙ there))
+ordered_at events (j ∷ order) low (suc k) i e place there =
+    let first = there_is events j (low 0 j refl) in
+    ap (λ es. slice_get es (suc k)) (one_more events j order first.0 first.1) ∙ ordered_at events order (λ a b h. low (suc a) b h) k i e place there
+
+ordered_from : (events : List Event) (order : List ℕ) → ((k i : ℕ) → slice_get order k ≡ Some i → i < length events) → (k : ℕ) (e : Event) →
+    slice_get (ordered events order) k ≡ Some e → (i : ℕ) × (slice_get order k ≡ Some i) × (slice_get events i ≡ Some e)
+ordered_from events [] low k e h = absurd (cc)
+ordered_from events (j ∷ order) low zero e h =
+    let first = there_is events j (low 0 j refl) in
+    (j, refl, first.1 ∙ (sym (ap (λ es. slice_get es 0) (one_more events j order first.0 first.1)) ∙ h))
+ordered_from events (j ∷ order) low (suc k) e h =
+    let first = there_is events j (low 0 j refl) in
+    ordered_from events order (λ a b g. low (suc a) b g) k e (sym (ap (λ es. slice_get es (suc k)) (one_more events j order first.0 first.1)) ∙ h)
+
+-- an event may come whatever its moments
+may_bare : (head : Head) (st : State) (e : Event) → MayCome head st e → MayCome head st (without_moments e)
+may_bare head st (Write p addr value) h = h
+may_bare head st (Access p flags la outcome ws) h = h
+may_bare head st (Assist p flags la word ws) h = h
+may_bare head st (MovCr3 p operand) h = h
+may_bare head st (Invlpg p la) h = h
+may_bare head st (Invpcid p kind pcid la) h = h
+may_bare head st (MovCr4Pge p on) h = h
+
+module _ (s : Spanned) (slot : Slot) (la ended flags : ℕ) (outcome : Outcome) (ws : List ℕ) (k : Known) (at_event : Slot) (none : HasNoAssist s.events)
+    (there : slice_get s.events slot.next ≡ Some (Access slot.p flags la outcome ws)) (filled : IsFilled s slot la k) (covers : Covers s slot.p la slot.next slot.ended k)
+    (same_p : at_event.p ≡ slot.p) (same_next : at_event.next ≡ slot.next) (more : HasEnded s slot.next slot.ended at_event.ended)
+    (cannot : CannotCome s at_event la k (access_kind flags) outcome (want_of outcome)) (order : List ℕ) (is : IsOrder s order) where
+  own : IsOwn s.events slot.p slot.next
+  own = own_at s.events slot.p slot.next (Access slot.p flags la outcome ws) there refl
+
+  within : slot.next < length s.events
+  within = slice_get_within s.events slot.next (Access slot.p flags la outcome ws) there
+
+  here_front : (w : ℕ) → slice_get order w ≡ Some slot.next → IsFront s slot.p order w slot.next
+  here_front w place = record {
+    below = λ j mine b. elim (cases_lt j slot.next) [
+      | inl lt ↦ lt
+      | inr high ↦ absurd (not_before s order is w slot.next place (elim (cases_eq j slot.next) [
+        | inl e ↦ subst (Before order w) e b
+        | inr ne ↦
+            let lt : slot.next < j = omega (arith, high, ne) in
+            let j_in : j < length s.events = order_within s order is b.0 j b.2 in
+            front s order is w slot.next j b (own_precedes s slot.p slot.next j lt j_in own mine)
+      ]))
+    ];
+    come = λ j mine lt. front_next s order is w j slot.next place (own_precedes s slot.p j slot.next lt within mine own);
+  }
+
+  holds_at : (past : List Step) → Came s order past → slice_get order (count past) ≡ Some slot.next → IsThere s slot.p la order past slot.ended k → (a : ℕ) →
+      MayHold s at_event a ((state_after s.head past).memory a)
+  holds_at past came place t a =
+      may_hold s order is at_event (count past) a _
+      (subst (λ q. IsOwn s.events q at_event.next) (sym same_p) (subst (IsOwn s.events slot.p) (sym same_next) own))
+      (subst (λ q. IsFront s q order (count past) at_event.next) (sym same_p) (subst (IsFront s slot.p order (count past)) (sym same_next) (here_front (count past) place)))
+      (λ j lt. elim (more j lt) [ inl low ↦ t.come j low | inr must ↦ front_next s order is (count past) j slot.next place must ])
+      (memory_holds s order is none past came a)
+
+  no_fault : (past : List Step) → Came s order past → slice_get order (count past) ≡ Some slot.next → (kind : Kind) (cause : Cause) →
+      HasNoFault s at_event la k (access_kind flags) outcome kind cause → Faults s.head (state_after s.head past) slot.p la kind cause (access_kind flags) outcome → ⊥
+  no_fault past came place kind cause free f =
+      let st : State = state_after s.head past in
+      let t : IsThere s slot.p la order past slot.ended k = covers order past is came (here_front (count past) place) in
+      let x : Table = record { level = f.0; pcid = (st.control slot.p).pcid; from = f.1 } in
+      free x (entry_now st la f.0 f.1) (readable s slot la k filled st t.known f.0 la f.1 refl f.2) (ap (λ (c : Control). c.pcid) t.known.control)
+      (holds_at past came place t (word_in la x)) f.3 f.4
+
+  no_outcome : (past : List Step) → Came s order past → slice_get order (count past) ≡ Some slot.next → (want : Want) →
+      CannotCome s at_event la k (access_kind flags) outcome want → HasOutcome s.head (state_after s.head past) slot.p la (access_kind flags) outcome want → ⊥
+  no_outcome past came place wants.Leaf cannot h =
+      let st : State = state_after s.head past in
+      let t : IsThere s slot.p la order past slot.ended k = covers order past is came (here_front (count past) place) in
+      let usable : is_usable k.control la h.0 ≡ true = ap (λ c. is_usable c la h.0) (sym t.known.control) ∙ h.2 in
+      let parts = and_parts (translation_matches h.0.key la) _ usable in
+      cannot h.0 (t.known.translations h.0 h.1 parts.0) usable h.3
+  no_outcome past came place wants.Absent cannot h = no_fault past came place kinds.Absent causes.Absent cannot h
+  no_outcome past came place wants.Reserved cannot h = no_fault past came place kinds.Reserved causes.Reserved cannot h
+  no_outcome past came place wants.Present cannot h = h
+
+  no_event : (past : List Step) → Came s order past → (e : Event) → IsAt s order (count past) e → slice_get order (count past) ≡ Some slot.next →
+      MayCome s.head (state_after s.head past) e → ⊥
+  no_event past came e at place may =
+      let number : at.number ≡ slot.next = some_same at.number slot.next (sym at.place ∙ place) in
+      let this : Some at.event ≡ Some (Access slot.p flags la outcome ws) = sym at.there ∙ (ap (slice_get s.events) number ∙ there) in
+      let event : at.event ≡ Access slot.p flags la outcome ws = cc in
+      let bare : without_moments e ≡ Access slot.p flags la outcome [] = at.same ∙ ap without_moments event in
+      no_outcome past came place (want_of outcome) cannot
+      (subst (λ x. MayCome s.head (state_after s.head past) x) bare (may_bare s.head (state_after s.head past) e may))
+
+  goes : (steps past : List Step) → Came s order past → RunsFrom s.head (state_after s.head past) steps → ((n : ℕ) (e : Event) → slice_get (visible steps) n ≡ Some e → IsAt s order (count past + n) e) →
+      (n : ℕ) → slice_get order (count past + n) ≡ Some slot.next → (e : Event) → slice_get (visible steps) n ≡ Some e → ⊥
+  goes [] past came run each n place e at = absurd (cc)
+  goes (Fill4 q b ∷ steps) past came run each n place e at = goes steps (Fill4 q b ∷ past) (came, run.0) run.1 each n place e at
+  goes (Fill3 q b from ∷ steps) past came run each n place e at = goes steps (Fill3 q b from ∷ past) (came, run.0) run.1 each n place e at
+  goes (Fill2 q b from ∷ steps) past came run each n place e at = goes steps (Fill2 q b from ∷ past) (came, run.0) run.1 each n place e at
+  goes (FillLeaf q b level from ∷ steps) past came run each n place e at = goes steps (FillLeaf q b level from ∷ past) (came, run.0) run.1 each n place e at
+  goes (Drop q member ∷ steps) past came run each n place e at = goes steps (Drop q member ∷ past) (came, run.0) run.1 each n place e at
+  goes (Do x ∷ steps) past came run each zero place e at =
+      let here : count past + 0 ≡ count past = omega arith in
+      no_event past came x (subst (λ w. IsAt s order w x) here (each 0 x refl)) (subst (λ w. slice_get order w ≡ Some slot.next) here place) run.0.1
+  goes (Do x ∷ steps) past came run each (suc n) place e at =
+      let here : count past + 0 ≡ count past = omega arith in
+      let next : (m : ℕ) → count past + suc m ≡ suc (count past) + m = λ m. omega arith in
+      goes steps (Do x ∷ past) (came, subst (λ w. IsAt s order w x) here (each 0 x refl)) run.1
+      (λ m y there. subst (λ w. IsAt s order w y) (next m) (each (suc m) y there)) n (subst (λ w. slice_get order w ≡ Some slot.next) (next n) place) e at
+
+  pub no_run : (steps : List Step) → IsRun s.head steps → AreSameButMoments (ordered s.events order) (visible steps) → ⊥
+  no_run steps run same =
+      let low : (a b : ℕ) → slice_get order a ≡ Some b → b < length s.events = λ a b h. order_within s order is a b h in
+      let found = is.each slot.next within in
+      let place : slice_get order found.0 ≡ Some slot.next = slice_get-get_or order found.0 slot.next found.1 ∙ ap Some found.2 in
+      let mine : slice_get (ordered s.events order) found.0 ≡ Some (Access slot.p flags la outcome ws) = ordered_at s.events order low found.0 slot.next _ place there in
+      let seen : (n : ℕ) → option_map without_moments (slice_get (ordered s.events order) n) ≡ option_map without_moments (slice_get (visible steps) n) =
+      λ n. sym (slice_get-map without_moments (ordered s.events order) n) ∙ (ap (λ (xs : List Event). slice_get xs n) same ∙ slice_get-map without_moments (visible steps) n) in
+      let theirs = mapped_some without_moments (slice_get (visible steps) found.0) _ (sym (seen found.0) ∙ ap (option_map without_moments) mine) in
+      let zero_first : (n : ℕ) → n ≡ 0 + n = λ n. omega arith in
+      goes steps [] tt run (λ n e h.
+      let ours = mapped_some without_moments (slice_get (ordered s.events order) n) (without_moments e) (seen n ∙ ap (option_map without_moments) h) in
+      let from = ordered_from s.events order low n ours.0 ours.1 in
+      subst (λ w. IsAt s order w e) (zero_first n) (record { number = from.0; event = ours.0; place = from.1; there = from.2; same = sym ours.2 }))
+      found.0 (subst (λ w. slice_get order w ≡ Some slot.next) (zero_first found.0) place) theirs.0 theirs.1

@@ -1,0 +1,62 @@
+use Rattle.std.proofs.Common.{◌≡◌, ℕ, ◌+◌, ◌∷◌, [], ◌++◌, List, length, take, get_or, refl, sym, ap, subst, ◌∙◌, inl, inr, Vec, Global}
+use Rattle.pg_machine.specs.Machine.{IsIn}
+use Rattle.pg_event.specs.declared.event.Event.{Event}
+use Rattle.pg_spanned.specs.Orders.{Spanned}
+use Rattle.pg_relaxed.specs.declared.slot.Slot.{Slot}
+use Rattle.pg_relaxed.specs.declared.words.Written.{Written}
+use Rattle.pg_relaxed.specs.Words.{AreWritesTo, AreBelow}
+use Rattle.pg_relaxed.proofs.Listing.{IsSeen, are_below, held_value, seen_still}
+use Rattle.pg_relaxed.proofs.Taken.{in_get, in_right, one_more_get, take_all}
+use Rattle.pg_relaxed.proofs.words.put_values.Goals as goal
+use Rattle.pg_relaxed.proofs.words.put_values.Goals.{then-may_be_last+in_ok-push, else-may_be_last}
+
+below : (events : List Event) (a : ℕ) (items writes : List Written) → writes ≡ items → AreWritesTo events a items → AreBelow (length events) writes
+below events a items writes is are = subst (AreBelow (length events)) (sym is) (are_below events a items are)
+
+pub may_be_last-requires : goal.may_be_last-requires
+may_be_last-requires c =
+    let writes : List Written = c.as_slice-writes.result.now in
+    let all : AreBelow (length c.args.run.now.events) writes = below c.args.run.now.events c.args.word.now.address c.args.word.now.writes.items writes c.as_slice-writes.ensures.value c.requires in
+    record { within = all _ (in_get writes c.loop-written.written-index (record { number = 0; value = 0 }) c.loop-written-test.true); writes = all }
+
+pub loop-written-preserved : goal.loop-written-preserved
+loop-written-preserved c =
+    let writes : List Written = c.as_slice-writes.result.now in
+    let n : ℕ = c.loop-written.written-index in
+    let s : Spanned = c.args.run.now in
+    let slot : Slot = c.args.slot in
+    let old : List ℕ = c.loop-written.values.items in
+    let w0 : Written = get_or writes n (record { number = 0; value = 0 }) in
+    elim c.if-may_be_last.branch [
+      | then-may_be_last+in_ok-push w ↦
+          let items : c.if-may_be_last.values.items ≡ old ++ w0.value ∷ [] = ap (λ (v : Vec ℕ Global). v.items) w.values-is ∙ w.in_ok-push.ensures.items in
+          subst (λ vs. (x : Written) → IsIn x (take (n + 1) writes) → IsSeen s slot writes vs x) (sym items)
+          (one_more_get (IsSeen s slot writes (old ++ w0.value ∷ [])) writes n (record { number = 0; value = 0 }) c.loop-written-test.true
+          (λ x h. seen_still s slot writes old (w0.value ∷ []) x (c.loop-written.invariant x h)) (inr (inr (in_right w0.value old (w0.value ∷ []) (inl refl)))))
+      | else-may_be_last w ↦
+          let items : c.if-may_be_last.values.items ≡ old = ap (λ (v : Vec ℕ Global). v.items) w.values-is in
+          subst (λ vs. (x : Written) → IsIn x (take (n + 1) writes) → IsSeen s slot writes vs x) (sym items)
+          (one_more_get (IsSeen s slot writes old) writes n (record { number = 0; value = 0 }) c.loop-written-test.true c.loop-written.invariant
+          (elim (c.may_be_last.ensures w.if-may_be_last.false) [ inl a ↦ inl a | inr b ↦ inr (inl b) ]))
+    ]
+
+pub returns-in_ok-push-2 : goal.returns-in_ok-push-2
+returns-in_ok-push-2 c =
+    let writes : List Written = c.as_slice-writes.result.now in
+    let s : Spanned = c.args.run.now in
+    let old : List ℕ = c.loop-written.values.items in
+    let are : AreWritesTo s.events c.args.word.now.address writes = subst (AreWritesTo s.events c.args.word.now.address) (sym c.as_slice-writes.ensures.value) c.requires in
+    let whole : take c.loop-written.written-index writes ≡ writes = take_all writes c.loop-written.written-index c.loop-written-test.false in
+    λ value may. subst (IsIn value) (sym c.in_ok-push-2.ensures.items)
+    (held_value s c.args.slot c.args.word.now.address writes (old ++ 0 ∷ []) are
+    (λ w h. seen_still s c.args.slot writes old (0 ∷ []) w (c.loop-written.invariant w (subst (IsIn w) (sym whole) h)))
+    (inr (in_right 0 old (0 ∷ []) (inl refl))) value may)
+
+pub returns-else-not-is_written : goal.returns-else-not-is_written
+returns-else-not-is_written c =
+    let writes : List Written = c.as_slice-writes.result.now in
+    let s : Spanned = c.args.run.now in
+    let are : AreWritesTo s.events c.args.word.now.address writes = subst (AreWritesTo s.events c.args.word.now.address) (sym c.as_slice-writes.ensures.value) c.requires in
+    let whole : take c.loop-written.written-index writes ≡ writes = take_all writes c.loop-written.written-index c.loop-written-test.false in
+    held_value s c.args.slot c.args.word.now.address writes c.loop-written.values.items are
+    (λ w h. c.loop-written.invariant w (subst (IsIn w) (sym whole) h)) (inl (c.is_written.ensures c.if-not-is_written.false))

@@ -1,0 +1,4 @@
+pub mod Orders
+pub mod Memory
+pub mod Caches
+pub mod Words

@@ -1,0 +1,42 @@
+-- What a word may hold while a processor stands between two of its events, in whichever order.
+use Rattle.std.specs.Prelude.{◌≡◌, ℕ, ◌<◌, ◌⊎◌, List, Some, slice_get}
+use Rattle.std.specs.Option.{option_map}
+use Rattle.pg_event.specs.declared.event.Event.{Event}
+use Rattle.pg_event.specs.declared.event.Event.TheVariants.{Write}
+use Rattle.pg_event.specs.Form.{processor_of}
+use Rattle.pg_spanned.specs.Orders.{Spanned, MustPrecede}
+use Rattle.pg_relaxed.specs.declared.slot.Slot.{Slot}
+
+-- event j writes the value to the word
+abbrev pub Writes : List Event → ℕ → ℕ → ℕ → Type 0
+Writes events a v j = (q : ℕ) × (slice_get events j ≡ Some (Write q a v))
+
+-- event j writes to the word
+abbrev pub WritesTo : List Event → ℕ → ℕ → Type 0
+WritesTo events a j = (v : ℕ) × Writes events a v j
+
+-- event j is of processor p
+abbrev pub IsOwn : List Event → ℕ → ℕ → Type 0
+IsOwn events p j = option_map processor_of (slice_get events j) ≡ Some p
+
+-- event j has come before the slot in every order
+abbrev pub IsPast : Spanned → Slot → ℕ → Type 0
+IsPast s slot j = (j < slot.ended) ⊎ ((j < slot.next) × IsOwn s.events slot.p j)
+
+-- event j comes after the slot in every order
+abbrev pub IsToCome : Spanned → Slot → ℕ → Type 0
+IsToCome s slot j = (j ≡ slot.next) ⊎ MustPrecede s slot.next j
+
+-- a write that may have come, and no write that has come must follow it
+pub record MayBeLast (s : Spanned) (slot : Slot) (a v j : ℕ) : Type 0 where
+  pub writes : Writes s.events a v j
+  pub came : IsToCome s slot j → ⊥
+  pub last : (i : ℕ) → WritesTo s.events a i → IsPast s slot i → MustPrecede s j i → ⊥
+
+-- the word may be unwritten: no write to it has come
+abbrev pub MayBeUnwritten : Spanned → Slot → ℕ → Type 0
+MayBeUnwritten s slot a = (i : ℕ) → WritesTo s.events a i → IsPast s slot i → ⊥
+
+-- the word may hold the value in the slot
+abbrev pub MayHold : Spanned → Slot → ℕ → ℕ → Type 0
+MayHold s slot a v = ((j : ℕ) × MayBeLast s slot a v j) ⊎ ((v ≡ 0) × MayBeUnwritten s slot a)

@@ -1,0 +1,286 @@
+//! Whether no order of the events of a run can witness one of them.
+
+ghost use Rattle.std.specs.Prelude.{◌≡◌, ℕ, ◌<◌, ◌≤◌, ◌^◌, length, IfOk, OnOk, IsTrue, IsFalse};
+ghost use Rattle.std.specs.Prelude.{slice_get, true};
+ghost use Rattle.pg_entry.specs.Kinds.{kind_of};
+ghost use Rattle.pg_event.specs.Form.{access_kind};
+ghost use Rattle.pg_event.specs.Values.{started};
+ghost use Rattle.pg_event.specs.Wants.{want_of};
+ghost use Rattle.pg_machine.specs.Machine.{Answers, IsIn, is_usable};
+ghost use Rattle.pg_relaxed.specs.Caches.{CannotCome, HasNoFault, HasNoAnswer, known_of, kind_for};
+ghost use Rattle.pg_relaxed.specs.Caches.{word_in};
+ghost use Rattle.pg_relaxed.specs.Memory.{MayHold};
+ghost use Rattle.pg_relaxed.specs.Orders.{HasNoAssist, HasRunInSomeOrder, IsAccess};
+ghost use Rattle.pg_relaxed.specs.Words.{AreWordsOf};
+
+use crate::caches::Caches;
+use crate::precede::ended_before;
+use crate::slot::Slot;
+use crate::table::Table;
+use crate::words::Words;
+use pg_entry::{AccessKind, Cause, Entry, Kind, allowed, classify, error_code, page_offset};
+use pg_event::{
+    Control, Event, Header, Outcome, Version, Want, access_kind, entry_address, loaded,
+    processor_of, translation_matches, want_of,
+};
+use pg_machine::Translation;
+use pg_spanned::SpannedRun;
+use std::alloc::{AllocError, Global};
+
+/// The access that an event is.
+#[derive(Clone, Copy)]
+struct Asked {
+    number: u32,
+    p: u16,
+    flags: u8,
+    la: u64,
+    outcome: Outcome,
+}
+
+/// The control registers of a processor at the start.
+fn started(header: &Header, p: u16) -> Control
+    requires width { (36 ≤ header.now.cfg.m) × (header.now.cfg.m ≤ 52) }
+    ensures value { result
+        ≡ started header.now.cfg.m (slice_get header.now.processors p) }
+    ensures within { result.root < 2 ^ 52 }
+{
+    if (p as usize) < header.processors.len() {
+        let start = header.processors[p as usize];
+        loaded(header.cfg.m, start.0, start.1)
+    } else {
+        Control {
+            root: 0,
+            pcid: 0,
+            pge: false,
+        }
+    }
+}
+
+/// Whether a translation may be used for an access and gives it this outcome.
+fn gives(
+    header: &Header,
+    control: Control,
+    la: u64,
+    access: AccessKind,
+    outcome: Outcome,
+    translation: &Translation,
+) -> bool
+    requires size { translation.now.key.shift ≤ 30 }
+    requires within { translation.now.frame < 2 ^ 52 }
+    ensures { IsFalse result → is_usable control la translation.now ≡ true →
+        Answers header.now access la translation.now outcome → ⊥ }
+{
+    let key = translation.key;
+    if !translation_matches(key, la) {
+        return false;
+    }
+    if control.pcid != key.pcid && !key.global {
+        return false;
+    }
+    let is_allowed = allowed(header.cfg, translation.rights, access);
+    match outcome {
+        Outcome::Page(page) => {
+            is_allowed && page == translation.frame + page_offset(la, key.shift)
+        }
+        Outcome::Fault(code) => !is_allowed
+            && code == error_code(header.cfg, access, Cause::Denied),
+    }
+}
+
+/// Whether no translation gives an access its outcome.
+fn has_no_answer(header: &Header, caches: &Caches, asked: Asked) -> bool
+    ensures { IsTrue result → HasNoAnswer header.now asked.la (known_of caches.now)
+        (access_kind asked.flags) asked.outcome }
+{
+    let access = access_kind(asked.flags);
+    for held in &caches.translations {
+        if gives(
+            header,
+            caches.control,
+            asked.la,
+            access,
+            asked.outcome,
+            &held.get(),
+        ) {
+            return false;
+        }
+    }
+    true
+}
+
+/// Whether an entry of this kind makes an access fault by this cause.
+fn is_cause(kind: Kind, cause: Cause) -> bool
+    ensures { IsFalse result → kind ≡ kind_for cause → ⊥ }
+{
+    match kind {
+        Kind::Absent => matches!(cause, Cause::Absent | Cause::Denied),
+        Kind::Reserved => matches!(cause, Cause::Reserved),
+        Kind::Table { .. } | Kind::Leaf { .. } => false,
+    }
+}
+
+/// Whether none of these entries, which may stand in a table, makes an access fault by this cause.
+fn none_faults(header: &Header, table: Table, entries: &[u64], cause: Cause) -> bool
+    requires width { (36 ≤ header.now.cfg.m) × (header.now.cfg.m ≤ 52) }
+    ensures { IsTrue result → (entry : ℕ) → IsIn entry entries.now →
+        kind_of header.now.cfg table.level entry ≡ kind_for cause → ⊥ }
+{
+    for entry in entries {
+        if is_cause(classify(header.cfg, table.level, Entry(*entry)), cause) {
+            return false;
+        }
+    }
+    true
+}
+
+/// Whether no entry that a table may have in a slot makes an access fault by this cause.
+fn table_faults_not(
+    alloc: Global,
+    run: &SpannedRun,
+    words: &mut Words,
+    slot: Slot,
+    la: u64,
+    table: Table,
+    cause: Cause,
+) -> Result<bool, AllocError>
+    requires within { table.from.table < 2 ^ 52 }
+    requires words { AreWordsOf run.now.events words.old.words.items }
+    ensures words { OnOk result (AreWordsOf run.now.events words.new.words.items) }
+    ensures none { IfOk result (λ none. IsTrue none → (entry : ℕ) →
+        MayHold run.now slot (word_in la table) entry →
+        kind_of run.now.head.cfg table.level entry ≡ kind_for cause → ⊥) }
+{
+    let address = entry_address(table.from.table, table.level, la);
+    if !words.look(alloc, run, slot, address)? {
+        return Ok(false);
+    }
+    Ok(none_faults(run.header(), table, words.values.as_slice(), cause))
+}
+
+/// Whether no table that is known makes an access fault by this cause.
+fn has_no_fault(
+    alloc: Global,
+    run: &SpannedRun,
+    words: &mut Words,
+    caches: &Caches,
+    slot: Slot,
+    asked: Asked,
+    cause: Cause,
+) -> Result<bool, AllocError>
+    requires words { AreWordsOf run.now.events words.old.words.items }
+    ensures { IfOk result (λ none. IsTrue none → HasNoFault run.now slot asked.la
+        (known_of caches.now) (access_kind asked.flags) asked.outcome (kind_for cause) cause) }
+{
+    for held in &caches.tables {
+        let table = held.get();
+        if table.pcid == caches.control.pcid
+            && !table_faults_not(alloc, run, words, slot, asked.la, table, cause)?
+        {
+            return Ok(false);
+        }
+    }
+    Ok(true)
+}
+
+/// Whether nothing that is known gives an access its outcome.
+fn cannot_come(
+    alloc: Global,
+    run: &SpannedRun,
+    words: &mut Words,
+    caches: &Caches,
+    slot: Slot,
+    asked: Asked,
+) -> Result<bool, AllocError>
+    requires words { AreWordsOf run.now.events words.old.words.items }
+    ensures { IfOk result (λ cannot. IsTrue cannot → CannotCome run.now slot asked.la
+        (known_of caches.now) (access_kind asked.flags) asked.outcome (want_of asked.outcome)) }
+{
+    match want_of(asked.outcome) {
+        Want::Leaf => Ok(has_no_answer(run.header(), caches, asked)),
+        Want::Absent => has_no_fault(alloc, run, words, caches, slot, asked, Cause::Absent),
+        Want::Reserved => has_no_fault(alloc, run, words, caches, slot, asked, Cause::Reserved),
+        Want::Present => Ok(false),
+    }
+}
+
+/// Whether no order of a run with no assist can witness an access.
+fn refute_access(alloc: Global, run: &SpannedRun, asked: Asked) -> Result<bool, AllocError>
+    requires there { IsAccess run.now.events asked.number asked.p asked.flags asked.la
+        asked.outcome }
+    requires count { asked.number < length run.now.events }
+    requires assists { HasNoAssist run.now.events }
+    ensures { IfOk result (λ refuted. IsTrue refuted → HasRunInSomeOrder run.now → ⊥) }
+{
+    let Asked { number, p, la, .. } = asked;
+    let header = run.header();
+    let events = run.events();
+    let mut words = Words::new(alloc);
+    let mut caches = Caches::new(alloc, started(header, p));
+    let mut ended = 0;
+    for next in 0..number {
+        let event = &events[next as usize];
+        if processor_of(event) == p {
+            if !caches.fill(alloc, run, &mut words, Slot { p, next, ended }, la)? {
+                return Ok(false);
+            }
+            caches.pass(header.cfg.m, la, event);
+            ended = ended.max(ended_before(run, next));
+        }
+    }
+    let slot = Slot {
+        p,
+        next: number,
+        ended,
+    };
+    if !caches.fill(alloc, run, &mut words, slot, la)? {
+        return Ok(false);
+    }
+    let at_event = Slot {
+        p,
+        next: number,
+        ended: ended.max(ended_before(run, number)),
+    };
+    cannot_come(alloc, run, &mut words, &caches, at_event, asked)
+}
+
+/// Whether no order of a run has a run of the machine, since none can witness this event. A no says
+/// nothing: neither does the answer for an event that is no access, for records of version 2, and
+/// where too much would have to be looked at.
+///
+/// It fails only where memory is refused. It takes time by the events of the processor before the
+/// event, and by the writes to the words that walks for its address read.
+pub fn refute(alloc: Global, run: &SpannedRun, number: u32) -> Result<bool, AllocError>
+    ensures { IfOk result (λ refuted. IsTrue refuted → HasRunInSomeOrder run.now → ⊥) }
+{
+    match run.header().version {
+        Version::One => {}
+        Version::Two => return Ok(false),
+    }
+    if number as usize >= run.len() {
+        return Ok(false);
+    }
+    match run.events()[number as usize] {
+        Event::Access {
+            p,
+            flags,
+            la,
+            outcome,
+            ..
+        } => {
+            let asked = Asked {
+                number,
+                p,
+                flags,
+                la,
+                outcome,
+            };
+            refute_access(alloc, run, asked)
+        }
+        Event::Write { .. }
+        | Event::Assist { .. }
+        | Event::MovCr3 { .. }
+        | Event::Invlpg { .. }
+        | Event::Invpcid { .. }
+        | Event::MovCr4Pge { .. } => Ok(false),
+    }
+}

@@ -1,0 +1,205 @@
+//! What words may hold in a slot.
+
+ghost use Rattle.std.specs.Prelude.{◌≡◌, ℕ, ◌+◌, ◌<◌, ◌≤◌, ◌^◌, length, IfOk, OnOk, IsTrue, IsFalse, [], ◌⊎◌};
+ghost use Rattle.std.specs.Prelude.{IfSome, IfNone};
+ghost use Rattle.pg_machine.specs.Machine.{IsIn};
+ghost use Rattle.pg_relaxed.specs.Memory.{MayHold, IsToCome};
+ghost use Rattle.pg_relaxed.specs.Words.{AreWritesTo, AreWordsOf, IsOverwritten, IsWritten};
+ghost use Rattle.pg_relaxed.specs.Words.{WritesValue, AreBelow, IsPlaceOf};
+
+use crate::precede::must_precede;
+use crate::slot::{Slot, is_past, is_to_come};
+use pg_event::Event;
+use pg_spanned::SpannedRun;
+use std::alloc::{AllocError, Global};
+
+/// So many writes are looked at.
+const MOST_LOOKS: u64 = 100_000_000;
+
+/// A write to a word: the number of its event.
+#[derive(Clone, Copy)]
+pub(crate) struct Written {
+    pub number: u32,
+    pub value: u64,
+}
+
+/// All writes to a word, as they ended.
+#[derive(Drop)]
+pub(crate) struct Word {
+    pub address: u64,
+    pub writes: Vec<Written>,
+}
+
+/// The words that were looked at, and what the last of them may hold.
+#[derive(Drop)]
+pub(crate) struct Words {
+    pub words: Vec<Word>,
+    pub values: Vec<u64>,
+    pub left: u64,
+}
+
+/// The value that an event writes to a word.
+fn value_written(event: &Event, address: u64) -> Option<u64>
+    ensures some { IfSome result (λ value. WritesValue address value event.now) }
+    ensures none { IfNone result ((value : ℕ) → WritesValue address value event.now → ⊥) }
+{
+    match *event {
+        Event::Write { addr, value, .. } => { if addr == address { Some(value) } else { None } }
+        Event::Access { .. }
+        | Event::Assist { .. }
+        | Event::MovCr3 { .. }
+        | Event::Invlpg { .. }
+        | Event::Invpcid { .. }
+        | Event::MovCr4Pge { .. } => None,
+    }
+}
+
+/// The writes to a word.
+fn writes_to(alloc: Global, events: &[Event], address: u64) -> Result<Vec<Written>, AllocError>
+    requires { length events.now < 2 ^ 32 }
+    ensures { IfOk result (λ writes. AreWritesTo events.now address writes.items) }
+{
+    let mut writes = Vec::new(alloc);
+    for (number, event) in events.iter().enumerate() {
+        if let Some(value) = value_written(event, address) {
+            writes.push(Written {
+                number: number as u32,
+                value,
+            })?;
+        }
+    }
+    Ok(writes)
+}
+
+/// Whether one of these writes must follow event j and has come.
+fn is_overwritten(run: &SpannedRun, slot: Slot, writes: &[Written], j: u32) -> bool
+    requires { AreBelow (length run.now.events) writes.now }
+    ensures { IsTrue result → IsOverwritten run.now slot writes.now j }
+{
+    for written in writes {
+        if is_past(run, slot, written.number) && must_precede(run, j, written.number) {
+            return true;
+        }
+    }
+    false
+}
+
+/// Whether one of these writes has come.
+fn is_written(run: &SpannedRun, slot: Slot, writes: &[Written]) -> bool
+    ensures { IsTrue result → IsWritten run.now slot writes.now }
+{
+    for written in writes {
+        if is_past(run, slot, written.number) {
+            return true;
+        }
+    }
+    false
+}
+
+/// Whether a write may be the last to its word in a slot. Not where it comes later, or another must
+/// follow it and has come.
+fn may_be_last(run: &SpannedRun, slot: Slot, writes: &[Written], written: Written) -> bool
+    requires within { written.number < length run.now.events }
+    requires writes { AreBelow (length run.now.events) writes.now }
+    ensures { IsFalse result → IsToCome run.now slot written.number
+        ⊎ IsOverwritten run.now slot writes.now written.number }
+{
+    if is_to_come(run, slot, written.number) {
+        return false;
+    }
+    !is_overwritten(run, slot, writes, written.number)
+}
+
+/// The values that a word may hold in a slot, put into a list.
+fn put_values(
+    run: &SpannedRun,
+    slot: Slot,
+    word: &Word,
+    values: &mut Vec<u64>,
+) -> Result<(), AllocError>
+    requires { AreWritesTo run.now.events word.now.address word.now.writes.items }
+    ensures { OnOk result ((value : ℕ) → MayHold run.now slot word.now.address value →
+        IsIn value values.new.items) }
+{
+    let writes = word.writes.as_slice();
+    for written in writes {
+        if may_be_last(run, slot, writes, *written) {
+            values.push(written.value)?;
+        }
+    }
+    if !is_written(run, slot, writes) {
+        values.push(0)?;
+    }
+    Ok(())
+}
+
+/// The place of a word, if it is there.
+fn find_place(words: &[Word], address: u64) -> Option<usize>
+    ensures { IfSome result (λ place. IsPlaceOf words.now place address) }
+{
+    for (place, word) in words.iter().enumerate() {
+        if word.address == address {
+            return Some(place);
+        }
+    }
+    None
+}
+
+impl Words {
+    pub(crate) fn new(alloc: Global) -> Words
+        ensures { result.words.items ≡ [] }
+    {
+        Words {
+            words: Vec::new(alloc),
+            values: Vec::new(alloc),
+            left: MOST_LOOKS,
+        }
+    }
+
+    /// The place of a word among those that were looked at, with its writes if it is new.
+    fn place_of(
+        &mut self,
+        alloc: Global,
+        events: &[Event],
+        address: u64,
+    ) -> Result<usize, AllocError>
+        requires count { length events.now < 2 ^ 32 }
+        requires words { AreWordsOf events.now self.old.words.items }
+        ensures { IfOk result (λ place. AreWordsOf events.now self.new.words.items
+            × IsPlaceOf self.new.words.items place address) }
+    {
+        if let Some(place) = find_place(&self.words, address) {
+            return Ok(place);
+        }
+        let place = self.words.len();
+        let writes = writes_to(alloc, events, address)?;
+        self.words.push(Word { address, writes })?;
+        Ok(place)
+    }
+
+    /// Puts the values that a word may hold in a slot into `values`. Says no where too much was
+    /// looked at, and then they are not all there.
+    pub(crate) fn look(
+        &mut self,
+        alloc: Global,
+        run: &SpannedRun,
+        slot: Slot,
+        address: u64,
+    ) -> Result<bool, AllocError>
+        requires { AreWordsOf run.now.events self.old.words.items }
+        ensures words { OnOk result (AreWordsOf run.now.events self.new.words.items) }
+        ensures values { IfOk result (λ whole. IsTrue whole → (value : ℕ) →
+            MayHold run.now slot address value → IsIn value self.new.values.items) }
+    {
+        let place = self.place_of(alloc, run.events(), address)?;
+        self.values.clear();
+        let word = &self.words[place];
+        let looks = word.writes.len() as u64 + 1;
+        if self.left < looks {
+            return Ok(false);
+        }
+        self.left -= looks;
+        put_values(run, slot, word, &mut self.values)?;
+        Ok(true)
+    }
+}
