@@ -185,7 +185,8 @@ fn answer_other<O: Sink, E: Sink>(
 {
     match asked {
         Asked::Report => give_report(alloc, run, told, output, errors),
-        Asked::Record | Asked::Order => give_report_aside(alloc, run, told, output, errors),
+        Asked::Record => give_report_aside(alloc, run, told, output, errors),
+        Asked::Order => give_report_aside(alloc, run, told, output, errors),
     }
 }
 

@@ -81,11 +81,17 @@ fn merge_name(error: MergeError) -> &'static str
     }
 }
 
+fn put_merge_line<W: Sink>(errors: &mut W, error: MergeError) -> Result<(), Failed>
+    ensures { Puts W.Sink (merge_line error) errors.old errors.new result }
+{
+    put_line(errors, error.number(), merge_name(error))
+}
+
 /// Tells why logs make no run.
 fn tell_unmerged<E: Sink>(errors: &mut E, error: MergeError)
     ensures { Tells (filled E.Sink errors.old errors.new) (merge_line error) }
 {
-    let _ = put_line(errors, error.number(), merge_name(error));
+    let _ = put_merge_line(errors, error);
 }
 
 fn merge_status(error: MergeError) -> u8

@@ -1,6 +1,6 @@
 //! A whole record with spans, from a source.
 
-ghost use Rattle.std.specs.Prelude.{Some};
+ghost use Rattle.std.specs.Prelude.{ℕ, Some};
 ghost use Rattle.pg_codec.specs.Streams.{FailsWithDevice};
 ghost use Rattle.pg_span_codec.specs.Spelling.{SpellsSpanned};
 ghost use Rattle.pg_ordering.specs.Readings.{is_device, ReadsRun};
@@ -25,7 +25,8 @@ pub(crate) enum Unread {
 const MOST: usize = usize::MAX - 1;
 
 fn read_bytes(alloc: Global, bytes: &[u8]) -> Result<SpannedRun, Unread>
-    ensures { ReadsRun (Some bytes.now) result }
+    ensures reads { ReadsRun (Some bytes.now) result }
+    ensures device { (n : ℕ) → FailsWithDevice is_device n n result }
 {
     spelled_where_read();
     match read_spanned(alloc, bytes) {
