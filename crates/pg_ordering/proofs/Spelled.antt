@@ -1,7 +1,7 @@
 -- What reading gives.
 use Rattle.std.proofs.Common.{◌≡◌, ℕ, List, Ok}
 use Rattle.pg_codec.proofs.Next.{all_bytes}
-use Rattle.std.specs.Prelude.{IsBytes}
+use Rattle.pg_event.proofs.Fields.{IsBytes}
 use Rattle.pg_spanned.specs.Orders.{Spanned}
 use Rattle.pg_span_codec.specs.Laws.{SpelledWhereRead}
 use Rattle.pg_span_codec.specs.Reading.{spanned_reading}

@@ -79,11 +79,10 @@ pub(crate) fn logs_of<F: Fn(&str) -> Option<S>, S: Source + Drop>(
     let mut logs = Vec::new(alloc);
     for (place, name) in names.iter().enumerate() {
         match log_of(alloc, opener, name) {
-            Ok(log) => {
-                if logs.push(log).is_err() {
-                    return Err(Stop::Memory);
-                }
-            }
+            Ok(log) => match logs.push(log) {
+                Ok(()) => {}
+                Err(_) => return Err(Stop::Memory),
+            },
             Err(why) => return Err(Stop::At { place, why }),
         }
     }
