@@ -3,6 +3,7 @@ use Rattle.std.proofs.Common.{◌≡◌, ℕ, zero, suc, ◌+◌, ◌≤◌, Lis
 use Rattle.std.specs.Prelude.{slice_get}
 use Rattle.std.specs.Option.{option_to_list}
 use Rattle.std.proofs.lemmas.List.{length-append}
+use Rattle.std.proofs.lemmas.List.FromFn.{length-range_with_len}
 use Rattle.pg_event.specs.declared.event.Event.{Event}
 use Rattle.pg_event.specs.Heads.{Head}
 use Rattle.pg_event.specs.Form.{broken_rule}
@@ -14,7 +15,7 @@ use Rattle.pg_search.specs.Law.{RunBeginsWith}
 use Rattle.pg_certify.specs.Certified.{IsDenied, HasRunButMoments, CertifiedEventsRun, CertifiedExactlyWhereARunExists, DeniedEventsHaveNoRun}
 use Rattle.pg_spanned.specs.Orders.{Spanned, IsOrder}
 use Rattle.pg_spanned.specs.Spanned.{IsSpanned}
-use Rattle.pg_spanned.specs.Laws.{NoneOverlap, NoOverlapNoOtherOrder}
+use Rattle.pg_spanned.specs.Laws.{ends, NoneOverlap, NoOverlapNoOtherOrder}
 use Rattle.pg_spanned.proofs.Places.{AllByRecursion-at}
 use Rattle.pg_spanned.specs.Orders.{ordered}
 use Rattle.pg_order.specs.Runs.{HasOrderedRun, OrderedEventsRun, OrderedExactlyWhereARunExists}
@@ -34,6 +35,10 @@ one_at_most (Some e) = omega arith
 pub length-ordered : (events : List Event) (order : List ℕ) → length (ordered events order) ≤ length order
 length-ordered events [] = omega arith
 length-ordered events (i ∷ is) = omega (arith, length-append (option_to_list (slice_get events i)) (ordered events is), one_at_most (slice_get events i), length-ordered events is)
+
+-- there are no more events in the order in which they ended than there are events
+pub ordered_within : (s : Spanned) → length (ordered s.events (ends s)) ≤ length s.events
+ordered_within s = omega (arith, length-ordered s.events (ends s), length-range_with_len 0 (length s.events))
 
 pub ordered_events_run : CertifiedEventsRun → OrderedEventsRun
 ordered_events_run law s order found well is h = (order, is, law s.head (ordered s.events order) found (ordered-well s.head s.events order well) h)

@@ -1,5 +1,5 @@
 -- What is told of a record with no one order.
-use Rattle.std.specs.Prelude.{ℕ, List}
+use Rattle.std.specs.Prelude.{ℕ, ◌<◌, List, length}
 use Rattle.pg_event.specs.declared.event.Event.{Event}
 use Rattle.pg_certify.specs.Certified.{IsCertified, IsDenied}
 use Rattle.pg_spanned.specs.Orders.{Spanned, IsOrder, ordered}
@@ -14,11 +14,11 @@ pub record IsOrderedRun (s : Spanned) (order : List ℕ) (found : List Event) : 
   pub certified : IsCertified s.head (ordered s.events order) found
   pub run : HasOrderedRun s
 
--- no event overlaps another, and the event is the least that no moments witness in the one order
--- that they have; so none has a run
+-- no order has a run; where no event overlaps another, the event is the least that no moments witness
+-- in the one order that they have
 pub record HasNoOrderedRun (s : Spanned) (event : ℕ) : Type 0 where
-  pub none : NoneOverlap s
-  pub denied : IsDenied s.head (ordered s.events (ends s)) event
+  pub within : event < length s.events
+  pub only : NoneOverlap s → IsDenied s.head (ordered s.events (ends s)) event
   pub run : HasOrderedRun s → ⊥
 
 -- a yes has an order with a run, a no says that none has; where no event overlaps another it is one

@@ -19,8 +19,8 @@ use std::alloc::{AllocError, Global};
 pub(crate) enum Sought {
     /// An order, which is still to be checked.
     Order(Vec<u32>),
-    /// No event was found that could come next. The least that has no place yet.
-    Stuck(u64),
+    /// No event was found that could come next. Those that waited.
+    Stuck(Vec<u32>),
 }
 
 /// An event that was asked in vain whether it can come next.
@@ -279,6 +279,17 @@ impl<'a> Maker<'a> {
         self.choose(true)
     }
 
+    /// The next event of each processor that could come next, were it witnessed.
+    fn waiting(&self) -> Result<Vec<u32>, AllocError> {
+        let mut waiting = Vec::new(self.alloc);
+        for p in 0..self.waits.len() {
+            if let Some(number) = self.queues.front(self.run, p) {
+                waiting.push(number)?;
+            }
+        }
+        Ok(waiting)
+    }
+
     /// Puts an event next.
     fn place(&mut self, number: u32) -> Result<(), AllocError>
         requires same { self.old.kept.head ≡ self.old.run.now.head }
@@ -313,7 +324,7 @@ pub(crate) fn find_order(alloc: Global, run: &SpannedRun) -> Result<Sought, Allo
             Some(number) => {
                 maker.place(number)?;
             }
-            None => return Ok(Sought::Stuck(maker.queues.low() as u64)),
+            None => return Ok(Sought::Stuck(maker.waiting()?)),
         }
     }
     let Maker { order, .. } = maker;

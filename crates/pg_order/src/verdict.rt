@@ -10,6 +10,7 @@ use crate::in_order::{InOrder, certify_in_order};
 use crate::search::{Sought, find_order};
 use pg_certify::denied_events_have_no_run;
 use pg_event::Event;
+use pg_relaxed::refute;
 use pg_spanned::{SpannedRun, ends_are_an_order, no_overlap_no_other_order};
 use std::alloc::{AllocError, Global};
 
@@ -22,8 +23,8 @@ pub enum Verdict {
         /// The events in this order, each with moments that witness it.
         found: Vec<Event>,
     },
-    /// They have none: no event overlaps another. The event, by its number, that no moments witness
-    /// in their only order.
+    /// They have none. The event, by its number, that says so: no order can witness it, or where no
+    /// event overlaps another, no moments do in the only order.
     No(u64),
     /// No order was found. It is not known whether there is one. The event, by its number, at which
     /// the search gave up, or that no moments witness in the order that the search came to.
@@ -66,11 +67,29 @@ fn verdict_in_only_order(alloc: Global, run: &SpannedRun) -> Result<Verdict, All
 }
 
 /// The number that stands at a place, or 0 where none does.
-fn number_at(order: &[u32], place: u64) -> u64 {
+fn number_at(order: &[u32], place: u64) -> u32 {
     match order.get(place as usize) {
-        Some(number) => *number as u64,
+        Some(number) => *number,
         None => 0,
     }
+}
+
+/// The verdict of a run whose search gave up with these events waiting: a no, where no order can
+/// witness one of them.
+fn verdict_of_waiting(
+    alloc: Global,
+    run: &SpannedRun,
+    waiting: &[u32],
+) -> Result<Verdict, AllocError>
+    requires { NoneOverlap run.now → ⊥ }
+    ensures { IfOk result (IsVerdict run.now) }
+{
+    for number in waiting {
+        if (*number as usize) < run.len() && refute(alloc, run, *number)? {
+            return Ok(Verdict::No(*number as u64));
+        }
+    }
+    Ok(Verdict::Undecided(number_at(waiting, 0) as u64))
 }
 
 /// The verdict in an order that a search came to.
@@ -80,14 +99,18 @@ fn verdict_in(alloc: Global, run: &SpannedRun, order: Vec<u32>) -> Result<Verdic
 {
     match certify_in_order(alloc, run, &order)? {
         InOrder::Certified(found) => Ok(Verdict::Yes { order, found }),
-        InOrder::Denied(place) => Ok(Verdict::Undecided(number_at(&order, place))),
+        InOrder::Denied(place) => {
+            let number = number_at(&order, place);
+            verdict_of_waiting(alloc, run, &[number])
+        }
         InOrder::NoOrder => Ok(Verdict::Undecided(0)),
     }
 }
 
 /// Looks for an order of the events of a run in which some run of the machine has them. A yes has
-/// the order, and moments for the events in it. A no is told where no event overlaps another, and a
-/// yes or a no always then.
+/// the order, and moments for the events in it. Where no event overlaps another the answer is a yes
+/// or a no. Else it is a no where no order can witness an event that waits when the search gives up,
+/// as far as `refute` of `pg_relaxed` tells.
 ///
 /// It fails only where memory is refused.
 pub fn find_ordered_run(alloc: Global, run: &SpannedRun) -> Result<Verdict, AllocError>
@@ -98,6 +121,6 @@ pub fn find_ordered_run(alloc: Global, run: &SpannedRun) -> Result<Verdict, Allo
     }
     match find_order(alloc, run)? {
         Sought::Order(order) => verdict_in(alloc, run, order),
-        Sought::Stuck(event) => Ok(Verdict::Undecided(event)),
+        Sought::Stuck(waiting) => verdict_of_waiting(alloc, run, &waiting),
     }
 }
