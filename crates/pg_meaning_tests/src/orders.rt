@@ -37,7 +37,16 @@ pub(crate) const OWN_INVLPG: Written = Written::Invlpg(1, 0x5000);
 
 pub(crate) const REMAP: Written = Written::Write(0, 0x4028, 0xb007);
 
-const CASES: [Case; 5] = [
+/// Processor 1 reads a page that nothing maps, and its error code lacks the bit of user mode.
+const WRONG_CODE: Written = Written::Access {
+    p: 1,
+    flags: READ,
+    la: 0x6123,
+    outcome: Outcome::Fault(0),
+    at: &[0],
+};
+
+const CASES: [Case; 6] = [
     Case {
         name: "one order alone, which has a run",
         events: &[(REMAP, 0), (OLD_READ, 0), (INVLPG, 0)],
@@ -65,7 +74,13 @@ const CASES: [Case; 5] = [
     Case {
         name: "an invalidation behind the write, and a read that overlaps it alone",
         events: &[(REMAP, 0), (OWN_INVLPG, 0), (OLD_READ, 1)],
-        told: Told::Undecided(7),
+        told: Told::No(7),
+        order: &[],
+    },
+    Case {
+        name: "a wrong error code, which no order is asked for",
+        events: &[(WRONG_CODE, 1)],
+        told: Told::Undecided(5),
         order: &[],
     },
 ];
