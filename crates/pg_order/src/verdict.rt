@@ -7,7 +7,7 @@ ghost use Rattle.pg_spanned.specs.Laws.{NoneOverlap};
 ghost use Rattle.pg_order.specs.Verdicts.{IsVerdict};
 
 use crate::in_order::{InOrder, certify_in_order};
-use crate::search::{Sought, find_order};
+use pg_arrange::{Sought, find_order};
 use pg_certify::denied_events_have_no_run;
 use pg_event::Event;
 use pg_spanned::{SpannedRun, ends_are_an_order, no_overlap_no_other_order};
@@ -98,6 +98,6 @@ pub fn find_ordered_run(alloc: Global, run: &SpannedRun) -> Result<Verdict, Allo
     }
     match find_order(alloc, run)? {
         Sought::Order(order) => verdict_in(alloc, run, order),
-        Sought::Stuck(event) => Ok(Verdict::Undecided(event)),
+        Sought::Stuck(waiting) => Ok(Verdict::Undecided(number_at(&waiting, 0))),
     }
 }
