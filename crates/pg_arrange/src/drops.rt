@@ -1,6 +1,8 @@
 //! When a processor drops what it has cached. A moment lies in one of the slots between the events
 //! of its processor, and slots have the same drops in all orders.
 
+ghost use Rattle.std.specs.Prelude.{◌≤◌};
+
 use crate::lists::Lists;
 use crate::numbers::{after_last, first_from};
 use pg_entry::Level;
@@ -37,7 +39,9 @@ const TABLES: [Level; 3] = [Level::Four, Level::Three, Level::Two];
 pub(crate) const PAGES: [Level; 3] = [Level::One, Level::Two, Level::Three];
 
 /// The number of a level, from 1.
-pub(crate) fn rank_of(level: Level) -> u64 {
+pub(crate) fn rank_of(level: Level) -> u64
+    ensures { result ≤ 4 }
+{
     match level {
         Level::One => 1,
         Level::Two => 2,

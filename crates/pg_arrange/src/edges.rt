@@ -136,7 +136,7 @@ impl<'v> Edges<'v> {
         };
         let place = made.place(source);
         if self.taste == Taste::Random && chance.below(2) == 0 {
-            return low.saturating_add(chance.below((high - low).saturating_add(1)));
+            return low.saturating_add(chance.below(high.saturating_sub(low).saturating_add(1)));
         }
         if reading.word == NEVER || source != NEVER && place == NEVER {
             return high;

@@ -44,7 +44,7 @@ impl Learned {
     /// The event for which it was learned that this one waits: one of so many, counted from 0.
     pub(crate) fn holder(&self, made: &Made, event: u32, choice: u32) -> Option<u32> {
         let sources = self.sources.get(&event)?;
-        let mut count = 0;
+        let mut count: u32 = 0;
         let mut first = None;
         for source in sources.iter() {
             if made.place(source.before) != NEVER {
@@ -53,10 +53,10 @@ impl Learned {
             if first.is_none() {
                 first = Some(source.owner);
             }
-            if count == choice % 4 {
+            if count == choice {
                 return Some(source.owner);
             }
-            count = (count + 1) % 4;
+            count = count.saturating_add(1);
         }
         first
     }

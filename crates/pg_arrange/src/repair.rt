@@ -155,12 +155,18 @@ impl<'a> Maker<'a> {
         let event = asked.event;
         let key = key_of(event, edges.as_slice());
         let used = self.tries.tried(key).min(1 << 16);
-        let undone = (self.made.now() - moment.min(self.made.now())) as u64;
-        let again = used as u64 * used as u64 * 256;
-        let mut cost = undone * 16 + again + self.chance.below(8 + 8 * used) as u64;
+        let undone = self.made.now().saturating_sub(moment) as u64;
+        let again = (used as u64)
+            .saturating_mul(used as u64)
+            .saturating_mul(256);
+        let any = self.chance.below(8 + 8 * used) as u64;
+        let mut cost = undone
+            .saturating_mul(16)
+            .saturating_add(again)
+            .saturating_add(any);
         if undone == 0 {
             // Nothing is taken back: no help, unless what it waits for can come.
-            cost += 4096;
+            cost = cost.saturating_add(4096);
         }
         match best {
             Some(best) if best.cost <= cost => Ok(Some(best)),
