@@ -2,15 +2,9 @@
 //! has them.
 #![tactic(auto)]
 
-mod asking;
-mod guesses;
 mod in_order;
 mod laws;
-mod looked;
-mod queues;
-mod search;
 mod verdict;
-mod walk;
 
 pub use in_order::{InOrder, certify_in_order};
 pub use laws::{ordered_events_run, ordered_exactly_where_a_run_exists};

@@ -7,7 +7,7 @@ ghost use Rattle.pg_spanned.specs.Laws.{NoneOverlap};
 ghost use Rattle.pg_order.specs.Verdicts.{IsVerdict};
 
 use crate::in_order::{InOrder, certify_in_order};
-use crate::search::{Sought, find_order};
+use pg_arrange::{Sought, find_order};
 use pg_certify::denied_events_have_no_run;
 use pg_event::Event;
 use pg_relaxed::refute;

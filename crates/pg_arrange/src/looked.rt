@@ -1,7 +1,7 @@
 //! The words that were looked at in vain.
 
 /// So many words are told apart.
-const MOST: usize = 24;
+const MOST: usize = 32;
 
 /// Physical addresses of entries. Of too many it is no longer told which they are.
 #[derive(Clone, Copy)]
@@ -21,6 +21,9 @@ impl Looked {
     }
 
     pub(crate) fn note(&mut self, word: u64) {
+        if self.may_have(word) {
+            return;
+        }
         match self.words.get_mut(self.count) {
             Some(place) => {
                 *place = word;
@@ -34,6 +37,6 @@ impl Looked {
 
     /// Whether the word may be one of them.
     pub(crate) fn may_have(&self, word: u64) -> bool {
-        self.is_full || self.words.iter().any(|w| *w == word)
+        self.is_full || self.words.iter().take(self.count).any(|w| *w == word)
     }
 }

@@ -1,0 +1,214 @@
+//! What is the same in all orders of a run, by the slots of its processors: slot k of a processor
+//! lies between its events k - 1 and k.
+
+use crate::drops::Drops;
+use crate::lists::Lists;
+use crate::numbers::{NEVER, at, count_below, number};
+use crate::stays::Stays;
+use pg_entry::{Cfg, Entry, Kind, Level, classify};
+use pg_event::{Control, Event, Version, controlled, loaded, processor_of};
+use pg_spanned::SpannedRun;
+use std::alloc::{AllocError, Global};
+
+#[derive(Drop)]
+pub(crate) struct Facts<'a> {
+    pub run: &'a SpannedRun,
+    pub cfg: Cfg,
+    pub version: Version,
+    /// For each event how many had surely ended before it began: the greatest of its own and of
+    /// those of its processor before it.
+    sinces: Vec<u32>,
+    /// For each event its place among those of its processor.
+    places: Vec<u32>,
+    /// For each processor its events.
+    own: Vec<Vec<u32>>,
+    pub drops: Drops,
+    pub stays: Stays,
+    /// For each word the events that write it.
+    pub writes: Lists,
+    /// No event overlaps one that ended so many before it.
+    pub reach: u32,
+}
+
+/// The word that an event writes, if it writes one.
+pub(crate) fn word_of(event: &Event) -> Option<u64> {
+    match *event {
+        Event::Write { addr, .. } => Some(addr),
+        Event::Assist { word, .. } => Some(word),
+        Event::Access { .. }
+        | Event::MovCr3 { .. }
+        | Event::Invlpg { .. }
+        | Event::Invpcid { .. }
+        | Event::MovCr4Pge { .. } => None,
+    }
+}
+
+impl<'a> Facts<'a> {
+    pub(crate) fn of(alloc: Global, run: &'a SpannedRun) -> Result<Facts<'a>, AllocError> {
+        let header = run.header();
+        let processors = header.processors.len();
+        let mut facts = Facts {
+            run,
+            cfg: header.cfg,
+            version: header.version,
+            sinces: Vec::with_capacity(alloc, run.len())?,
+            places: Vec::with_capacity(alloc, run.len())?,
+            own: Vec::with_capacity(alloc, processors)?,
+            drops: Drops::new(alloc),
+            stays: Stays::new(alloc),
+            writes: Lists::new(alloc),
+            reach: 0,
+        };
+        for (cr3, pge) in header.processors.iter() {
+            facts.own.push(Vec::new(alloc))?;
+            facts.stays.push(loaded(header.cfg.m, *cr3, *pge))?;
+        }
+        for number in 0..number(run.len()) {
+            if let Some(event) = run.event_at(number) {
+                facts.push(event, number)?;
+            }
+        }
+        facts.stays.list_all()?;
+        Ok(facts)
+    }
+
+    /// Takes the next event.
+    fn push(&mut self, event: &Event, number: u32) -> Result<(), AllocError> {
+        let p = processor_of(event);
+        let place = self.count(p);
+        let back = at(self.run.backs(), number).min(number);
+        let before = self.own(p, place.wrapping_sub(1));
+        let since = match before {
+            Some(before) => self.since(before).max(number.saturating_sub(back)),
+            None => number.saturating_sub(back),
+        };
+        self.sinces.push(since)?;
+        self.places.push(place)?;
+        self.reach = self.reach.max(number.saturating_sub(since));
+        if let Some(own) = self.own.get_mut(p as usize) {
+            own.push(number)?;
+        }
+        if let Some(word) = word_of(event) {
+            self.writes.push(word, number)?;
+        }
+        self.note_control(event, p, place)
+    }
+
+    fn note_control(&mut self, event: &Event, p: u16, place: u32) -> Result<(), AllocError> {
+        let control = self.stays.control(p, place);
+        self.drops.note(event, control, place)?;
+        if matches!(event, Event::MovCr3 { .. } | Event::MovCr4Pge { .. }) {
+            let m = self.run.header().cfg.m;
+            let next = controlled(m, p, control, event);
+            self.stays.change(p, place.saturating_add(1), next)?;
+        }
+        Ok(())
+    }
+
+    /// How many events a processor has.
+    pub(crate) fn count(&self, p: u16) -> u32 {
+        match self.own.get(p as usize) {
+            Some(own) => number(own.len()),
+            None => 0,
+        }
+    }
+
+    pub(crate) fn processors(&self) -> u16 {
+        u16::try_from(self.own.len()).unwrap_or(u16::MAX)
+    }
+
+    /// The event at a place among those of a processor.
+    pub(crate) fn own(&self, p: u16, place: u32) -> Option<u32> {
+        self.own.get(p as usize)?.get(place as usize).copied()
+    }
+
+    pub(crate) fn since(&self, event: u32) -> u32 {
+        at(&self.sinces, event)
+    }
+
+    pub(crate) fn place(&self, event: u32) -> u32 {
+        at(&self.places, event)
+    }
+
+    pub(crate) fn processor(&self, event: u32) -> Option<u16> {
+        match self.run.event_at(event) {
+            Some(event) => Some(processor_of(event)),
+            None => None,
+        }
+    }
+
+    /// Whether one event must come before another.
+    pub(crate) fn must_precede(&self, j: u32, i: u32) -> bool {
+        j < self.since(i) || j < i && self.processor(j) == self.processor(i)
+    }
+
+    /// The place among the events of a processor of the first that is this event or must come after
+    /// it.
+    pub(crate) fn after(&self, p: u16, event: u32) -> u32 {
+        if self.processor(event) == Some(p) {
+            return self.place(event);
+        }
+        match self.own.get(p as usize) {
+            Some(own) => number(own.partition_point(|i| self.since(*i) <= event)),
+            None => 0,
+        }
+    }
+
+    /// The first slot of a processor that may come behind an event.
+    pub(crate) fn first_slot(&self, p: u16, event: u32) -> u32 {
+        if self.processor(event) == Some(p) {
+            return self.place(event).saturating_add(1);
+        }
+        match self.own.get(p as usize) {
+            Some(own) => count_below(own, self.since(event)),
+            None => 0,
+        }
+    }
+
+    /// The flags that an assist sets; of other events none.
+    pub(crate) fn marks(&self, event: u32) -> Option<u64> {
+        match self.run.event_at(event) {
+            Some(Event::Assist { flags, .. }) => Some(if *flags >= 16 { 0x60 } else { 0x20 }),
+            _ => None,
+        }
+    }
+
+    /// What a write writes; 0 for no event, as memory was at the start.
+    pub(crate) fn written(&self, event: u32) -> Option<u64> {
+        match self.run.event_at(event) {
+            Some(Event::Write { value, .. }) => Some(*value),
+            Some(_) => None,
+            None => Some(0),
+        }
+    }
+
+    /// What an entry is at a level.
+    pub(crate) fn kind(&self, level: Level, value: u64) -> Kind {
+        let cfg = self.run.header().cfg;
+        classify(cfg, level, Entry(value))
+    }
+
+    /// Whether what one event wrote to a word was surely overwritten by one below a bound.
+    pub(crate) fn is_dead_below(&self, word: u32, writer: u32, bound: u32) -> bool {
+        let writes = self.writes.list(word);
+        let first = match writer {
+            NEVER => 0,
+            _ => count_below(writes, writer.saturating_add(1)),
+        };
+        for k in first..number(writes.len()) {
+            let other = at(writes, k);
+            if other >= bound {
+                return false;
+            }
+            let is_later = writer == NEVER || self.must_precede(writer, other);
+            if is_later && self.marks(other).is_none() {
+                return true;
+            }
+        }
+        false
+    }
+
+    pub(crate) fn control(&self, p: u16, slot: u32) -> Control {
+        self.stays.control(p, slot)
+    }
+}

@@ -1,0 +1,22 @@
+//! A search for an order of events with spans in which a machine may have had them. Nothing is
+//! claimed of what it finds: who calls it checks the order, and certifies the events in it.
+#![tactic(auto)]
+
+mod asked;
+mod drops;
+mod edges;
+mod facts;
+mod found;
+mod learned;
+mod lists;
+mod looked;
+mod made;
+mod numbers;
+mod repair;
+mod search;
+mod stays;
+mod sweep;
+mod versions;
+mod witness;
+
+pub use search::{Sought, find_order};

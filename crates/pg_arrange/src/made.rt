@@ -1,0 +1,184 @@
+//! The order that is being made, so far. A moment of it is the number of events before it.
+
+use crate::facts::{Facts, word_of};
+use crate::numbers::{NEVER, at, count_below, number};
+use pg_event::{Event, processor_of};
+use std::alloc::{AllocError, Global};
+
+/// A value of a word, and the place in the order of the event that wrote it.
+#[derive(Clone, Copy)]
+pub(crate) struct Value {
+    pub place: u32,
+    pub value: u64,
+}
+
+#[derive(Drop)]
+pub(crate) struct Made {
+    order: Vec<u32>,
+    /// For each event its place in the order, or `NEVER`.
+    places: Vec<u32>,
+    /// For each processor the places of its events.
+    own: Vec<Vec<u32>>,
+    /// For each word its values.
+    values: Vec<Vec<Value>>,
+    /// The least event that has no place.
+    low: u32,
+    pub undone: u64,
+}
+
+impl Made {
+    pub(crate) fn new(alloc: Global, facts: &Facts<'_>) -> Result<Made, AllocError> {
+        let count = facts.run.len();
+        let processors = facts.processors();
+        let mut made = Made {
+            order: Vec::with_capacity(alloc, count)?,
+            places: vec![in alloc; NEVER; count]?,
+            own: Vec::with_capacity(alloc, processors as usize)?,
+            values: Vec::with_capacity(alloc, facts.writes.len())?,
+            low: 0,
+            undone: 0,
+        };
+        for _ in 0..processors {
+            made.own.push(Vec::new(alloc))?;
+        }
+        for _ in 0..facts.writes.len() {
+            made.values.push(Vec::new(alloc))?;
+        }
+        Ok(made)
+    }
+
+    pub(crate) fn order(&self) -> &[u32] {
+        self.order.as_slice()
+    }
+
+    pub(crate) fn into_order(self) -> Vec<u32> {
+        let Made { order, .. } = self;
+        order
+    }
+
+    /// The moment now.
+    pub(crate) fn now(&self) -> u32 {
+        number(self.order.len())
+    }
+
+    pub(crate) fn low(&self) -> u32 {
+        self.low
+    }
+
+    /// The place of an event in the order, or `NEVER`.
+    pub(crate) fn place(&self, event: u32) -> u32 {
+        at(self.places.as_slice(), event)
+    }
+
+    pub(crate) fn values(&self, word: u32) -> &[Value] {
+        match self.values.get(word as usize) {
+            Some(values) => values.as_slice(),
+            None => &[],
+        }
+    }
+
+    /// What a word has now.
+    pub(crate) fn value(&self, word: u32) -> u64 {
+        match self.values(word).last() {
+            Some(value) => value.value,
+            None => 0,
+        }
+    }
+
+    fn own(&self, p: u16) -> &[u32] {
+        match self.own.get(p as usize) {
+            Some(own) => own.as_slice(),
+            None => &[],
+        }
+    }
+
+    /// How many events of a processor have a place.
+    pub(crate) fn count(&self, p: u16) -> u32 {
+        number(self.own(p).len())
+    }
+
+    /// The slot of a processor that a moment lies in.
+    pub(crate) fn slot(&self, p: u16, moment: u32) -> u32 {
+        count_below(self.own(p), moment)
+    }
+
+    /// The first moment of a slot.
+    pub(crate) fn start(&self, p: u16, slot: u32) -> u32 {
+        if slot == 0 {
+            return 0;
+        }
+        at(self.own(p), slot - 1).saturating_add(1)
+    }
+
+    /// The last moment of a slot.
+    pub(crate) fn end(&self, p: u16, slot: u32) -> u32 {
+        at(self.own(p), slot).min(self.now())
+    }
+
+    fn write(&mut self, word: u32, value: u64) -> Result<(), AllocError> {
+        let place = self.now();
+        if let Some(values) = self.values.get_mut(word as usize) {
+            values.push(Value { place, value })?;
+        }
+        Ok(())
+    }
+
+    /// Puts an event of a processor next.
+    pub(crate) fn put(&mut self, facts: &Facts<'_>, event: u32) -> Result<(), AllocError> {
+        let Some(it) = facts.run.event_at(event) else {
+            return Ok(());
+        };
+        if let Some(word) = word_of(it).and_then(|word| facts.writes.id(word)) {
+            let value = match it {
+                Event::Write { value, .. } => *value,
+                _ => self.value(word) | facts.marks(event).unwrap_or(0),
+            };
+            self.write(word, value)?;
+        }
+        let place = self.now();
+        self.order.push(event)?;
+        if let Some(at) = self.places.get_mut(event as usize) {
+            *at = place;
+        }
+        if let Some(own) = self.own.get_mut(processor_of(it) as usize) {
+            own.push(place)?;
+        }
+        for _ in 0..self.places.len() {
+            if self.low >= number(self.places.len()) || self.place(self.low) == NEVER {
+                break;
+            }
+            self.low = self.low.saturating_add(1);
+        }
+        Ok(())
+    }
+
+    /// Takes the last event back.
+    fn take_back(&mut self, facts: &Facts<'_>) {
+        let Some(event) = self.order.pop() else {
+            return;
+        };
+        let Some(it) = facts.run.event_at(event) else {
+            return;
+        };
+        if let Some(word) = word_of(it).and_then(|word| facts.writes.id(word)) {
+            if let Some(values) = self.values.get_mut(word as usize) {
+                values.pop();
+            }
+        }
+        if let Some(at) = self.places.get_mut(event as usize) {
+            *at = NEVER;
+        }
+        if let Some(own) = self.own.get_mut(processor_of(it) as usize) {
+            own.pop();
+        }
+        self.low = self.low.min(event);
+        self.undone = self.undone.saturating_add(1);
+    }
+
+    /// Takes back all that came from a moment on.
+    pub(crate) fn take_back_to(&mut self, facts: &Facts<'_>, moment: u32) {
+        for _ in moment..self.now() {
+            self.take_back(facts);
+        }
+    }
+}

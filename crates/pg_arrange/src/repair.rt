@@ -1,0 +1,300 @@
+//! What is done where no event can come next: another order of those before, so that one of those
+//! that wait is witnessed.
+
+use crate::asked::{Asked, asked_of};
+use crate::edges::{Edge, Taste, edges_of};
+use crate::learned::Learned;
+use crate::looked::Looked;
+use crate::numbers::NEVER;
+use crate::search::Maker;
+use crate::sweep::{Hit, Limits, Sweep, View};
+use std::alloc::{AllocError, Global};
+use std::collections::HashMap;
+
+/// How often an event may be found to be the first that waits.
+const MOST_TRIES: u32 = 2000;
+
+/// After so many of them all that was learned is forgotten, and up to so many events are taken
+/// back.
+const RESTART: u32 = 40;
+
+const FAR_BACK: u32 = 400;
+
+/// How many events may be taken back in all, for each of the run and for so many more.
+const MOST_UNDONE: u64 = 64;
+
+const MORE: u64 = 1000;
+
+const ALL_WINDOWS: u32 = NEVER;
+
+/// What was tried.
+#[derive(Drop)]
+pub(crate) struct Tries {
+    /// How often edges were learned, by a number made of them.
+    tried: HashMap<u64, u32>,
+    /// How often an event was the first that waits.
+    stuck: HashMap<u32, u32>,
+}
+
+/// Edges to be learned for an event that waits.
+#[derive(Drop)]
+struct Plan {
+    cost: u64,
+    event: u32,
+    /// From this moment on events are taken back.
+    moment: u32,
+    edges: Vec<Edge>,
+    key: u64,
+}
+
+impl Tries {
+    pub(crate) fn new(alloc: Global) -> Tries {
+        Tries {
+            tried: HashMap::new(alloc),
+            stuck: HashMap::new(alloc),
+        }
+    }
+
+    fn tried(&self, key: u64) -> u32 {
+        match self.tried.get(&key) {
+            Some(count) => *count,
+            None => 0,
+        }
+    }
+
+    fn stuck(&self, event: u32) -> u32 {
+        match self.stuck.get(&event) {
+            Some(count) => *count,
+            None => 0,
+        }
+    }
+}
+
+/// A number made of edges.
+fn key_of(event: u32, edges: &[Edge]) -> u64 {
+    let mut key = event as u64;
+    for edge in edges {
+        let both = (edge.before as u64) << 32 | edge.after as u64;
+        key = (key ^ both)
+            .wrapping_mul(0x9e37_79b9_7f4a_7c15)
+            .rotate_left(21);
+    }
+    key
+}
+
+impl<'a> Maker<'a> {
+    /// The walks that may witness an event in some order, and whether all were looked at.
+    fn possible_hits(&self, asked: &Asked, limits: Limits) -> Result<(Vec<Hit>, bool), AllocError> {
+        let view = View {
+            facts: &self.facts,
+            made: &self.made,
+            is_made: false,
+        };
+        let mut sweep = Sweep::new(self.alloc, view, asked, limits, Looked::new());
+        sweep.run()?;
+        let Sweep { hits, is_whole, .. } = sweep;
+        Ok((hits, is_whole))
+    }
+
+    /// Some walks that may witness an event; where there is none, whether that is sure.
+    fn some_hits(&self, asked: &Asked, is_hard: bool) -> Result<(Vec<Hit>, bool), AllocError> {
+        let (windows, hits) = if is_hard { (64, 512) } else { (6, 64) };
+        let found = self.possible_hits(
+            asked,
+            Limits {
+                windows,
+                hits,
+                is_each: true,
+            },
+        )?;
+        if !found.0.is_empty() {
+            return Ok(found);
+        }
+        self.possible_hits(
+            asked,
+            Limits {
+                windows: ALL_WINDOWS,
+                hits: 64,
+                is_each: false,
+            },
+        )
+    }
+
+    /// The moment to which these edges take the order back, or none where they can't be.
+    fn moment_of(&self, edges: &[Edge]) -> Option<u32> {
+        let mut moment = self.made.now();
+        for edge in edges {
+            if self.facts.must_precede(edge.after, edge.before) {
+                return None;
+            }
+            let (before, after) = (self.made.place(edge.before), self.made.place(edge.after));
+            if after != NEVER && before > after {
+                moment = moment.min(after);
+            }
+        }
+        Some(moment)
+    }
+
+    /// The better of two plans: the other is that of a walk.
+    fn better_plan(
+        &mut self,
+        best: Option<Plan>,
+        asked: &Asked,
+        hit: &Hit,
+        taste: Taste,
+    ) -> Result<Option<Plan>, AllocError> {
+        let view = View {
+            facts: &self.facts,
+            made: &self.made,
+            is_made: false,
+        };
+        let edges = edges_of(self.alloc, view, asked, hit, taste, &mut self.chance)?;
+        let Some(moment) = self.moment_of(edges.as_slice()) else {
+            return Ok(best);
+        };
+        let event = asked.event;
+        let key = key_of(event, edges.as_slice());
+        let used = self.tries.tried(key).min(1 << 16);
+        let undone = self.made.now().saturating_sub(moment) as u64;
+        let again = (used as u64)
+            .saturating_mul(used as u64)
+            .saturating_mul(256);
+        let any = self.chance.below(8 + 8 * used) as u64;
+        let mut cost = undone
+            .saturating_mul(16)
+            .saturating_add(again)
+            .saturating_add(any);
+        if undone == 0 {
+            // Nothing is taken back: no help, unless what it waits for can come.
+            cost = cost.saturating_add(4096);
+        }
+        match best {
+            Some(best) if best.cost <= cost => Ok(Some(best)),
+            _ => Ok(Some(Plan {
+                cost,
+                event,
+                moment,
+                edges,
+                key,
+            })),
+        }
+    }
+
+    /// Takes a plan: its edges are learned.
+    fn take(&mut self, plan: &Plan, tries: u32) -> Result<(), AllocError> {
+        let tried = self.tries.tried(plan.key).saturating_add(1);
+        self.tries.tried.insert(plan.key, tried)?;
+        self.learned.forget(plan.event);
+        for edge in plan.edges.iter() {
+            self.learned.learn(plan.event, *edge)?;
+        }
+        let mut moment = plan.moment;
+        if moment == self.made.now() {
+            // Some are taken back by chance, so that others come first.
+            let most = 4 << tries.min(6);
+            moment = moment.saturating_sub(self.chance.below(most));
+        }
+        self.take_back_to(moment)
+    }
+
+    /// Forgets all that was learned, and begins again further back.
+    fn restart(&mut self) -> Result<(), AllocError> {
+        self.learned = Learned::new(self.alloc);
+        let now = self.made.now();
+        let back = self.chance.below(FAR_BACK);
+        self.take_back_to(now.saturating_sub(back))
+    }
+
+    /// Notes that this event was the first that waits, and tells how often it was.
+    fn note_stuck(&mut self, event: u32) -> Result<u32, AllocError> {
+        let tries = self.tries.stuck(event).saturating_add(1);
+        self.tries.stuck.insert(event, tries)?;
+        Ok(tries)
+    }
+
+    /// The events that wait, this one first.
+    fn waiting(&self, first: u32) -> Result<Vec<u32>, AllocError> {
+        let mut waiting = Vec::new(self.alloc);
+        if first != NEVER {
+            waiting.push(first)?;
+        }
+        for p in 0..self.facts.processors() {
+            if let Some(event) = self.front(p) {
+                if event != first && asked_of(&self.facts, event).is_some() {
+                    waiting.push(event)?;
+                }
+            }
+        }
+        Ok(waiting)
+    }
+
+    fn is_spent(&self, tries: u32) -> bool {
+        let most = (self.facts.run.len() as u64)
+            .saturating_add(MORE)
+            .saturating_mul(MOST_UNDONE);
+        tries > MOST_TRIES || self.made.undone > most
+    }
+
+    /// Another order of what stands, so that one of the events that wait is witnessed. Where none
+    /// is found, the events that wait.
+    pub(crate) fn repair(&mut self) -> Result<Option<Vec<u32>>, AllocError> {
+        let mut held = Vec::new(self.alloc);
+        let mut best: Option<Plan> = None;
+        let is_hard = self.tries.stuck(self.made.low()) % 16 > 11;
+        let mut first = NEVER;
+        for p in 0..self.facts.processors() {
+            let Some(event) = self.front(p) else {
+                continue;
+            };
+            first = first.min(event);
+            if self.learned.holds(&self.made, event) {
+                held.push(event)?;
+                continue;
+            }
+            let Some(asked) = asked_of(&self.facts, event) else {
+                continue;
+            };
+            if self.look(&asked, ALL_WINDOWS)?.is_none() {
+                self.put(event)?;
+                return Ok(None);
+            }
+            let (hits, is_whole) = self.some_hits(&asked, is_hard)?;
+            if asked.is_hopeless || hits.is_empty() && is_whole {
+                return Ok(Some(self.waiting(event)?));
+            }
+            for hit in hits.iter() {
+                for taste in [Taste::AsMade, Taste::Turned, Taste::Random] {
+                    best = self.better_plan(best, &asked, hit, taste)?;
+                }
+            }
+        }
+        let tries = self.note_stuck(first)?;
+        if self.is_spent(tries) {
+            return Ok(Some(self.waiting(first)?));
+        }
+        self.go_on(best, held.as_slice(), tries)?;
+        Ok(None)
+    }
+
+    /// Takes the best plan, or forgets what holds another event up.
+    fn go_on(&mut self, best: Option<Plan>, held: &[u32], tries: u32) -> Result<(), AllocError> {
+        let is_idle = match &best {
+            Some(plan) => plan.moment == self.made.now(),
+            None => true,
+        };
+        let count = crate::numbers::number(held.len());
+        let choice = self.chance.below(count);
+        if let (true, Some(event)) = (is_idle, held.get(choice as usize)) {
+            let any = self.chance.below(4);
+            if let Some(owner) = self.learned.holder(&self.made, *event, any) {
+                self.learned.forget(owner);
+                return Ok(());
+            }
+        }
+        match &best {
+            Some(plan) if tries % RESTART > 0 => self.take(plan, tries)?,
+            Some(_) | None => self.restart()?,
+        }
+        Ok(())
+    }
+}

@@ -1,0 +1,272 @@
+//! A search for an order in which each event is witnessed. Nothing is claimed of it: the order is
+//! checked once it is whole, and the events are certified in it.
+
+use crate::asked::{Asked, asked_of};
+use crate::facts::{Facts, word_of};
+use crate::found::Found;
+use crate::learned::Learned;
+use crate::looked::Looked;
+use crate::made::Made;
+use crate::numbers::Chance;
+use crate::repair::Tries;
+use crate::witness::Witness;
+use pg_event::{Event, Outcome};
+use pg_spanned::SpannedRun;
+use std::alloc::{AllocError, Global};
+
+/// What a search comes to.
+#[derive(Drop)]
+pub enum Sought {
+    /// An order, which is still to be checked.
+    Order(Vec<u32>),
+    /// No event was found that could come next. The events that waited; if no walk in any order was
+    /// seen that may witness one of them, it comes first.
+    Stuck(Vec<u32>),
+}
+
+/// An event that was asked in vain whether it can come next.
+#[derive(Clone, Copy)]
+struct Wait {
+    event: u32,
+    /// Whether it is worth asking again: a word that was looked at was written since.
+    is_stale: bool,
+    looked: Looked,
+}
+
+/// So many windows between drops are looked at before another event is tried.
+const FEW_WINDOWS: u32 = 8;
+
+/// An order that is being made.
+#[derive(Drop)]
+pub(crate) struct Maker<'a> {
+    pub alloc: Global,
+    pub facts: Facts<'a>,
+    pub made: Made,
+    found: Found,
+    pub learned: Learned,
+    pub tries: Tries,
+    pub chance: Chance,
+    /// For each processor what it waits with.
+    waits: Vec<Option<Wait>>,
+}
+
+/// The place of an event among those that can come next: answers change nothing; faults and
+/// invalidations only take from what a processor knows; a write takes a value from all others.
+fn rank_of(event: &Event, is_awaited: bool) -> u64 {
+    match event {
+        Event::Access {
+            outcome: Outcome::Page(_),
+            ..
+        } => 0,
+        Event::Access {
+            outcome: Outcome::Fault(_),
+            ..
+        } => 1,
+        Event::Invlpg { .. } | Event::Invpcid { .. } => 2,
+        Event::MovCr3 { .. } | Event::MovCr4Pge { .. } => 3,
+        Event::Assist { .. } => 4,
+        Event::Write { .. } => if is_awaited { 5 } else { 6 },
+    }
+}
+
+/// An event that can come next.
+#[derive(Clone, Copy)]
+struct Choice {
+    rank: u64,
+    event: u32,
+}
+
+/// The choice with the lower rank; of two that are alike, the event that ended first.
+fn better(best: Option<Choice>, other: Choice) -> Choice {
+    match best {
+        Some(best) if best.rank < other.rank => best,
+        Some(best) if best.rank == other.rank && best.event < other.event => best,
+        _ => other,
+    }
+}
+
+/// Whether what waits looked at a word.
+fn may_wake(wait: &Option<Wait>, word: u64) -> bool {
+    match wait {
+        Some(wait) => wait.looked.may_have(word),
+        None => false,
+    }
+}
+
+impl<'a> Maker<'a> {
+    fn new(alloc: Global, run: &'a SpannedRun) -> Result<Maker<'a>, AllocError> {
+        let facts = Facts::of(alloc, run)?;
+        let made = Made::new(alloc, &facts)?;
+        let processors = facts.processors() as usize;
+        Ok(Maker {
+            alloc,
+            facts,
+            made,
+            found: Found::new(alloc),
+            learned: Learned::new(alloc),
+            tries: Tries::new(alloc),
+            chance: Chance::new(1),
+            waits: vec![in alloc; None; processors]?,
+        })
+    }
+
+    /// The next event of a processor, where all that had ended before it began have a place.
+    pub(crate) fn front(&self, p: u16) -> Option<u32> {
+        let event = self.facts.own(p, self.made.count(p))?;
+        if self.facts.since(event) <= self.made.low() {
+            Some(event)
+        } else {
+            None
+        }
+    }
+
+    /// Whether an event is witnessed if it comes next, by a search of so many windows; else what it
+    /// looked at.
+    pub(crate) fn look(
+        &mut self,
+        asked: &Asked,
+        windows: u32,
+    ) -> Result<Option<Looked>, AllocError> {
+        let mut witness = Witness {
+            alloc: self.alloc,
+            facts: &self.facts,
+            made: &self.made,
+            found: &mut self.found,
+            looked: Looked::new(),
+        };
+        if witness.is_witnessed(asked, windows)? {
+            Ok(None)
+        } else {
+            Ok(Some(witness.looked))
+        }
+    }
+
+    fn set_wait(&mut self, p: u16, wait: Option<Wait>) {
+        if let Some(place) = self.waits.get_mut(p as usize) {
+            *place = wait;
+        }
+    }
+
+    /// Whether the next event of a processor can come next.
+    fn may_come(&mut self, p: u16, event: u32) -> Result<bool, AllocError> {
+        let Some(asked) = asked_of(&self.facts, event) else {
+            return Ok(true);
+        };
+        if let Some(Some(wait)) = self.waits.get(p as usize) {
+            if wait.event == event && !wait.is_stale {
+                return Ok(false);
+            }
+        }
+        match self.look(&asked, FEW_WINDOWS)? {
+            None => Ok(true),
+            Some(looked) => {
+                self.set_wait(
+                    p,
+                    Some(Wait {
+                        event,
+                        is_stale: false,
+                        looked,
+                    }),
+                );
+                Ok(false)
+            }
+        }
+    }
+
+    fn rank(&self, event: u32) -> u64 {
+        let Some(it) = self.facts.run.event_at(event) else {
+            return 0;
+        };
+        let is_awaited = match word_of(it) {
+            Some(word) => self.waits.iter().any(|wait| may_wake(wait, word)),
+            None => false,
+        };
+        rank_of(it, is_awaited)
+    }
+
+    /// The event that is best put next, of those that can come next.
+    fn choose(&mut self) -> Result<Option<u32>, AllocError> {
+        let mut best: Option<Choice> = None;
+        for p in 0..self.facts.processors() {
+            let Some(event) = self.front(p) else {
+                continue;
+            };
+            if self.learned.holds(&self.made, event) || !self.may_come(p, event)? {
+                continue;
+            }
+            let rank = self.rank(event);
+            best = Some(better(best, Choice { rank, event }));
+            if rank == 0 {
+                break;
+            }
+        }
+        Ok(best.map(|choice| choice.event))
+    }
+
+    /// Puts an event next.
+    pub(crate) fn put(&mut self, event: u32) -> Result<(), AllocError> {
+        let word = match self.facts.run.event_at(event) {
+            Some(it) => word_of(it),
+            None => None,
+        };
+        if let Some(word) = word {
+            for wait in self.waits.iter_mut() {
+                if let Some(wait) = wait {
+                    if wait.looked.may_have(word) {
+                        wait.is_stale = true;
+                    }
+                }
+            }
+        }
+        self.made.put(&self.facts, event)?;
+        if let Some(p) = self.facts.processor(event) {
+            self.set_wait(p, None);
+        }
+        Ok(())
+    }
+
+    /// Takes back all that came from a moment on.
+    pub(crate) fn take_back_to(&mut self, moment: u32) -> Result<(), AllocError> {
+        self.made.take_back_to(&self.facts, moment);
+        self.found.take_back_to(moment)?;
+        for wait in self.waits.iter_mut() {
+            *wait = None;
+        }
+        Ok(())
+    }
+
+    /// Whether all events have a place.
+    fn is_whole(&self) -> bool {
+        self.made.now() as usize >= self.facts.run.len()
+    }
+
+    /// The next step: an event is put next, or others are taken back. Where none of these helps,
+    /// the events that wait.
+    fn step(&mut self) -> Result<Option<Vec<u32>>, AllocError> {
+        match self.choose()? {
+            Some(event) => {
+                self.put(event)?;
+                Ok(None)
+            }
+            None => self.repair(),
+        }
+    }
+}
+
+/// An order of the events of a run in which each is witnessed, as far as this search sees. It gives
+/// up once an event was the first that waits so often, or so many events were taken back.
+///
+/// It fails only where memory is refused.
+pub fn find_order(alloc: Global, run: &SpannedRun) -> Result<Sought, AllocError> {
+    let mut maker = Maker::new(alloc, run)?;
+    for _ in 0..u64::MAX {
+        if maker.is_whole() {
+            break;
+        }
+        if let Some(waiting) = maker.step()? {
+            return Ok(Sought::Stuck(waiting));
+        }
+    }
+    let Maker { made, .. } = maker;
+    Ok(Sought::Order(made.into_order()))
+}

@@ -1,0 +1,237 @@
+//! The values that a word may have.
+
+use crate::facts::Facts;
+use crate::made::Made;
+use crate::numbers::{NEVER, at, count_below, number};
+use pg_event::Version as Format;
+use std::alloc::AllocError;
+
+/// A value of a word, from one slot or moment to another.
+#[derive(Clone, Copy)]
+pub(crate) struct Version {
+    pub value: u64,
+    pub from: u32,
+    pub to: u32,
+    /// The write that it is of, or none.
+    pub writer: u32,
+    /// The assist that gave it its flags, where one did.
+    pub assist: u32,
+}
+
+/// So many versions of a word are looked at.
+const MOST: usize = 1024;
+
+/// The values that a word may have in some order in slots of a processor.
+#[derive(Clone, Copy)]
+struct Search<'s> {
+    facts: &'s Facts<'s>,
+    p: u16,
+    word: u32,
+    first: u32,
+    last: u32,
+}
+
+impl<'s> Search<'s> {
+    /// How many of the writes of the word need be looked at from the front, and from which one on:
+    /// those before it are surely overwritten before the first slot.
+    fn range(&self) -> (u32, u32) {
+        let writes = self.facts.writes.list(self.word);
+        let bound = match self.facts.own(self.p, self.first.wrapping_sub(1)) {
+            Some(event) => self.facts.since(event),
+            None => 0,
+        };
+        let mut dead = 0;
+        let mut from = count_below(writes, bound);
+        for k in (0..from).rev() {
+            let write = at(writes, k);
+            if write < dead {
+                break;
+            }
+            if self.facts.marks(write).is_none() {
+                dead = dead.max(self.facts.since(write));
+            }
+            from = k;
+        }
+        let end = match self.facts.own(self.p, self.last) {
+            Some(event) => count_below(
+                writes,
+                event.saturating_add(self.facts.reach).saturating_add(1),
+            ),
+            None => number(writes.len()),
+        };
+        let is_start_dead = dead > 0 || from > 0;
+        let first = if is_start_dead {
+            from.saturating_add(1)
+        } else {
+            0
+        };
+        (first, end.saturating_add(1))
+    }
+
+    /// The last slot in which what was written may still stand.
+    fn last_slot(&self, writer: u32, next: u32) -> u32 {
+        let writes = self.facts.writes.list(self.word);
+        let mut to = NEVER - 1;
+        for k in next..number(writes.len()) {
+            let other = at(writes, k);
+            if let Some(event) = self.facts.own(self.p, to) {
+                if other > event {
+                    break;
+                }
+            }
+            let is_later = writer == NEVER || self.facts.must_precede(writer, other);
+            if is_later && self.facts.marks(other).is_none() {
+                to = to.min(self.facts.after(self.p, other));
+            }
+        }
+        to
+    }
+
+    /// What a write wrote, or what was there at the start.
+    fn plain(&self, writer: u32, next: u32) -> Option<Version> {
+        let value = self.facts.written(writer)?;
+        let from = if writer == NEVER {
+            0
+        } else {
+            self.facts.first_slot(self.p, writer)
+        };
+        let to = self.last_slot(writer, next);
+        if from > self.last || to < self.first {
+            return None;
+        }
+        Some(Version {
+            value,
+            from,
+            to,
+            writer,
+            assist: NEVER,
+        })
+    }
+
+    /// The same with the flags of an assist that may come behind it.
+    fn marked(&self, plain: &Version, marks: u64) -> Option<Version> {
+        if plain.value | marks == plain.value {
+            return None;
+        }
+        let writes = self.facts.writes.list(self.word);
+        let least = if plain.writer == NEVER {
+            0
+        } else {
+            self.facts.since(plain.writer)
+        };
+        let mut best: Option<Version> = None;
+        for k in count_below(writes, least)..number(writes.len()) {
+            let other = at(writes, k);
+            if let Some(event) = self.facts.own(self.p, self.last.min(plain.to)) {
+                if other > event.saturating_add(self.facts.reach) {
+                    break;
+                }
+            }
+            if self.facts.marks(other) != Some(marks) {
+                continue;
+            }
+            if plain.writer != NEVER && self.facts.must_precede(other, plain.writer) {
+                continue;
+            }
+            let from = self.facts.first_slot(self.p, other).max(plain.from);
+            let is_better = match &best {
+                Some(best) => from < best.from,
+                None => from <= plain.to && from <= self.last,
+            };
+            if is_better {
+                best = Some(Version {
+                    value: plain.value | marks,
+                    from,
+                    assist: other,
+                    ..*plain
+                });
+            }
+        }
+        best
+    }
+
+    fn push_all(&self, out: &mut Vec<Version>) -> Result<(), AllocError> {
+        let writes = self.facts.writes.list(self.word);
+        let (first, end) = self.range();
+        for k in (first..end).rev() {
+            let writer = if k == 0 { NEVER } else { at(writes, k - 1) };
+            if k > 0 && writer == NEVER {
+                continue;
+            }
+            let Some(plain) = self.plain(writer, k) else {
+                continue;
+            };
+            if out.len() >= MOST {
+                break;
+            }
+            out.push(plain)?;
+            if self.facts.version == Format::One || writer == NEVER {
+                continue;
+            }
+            for marks in [0x20, 0x60] {
+                if let Some(version) = self.marked(&plain, marks) {
+                    out.push(version)?;
+                }
+            }
+        }
+        Ok(())
+    }
+}
+
+/// The values that a word may have in some order between two slots of a processor, the latest
+/// first.
+pub(crate) fn possible_versions(
+    facts: &Facts<'_>,
+    p: u16,
+    word: u32,
+    slots: (u32, u32),
+    out: &mut Vec<Version>,
+) -> Result<(), AllocError> {
+    let (first, last) = slots;
+    Search {
+        facts,
+        p,
+        word,
+        first,
+        last,
+    }
+    .push_all(out)
+}
+
+/// The values that a word has between two moments of the order so far, the latest first.
+pub(crate) fn made_versions(
+    made: &Made,
+    word: u32,
+    moments: (u32, u32),
+    out: &mut Vec<Version>,
+) -> Result<(), AllocError> {
+    let values = made.values(word);
+    let (first, last) = moments;
+    let count = number(values.partition_point(|value| value.place < last));
+    let mut to = match values.get(count as usize) {
+        Some(next) => next.place,
+        None => NEVER - 1,
+    };
+    for k in (0..count.saturating_add(1)).rev() {
+        let (value, from, writer) = match values.get((k as usize).wrapping_sub(1)) {
+            Some(value) => (
+                value.value,
+                value.place.saturating_add(1),
+                at(made.order(), value.place),
+            ),
+            None => (0, 0, NEVER),
+        };
+        if to < first || out.len() >= MOST {
+            break;
+        }
+        out.push(Version {
+            value,
+            from,
+            to,
+            writer,
+            assist: NEVER,
+        })?;
+        to = from.wrapping_sub(1);
+    }
+    Ok(())
+}
