@@ -70,16 +70,41 @@ static enum pcid_record_status begin(void)
                           : pcid_record_begin(&record, &header, buffer, size, put, stdout);
 }
 
+/* An access or an assist: without moments, where the call's name has a `-` behind. */
+static enum pcid_record_status call_access(const char *name, uint32_t p)
+{
+    const uint32_t flags = small();
+    const uint64_t a = number(), b = number();
+    uint32_t moments[16], count;
+
+    if (strcmp(name, "answer-") == 0)
+        return pcid_record_answer_unnamed(&record, p, flags, a, b);
+    if (strcmp(name, "fault-") == 0)
+        return pcid_record_fault_unnamed(&record, p, flags, a, (uint32_t)b);
+    if (strcmp(name, "assist-") == 0)
+        return pcid_record_assist_unnamed(&record, p, flags, a, b);
+    count = read_moments(moments);
+    if (strcmp(name, "answer") == 0)
+        return pcid_record_answer(&record, p, flags, a, b, moments, count);
+    if (strcmp(name, "fault") == 0)
+        return pcid_record_fault(&record, p, flags, a, (uint32_t)b, moments, count);
+    if (strcmp(name, "assist") == 0)
+        return pcid_record_assist(&record, p, flags, a, b, moments, count);
+    exit(70);
+}
+
 static enum pcid_record_status call(const char *name)
 {
-    const uint32_t p = strcmp(name, "begin") != 0 && strcmp(name, "end") != 0 ? small() : 0;
-    uint32_t moments[16], flags, count;
+    uint32_t p;
     uint64_t a, b;
 
     if (strcmp(name, "begin") == 0)
         return begin();
     if (strcmp(name, "end") == 0)
         return pcid_record_end(&record);
+    if (strcmp(name, "began") == 0)
+        return pcid_record_began(&record, small());
+    p = small();
     if (strcmp(name, "write") == 0) {
         a = number();
         return pcid_record_write(&record, p, a, number());
@@ -95,17 +120,7 @@ static enum pcid_record_status call(const char *name)
         b = number();
         return pcid_record_invpcid(&record, p, a, b, number());
     }
-    flags = small();
-    a = number();
-    b = number();
-    count = read_moments(moments);
-    if (strcmp(name, "answer") == 0)
-        return pcid_record_answer(&record, p, flags, a, b, moments, count);
-    if (strcmp(name, "fault") == 0)
-        return pcid_record_fault(&record, p, flags, a, (uint32_t)b, moments, count);
-    if (strcmp(name, "assist") == 0)
-        return pcid_record_assist(&record, p, flags, a, b, moments, count);
-    exit(70);
+    return call_access(name, p);
 }
 
 int main(void)

@@ -9,9 +9,13 @@ void every_call(struct pcid_record *record, const struct pcid_record_header *hea
                 uint8_t *buffer, pcid_record_put put, void *context, const uint32_t *moments)
 {
     static uint8_t constant[PCID_RECORD_BYTES(1, 4)];
+    static uint8_t spanned[PCID_RECORD_BYTES(4, 4)];
 
     if (pcid_record_begin(record, header, buffer, sizeof constant, put, context))
         return;
+    if (pcid_record_begin(record, header, spanned, sizeof spanned, put, context))
+        return;
+    pcid_record_began(record, 0);
     pcid_record_write(record, 0, 0x1000, pcid_record_moment(record));
     pcid_record_answer(record, 0, PCID_RECORD_WRITE | PCID_RECORD_AC, 0, 0, moments, 4);
     pcid_record_fault(record, 0, PCID_RECORD_READ | PCID_RECORD_USER, 0, 4, moments, 4);
