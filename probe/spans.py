@@ -1,0 +1,240 @@
+"""Records whose events overlap (versions 3 and 4): why one is a no, and what is left of it when
+events are left out. An event stands behind those that had ended when it began; which these were
+stays true of what is left, so that `back` is counted anew."""
+import struct
+from bisect import bisect_left
+
+import causes
+import image
+import records
+
+NEVER, MANY = "never had moments", "taken by several events"
+MOST_TAKERS = 40  # events that are tried for the one that took the last moments away
+BACK = struct.Struct("<I")
+
+
+def without_others(record, numbers):
+    """The record of the events with these numbers, which rise."""
+    place = 1 + records.width(record.version)
+    events = []
+    for new, old in enumerate(numbers):
+        event = record.events[old]
+        had_ended = bisect_left(numbers, old - BACK.unpack_from(event, place)[0])
+        events.append(event[:place] + BACK.pack(new - had_ended) + event[place + 4:])
+    return record.bytes(events)
+
+
+class Overlapping:
+    """A record that is a no, and what is left of it. The cause of the no is the latest event of the
+    bad one's processor that drops from its caches, and without which there is no no: it stays the
+    cause. Where no single event is, the bad event alone is kept, with all that its walk can have
+    read."""
+
+    def __init__(self, record, notes):
+        self.record, self.notes, self.reader = record, notes, causes.Reader(record)
+        place = 1 + records.width(record.version)
+        self.ended_before = [number - BACK.unpack_from(event, place)[0]
+                             for number, event in enumerate(record.events)]
+        report = causes.answer_of(record.bytes())
+        if report is None:
+            raise image.Stop("certify says no no: there is nothing to shrink")
+        self.number = causes.bad_event(report)
+        self.bad = record.events[self.number]
+        self.walked = self.reader.walked(self.bad) if self.reader.is_access(self.bad) else set()
+        self.taker = None
+        self.all = self.least_no(self.beginnings())
+        self.taker = self.find_taker()
+        self.cause = causes.Cause(self.number, self.text(), self.taker, self.key())
+
+    def beginnings(self):
+        """Numbers of events with which the no may begin, the fewest first. Events that ended behind
+        the bad one can play a part where they began before it ended, and are writes. Answers and
+        what other processors did to their own caches only make more of a no."""
+        to_end = [number for number in range(len(self.record.events))
+                  if number < self.number or (self.is_write(number) and
+                                              self.ended_before[number] <= self.number)]
+        own = [number for number in to_end if self.is_write(number) or self.is_own(number)]
+        yield [number for number in own if not self.reader.is_answer(self.record.events[number])]
+        yield own
+        yield to_end
+        yield [number for number in range(len(self.record.events)) if number != self.number]
+
+    def least_no(self, choices):
+        return next(filter(self.is_no, choices), None) or \
+            [number for number in range(len(self.record.events)) if number != self.number]
+
+    def is_write(self, number):
+        return self.record.events[number][0] in (records.WRITE, records.ASSIST)
+
+    def is_own(self, number):
+        return self.reader.processor(self.record.events[number]) == self.reader.processor(self.bad)
+
+    def is_drop(self, number):
+        """Whether an event takes something out of its processor's caches: a fault does."""
+        event = self.record.events[number]
+        return event[0] in records.INVALIDATIONS or (
+            event[0] == records.ACCESS and not self.reader.is_answer(event))
+
+    def is_no(self, kept):
+        """Whether these events and the bad one are a no at the bad one."""
+        numbers = sorted([*kept, self.number])
+        report = causes.answer_of(without_others(self.record, numbers))
+        return report is not None and causes.bad_event(report) == numbers.index(self.number)
+
+    def is_yes(self, kept):
+        numbers = sorted([*kept, self.number])
+        return records.certify(records.program(),
+                               without_others(self.record, numbers))[0] == 0
+
+    def shows(self, kept):
+        """Whether they are a no for the same cause."""
+        return self.is_no(kept) and (self.taker is None or self.is_yes(
+            [number for number in kept if number != self.taker]))
+
+    def find_taker(self):
+        own = [number for number in self.all
+               if number < self.number and self.is_own(number) and self.is_drop(number)]
+        return next((taker for taker in own[:-MOST_TAKERS - 1:-1]
+                     if self.is_yes([number for number in self.all if number != taker])), None)
+
+    def needed(self):
+        """The writes that have to stay, so that the no says of them all what it says of the rest:
+        those of words of the walk, but for what was surely overwritten before the taker began."""
+        writes = [number for number in self.all if self.is_write(number) and
+                  self.word(number) in self.walked]
+        if self.taker is None:
+            return writes
+        last = self.ended_before[self.taker]
+        overwriting = [number for number in writes if number < last]
+
+        def is_gone(number):
+            return any(self.word(number) == self.word(later) and number < self.ended_before[later]
+                       for later in overwriting)
+        return [number for number in writes if not is_gone(number)]
+
+    def word(self, number):
+        event = self.record.events[number]
+        return self.reader.words(event, 0 if event[0] == records.WRITE else 9)
+
+    def cut(self):
+        """The numbers of the events that are needed beside the bad one."""
+        fixed = {*self.needed(), *([] if self.taker is None else [self.taker])}
+
+        def shows(rest):
+            return self.shows(sorted({*fixed, *rest}))
+
+        first = next(filter(shows, self.guesses(fixed)),
+                     [number for number in self.all if number not in fixed])
+        return sorted({*fixed, *without_parts(shows, first)})
+
+    def guesses(self, fixed):
+        """Numbers of events that may be enough beside those, the fewest first."""
+        events, page = self.record.events, self.reader.page(self.bad)
+        own = [number for number in self.all if self.is_own(number) and number not in fixed]
+        loads = [number for number in own if events[number][0] == records.LOAD_ROOT]
+        near = [number for number in own if not self.is_write(number) and
+                self.reader.page(events[number]) in (None, page)]
+        walks = [number for number in self.all
+                 if number not in fixed and self.is_write(number) and
+                 self.word(number) in self.walked]
+        for chosen in ([], loads, near, walks, [*near, *walks], [*own, *walks]):
+            yield sorted({*chosen})
+
+    def left(self, kept):
+        """The record of these events and the bad one."""
+        return records.Kept(without_others(self.record, sorted([*kept, self.number])))
+
+    def with_answers(self, _):
+        """What overlaps can't be carried out again one at a time, so no answer is put back."""
+        return iter(())
+
+    def text(self):
+        return MANY if self.taker is None else self.name_of(self.record.events[self.taker])
+
+    def name_of(self, event):
+        if event[0] == records.ACCESS:
+            return "taken by a fault"
+        kind = {0x12: "cr3", 0x13: "invlpg", 0x14: "invpcid", 0x15: "pge"}[event[0]]
+        if event[0] == 0x14:
+            kind += f" {event[self.reader.place]}"
+        if event[0] == 0x12 and self.reader.words(event) >> 63:
+            kind += " with bit 63"
+        return f"taken by {kind}"
+
+    def key(self):
+        """One line for noes alike, as `causes.key_of` has them."""
+        taken = self.text()
+        if self.taker is None and not self.is_yes([number for number in self.all
+                                                   if self.is_write(number) or self.is_load(number)]):
+            taken = NEVER
+        if not self.reader.is_access(self.bad):
+            return f"at once; {taken}; event {self.bad[0]:#x}"
+        if self.bad[0] == records.ASSIST:
+            return f"at once; {taken}; assist"
+        flags = self.reader.flags(self.bad)
+        kind = ("user " if flags & causes.USER else "super ") + \
+            ("read", "write", "fetch")[flags & 3]
+        return f"at once; {taken}; {kind} {self.outcome()}"
+
+    def is_load(self, number):
+        return self.record.events[number][0] in (records.LOAD_ROOT, 0x15)
+
+    def outcome(self):
+        """What the access got, and by which pages it can have got that."""
+        if not self.reader.is_answer(self.bad):
+            code, = struct.unpack_from("<H", self.bad, self.reader.place + 10)
+            return f"fault {code:#x}"
+        sizes = self.reader.sizes_of(self.bad)
+        return "answered; " + (" or ".join(causes.PAGES[level] for level in sorted(sizes)) or
+                               "by no page")
+
+
+def listed(record):
+    """The events of a record, a line each, as `pcid-audit show` has those of one order, and how
+    many of the events before had not ended when each began."""
+    place = 1 + records.width(record.version)
+    reader = causes.Reader(record)
+    for number, event in enumerate(record.events):
+        back, = BACK.unpack_from(event, place)
+        yield (f"{number} cpu {reader.processor(event)} {spelled(reader, event)}" +
+               (f" back {back}" if back else ""))
+
+
+def spelled(reader, event):
+    """What an event is, but for its processor."""
+    tag, place = event[0], reader.place
+    if tag == records.WRITE:
+        return f"write [{reader.words(event):#x}] = {reader.words(event, 8):#x}"
+    if tag in (records.ACCESS, records.ASSIST):
+        flags, linear = reader.flags(event), reader.words(event, 1)
+        kind = ("user" if flags & causes.USER else "super") + ("-ac" if flags & causes.AC else "") \
+            + " " + ("read", "write", "fetch")[flags & 3] + f" {linear:#x}"
+        if tag == records.ASSIST:
+            return f"assist {kind} [{reader.words(event, 9):#x}]" + (" dirty" if flags & 16 else "")
+        code, = struct.unpack_from("<H", event, place + 10)
+        return f"{kind} -> " + (f"{reader.words(event, 10):#x}" if reader.is_answer(event) else
+                                f"fault {code:#x}")
+    if tag == 0x14:
+        kind, pcid, linear = struct.unpack_from("<BHQ", event, place)
+        return f"invpcid {kind} {pcid:#x} {linear:#x}"
+    if tag == 0x15:
+        return f"pge {event[place]}"
+    return f"{'cr3' if tag == records.LOAD_ROOT else 'invlpg'} {reader.words(event):#x}"
+
+
+def without_parts(shows, events):
+    """Leaves out parts of the events, of half of them down to one, until none can go. The last go
+    first, since events stand on those before them."""
+    size = max(1, len(events) // 2)
+    while True:
+        before, end = len(events), len(events)
+        while end > 0:
+            start = max(0, end - size)
+            rest = events[:start] + events[end:]
+            if shows(rest):
+                events = rest
+            end = start
+        if size == 1 and len(events) == before:
+            return events
+        if size > 1:
+            size = max(1, min(size // 2, len(events) // 2))
