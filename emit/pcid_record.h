@@ -582,8 +582,8 @@ static inline enum pcid_record_status pcid_record_mov_cr4(struct pcid_record *re
 }
 
 /*
- * Versions 2 and 4: `processor`, or the system under test for it, set A in the table word at physical
- * address `entry`, and D too where `flags` has PCID_RECORD_DIRTY. `flags` and `linear` are
+ * Versions 2 and 4: `processor`, or the system under test for it, set A in the table word at
+ * physical address `entry`, and D too where `flags` has PCID_RECORD_DIRTY. `flags` and `linear` are
  * otherwise those of the access that it serves. `moments` are `count` numbers, 1 to 4, one for
  * each level that was read, level 4 first; the last is that of the entry itself, which is
  * pcid_record_moment before this call. In version 4 `count` is 0.

@@ -4,7 +4,6 @@ import glob
 import html
 import os
 import re
-import shlex
 import subprocess
 
 import hunting

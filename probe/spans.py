@@ -10,6 +10,7 @@ import records
 
 NEVER, MANY = "never had moments", "taken by several events"
 MOST_TAKERS = 40  # events that are tried for the one that took the last moments away
+CONTEXT = (records.LOAD_ROOT, 0x15)  # loads of CR3 and CR4
 BACK = struct.Struct("<I")
 
 
@@ -44,7 +45,7 @@ class Overlapping:
         self.taker = None
         self.all = self.least_no(self.beginnings())
         self.taker = self.find_taker()
-        self.cause = causes.Cause(self.number, self.text(), self.taker, self.key())
+        self.cause = causes.Cause(self.number, self.taken(), self.taker, self.key())
 
     def beginnings(self):
         """Numbers of events with which the no may begin, the fewest first. Events that ended behind
@@ -148,10 +149,11 @@ class Overlapping:
         """What overlaps can't be carried out again one at a time, so no answer is put back."""
         return iter(())
 
-    def text(self):
-        return MANY if self.taker is None else self.name_of(self.record.events[self.taker])
-
-    def name_of(self, event):
+    def taken(self):
+        """What took the last moments away."""
+        if self.taker is None:
+            return MANY
+        event = self.record.events[self.taker]
         if event[0] == records.ACCESS:
             return "taken by a fault"
         kind = {0x12: "cr3", 0x13: "invlpg", 0x14: "invpcid", 0x15: "pge"}[event[0]]
@@ -163,9 +165,10 @@ class Overlapping:
 
     def key(self):
         """One line for noes alike, as `causes.key_of` has them."""
-        taken = self.text()
-        if self.taker is None and not self.is_yes([number for number in self.all
-                                                   if self.is_write(number) or self.is_load(number)]):
+        taken = self.taken()
+        context = [number for number in self.all
+                   if self.is_write(number) or self.record.events[number][0] in CONTEXT]
+        if self.taker is None and not self.is_yes(context):
             taken = NEVER
         if not self.reader.is_access(self.bad):
             return f"at once; {taken}; event {self.bad[0]:#x}"
@@ -175,9 +178,6 @@ class Overlapping:
         kind = ("user " if flags & causes.USER else "super ") + \
             ("read", "write", "fetch")[flags & 3]
         return f"at once; {taken}; {kind} {self.outcome()}"
-
-    def is_load(self, number):
-        return self.record.events[number][0] in (records.LOAD_ROOT, 0x15)
 
     def outcome(self):
         """What the access got, and by which pages it can have got that."""
