@@ -75,7 +75,8 @@ def told(folder, plan, first):
         yield "lines", [first["command"], plan.command(True, first["seed"])]
         yield "text", (f"The second, its control, was: {first['control']}. Runs of processors at "
                        f"once differ, so neither need say the same again. {small} has the events "
-                       "that are left, each with the number from which on it overlaps:")
+                       "that are left; `back` of one is how many of those before it had not ended "
+                       "when it began:")
     else:
         yield "lines", [plan.command(path=small), plan.command(True, path=small),
                         first["command"]]
