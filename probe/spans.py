@@ -95,23 +95,33 @@ class Overlapping:
     def find_taker(self):
         own = [number for number in self.all
                if number < self.number and self.is_own(number) and self.is_drop(number)]
-        return next((taker for taker in own[:-MOST_TAKERS - 1:-1]
-                     if self.is_yes([number for number in self.all if number != taker])), None)
+        return next(filter(self.is_taker, own[:-MOST_TAKERS - 1:-1]), None)
 
-    def needed(self):
+    def is_taker(self, number):
+        """Whether there is no no without this event: of the few that it takes with the writes that
+        have to stay, where they are a no, since of few events `certify` decides the most."""
+        few = {*self.needed(number), *self.loads(), number}
+        chosen = few if self.is_no(few) else self.all
+        return self.is_yes([it for it in chosen if it != number])
+
+    def loads(self):
+        """The loads of CR3 by the bad one's processor."""
+        return [number for number in self.all if self.is_own(number) and
+                self.record.events[number][0] == records.LOAD_ROOT]
+
+    def needed(self, taker):
         """The writes that have to stay, so that the no says of them all what it says of the rest:
         those of words of the walk, but for what was surely overwritten before the taker began."""
         writes = [number for number in self.all if self.is_write(number) and
                   self.word(number) in self.walked]
-        if self.taker is None:
+        if taker is None:
             return writes
-        last = self.ended_before[self.taker]
-        overwriting = [number for number in writes if number < last]
-
-        def is_gone(number):
-            return any(self.word(number) == self.word(later) and number < self.ended_before[later]
-                       for later in overwriting)
-        return [number for number in writes if not is_gone(number)]
+        gone = {}  # by word, how many of the first events an overwriting began behind
+        for number in writes:
+            if number < self.ended_before[taker]:
+                word = self.word(number)
+                gone[word] = max(gone.get(word, 0), self.ended_before[number])
+        return [number for number in writes if number >= gone.get(self.word(number), 0)]
 
     def word(self, number):
         event = self.record.events[number]
@@ -119,7 +129,7 @@ class Overlapping:
 
     def cut(self):
         """The numbers of the events that are needed beside the bad one."""
-        fixed = {*self.needed(), *([] if self.taker is None else [self.taker])}
+        fixed = {*self.needed(self.taker), *([] if self.taker is None else [self.taker])}
 
         def shows(rest):
             return self.shows(sorted({*fixed, *rest}))
@@ -132,14 +142,13 @@ class Overlapping:
         """Numbers of events that may be enough beside those, the fewest first."""
         events, page = self.record.events, self.reader.page(self.bad)
         own = [number for number in self.all if self.is_own(number) and number not in fixed]
-        loads = [number for number in own if events[number][0] == records.LOAD_ROOT]
         near = [number for number in own if not self.is_write(number) and
                 self.reader.page(events[number]) in (None, page)]
         walks = [number for number in self.all
                  if number not in fixed and self.is_write(number) and
                  self.word(number) in self.walked]
-        for chosen in ([], loads, near, walks, [*near, *walks], [*own, *walks]):
-            yield sorted({*chosen})
+        for chosen in ([], self.loads(), near, walks, [*near, *walks], [*own, *walks]):
+            yield sorted({*chosen} - fixed)
 
     def left(self, kept):
         """The record of these events and the bad one."""
