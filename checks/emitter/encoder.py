@@ -63,6 +63,27 @@ def record_bytes(header, events, backs=()):
             end_bytes(len(events)))
 
 
+def log_bytes(header, number, events, is_whole=True):
+    """The log of a processor of a run with this header: (begin, end, event) each."""
+    version, m, settings, _, start = header
+    head = struct.pack("<8sHBBHHQB", b"PGCPULOG", version, m, settings, len(start), number,
+                       *start[number])
+    # (an event as a record has it, without its back)
+    place = 1 + (1 if is_narrow(version) else 2)
+    parts = []
+    for begin, end, event in events:
+        spelled = event_bytes(version + 2, event)
+        parts.append(struct.pack("<QQ", begin, end) + spelled[:place] + spelled[place + 4:])
+    return head + b"".join(parts) + struct.pack("<QQ", 2**64 - 1, len(parts)) * is_whole
+
+
+def log_refusal(header, number):
+    """The status that `pcid_log_begin` answers."""
+    if header[0] not in (1, 2):
+        return 10
+    return 11 if number >= len(header[4]) else header_refusal((*header[:3], 1, header[4]), 99)
+
+
 class Cut(Exception):
     """The bytes end, or are no record's."""
 

@@ -1,9 +1,21 @@
-/* Names every call of emit/pcid_record.h, so that each is compiled: as C99 and as C++, and for a
+/* Names every call of emit/pcid_record.h and emit/pcid_log.h, so that each is compiled: as C99 and as C++, and for a
  * kernel, where nothing may be left for a library. */
-#include "../../emit/pcid_record.h"
+#include "../../emit/pcid_log.h"
 
 void every_call(struct pcid_record *record, const struct pcid_record_header *header,
                 uint8_t *buffer, pcid_record_put put, void *context, const uint32_t *moments);
+void every_call_of_logs(struct pcid_log *log, const struct pcid_log_header *header,
+                        pcid_record_put put, void *context);
+
+void every_call_of_logs(struct pcid_log *log, const struct pcid_log_header *header,
+                        pcid_record_put put, void *context)
+{
+    if (pcid_log_begin(log, header, put, context))
+        return;
+    pcid_log_span(log, 1, 2);
+    pcid_record_invlpg(&log->record, 0, 0);
+    pcid_record_end(&log->record);
+}
 
 void every_call(struct pcid_record *record, const struct pcid_record_header *header,
                 uint8_t *buffer, pcid_record_put put, void *context, const uint32_t *moments)
