@@ -95,7 +95,17 @@ class Overlapping:
     def find_taker(self):
         own = [number for number in self.all
                if number < self.number and self.is_own(number) and self.is_drop(number)]
-        return next(filter(self.is_taker, own[:-MOST_TAKERS - 1:-1]), None)
+        return next(filter(self.is_taker, own[:-MOST_TAKERS - 1:-1]), None) or self.leave_one(own)
+
+    def leave_one(self, own):
+        """Where each of several drops would do, the latest alone: to leave out the others makes no
+        no. None where one alone is not enough, or none is needed."""
+        rest = [number for number in self.all if number not in {*own}]
+        left = without_parts(lambda some: self.is_no([*rest, *some]), own[::-1])
+        if len(left) != 1 or not self.is_yes(rest):
+            return None
+        self.all = sorted([*rest, *left])
+        return left[0]
 
     def is_taker(self, number):
         """Whether there is no no without this event: of the few that it takes with the writes that
