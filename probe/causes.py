@@ -37,6 +37,12 @@ def answer_of(data):
     return report.decode() if status == 1 else None
 
 
+def undecided_event(data):
+    """The number of the event at which certify gave a record up, None where it decides."""
+    status, report, _ = records.certify(records.program(), data)
+    return bad_event(report.decode()) if status == image.UNDECIDED else None
+
+
 def bad_event(report):
     """The number of the event that a no names."""
     return int(re.search(r"^event: (\d+)$", report, re.M).group(1))

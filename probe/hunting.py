@@ -266,12 +266,12 @@ def judge(plan, folder, seed, known, kept, result):
         raise image.Stop(f"certify ends with status {status}: {said.decode().strip()}")
     result["status"] = image.greatest(result["status"], status)
     whole = os.path.join(place_of(folder, seed), WHOLE)
-    if status == image.UNDECIDED and not result["key"]:
+    work = shrinking.of(record, kept.notes) if status else None
+    if status == image.UNDECIDED and not work and not result["key"]:
         result["key"] = UNDECIDED
         kept.write(whole)
-    if status != 1:
+    if not work:
         return
-    work = shrinking.of(record, kept.notes)
     result.update(key=work.cause.key, event=work.cause.number)
     if known.name(work.cause.key) or not is_first(folder, work.cause.key):
         return

@@ -34,11 +34,14 @@ def guesses(record, reader, number, taker):
 
 
 def of(record, notes):
-    """What shrinks a record that is a no; nothing where there is no no."""
-    if causes.answer_of(record.bytes()) is None:
-        return None
+    """What shrinks a record that is a no; nothing where there is no no. One that is not decided
+    shrinks where what is left of it is a no in each order."""
     has_spans = records.has_spans(record.version)
-    return (spans.Overlapping if has_spans else Shrinking)(record, notes)
+    if causes.answer_of(record.bytes()) is None and not (
+            has_spans and causes.undecided_event(record.bytes()) is not None):
+        return None
+    work = (spans.Overlapping if has_spans else Shrinking)(record, notes)
+    return work if not has_spans or work.is_decided or work.taker is not None else None
 
 
 class Shrinking:

@@ -6,6 +6,7 @@ from bisect import bisect_left
 
 import causes
 import image
+import orders
 import records
 
 NEVER, MANY = "never had moments", "taken by several events"
@@ -26,7 +27,7 @@ def without_others(record, numbers):
 
 
 class Overlapping:
-    """A record that is a no, and what is left of it. The cause of the no is the latest event of the
+    """A record that is a no, or is not decided, and what is left of it. The cause of the no is the latest event of the
     bad one's processor that drops from its caches, and without which there is no no: it stays the
     cause. Where no single event is, the bad event alone is kept, with all that its walk can have
     read."""
@@ -37,13 +38,15 @@ class Overlapping:
         self.ended_before = [number - BACK.unpack_from(event, place)[0]
                              for number, event in enumerate(record.events)]
         report = causes.answer_of(record.bytes())
-        if report is None:
-            raise image.Stop("certify says no no: there is nothing to shrink")
-        self.number = causes.bad_event(report)
+        self.number = causes.undecided_event(record.bytes()) if report is None else \
+            causes.bad_event(report)
+        if self.number is None:
+            raise image.Stop("certify says yes: there is nothing to shrink")
+        self.is_decided = report is not None
         self.bad = record.events[self.number]
         self.walked = self.reader.walked(self.bad) if self.reader.is_access(self.bad) else set()
         self.taker = None
-        self.all = self.least_no(self.beginnings())
+        self.all = self.least_no([*self.beginnings()])
         self.taker = self.find_taker()
         self.cause = causes.Cause(self.number, self.taken(), self.taker, self.key())
 
@@ -61,8 +64,9 @@ class Overlapping:
         yield [number for number in range(len(self.record.events)) if number != self.number]
 
     def least_no(self, choices):
+        """The first that is a no, or that is no yes where none is decided to be one."""
         return next(filter(self.is_no, choices), None) or \
-            [number for number in range(len(self.record.events)) if number != self.number]
+            next((chosen for chosen in choices if not self.is_yes(chosen)), choices[-1])
 
     def is_write(self, number):
         return self.record.events[number][0] in (records.WRITE, records.ASSIST)
@@ -77,10 +81,15 @@ class Overlapping:
             event[0] == records.ACCESS and not self.reader.is_answer(event))
 
     def is_no(self, kept):
-        """Whether these events and the bad one are a no at the bad one."""
+        """Whether these events and the bad one are a no at the bad one, or where certify does not
+        decide, a no in each of their orders."""
         numbers = sorted([*kept, self.number])
-        report = causes.answer_of(without_others(self.record, numbers))
-        return report is not None and causes.bad_event(report) == numbers.index(self.number)
+        data = without_others(self.record, numbers)
+        report = causes.answer_of(data)
+        if report is None:
+            return causes.undecided_event(data) is not None and \
+                orders.is_no_in_each(records.read_record(data)[0])
+        return causes.bad_event(report) == numbers.index(self.number)
 
     def is_yes(self, kept):
         numbers = sorted([*kept, self.number])
