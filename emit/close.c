@@ -9,6 +9,9 @@
  * keep is not judged. It looks at no more than it needs to find where things end: whether the
  * record is well formed otherwise is for pcid-audit to say.
  *
+ * In versions 3 and 4 an event that is not kept may have begun before one that is, and what it did
+ * may have been seen: a no of what is kept is sure only where no write was under way at the cut.
+ *
  * One line on standard error says what was kept. Exit status: 0 closed, 1 no header of a record
  * stands before the cut and nothing was written, 2 a read or a write failed, 64 usage.
  */
@@ -46,6 +49,12 @@ static int keep(void)
     return done;
 }
 
+/* The bytes of a processor's number. */
+static unsigned width(uint32_t version)
+{
+    return version % 2 == 1 ? 1 : 2;
+}
+
 /* Reads a header. Answers 0 where it is cut, or none. */
 static int header(uint32_t *version, uint32_t *segment)
 {
@@ -54,11 +63,11 @@ static int header(uint32_t *version, uint32_t *segment)
     if (!more(12) || memcmp(held, "PGRECORD", 8) != 0)
         return 0;
     *version = number(held + 8, 2);
-    if ((*version != 1 && *version != 2) || !more(*version + 4))
+    if (*version < 1 || *version > 4 || !more(width(*version) + 4))
         return 0;
-    processors = number(held + 12, *version);
-    *segment = number(held + 12 + *version, 4);
-    return processors >= 1 && processors <= (*version == 1 ? 64u : 1024u) && *segment >= 1 &&
+    processors = number(held + 12, width(*version));
+    *segment = number(held + 12 + width(*version), 4);
+    return processors >= 1 && processors <= (*version % 2 == 1 ? 64u : 1024u) && *segment >= 1 &&
            *segment <= 65536 && more((size_t)processors * 9);
 }
 
@@ -67,7 +76,7 @@ static int event(uint32_t version)
 {
     const uint8_t *const tag = held + used;
 
-    if (!more(1 + version))
+    if (!more(1 + width(version) + (version >= 3 ? 4 : 0)))
         return 0;
     if (*tag == 0x10)
         return more(16);
@@ -80,9 +89,11 @@ static int event(uint32_t version)
     if (*tag == 0x11) {
         if (!more(10) || held[used - 1] > 1 || !more(held[used - 1] == 1 ? 2 : 8))
             return 0;
-    } else if (*tag != 0x16 || version == 1 || !more(17)) {
+    } else if (*tag != 0x16 || version % 2 == 1 || !more(17)) {
         return 0;
     }
+    if (version >= 3)
+        return 1;
     return more(1) && held[used - 1] >= 1 && held[used - 1] <= 4 && more(4u * held[used - 1]);
 }
 

@@ -1,5 +1,5 @@
 /*
- * pcid_record.h: writes the record of a run, version 1 or 2, for pcid-audit.
+ * pcid_record.h: writes the record of a run, version 1 to 4, for pcid-audit.
  *
  * One header, for kernels too: C99 or C++, no allocation, no variable of its own, no library, and
  * no header but <stdint.h> and <stddef.h>. docs/FORMAT.md says what the bytes are, and
@@ -17,13 +17,23 @@
  * Who keeps no moments calls pcid_record_answer_unnamed and its two like, which take none: such a
  * record is for `pcid-audit certify`, which looks for moments itself.
  *
+ * Versions 3 and 4 are 1 and 2 for events that overlap, of which no order is known: an event is
+ * recorded once it has ended, and pcid_record_began says which events had ended when it began.
+ * Accesses and assists name no moments there. These records are for `pcid-audit certify` too, which
+ * looks for an order.
+ *
+ *     began = pcid_record_moment(&record);                    before the instruction
+ *     pcid_record_began(&record, began);                      behind it, under the lock
+ *     pcid_record_invlpg(&record, 0, 0x5000);
+ *
  * Each call answers an enum pcid_record_status: PCID_RECORD_TAKEN (0) or why it was not taken. A
  * call that answers one of the codes 1 to 9 has changed nothing: the record goes on with the next
  * event. Events are numbered from 0, in the order of the calls that were taken.
  *
  * The lock is the caller's: calls on one record never overlap, and an event is recorded under the
- * same lock as its effect, so that the record has the order of the effects. `put` is called from
- * within calls, thus under that lock, and makes no call on the record.
+ * same lock as its effect, so that the record has the order of the effects. In versions 3 and 4 the
+ * effect needs no lock, and the calls alone do. `put` is called from within calls, thus under that
+ * lock, and makes no call on the record.
  *
  * Numbers are passed wider than the record has them, so that what is out of range is refused and
  * never cut. Pointers that are passed must be valid; nothing else of what a caller passes can make
@@ -44,8 +54,10 @@ extern "C" {
 
 /* The bytes that a segment of `n` events may need, in a record of `version`: the size of the buffer
  * for segment size `n`. A constant where its operands are. `n` is 1 to 65,536. */
-#define PCID_RECORD_BYTES(version, n) \
-    ((size_t)9 + (size_t)(n) * ((version) == 1 ? (size_t)37 : (size_t)38))
+#define PCID_RECORD_BYTES(version, n)                                      \
+    ((size_t)9 + (size_t)(n) * ((version) == 1   ? (size_t)37              \
+                                : (version) == 2 ? (size_t)38              \
+                                : (version) == 3 ? (size_t)24 : (size_t)25))
 
 /* Settings of the header: the sum of those that are on. */
 #define PCID_RECORD_WP 0x1u   /* CR0.WP */
@@ -76,17 +88,19 @@ enum pcid_record_status {
                                that its type does not use is not 0 */
     PCID_RECORD_RULE_6 = 6, /* flags of an access or an assist that are none */
 
-    /* A field that the record can't hold: a count of moments other than 1 to 4, an error code
-     * above 0xFFFF, or a PGE other than 0 and 1. Looked for before the rules. */
+    /* A field that the record can't hold: a count of moments other than 1 to 4, and in versions 3
+     * and 4 other than 0; an error code above 0xFFFF; a PGE other than 0 and 1; a moment at which
+     * an event began that is still to come, or any in versions 1 and 2. Looked for before the
+     * rules. */
     PCID_RECORD_FIELD = 7,
-    /* An assist, in a record of version 1. Looked for before PCID_RECORD_FIELD. */
+    /* An assist, in a record of version 1 or 3. Looked for before PCID_RECORD_FIELD. */
     PCID_RECORD_NO_ASSIST = 8,
     /* The record has 4,294,967,295 events. End it, and begin another. Looked for before
      * PCID_RECORD_NO_ASSIST. */
     PCID_RECORD_FULL = 9,
 
     /* By pcid_record_begin alone, in this order. No byte was put. */
-    PCID_RECORD_BAD_VERSION = 10,  /* the version is neither 1 nor 2 */
+    PCID_RECORD_BAD_VERSION = 10,  /* the version is none of 1 to 4 */
     PCID_RECORD_BAD_HEADER = 11,   /* another field of the header is out of range */
     PCID_RECORD_SMALL_BUFFER = 12, /* the buffer is below PCID_RECORD_BYTES(version, segment) */
 
@@ -113,10 +127,10 @@ struct pcid_record_start {
 
 /* What stands at the head of a record. Read by pcid_record_begin, and not kept. */
 struct pcid_record_header {
-    uint32_t version;    /* 1 or 2 */
+    uint32_t version;    /* 1 to 4 */
     uint32_t m;          /* MAXPHYADDR in bits: 36 to 52 */
     uint32_t settings;   /* PCID_RECORD_WP and others: 0 to 0xF */
-    uint32_t processors; /* 1 to 64; in version 2 1 to 1,024 */
+    uint32_t processors; /* 1 to 64; in versions 2 and 4 1 to 1,024 */
     uint32_t segment;    /* the segment size, in events: 1 to 65,536 */
     const struct pcid_record_start *start; /* one for each processor, processor 0 first */
 };
@@ -136,6 +150,7 @@ struct pcid_record {
     uint32_t segments; /* segments that were put */
     uint32_t count;    /* events in the buffer */
     uint32_t events;   /* events that were taken, all in all */
+    uint32_t back;     /* how many of them had not yet ended when the next one began */
     uint32_t open;     /* 1 from a `begin` that was taken to `end` or a failure of `put` */
     uint32_t failed;   /* 1 where `put` failed */
 };
@@ -155,10 +170,34 @@ static inline uint8_t *pcid_record_moments_(uint8_t *at, const uint32_t *moments
 {
     uint32_t k;
 
+    if (count == 0)
+        return at;
     at = pcid_record_number_(at, count, 1);
     for (k = 0; k < count; k++)
         at = pcid_record_number_(at, moments[k], 4);
     return at;
+}
+
+/* Versions 3 and 4 have spans in the place of moments. */
+static inline int pcid_record_has_spans_(const struct pcid_record *record)
+{
+    return record->version >= 3;
+}
+
+static inline int pcid_record_has_assists_(const struct pcid_record *record)
+{
+    return record->version % 2 == 0;
+}
+
+/* The bytes of a processor's number, and of their count in the header. */
+static inline unsigned pcid_record_width_(uint32_t version)
+{
+    return version % 2 == 1 ? 1 : 2;
+}
+
+static inline int pcid_record_is_count_(const struct pcid_record *record, uint32_t count)
+{
+    return pcid_record_has_spans_(record) ? count == 0 : count >= 1 && count <= 4;
 }
 
 static inline int pcid_record_is_canonical_(uint64_t linear)
@@ -220,7 +259,8 @@ static inline uint8_t *pcid_record_open_(struct pcid_record *record, unsigned ta
         at += record->used;
     }
     at = pcid_record_number_(at, tag, 1);
-    return pcid_record_number_(at, processor, record->version == 1 ? 1 : 2);
+    at = pcid_record_number_(at, processor, pcid_record_width_(record->version));
+    return pcid_record_has_spans_(record) ? pcid_record_number_(at, record->back, 4) : at;
 }
 
 /* The event whose bytes end at `end` is taken. */
@@ -230,6 +270,7 @@ static inline enum pcid_record_status pcid_record_close_(struct pcid_record *rec
     record->used = (size_t)(end - record->buffer);
     record->count++;
     record->events++;
+    record->back = 0;
     pcid_record_number_(record->buffer + 5, record->count, 4);
     return record->count < record->segment ? PCID_RECORD_TAKEN : pcid_record_seal_(record);
 }
@@ -244,7 +285,7 @@ pcid_record_access_(struct pcid_record *record, uint32_t processor, uint32_t fla
 
     if (status != PCID_RECORD_TAKEN)
         return status;
-    if (count < 1 || count > 4 || (outcome == 1 && value > 0xFFFF))
+    if (!pcid_record_is_count_(record, count) || (outcome == 1 && value > 0xFFFF))
         return PCID_RECORD_FIELD;
     if (processor >= record->processors)
         return PCID_RECORD_RULE_1;
@@ -291,11 +332,12 @@ pcid_record_begin(struct pcid_record *record, const struct pcid_record_header *h
     record->segments = 0;
     record->count = 0;
     record->used = 0;
-    if (header->version != 1 && header->version != 2)
+    record->back = 0;
+    if (header->version < 1 || header->version > 4)
         return PCID_RECORD_BAD_VERSION;
     if (header->m < 36 || header->m > 52 || header->settings > 0xF)
         return PCID_RECORD_BAD_HEADER;
-    if (header->processors < 1 || header->processors > (header->version == 1 ? 64u : 1024u))
+    if (header->processors < 1 || header->processors > (header->version % 2 == 1 ? 64u : 1024u))
         return PCID_RECORD_BAD_HEADER;
     if (header->segment < 1 || header->segment > 65536)
         return PCID_RECORD_BAD_HEADER;
@@ -316,7 +358,7 @@ pcid_record_begin(struct pcid_record *record, const struct pcid_record_header *h
     at = pcid_record_number_(at, header->version, 2);
     at = pcid_record_number_(at, header->m, 1);
     at = pcid_record_number_(at, header->settings, 1);
-    at = pcid_record_number_(at, header->processors, header->version == 1 ? 1 : 2);
+    at = pcid_record_number_(at, header->processors, pcid_record_width_(header->version));
     at = pcid_record_number_(at, header->segment, 4);
     for (k = 0; k < header->processors; k++) {
         if (size - (size_t)(at - buffer) < 9) {
@@ -334,9 +376,33 @@ pcid_record_begin(struct pcid_record *record, const struct pcid_record_header *h
 }
 
 /*
+ * Versions 3 and 4: the next event that is taken began at `moment`: that is, pcid_record_moment
+ * just before its instruction, so that the events with numbers below `moment` had ended and the
+ * others that are recorded now had not. Called under the lock, just before the event's own call.
+ * An event without it began when all before it had ended. A smaller number than it was is as sound:
+ * it says less of the order. An event that is not taken leaves what was said for the next.
+ *
+ * PCID_RECORD_CLOSED, PCID_RECORD_FULL, PCID_RECORD_FIELD (versions 1 and 2; a moment above that
+ * of now), PCID_RECORD_PUT_FAILED.
+ */
+static inline enum pcid_record_status pcid_record_began(struct pcid_record *record,
+                                                        uint32_t moment)
+{
+    const enum pcid_record_status status = pcid_record_ready_(record);
+
+    if (status != PCID_RECORD_TAKEN)
+        return status;
+    if (!pcid_record_has_spans_(record) || moment > record->events)
+        return PCID_RECORD_FIELD;
+    record->back = record->events - moment;
+    return PCID_RECORD_TAKEN;
+}
+
+/*
  * A write changed the aligned 8-byte word at physical address `address`, a word of a paging table,
  * to `value`. `processor` is the one that wrote; it plays no part in judging, and is 0 for a
- * device.
+ * device. In versions 3 and 4 it tells which events come before, and a device has a number of its
+ * own.
  *
  * PCID_RECORD_CLOSED, PCID_RECORD_FULL, rules 1 and 2, PCID_RECORD_PUT_FAILED.
  */
@@ -363,7 +429,7 @@ static inline enum pcid_record_status pcid_record_write(struct pcid_record *reco
  * An access by `processor` to the byte at `linear` was answered: the byte's physical address is
  * `physical` (the page's address plus the offset). `flags` is the operation, PCID_RECORD_USER and
  * PCID_RECORD_AC. `moments` are `count` numbers, 1 to 4, one for each level that was read, level 4
- * first.
+ * first; in versions 3 and 4 `count` is 0, and `moments` is not looked at.
  *
  * PCID_RECORD_CLOSED, PCID_RECORD_FULL, PCID_RECORD_FIELD (count), rules 1, 3 and 6,
  * PCID_RECORD_PUT_FAILED. Which moments are named is not looked at: that is the auditor's.
@@ -390,7 +456,8 @@ pcid_record_fault(struct pcid_record *record, uint32_t processor, uint32_t flags
 }
 
 /*
- * pcid_record_answer without moments: one moment, 0, stands in their place.
+ * pcid_record_answer without moments: one moment, 0, stands in their place, and none in versions
+ * 3 and 4.
  *
  * PCID_RECORD_CLOSED, PCID_RECORD_FULL, rules 1, 3 and 6, PCID_RECORD_PUT_FAILED.
  */
@@ -400,7 +467,8 @@ pcid_record_answer_unnamed(struct pcid_record *record, uint32_t processor, uint3
 {
     const uint32_t placeholder = 0;
 
-    return pcid_record_answer(record, processor, flags, linear, physical, &placeholder, 1);
+    return pcid_record_answer(record, processor, flags, linear, physical, &placeholder,
+                              !pcid_record_has_spans_(record));
 }
 
 /*
@@ -415,7 +483,8 @@ pcid_record_fault_unnamed(struct pcid_record *record, uint32_t processor, uint32
 {
     const uint32_t placeholder = 0;
 
-    return pcid_record_fault(record, processor, flags, linear, code, &placeholder, 1);
+    return pcid_record_fault(record, processor, flags, linear, code, &placeholder,
+                             !pcid_record_has_spans_(record));
 }
 
 /*
@@ -513,11 +582,11 @@ static inline enum pcid_record_status pcid_record_mov_cr4(struct pcid_record *re
 }
 
 /*
- * Version 2: `processor`, or the system under test for it, set A in the table word at physical
- * address `entry`, and D too where `flags` has PCID_RECORD_DIRTY. `flags` and `linear` are
+ * Versions 2 and 4: `processor`, or the system under test for it, set A in the table word at
+ * physical address `entry`, and D too where `flags` has PCID_RECORD_DIRTY. `flags` and `linear` are
  * otherwise those of the access that it serves. `moments` are `count` numbers, 1 to 4, one for
  * each level that was read, level 4 first; the last is that of the entry itself, which is
- * pcid_record_moment before this call.
+ * pcid_record_moment before this call. In version 4 `count` is 0.
  *
  * PCID_RECORD_CLOSED, PCID_RECORD_FULL, PCID_RECORD_NO_ASSIST, PCID_RECORD_FIELD (count), rules 1,
  * 2, 3 and 6, PCID_RECORD_PUT_FAILED.
@@ -531,9 +600,9 @@ pcid_record_assist(struct pcid_record *record, uint32_t processor, uint32_t flag
 
     if (status != PCID_RECORD_TAKEN)
         return status;
-    if (record->version == 1)
+    if (!pcid_record_has_assists_(record))
         return PCID_RECORD_NO_ASSIST;
-    if (count < 1 || count > 4)
+    if (!pcid_record_is_count_(record, count))
         return PCID_RECORD_FIELD;
     if (processor >= record->processors)
         return PCID_RECORD_RULE_1;
@@ -564,7 +633,8 @@ pcid_record_assist_unnamed(struct pcid_record *record, uint32_t processor, uint3
 {
     const uint32_t placeholder = 0;
 
-    return pcid_record_assist(record, processor, flags, linear, entry, &placeholder, 1);
+    return pcid_record_assist(record, processor, flags, linear, entry, &placeholder,
+                              !pcid_record_has_spans_(record));
 }
 
 /*

@@ -24,16 +24,28 @@ class Cause:
 
 def explicit(event, words, version):
     """The event of an implicit access as if software had asked for it: with its ring and AC."""
-    flags = event[1 + version] | (USER if "user" in words else 0) | (AC if "ac" in words else 0)
-    return event[:1 + version] + bytes([flags]) + event[2 + version:]
+    place = records.place_of(version)
+    flags = event[place] | (USER if "user" in words else 0) | (AC if "ac" in words else 0)
+    return event[:place] + bytes([flags]) + event[place + 1:]
 
 
 def answer_of(data):
-    """The report of certify behind a no, None behind a yes."""
+    """The report of certify behind a no, None behind a yes, and where it did not decide."""
     status, report, said = records.certify(records.program(), data)
-    if status not in (0, 1):
+    if status not in (0, 1, image.UNDECIDED):
         raise image.Stop(f"certify ends with status {status}: {said.decode().strip()}")
-    return report.decode() if status else None
+    return report.decode() if status == 1 else None
+
+
+def undecided_event(data):
+    """The number of the event at which certify gave a record up, None where it decides."""
+    status, report, _ = records.certify(records.program(), data)
+    return bad_event(report.decode()) if status == image.UNDECIDED else None
+
+
+def bad_event(report):
+    """The number of the event that a no names."""
+    return int(re.search(r"^event: (\d+)$", report, re.M).group(1))
 
 
 def is_yes_as_explicit(record, events, number, words):
@@ -48,7 +60,7 @@ def cause_of(record, events, notes):
     report = answer_of(record.bytes(events))
     if report is None:
         return None
-    number = int(re.search(r"^event: (\d+)$", report, re.M).group(1))
+    number = bad_event(report)
     taken = re.search(r"^last: moment \d+ by ([\d ]+); taken by (\d+) (.*)$", report, re.M)
     words = notes.get(number)
     if words is not None and is_yes_as_explicit(record, events, number, words):
@@ -97,10 +109,10 @@ class Reader:
     """What events of a record say, as its version spells them."""
 
     def __init__(self, record):
-        self.record, self.place = record, 1 + record.version
+        self.record, self.place = record, records.place_of(record.version)
 
     def processor(self, event):
-        return int.from_bytes(event[1:self.place], "little")
+        return int.from_bytes(event[1:1 + records.width(self.record.version)], "little")
 
     def words(self, event, skipped=0):
         return struct.unpack_from("<Q", event, self.place + skipped)[0]
@@ -112,8 +124,7 @@ class Reader:
         return event[0] == records.ACCESS and event[self.place + 9] == 0
 
     def roots(self, processor):
-        start = 12 + self.record.version + 4 + 9 * processor
-        return {struct.unpack_from("<Q", self.record.head, start)[0]} | {
+        return {self.record.starts()[processor][0]} | {
             self.words(event) for event in self.record.events
             if event[0] == records.LOAD_ROOT and self.processor(event) == processor}
 
@@ -128,18 +139,36 @@ class Reader:
         return self.is_answer(event) and (self.processor(event), self.page(event),
                                           self.words(event, 10) >> 12)
 
-    def walked(self, access):
-        """The words that a walk of an access's address can ever have read."""
-        linear, values, found = self.words(access, 1), {}, set()
+    def walks(self, access):
+        """Level by level from 4 on, the words that a walk of an access's address can ever have
+        read there, and their values."""
+        linear, values = self.words(access, 1), {}
         for event in self.record.events:
             if event[0] == records.WRITE:
                 values.setdefault(self.words(event), set()).add(self.words(event, 8))
         tables = {root & FRAME for root in self.roots(self.processor(access))}
         for level in (4, 3, 2, 1):
             words = {table + 8 * (linear >> 3 + 9 * level & 511) for table in tables}
-            found |= words
-            tables = {value & FRAME for word in words for value in values.get(word, ())}
+            entries = {value for word in words for value in values.get(word, ())}
+            yield level, words, entries
+            tables = {entry & FRAME for entry in entries}
+
+    def walked(self, access):
+        """The words that a walk of an access's address can ever have read."""
+        return set().union(*(words for _, words, _ in self.walks(access)))
+
+    def sizes_of(self, answer):
+        """The levels of the leaves by which an answer can ever have been given."""
+        linear, physical = self.words(answer, 1), self.words(answer, 10)
+        found = set()
+        for level, _, entries in self.walks(answer):
+            size = 1 << 3 + 9 * level
+            base = (physical - linear % size) & FRAME
+            if level < 4 and any(entry & 1 and (level == 1 or entry & LARGE) and
+                                 entry & FRAME & -size == base for entry in entries):
+                found.add(level)
         return found
 
 
 FRAME = (1 << 52) - (1 << 12)  # of an entry or a root, the address of a table
+LARGE = 1 << 7  # of an entry of level 3 or 2: it maps a page

@@ -1,79 +1,129 @@
-"""A hunt: seeds, each carried out by a job of its own in a folder of its own, and the page of what
-they gave. All that is known of a seed stands in its folder, so that a hunt can be gone on with, and
-jobs can run anywhere."""
+"""A hunt: seeds, each carried out by a job of its own, or in one boot with others. All that is known
+of a seed stands in a folder of its own, so that a hunt can be gone on with, and jobs can run
+anywhere."""
 import fnmatch
-import glob
 import hashlib
-import html
 import json
 import os
 import re
 import shlex
-import subprocess
+import types
 
-import causes
 import image
+import kernels
+import logs
+import nesting
 import records
 import replay
 import shrinking
 import systems
 
 RESULT, SMALL, WHOLE, PLAN = "result.json", "small.record", "whole.record", "hunt.json"
-CONTROLS = {"qemu": "bochs", "bochs": "qemu", "kvm": "qemu"}
+NESTED = "nested-"  # before the name of the emulator in which a KVM runs
+CONTROLS = {"qemu": "bochs", "bochs": "qemu", "kvm": "qemu", "xen": "qemu",
+            "nested-qemu": "nested-qemu", "nested-bochs": "nested-bochs"}
+SYSTEMS = sorted(CONTROLS)
+MOST_REPLAYED = 8  # forms of what is left of a record that are tried in one boot
+UNDECIDED = "undecided"
+# What a hunt says of all its runs.
+WORDS = ("system", "events", "processors", "version", "without", "limit", "spread", "threads",
+         "control", "at_once", "parameters", "kernel", "emulator_threads")
 
 
-class Plan:
+class Plan(types.SimpleNamespace):
     """What all jobs of a hunt have in common: a system and the words of a run."""
-
-    def __init__(self, system, events, processors, version, without, limit, spread, threads,
-                 control):
-        self.system, self.events, self.processors = system, events, processors
-        self.version, self.without, self.limit, self.spread = version, without, limit, spread
-        self.threads, self.control = threads, control
 
     @classmethod
     def of(cls, chosen):
-        return cls(chosen.system, chosen.events, chosen.processors, chosen.version, chosen.without,
-                   chosen.limit, chosen.spread, chosen.threads,
-                   chosen.control or CONTROLS[chosen.system])
+        words = {name: getattr(chosen, name) for name in WORDS}
+        return cls(**{**words, "control": chosen.control or CONTROLS[chosen.system]})
 
     @classmethod
     def read(cls, folder):
         try:
             with open(os.path.join(folder, PLAN)) as file:
-                return cls(**json.load(file))
-        except (OSError, ValueError, TypeError) as why:
+                words = json.load(file)
+        except (OSError, ValueError) as why:
             raise image.Stop(f"{folder} has no hunt: {why}") from None
+        if sorted(words) != sorted(WORDS):
+            raise image.Stop(f"{folder} is of another version of the probe")
+        return cls(**words)
+
+    def look_over(self):
+        """Stops at words that don't go together."""
+        if self.at_once and (self.version != 1 or self.system == "nested-bochs"):
+            raise image.Stop("--at-once has records of version 1, and is not of nested-bochs")
+        if not self.is_nested() and (self.kernel or self.emulator_threads or (
+                self.parameters and self.system != "xen")):
+            raise image.Stop("--parameters, --kernel and --emulator-threads are of nested systems, "
+                             "and --parameters of xen")
+        if self.is_nested() != self.control.startswith(NESTED):
+            raise image.Stop("the control of a nested system is a nested one, and of no other")
 
     def keep(self, folder):
         """Begins the folder, or goes on with what was begun by the same words."""
         os.makedirs(os.path.join(folder, "seeds"), exist_ok=True)
         path = os.path.join(folder, PLAN)
         if os.path.exists(path):
-            if Plan.read(folder).__dict__ != self.__dict__:
+            if Plan.read(folder) != self:
                 raise image.Stop(f"{folder} is of a hunt with other words: see {path}")
             return
         with open(path, "w") as file:
             json.dump(self.__dict__, file, indent=1)
 
+    def is_nested(self):
+        return self.system.startswith(NESTED)
+
+    def need(self):
+        """Stops where something lacks."""
+        if self.is_nested():
+            kernel = kernels.Kernel(self.kernel)
+            systems.need(emulator(self.system), *nesting.needs(emulator(self.system), kernel))
+        else:
+            systems.need(self.system)
+
     def processors_of(self, seed):
         return (seed - 1) % self.processors + 1 if self.spread else self.processors
 
-    def ways(self):
-        return image.LOADER_TURNS if self.system == "kvm" and not self.threads else 0
+    def ways(self, system):
+        return (image.AT_ONCE if self.at_once else image.LOADER_TURNS
+                if system == "kvm" and not self.threads else 0)
 
-    def settings(self, seed):
+    def settings(self, system, seed):
         kinds = image.kinds_of(self, self.version)
         return image.settings_of(seed, 1, self.events, self.processors_of(seed), self.version,
-                                 kinds, self.ways())
+                                 kinds, self.ways(system), 0, *image.MODES[self.at_once or "free"])
 
-    def command(self, seed):
-        """What repeats a seed's run."""
-        words = ["probe/run", self.system, "--seed", str(seed), "--events", str(self.events),
-                 "--processors", str(self.processors_of(seed)), "--version", str(self.version)]
+    def parameters_of(self, is_control):
+        """Of KVM's module, or of Xen's command line."""
+        return nesting.NESTED[emulator(self.control)] if self.is_nested() and is_control else \
+            self.parameters
+
+    def boot_plan(self, is_control):
+        """As a boot takes it."""
+        system = emulator(self.control if is_control else self.system)
+        return types.SimpleNamespace(**{**self.__dict__, "system": system,
+                                        "parameters": self.parameters_of(is_control)})
+
+    def command(self, is_control=False, seed=None, path=None):
+        """What repeats a seed's run, or carries a record out again."""
+        system = self.control if is_control else self.system
+        words = (["probe/nested", emulator(system)] if self.is_nested() else ["probe/run", system])
+        words += ["--replay", path] if path else [
+            "--seed", str(seed), "--events", str(self.events), "--processors",
+            str(self.processors_of(seed)), "--version", str(self.version)]
+        words += ["--at-once", self.at_once] if self.at_once and not path else []
         words += ["--without", self.without] if self.without else []
-        words += ["--threads"] if self.threads else []
+        parameters = self.parameters_of(is_control)
+        words += ["--parameters", parameters] if parameters and (self.is_nested() or
+                                                                 system == "xen") else []
+        words += ["--kernel", self.kernel] if self.kernel else []
+        words += ["--threads"] * self.threads + ["--emulator-threads"] * self.emulator_threads
         return shlex.join(words)
+
+
+def emulator(system):
+    return system.removeprefix(NESTED)
 
 
 class Known:
@@ -131,24 +181,70 @@ def is_first(folder, key):
     return True
 
 
-def carry_out(plan, folder, seed, known):
-    """One job. A run that hung or ended early is a cause of its own; what stands whole of its
-    record is judged too, and a no of it goes before."""
-    os.makedirs(place_of(folder, seed), exist_ok=True)
-    done = systems.SYSTEMS[plan.system](plan.settings(seed), plan.limit)
-    found, cut = records.split(done.output)
-    status = done.status(cut)
-    result = {"seed": seed, "status": status, "events": 0, "key": None, "command":
-              plan.command(seed)}
-    if status or not found:
-        result["key"] = ended(done, cut)
-        result["status"] = status or image.EARLY_END
-        found[:1] and found[0].write(os.path.join(place_of(folder, seed), WHOLE))
-    if found:
-        judge(plan, folder, seed, known, found[0], result)
-    result["known"] = result["key"] and known.name(result["key"])
-    keep_result(folder, seed, result)
-    return result
+class Outcome:
+    """What a seed's run left: how it ended, its record with its notes where there is one, and what
+    is told of a record or of logs that were cut."""
+
+    def __init__(self, done, kept, cut):
+        self.done, self.kept, self.cut = done, kept, cut
+        self.status = done.status(cut)
+
+
+def recorded(plan, done):
+    """The records of an output, one a run, and what was said of those that were cut."""
+    if not plan.at_once:
+        return records.split(done.output)
+    runs = logs.split(done.output)
+    cut = [logs.cut(run) for run in runs]
+    return [records.Kept(logs.record_of(run)) for run in runs], "; ".join(filter(None, cut))
+
+
+def run_direct(plan, seed, is_control=False):
+    system = plan.control if is_control else plan.system
+    more = {"parameters": plan.parameters} if system == "xen" else {}
+    done = systems.SYSTEMS[system](plan.settings(system, seed), plan.limit, **more)
+    found, cut = recorded(plan, done)
+    return Outcome(done, found[0] if found else None, cut)
+
+
+def run_nested(plan, seeds, is_control=False):
+    """The outcomes of seeds of one boot. Where it left fewer records than runs, so that none can be
+    told which is whose, each seed has a boot of its own."""
+    boot_plan = plan.boot_plan(is_control)
+    runs = [nesting.Run(boot_plan, seed, plan.processors_of(seed), plan.threads)
+            for seed in seeds]
+    done = nesting.boot(boot_plan, kernels.Kernel(plan.kernel), runs)
+    found, cut = recorded(plan, done)
+    if len(found) != len(runs) and len(runs) > 1:
+        return [run_nested(plan, [seed], is_control)[0] for seed in seeds]
+    return [Outcome(nesting.part_of(done, number), found[number] if found else None,
+                    cut if len(runs) == 1 else "") for number in range(len(runs))]
+
+
+def outcomes(plan, seeds, is_control=False):
+    if plan.is_nested():
+        return run_nested(plan, seeds, is_control)
+    return [run_direct(plan, seed, is_control) for seed in seeds]
+
+
+def carry_out(plan, folder, seeds, known):
+    """One job: these seeds. A run that hung or ended early is a cause of its own; what stands whole
+    of its record is judged too, and a no of it goes before."""
+    status = 0
+    for seed, outcome in zip(seeds, outcomes(plan, seeds)):
+        os.makedirs(place_of(folder, seed), exist_ok=True)
+        result = {"seed": seed, "status": outcome.status, "events": 0, "key": None,
+                  "command": plan.command(seed=seed)}
+        if outcome.status or not outcome.kept:
+            result["key"] = ended(outcome.done, outcome.cut)
+            result["status"] = outcome.status or image.EARLY_END
+            outcome.kept and outcome.kept.write(os.path.join(place_of(folder, seed), WHOLE))
+        if outcome.kept:
+            judge(plan, folder, seed, known, outcome.kept, result)
+        result["known"] = result["key"] and known.name(result["key"])
+        keep_result(folder, seed, result)
+        status = image.greatest(status, result["status"])
+    return status
 
 
 def ended(done, cut):
@@ -165,144 +261,103 @@ def judge(plan, folder, seed, known, kept, result):
     """Certifies what was recorded. A new cause is cut down, by the first job that meets it."""
     record, _ = records.read_record(kept.data)
     result["events"] = len(record.events)
-    cause = causes.cause_of(record, record.events, kept.notes)
-    if cause is None:
+    status, _, said = records.certify(records.program(), kept.data)
+    if status not in (0, 1, image.UNDECIDED):
+        raise image.Stop(f"certify ends with status {status}: {said.decode().strip()}")
+    result["status"] = image.greatest(result["status"], status)
+    whole = os.path.join(place_of(folder, seed), WHOLE)
+    work = shrinking.of(record, kept.notes) if status else None
+    if status == image.UNDECIDED and not work and not result["key"]:
+        result["key"] = UNDECIDED
+        kept.write(whole)
+    if not work:
         return
-    result.update(status=max(result["status"], 1), key=cause.key, event=cause.number)
-    if known.name(cause.key) or not is_first(folder, cause.key):
+    result.update(key=work.cause.key, event=work.cause.number)
+    if known.name(work.cause.key) or not is_first(folder, work.cause.key):
         return
-    kept.write(os.path.join(place_of(folder, seed), WHOLE))
-    work = shrinking.Shrinking(record, kept.notes)
+    kept.write(whole)
+    result["small"] = os.path.relpath(os.path.join(place_of(folder, seed), SMALL), folder)
+    (cut_at_once if plan.at_once else cut_down)(plan, seed, work,
+                                                os.path.join(folder, result["small"]), result)
+
+
+def cut_at_once(plan, seed, work, path, result):
+    """What overlaps is not carried out again: the control is the same run on another system."""
+    work.left(work.cut()).write(path)
+    result["control"] = verdict(plan, lambda: outcomes(plan, [seed], True)[0])
+
+
+def cut_down(plan, seed, work, path, result):
+    """Leaves of a record what is a no there again, where that can be had, and tries the control."""
     needed = work.cut()
-    path = os.path.join(place_of(folder, seed), SMALL)
-    for numbers in [*work.with_answers(needed), needed]:
-        work.left(numbers).write(path)
-        if replayed(plan, plan.system, path) == "no":
-            result["replay"] = "no"
-            break
-    else:
-        work.left(next(work.with_answers(needed), needed)).write(path)
-    result["small"] = os.path.relpath(path, folder)
-    result["control"] = replayed(plan, plan.control, path)
+    forms = [*work.with_answers(needed), needed]
+    number = first_no(plan, work, forms, path)
+    if number is not None:
+        result["replay"] = "no"
+    work.left(forms[number or 0]).write(path)
+    result["control"] = replayed(plan, [path], True)[0]
 
 
-def replayed(plan, system, path):
-    """The verdict of a record that is carried out again, or why there is none."""
+def first_no(plan, work, forms, path):
+    """The number of the first form that is a no where it is carried out again; none where none is.
+    A boot takes several."""
+    some = MOST_REPLAYED if plan.is_nested() else 1
+    for start in range(0, len(forms), some):
+        paths = []
+        for number, form in enumerate(forms[start:start + some]):
+            paths.append(f"{path}.{number}")
+            work.left(form).write(paths[-1])
+        verdicts = replayed(plan, paths)
+        for name in paths:
+            os.remove(name)
+            os.remove(name + records.NOTES)
+        if "no" in verdicts:
+            return start + verdicts.index("no")
+    return None
+
+
+def replayed(plan, paths, is_control=False):
+    """The verdicts of records that are carried out again, or why there is none."""
+    if plan.is_nested():
+        return replayed_in_boot(plan, paths, is_control)
+    return [verdict(plan, lambda it=path: replay_direct(plan, it, is_control)) for path in paths]
+
+
+def replay_direct(plan, path, is_control):
+    system = plan.control if is_control else plan.system
+    systems.need(system)
+    data, processors, _ = replay.of_files([path])
+    settings = image.settings_of(0, 1, 0, processors, plan.version,
+                                 image.kinds_of(plan, plan.version),
+                                 image.REPLAY | plan.ways(system))
+    more = {"parameters": plan.parameters} if system == "xen" else {}
+    done = systems.SYSTEMS[system](settings, plan.limit, data, **more)
+    found, cut = records.split(done.output)
+    return Outcome(done, found[0] if found else None, cut)
+
+
+def replayed_in_boot(plan, paths, is_control):
+    boot_plan = plan.boot_plan(is_control)
     try:
-        systems.need(system)
-        data, processors, _ = replay.of_files([path])
-        ways = image.REPLAY | (plan.ways() if system == plan.system else
-                               image.LOADER_TURNS if system == "kvm" else 0)
-        settings = image.settings_of(0, 1, 0, processors, plan.version,
-                                     image.kinds_of(plan, plan.version), ways)
-        done = systems.SYSTEMS[system](settings, plan.limit, data)
-        found, cut = records.split(done.output)
+        data, _, _ = replay.of_files(paths)
+    except image.Stop as why:
+        return [f"not carried out: {str(why).splitlines()[0]}"] * len(paths)
+    runs = [nesting.Replay(boot_plan, number, path) for number, path in enumerate(paths)]
+    done = nesting.boot(boot_plan, kernels.Kernel(plan.kernel), runs, data)
+    found, cut = records.split(done.output)
+    if len(found) != len(paths):
+        return [ended(done, cut)] * len(paths)
+    return [verdict(plan, lambda it=number: Outcome(nesting.part_of(done, it), found[it], ""))
+            for number in range(len(paths))]
+
+
+def verdict(plan, outcome_of):
+    """What certify says of a run, or how it ended."""
+    try:
+        outcome = outcome_of()
     except image.Stop as why:
         return f"not carried out: {str(why).splitlines()[0]}"
-    if done.status(cut) or not found:
-        return ended(done, cut)
-    status = records.certify(records.program(), found[0].data)[0]
-    return {0: "yes", 1: "no"}.get(status, f"status {status}")
-
-
-class Group:
-    """All seeds of one cause."""
-
-    def __init__(self, key, known):
-        self.key, self.known, self.results = key, known, []
-
-    def first(self):
-        """The one that tells most."""
-        return next((it for it in self.results if it.get("replay")),
-                    next((it for it in self.results if it.get("small")), self.results[0]))
-
-
-def collected(folder, known):
-    """The results of a folder, and its causes, new ones first."""
-    results = [result_of(folder, os.path.basename(place))
-               for place in glob.glob(os.path.join(folder, "seeds", "*"))]
-    results = sorted((it for it in results if it), key=lambda it: it["seed"])
-    groups = {}
-    for result in filter(lambda it: it["key"], results):
-        name = known.name(result["key"])
-        # What is known by one name is one cause.
-        group = groups.setdefault(name or result["key"], Group(result["key"], name))
-        group.results.append(result)
-    return results, sorted(groups.values(), key=lambda it: (it.known is not None,
-                                                            -len(it.results)))
-
-
-def show(path):
-    done = subprocess.run([records.program(), "show", path], capture_output=True, text=True)
-    return re.sub(r" moments [0-9 ]*$", "", done.stdout, flags=re.M).rstrip()
-
-
-def page(folder, plan, results, groups):
-    """The page, as pieces: a heading, a paragraph, a table or lines of text each."""
-    new = [group for group in groups if group.known is None]
-    yes = sum(it["key"] is None for it in results)
-    yield "heading", f"A hunt on {plan.system}"
-    yield "text", (f"{len(results)} seeds, {sum(it['events'] for it in results)} events: {yes} "
-                   f"accepted, {len(results) - yes} not, by {len(groups)} causes, of which "
-                   f"{len(new)} are new.")
-    if groups:
-        yield "table", [("Cause", "Known as", "Seeds", "First of them")] + [
-            (group.key, group.known or "new", str(len(group.results)),
-             ", ".join(str(it["seed"]) for it in group.results[:8])) for group in groups]
-    for group in new:
-        first = group.first()
-        yield "heading", group.key
-        yield "text", f"Seen in {len(group.results)} of {len(results)} seeds. Repeat it:"
-        lines = [first["command"]]
-        if first.get("small"):
-            small = os.path.join(folder, first["small"])
-            lines = [f"probe/run {plan.system} --replay {shlex.quote(small)}",
-                     f"probe/run {plan.control} --replay {shlex.quote(small)}", *lines]
-            yield "lines", lines
-            yield "text", (f"The first is {first.get('replay', 'not a no: by the whole run alone')}"
-                           f"; the second, its control, is: {first['control']}. The events that "
-                           "are left:")
-            lines = show(small).splitlines()
-        yield "lines", lines
-
-
-def markdown(pieces):
-    out = []
-    for kind, what in pieces:
-        if kind == "heading":
-            out.append(("# " if not out else "## ") + what)
-        elif kind == "text":
-            out.append(what)
-        elif kind == "lines":
-            out.append("\n".join("    " + line for line in what))
-        else:
-            rows = ["| " + " | ".join(cell.replace("|", "\\|") for cell in row) + " |"
-                    for row in what]
-            out.append("\n".join([rows[0], "|---" * len(what[0]) + "|", *rows[1:]]))
-    return "\n\n".join(out) + "\n"
-
-
-def markup(pieces):
-    out, names = [], {"heading": "h2", "text": "p", "lines": "pre"}
-    for kind, what in pieces:
-        if kind == "table":
-            rows = ["".join(f"<td>{html.escape(cell)}</td>" for cell in row) for row in what]
-            out.append("<table border=1>" + "".join(f"<tr>{row}</tr>\n" for row in rows) +
-                       "</table>")
-            continue
-        text = html.escape("\n".join(what) if kind == "lines" else what)
-        name = names[kind] if out or kind != "heading" else "h1"
-        out.append(f"<{name}>{text}</{name}>")
-    return ("<!doctype html>\n<meta charset=utf-8>\n<title>A hunt</title>\n" + "\n".join(out) +
-            "\n")
-
-
-def write_page(folder, plan, known):
-    """Writes page.md and page.html; the status of what is new."""
-    results, groups = collected(folder, known)
-    pieces = list(page(folder, plan, results, groups))
-    for name, text in (("page.md", markdown(pieces)), ("page.html", markup(pieces))):
-        with open(os.path.join(folder, name), "w") as file:
-            file.write(text)
-    new = [it["status"] for group in groups if group.known is None for it in group.results]
-    return results, groups, max(new, default=0)
+    if outcome.status or not outcome.kept:
+        return ended(outcome.done, outcome.cut)
+    status = records.certify(records.program(), outcome.kept.data)[0]
+    return {0: "yes", 1: "no", image.UNDECIDED: UNDECIDED}.get(status, f"status {status}")

@@ -41,6 +41,7 @@ BUILDERS = ("gcc", "ld", "objcopy", "nasm")
 
 # Exit statuses beside those of `certify`, which are below 10.
 EARLY_END, HANG, USAGE, LACKING = 10, 11, 64, 70
+UNDECIDED = 4  # of `certify`: it says nothing of the run, so it ranks between a yes and a no
 
 # Kinds of entries, events and accesses that can be left out: the bits of guest/probe.h.
 KINDS = ["reserved", "large", "global", "user", "writes", "fetches", "implicit", "implicit-ac",
@@ -65,6 +66,11 @@ class Words(argparse.ArgumentParser):
     def error(self, message):
         self.print_usage(sys.stderr)
         self.exit(USAGE, f"{self.prog}: {message}\n")
+
+
+def greatest(*statuses):
+    """The status that tells most of several."""
+    return max(statuses, key=lambda status: 0.5 if status == UNDECIDED else status)
 
 
 def is_there(tool):
@@ -183,6 +189,17 @@ def add_at_once(words):
     words.add_argument("--at-once", nargs="?", const="free", choices=list(MODES), metavar="HOW",
                        help="all processors act at once, each by a random stream and with a log of "
                             "its own: " + ", ".join(MODES))
+
+
+def add_nested_options(words):
+    """What is said of a KVM in an emulator."""
+    words.add_argument("--parameters", metavar="TEXT",
+                       help="of KVM's module: without it npt=0 in qemu, ept=0 vpid=0 in bochs")
+    words.add_argument("--kernel", metavar="FILES|PACKAGE[/SUITE]",
+                       help="another kernel of Debian: .deb files by commas, or a package's name, "
+                            "of another suite with that behind a slash (linux-image-amd64/trixie)")
+    words.add_argument("--emulator-threads", action="store_true",
+                       help="qemu: a thread of the emulator for each of its processors")
 
 
 def add_common_options(words, events=2000):

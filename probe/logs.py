@@ -3,6 +3,7 @@ import os
 import struct
 import subprocess
 import sys
+import tempfile
 
 import image
 import records
@@ -11,6 +12,7 @@ MAGIC = b"PGCPULOG"
 HEAD = struct.Struct("<8sHBBHHQB")
 STAMPS = struct.Struct("<QQ")
 END = (1 << 64) - 1
+RECORD = "run.record"  # what the auditor made of the logs beside it
 
 
 class Log:
@@ -30,15 +32,16 @@ def event_size(data, at, version):
     """The bytes of the event there, without moments. Cut where it is not whole or none."""
     if at >= len(data):
         raise records.Cut
-    tag, place = data[at], at + 1 + version
+    head = records.place_of(version)
+    tag, place = data[at], at + head
     if tag == records.ACCESS:
         if place + 9 >= len(data) or data[place + 9] > 1:
             raise records.Cut
-        size = 1 + version + 10 + (2 if data[place + 9] else 8)
+        size = head + 10 + (2 if data[place + 9] else 8)
     elif tag == records.ASSIST and version == 2:
-        size = 1 + version + 17
+        size = head + 17
     elif tag in records.SIZES:
-        size = 1 + version + records.SIZES[tag]
+        size = head + records.SIZES[tag]
     else:
         raise records.Cut
     if at + size > len(data):
@@ -121,17 +124,41 @@ def can_merge():
                           capture_output=True).returncode == 0
 
 
-def judge(paths):
-    """What certify says of the record that the auditor merges of logs, on standard output."""
+def need_merge():
+    """Stops where the auditor makes no records of logs."""
     if not can_merge():
-        print("probe: the auditor has no `merge`: the logs are kept, and not judged",
-              file=sys.stderr)
-        return image.LACKING
-    merged = subprocess.run([records.program(), "merge", *paths], capture_output=True)
-    sys.stderr.buffer.write(merged.stderr)
-    if merged.returncode != 0:
-        return merged.returncode
-    status, report, said = records.certify(records.program(), merged.stdout)
+        raise image.Stop("the auditor has no `merge`, which makes a record of logs: keep them "
+                         "by --record-only --keep FOLDER")
+
+
+def merged(paths):
+    """The record that the auditor makes of logs."""
+    done = subprocess.run([records.program(), "merge", *paths], stdin=subprocess.DEVNULL,
+                          capture_output=True)
+    if done.returncode != 0:
+        raise image.Stop(f"merge ends with status {done.returncode}: "
+                         f"{done.stderr.decode(errors='replace').strip()}")
+    return done.stdout
+
+
+def record_of(run, folder=None):
+    """The record of a run's logs. They stay in a folder with it, where one is named."""
+    with tempfile.TemporaryDirectory() as other:
+        paths = keep(run, folder or other)
+        data = merged(paths)
+    if folder:
+        with open(os.path.join(folder, RECORD), "wb") as file:
+            file.write(data)
+    return data
+
+
+def judge(run, folder, record_only):
+    """Writes what certify says of the record of a run's logs to standard output; its status. Logs
+    and record stay in the folder, where one is named. Where nothing is judged the logs alone do."""
+    if record_only:
+        keep(run, folder)
+        return 0
+    status, report, said = records.certify(records.program(), record_of(run, folder))
     sys.stderr.buffer.write(said)
     sys.stdout.buffer.write(report)
     sys.stdout.buffer.flush()

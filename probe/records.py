@@ -13,6 +13,21 @@ WRITE, ACCESS, LOAD_ROOT, ASSIST = 0x10, 0x11, 0x12, 0x16
 INVALIDATIONS = (0x12, 0x13, 0x14, 0x15)
 
 
+def width(version):
+    """The bytes of a processor's number, and of their count in the header."""
+    return 2 - version % 2
+
+
+def has_spans(version):
+    """Whether events overlap, and have the number `back` in the place of moments."""
+    return version >= 3
+
+
+def place_of(version):
+    """Where in an event its fields begin, behind its tag, its processor and its `back`."""
+    return 1 + width(version) + (4 if has_spans(version) else 0)
+
+
 class Cut(Exception):
     """The bytes end before the record does, or go on as no record."""
 
@@ -37,12 +52,18 @@ class Record:
     def __init__(self, head, version, processors, events):
         self.head, self.version, self.processors = head, version, processors
         self.events, self.notes = events, {}
-        self.segment, = struct.unpack_from("<I", head, 12 + version)
+        self.segment, = struct.unpack_from("<I", head, 12 + width(version))
+
+    def starts(self):
+        """Of each processor CR3 and CR4.PGE at the start."""
+        first = 16 + width(self.version)
+        return [struct.unpack_from("<QB", self.head, first + 9 * number)
+                for number in range(self.processors)]
 
     def bytes(self, events=None, segment=1024):
         """The record of these events, in segments of this size."""
         events = self.events if events is None else events
-        place = 12 + self.version
+        place = 12 + width(self.version)
         parts = [self.head[:place], struct.pack("<I", segment), self.head[place + 4:]]
         for number, first in enumerate(range(0, len(events), segment)):
             some = events[first:first + segment]
@@ -53,18 +74,19 @@ class Record:
 def read_event(source, version):
     start = source.at
     tag = source.number(1)
-    source.take(version)
+    source.take(place_of(version) - 1)
     if tag == ACCESS:
         source.take(9)
         source.take(2 if source.number(1) else 8)
-    elif tag == ASSIST and version == 2:
+    elif tag == ASSIST and version % 2 == 0:
         source.take(17)
     elif tag in SIZES:
         source.take(SIZES[tag])
         return source.data[start:source.at]
     else:
         raise Cut
-    source.take(4 * source.number(1))
+    if not has_spans(version):
+        source.take(4 * source.number(1))
     return source.data[start:source.at]
 
 
@@ -74,9 +96,9 @@ def read_record(data, at=0):
     source.take(8)
     version = source.number(2)
     source.take(2)
-    if version not in (1, 2):
+    if not 1 <= version <= 4:
         raise Cut
-    processors = source.number(version)
+    processors = source.number(width(version))
     source.take(4 + 9 * processors)
     head = data[at:source.at]
     events = []
@@ -133,14 +155,14 @@ def read_kept(path):
     except OSError as why:
         raise Stop(f"{path}: {why.strerror}") from None
     except Cut:
-        raise Stop(f"{path} is no whole record of version 1 or 2") from None
+        raise Stop(f"{path} is no whole record of version 1 to 4") from None
 
 
 def take_notes(data):
     """Of a record as the guest writes it the notes, and the record without them: an implicit access
     has a second number where moments stand, and its bits say what carried it out."""
     record, _ = read_record(data)
-    place = 1 + record.version + 9
+    place = place_of(record.version) + 9
     for number, event in enumerate(record.events):
         moments = place + (3 if event[0] == ACCESS and event[place] else 9)
         if event[0] == ACCESS and event[moments] == 2:

@@ -48,13 +48,13 @@ class Source:
     """What a record says: its settings, starts, events and the walks of its accesses."""
 
     def __init__(self, record, notes):
+        if records.has_spans(record.version):
+            stop(f"it has version {record.version}, and no one order: `certify --bytes` gives one")
         if record.processors > MOST_PROCESSORS:
             stop(f"it has {record.processors} processors, and the guest {MOST_PROCESSORS}")
         self.record, self.notes, self.reader = record, notes, causes.Reader(record)
         self.m, self.rules = record.head[10], record.head[11]
-        place = 12 + record.version + 4
-        self.starts = [struct.unpack_from("<QB", record.head, place + 9 * k)
-                       for k in range(record.processors)]
+        self.starts = record.starts()
         self.address_bits = (1 << self.m) - 4096
         self.steps, self.values, self.answers = [], {}, set()
         for number, event in enumerate(record.events):

@@ -2,6 +2,8 @@
 import causes
 import image
 import records
+import spans
+from spans import without_parts
 
 
 MOST_TRIED = 20  # answers that are looked at
@@ -31,22 +33,15 @@ def guesses(record, reader, number, taker):
     yield [at for at in range(number) if not reader.is_answer(record.events[at])]
 
 
-def without_parts(shows, events):
-    """Leaves out parts of the events, of half of them down to one, until none can go. The last go
-    first, since events stand on those before them."""
-    size = max(1, len(events) // 2)
-    while True:
-        before, end = len(events), len(events)
-        while end > 0:
-            start = max(0, end - size)
-            rest = events[:start] + events[end:]
-            if shows(rest):
-                events = rest
-            end = start
-        if size == 1 and len(events) == before:
-            return events
-        if size > 1:
-            size = max(1, min(size // 2, len(events) // 2))
+def of(record, notes):
+    """What shrinks a record that is a no; nothing where there is no no. One that is not decided
+    shrinks where what is left of it is a no in each order."""
+    has_spans = records.has_spans(record.version)
+    if causes.answer_of(record.bytes()) is None and not (
+            has_spans and causes.undecided_event(record.bytes()) is not None):
+        return None
+    work = (spans.Overlapping if has_spans else Shrinking)(record, notes)
+    return work if not has_spans or work.is_decided or work.taker is not None else None
 
 
 class Shrinking:

@@ -172,6 +172,23 @@ static void record_fault(const struct access *access, const struct processor *pr
                             marks, count));
 }
 
+/* Each processor reads the page of ring 3's code there, which no record tells of. A system that keeps
+ * shadow tables makes those of that page the first time, and may let go then of what it kept of
+ * others: so where few events are carried out again, a stale entry would go that was seen in a long
+ * run. */
+void visit_ring_3(void)
+{
+    const uint64_t code = RING_3 + (uint64_t)(stub_read - stubs_begin);
+    const struct processor *processor;
+    uint32_t number;
+
+    for (number = 0; number < count_of_processors; number++) {
+        processor = carry_out_by(number, ACCESS, code, RING_3, 0, FLAGS_AT_REST, 1, 0);
+        if (processor->vector != INVALID_OPCODE)
+            stop("stopped: ring 3 gave vector", processor->vector);
+    }
+}
+
 int access_page(const struct access *access)
 {
     const uint64_t linear = linear_of(access), value = value_of(access);

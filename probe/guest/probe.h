@@ -215,6 +215,7 @@ struct access {
 };
 /* Carries it out and records it. Answers whether it was answered. */
 int access_page(const struct access *access);
+void visit_ring_3(void);
 uint32_t flags_of(const struct access *access);
 
 /* scenario.c, directed.c and replay.c */

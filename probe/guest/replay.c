@@ -190,6 +190,7 @@ void run_replay(uint64_t number)
     for (k = 0; k < replay->steps && step[k].what <= SLOT_WORDS; k++)
         prepare(&step[k]);
     begin_all();
+    visit_ring_3();
     for (; k < replay->steps; k++)
         carry_out_again(replay, &step[k]);
 }
