@@ -258,10 +258,7 @@ const CASES: [Case; 12] = [
     },
     Case {
         name: "another MAXPHYADDR",
-        logs: &[
-            (40, 0, &[]),
-            (41, 1, &[]),
-        ],
+        logs: &[(40, 0, &[]), (41, 1, &[])],
         error: 0,
         events: &[],
         told: 19,

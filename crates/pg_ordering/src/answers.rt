@@ -132,12 +132,7 @@ fn give_record<O: Sink, E: Sink>(
 }
 
 /// Writes the numbers of an order.
-fn give_order<O: Sink, E: Sink>(
-    alloc: Global,
-    order: &[u32],
-    output: &mut O,
-    errors: &mut E,
-) -> u8
+fn give_order<O: Sink, E: Sink>(alloc: Global, order: &[u32], output: &mut O, errors: &mut E) -> u8
     ensures { GivesOrder order.now
         (filled O.Sink output.old output.new) (filled E.Sink errors.old errors.new) result }
 {

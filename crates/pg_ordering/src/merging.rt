@@ -39,7 +39,11 @@ fn put_log_refusal<W: Sink>(errors: &mut W, refusal: LogRefusal) -> Result<(), F
             put_number(errors, b"pcid-audit: refused 16 stamps event ", event)
         }
         LogRefusal::Processor { event } => {
-            put_number(errors, b"pcid-audit: refused 17 other processor event ", event)
+            put_number(
+                errors,
+                b"pcid-audit: refused 17 other processor event ",
+                event,
+            )
         }
     }
 }
@@ -130,12 +134,7 @@ fn tell_untaken<O: Sink, E: Sink>(output: &mut O, errors: &mut E, name: &str, wh
 }
 
 /// Writes the record of a run.
-fn give_run<O: Sink, E: Sink>(
-    alloc: Global,
-    run: &SpannedRun,
-    output: &mut O,
-    errors: &mut E,
-) -> u8
+fn give_run<O: Sink, E: Sink>(alloc: Global, run: &SpannedRun, output: &mut O, errors: &mut E) -> u8
     ensures { GivesRun run.now
         (filled O.Sink output.old output.new) (filled E.Sink errors.old errors.new) result }
 {
@@ -183,9 +182,7 @@ pub fn merge<F: Fn(&str) -> Option<S>, S: Source + Drop, O: Sink, E: Sink>(
 {
     match logs_of(alloc, opener, names) {
         Ok(logs) => answer_logs(alloc, &logs, error, output, errors),
-        Err(Stop::At { place, why }) => {
-            tell_untaken(output, errors, name_at(names, place), why)
-        }
+        Err(Stop::At { place, why }) => { tell_untaken(output, errors, name_at(names, place), why) }
         Err(Stop::Memory) => tell_memory(output, errors),
     }
 }

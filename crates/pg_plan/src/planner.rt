@@ -18,8 +18,10 @@ ghost use Rattle.pg_plan.specs.declared.request.Plan.{Plan as Planned};
 ghost use Rattle.pg_plan.specs.declared.request.Selection.{Selection as Selected};
 ghost use Rattle.pg_plan.specs.declared.request.Telling.{Telling as Told};
 
-use crate::lines::command_line;
-use crate::lines::{CHECK, CERTIFY, RUN, RUN_OF, EXPLAIN, SHOW, UPGRADE, MERGE, CHECKERS, SINGLE, BYTES, ORDER, ERROR, LOG, CPU, PAGE, WORD, ALL, MOST, SVG, PROGRESS, FROM, TO, FILE};
+use crate::lines::{
+    ALL, BYTES, CERTIFY, CHECK, CHECKERS, CPU, ERROR, EXPLAIN, FILE, FROM, LOG, MERGE, MOST, ORDER,
+    PAGE, PROGRESS, RUN, RUN_OF, SHOW, SINGLE, SVG, TO, UPGRADE, WORD, command_line,
+};
 use crate::request::{Command, Invocation, Plan, Selection, Telling, Usage};
 use crate::values::{checkers_of, cpu_of, number_of, page_of, telling_of, word_of};
 use clap::error::ErrorKind;

@@ -304,7 +304,11 @@ fn names_of_files(rt: HostRuntime) -> Result<(), Fail> {
 /// Command lines that name logs, the ticks of their clocks, and the logs.
 const LOGGED: [(&[&str], u32, &[&str]); 3] = [
     (&["merge", "a.log"], 0, &["a.log"]),
-    (&["merge", "a.log", "-", "a.log"], 0, &["a.log", "-", "a.log"]),
+    (
+        &["merge", "a.log", "-", "a.log"],
+        0,
+        &["a.log", "-", "a.log"],
+    ),
     (&["merge", "--error", "7", "--", "--error"], 7, &["--error"]),
 ];
 

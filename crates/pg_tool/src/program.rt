@@ -25,12 +25,12 @@ use pg_auditing::{
 };
 use pg_codec::{Sink, Source, put_all};
 use pg_ordering::{Asked, certify_spanned, merge};
-use pg_span_codec::Peeked;
 use pg_plan::{Command, Invocation, Plan, Telling, Usage};
 use pg_progress::{Nobody, Onlooker};
 use pg_report::AuditError;
 use pg_runner::RunError;
 use pg_script::{ScriptError, ScriptRefusal};
+use pg_span_codec::Peeked;
 use std::alloc::{AllocGlobal, Global};
 use std::cell::Cell;
 use std::sync::Wait;
@@ -297,7 +297,14 @@ fn merge_asked<F: Fn(&str) -> Option<S>, S: Source + Drop, O: Sink, E: Sink>(
     ensures { MergesAsked (opens F.Fn S.Source opener.now) asked.now
         (filled O.Sink output.old output.new) (filled E.Sink errors.old errors.new) result }
 {
-    merge(alloc, asked.logs.as_slice(), asked.plan.error, opener, output, errors)
+    merge(
+        alloc,
+        asked.logs.as_slice(),
+        asked.plan.error,
+        opener,
+        output,
+        errors,
+    )
 }
 
 /// Whether what is read is a record whose reading is to be told of: `run` reads a script.
