@@ -4,7 +4,6 @@
 use pg_auditing::{NoWords, arguments, tell_no_words, words_of};
 use pg_codec::Watched;
 use pg_follow::{Followed, Teller};
-use pg_span_codec::Peeked;
 use pg_tool::{Followers, pcid_audit_followed, plan};
 use std::cell::Cell;
 use std::fs::{self, File};
@@ -37,11 +36,11 @@ fn main(rt: HostRuntime) -> ExitCode {
         return ExitCode::from(tell_no_words(&mut errors, NoWords::Memory));
     };
     let progress = Cell::new(false);
-    let mut input = Peeked::new(Followed::new(
+    let mut input = Followed::new(
         Watched::new(rt.reader()),
         Watched::new(rt.stderr()),
         &progress,
-    ));
+    );
     let followers = Followers {
         reading: &progress,
         onlooker: Teller::new(Watched::new(rt.stderr())),

@@ -1,7 +1,6 @@
 //! What the words of the command line ask for.
 #![tactic(auto)]
 
-mod lines;
 mod planner;
 mod request;
 mod values;

@@ -1,4 +1,4 @@
-use Rattle.pg_plan.proofs.lines.run_line.Goals as goal
+use Rattle.pg_plan.proofs.planner.run_line.Goals as goal
 
 pub returns : goal.returns
 returns c =

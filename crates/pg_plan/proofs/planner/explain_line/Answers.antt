@@ -1,4 +1,4 @@
-use Rattle.pg_plan.proofs.lines.explain_line.Goals as goal
+use Rattle.pg_plan.proofs.planner.explain_line.Goals as goal
 
 pub returns : goal.returns
 returns c =
