@@ -10,8 +10,6 @@ mod drops;
 #[cfg(test)]
 mod histories;
 #[cfg(test)]
-mod logs;
-#[cfg(test)]
 mod merging;
 #[cfg(test)]
 mod rounds;

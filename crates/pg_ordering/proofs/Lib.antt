@@ -1,4 +1,0 @@
-pub mod Spelled
-pub mod Taking
-pub mod Telling
-pub mod Found

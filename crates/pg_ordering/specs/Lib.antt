@@ -1,6 +1,0 @@
-pub mod Refusals
-pub mod Readings
-pub mod Texts
-pub mod Answers
-pub mod Openings
-pub mod Merges
