@@ -143,11 +143,14 @@ abbrev pub DoesFile : Opening → Type 0 → Invocation → Streams → ℕ → 
 DoesFile Opens Unread asked s status = MatchOption asked.file (Does asked.plan s status)
     (λ name. Unread × DoesNamed Opens asked.plan name.now s.output s.errors status)
 
--- or of the logs
+-- or of the logs, where the command reads them
+abbrev pub DoesBy : Bool → Opening → Type 0 → Invocation → Streams → ℕ → Type 0
+DoesBy true Opens Unread asked s status =
+    Unread × MergesAsked Opens asked s.output s.errors status
+DoesBy false Opens Unread asked s status = DoesFile Opens Unread asked s status
+
 abbrev pub DoesAsked : Opening → Type 0 → Invocation → Streams → ℕ → Type 0
-DoesAsked Opens Unread asked s status =
-    if reads_logs asked.plan.command then Unread × MergesAsked Opens asked s.output s.errors status
-    else DoesFile Opens Unread asked s status
+DoesAsked Opens Unread asked = DoesBy (reads_logs asked.plan.command) Opens Unread asked
 
 -- All that the program promises of its streams and its status, by what `plan` made of its words:
 -- what they ask for is done; or the input was not read, and it is told why there is no plan, by the
