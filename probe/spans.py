@@ -109,6 +109,8 @@ class Overlapping:
     def leave_one(self, own):
         """Where each of several drops would do, the latest alone: to leave out the others makes no
         no. None where one alone is not enough, or none is needed."""
+        if not self.is_decided:
+            return None
         rest = [number for number in self.all if number not in {*own}]
         left = without_parts(lambda some: self.is_no([*rest, *some]), own[::-1])
         if len(left) != 1 or not self.is_yes(rest):
@@ -118,10 +120,12 @@ class Overlapping:
 
     def is_taker(self, number):
         """Whether there is no no without this event: of the few that it takes with the writes that
-        have to stay, where they are a no, since of few events `certify` decides the most."""
+        have to stay, where they are a no, since of few events `certify` decides the most. Of a
+        record that it does not decide they have to be."""
         few = {*self.needed(number), *self.loads(), number}
-        chosen = few if self.is_no(few) else self.all
-        return self.is_yes([it for it in chosen if it != number])
+        is_no = self.is_no(few)
+        chosen = few if is_no else self.all
+        return (is_no or self.is_decided) and self.is_yes([it for it in chosen if it != number])
 
     def loads(self):
         """The loads of CR3 by the bad one's processor."""
