@@ -70,7 +70,7 @@ pub record IsLookedAt (input looked : Change) : Type 0 where
 
 -- the record's bytes begin, or don't, as those of a record with spans do
 abbrev pub Says : Bool → Change → Type 0
-Says spans looked = IfSome looked.old.bytes (λ bytes. says_spans bytes ≡ spans)
+Says spans input = IfSome input.old.bytes (λ bytes. spans ≡ says_spans bytes)
 
 -- the input failed before its version was known
 abbrev pub FailsToLook : Streams → ℕ → Type 0
@@ -80,9 +80,9 @@ FailsToLook s status = Fails s.input × StaysSame s.output
 -- whether some run has the record's events, by the version of the record; or the input failed
 abbrev pub Certifies : Plan → Streams → ℕ → Type 0
 Certifies plan s status =
-    ((looked : Change) × IsLookedAt s.input looked × Says true looked
+    (Says true s.input × (looked : Change) × IsLookedAt s.input looked
     × OrdersRecord (asked_of plan) (record s { input = looked }) status)
-    ⊎ ((looked : Change) × IsLookedAt s.input looked × Says false looked
+    ⊎ (Says false s.input × (looked : Change) × IsLookedAt s.input looked
     × CertifiesBy plan.checkers plan.bytes (record s { input = looked }) status)
     ⊎ FailsToLook s status
 

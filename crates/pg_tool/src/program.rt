@@ -11,6 +11,7 @@ ghost use Rattle.pg_tool.specs.Answers.{MergesAsked, asked_of, opens, reads_logs
 ghost use Rattle.pg_tool.specs.Guests.{guest_error_status, run_error_status};
 ghost use Rattle.pg_tool.specs.Guests.{RunsGuest, TellsGuest};
 ghost use Rattle.pg_auditing.specs.Streams.{streams};
+ghost use Rattle.pg_ordering.specs.Answers.{OrdersRecord};
 
 use crate::followers::Followers;
 use crate::guest_error::GuestError;
@@ -156,6 +157,20 @@ fn asked_of(plan: Plan) -> Asked
     }
 }
 
+/// Certifies the record with spans on `input`, and writes what the plan asks for.
+fn order_by<R: Source, O: Sink, E: Sink>(
+    alloc: Global,
+    plan: Plan,
+    input: &mut R,
+    output: &mut O,
+    errors: &mut E,
+) -> u8
+    ensures { OrdersRecord (asked_of plan) (streams R.Source O.Sink E.Sink
+        (input.old, output.old, errors.old) (input.new, output.new, errors.new)) result }
+{
+    certify_spanned(alloc, asked_of(plan), input, output, errors)
+}
+
 /// Certifies the record on `input`, by its version.
 fn certify_any<T: AllocGlobal + Threads + Wait + Sync, R: Source, O: Sink, E: Sink>(
     rt: &T,
@@ -169,7 +184,7 @@ fn certify_any<T: AllocGlobal + Threads + Wait + Sync, R: Source, O: Sink, E: Si
         (input.old, output.old, errors.old) (input.new, output.new, errors.new)) result }
 {
     match input.says_spans() {
-        Ok(true) => certify_spanned(rt.alloc(), asked_of(plan), input, output, errors),
+        Ok(true) => order_by(rt.alloc(), plan, input, output, errors),
         Ok(false) => certify_by(rt, plan, input, output, errors),
         Err(_) => {
             tell(errors, AuditError::Device);
