@@ -12,7 +12,7 @@ use std::io::{self, Lock, Read, Stderr, Write};
 use std::process::ExitCode;
 
 /// What is read: it tells of its progress on standard error, by a handle of its own.
-type Input<'a, R> = Followed<'a, Watched<R>, Watched<Stderr>>;
+type Input<'a, R> = Peeked<Followed<'a, Watched<R>, Watched<Stderr>>>;
 
 /// The file of that name, where it can be opened.
 fn open_file<'a>(
@@ -21,7 +21,11 @@ fn open_file<'a>(
     progress: &'a Cell<bool>,
 ) -> Option<Input<'a, File>> {
     match fs::open(rt, name) {
-        Ok(file) => Some(Followed::new(Watched::new(file), Watched::new(rt.stderr()), progress)),
+        Ok(file) => Some(Peeked::new(Followed::new(
+            Watched::new(file),
+            Watched::new(rt.stderr()),
+            progress,
+        ))),
         Err(_) => None,
     }
 }

@@ -31,7 +31,7 @@ pub struct Case<'a> {
 pub const DEVICE: &str = "pcid-audit: refused 11 device\n";
 
 /// There are no files.
-pub fn no_file(_name: &str) -> Option<Watched<&'static [u8]>> {
+pub fn no_file(_name: &str) -> Option<Peeked<Watched<&'static [u8]>>> {
     None
 }
 

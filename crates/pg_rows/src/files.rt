@@ -29,7 +29,7 @@ fn answer_of_file<'a, T: AllocGlobal + Abort + Threads + Wait + Sync>(rt: &T, ca
     let mut errors = Watched::new(Vec::new(rt.alloc()));
     let opener = |name: &str| {
         if name == NAME {
-            Some(Watched::new(case.input))
+            Some(Peeked::new(Watched::new(case.input)))
         } else {
             None
         }

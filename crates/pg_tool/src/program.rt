@@ -259,7 +259,7 @@ fn perform<T: AllocGlobal + Threads + Wait + Sync, R: Source, O: Sink, E: Sink, 
 /// Does what a plan says with the file of that name in the place of the input.
 fn perform_on<
     T: AllocGlobal + Threads + Wait + Sync,
-    F: Fn(&str) -> Option<S>,
+    F: Fn(&str) -> Option<Peeked<S>>,
     S: Source + Drop,
     O: Sink,
     E: Sink,
@@ -269,14 +269,11 @@ fn perform_on<
     requires logs { reads_logs plan.command ≡ false }
     requires opener { F.IsAlwaysCallable opener }
     requires onlooker { P.told onlooker ≡ counts 0 0 }
-    ensures { DoesNamed (opens F.Fn S.Source opener) plan name.now
+    ensures { DoesNamed (opens F.Fn ⟦<Peeked<S> as Source>⟧ opener) plan name.now
         (filled O.Sink output.old output.new) (filled E.Sink errors.old errors.new) result }
 {
     match opener(name) {
-        Some(file) => {
-            let mut file = Peeked::new(file);
-            perform(rt, plan, &mut file, output, errors, onlooker)
-        }
+        Some(mut file) => perform(rt, plan, &mut file, output, errors, onlooker),
         None => {
             tell_unopened(errors, name);
             UNOPENED
@@ -349,7 +346,7 @@ fn tell_usage<O: Sink, E: Sink>(why: Usage, output: &mut O, errors: &mut E) -> u
 /// Does what words ask for of one input: that of the program, or the file that they name.
 fn perform_asked<
     T: AllocGlobal + Threads + Wait + Sync,
-    F: Fn(&str) -> Option<S>,
+    F: Fn(&str) -> Option<Peeked<S>>,
     S: Source + Drop,
     R: Source,
     O: Sink,
@@ -368,7 +365,7 @@ fn perform_asked<
     requires logs { reads_logs asked.now.plan.command ≡ false }
     requires opener { F.IsAlwaysCallable opener }
     requires onlooker { P.told onlooker ≡ counts 0 0 }
-    ensures { DoesFile (opens F.Fn S.Source opener) (input.new ≡ input.old) asked.now
+    ensures { DoesFile (opens F.Fn ⟦<Peeked<S> as Source>⟧ opener) (input.new ≡ input.old) asked.now
         (streams ⟦<Peeked<R> as Source>⟧ O.Sink E.Sink
         (input.old, output.old, errors.old) (input.new, output.new, errors.new)) result }
 {
@@ -385,7 +382,7 @@ fn perform_asked<
 /// record was read, or a run has come: telling of it is up to who made them.
 pub fn pcid_audit_followed<
     T: AllocGlobal + Threads + Wait + Sync,
-    F: Fn(&str) -> Option<S>,
+    F: Fn(&str) -> Option<Peeked<S>>,
     S: Source + Drop,
     R: Source,
     O: Sink,
@@ -403,7 +400,7 @@ pub fn pcid_audit_followed<
     requires checkers { IfOk planned (λ asked. AreFrom1To64 asked.plan.checkers) }
     requires opener { F.IsAlwaysCallable opener }
     requires onlooker { P.told followers.onlooker ≡ counts 0 0 }
-    ensures { Answers planned.entry (opens F.Fn S.Source opener) (input.new ≡ input.old)
+    ensures { Answers planned.entry (opens F.Fn ⟦<Peeked<S> as Source>⟧ opener) (input.new ≡ input.old)
         (streams ⟦<Peeked<R> as Source>⟧ O.Sink E.Sink
         (input.old, output.old, errors.old) (input.new, output.new, errors.new)) result }
 {
@@ -423,7 +420,7 @@ pub fn pcid_audit_followed<
 /// The whole program over streams that tell of no progress.
 pub fn pcid_audit<
     T: AllocGlobal + Threads + Wait + Sync,
-    F: Fn(&str) -> Option<S>,
+    F: Fn(&str) -> Option<Peeked<S>>,
     S: Source + Drop,
     R: Source,
     O: Sink,
@@ -438,7 +435,7 @@ pub fn pcid_audit<
 ) -> u8
     requires checkers { IfOk planned (λ asked. AreFrom1To64 asked.plan.checkers) }
     requires opener { F.IsAlwaysCallable opener }
-    ensures { Answers planned.entry (opens F.Fn S.Source opener) (input.new ≡ input.old)
+    ensures { Answers planned.entry (opens F.Fn ⟦<Peeked<S> as Source>⟧ opener) (input.new ≡ input.old)
         (streams ⟦<Peeked<R> as Source>⟧ O.Sink E.Sink
         (input.old, output.old, errors.old) (input.new, output.new, errors.new)) result }
 {
