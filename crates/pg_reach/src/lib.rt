@@ -2,6 +2,7 @@
 #![tactic(auto)]
 
 mod finder;
+mod freshest;
 mod reach;
 mod reaches;
 mod since;
@@ -10,3 +11,4 @@ mod view;
 mod walker;
 
 pub use finder::any_moments;
+pub use freshest::freshest_moments;
