@@ -4,6 +4,7 @@
 use pg_auditing::{NoWords, arguments, tell_no_words, words_of};
 use pg_codec::Watched;
 use pg_follow::{Followed, Teller};
+use pg_span_codec::Peeked;
 use pg_tool::{Followers, pcid_audit_followed, plan};
 use std::cell::Cell;
 use std::fs::{self, File};
@@ -11,7 +12,7 @@ use std::io::{self, Lock, Read, Stderr, Write};
 use std::process::ExitCode;
 
 /// What is read: it tells of its progress on standard error, by a handle of its own.
-type Input<'a, R> = Followed<'a, Watched<R>, Watched<Stderr>>;
+type Input<'a, R> = Peeked<Followed<'a, Watched<R>, Watched<Stderr>>>;
 
 /// The file of that name, where it can be opened.
 fn open_file<'a>(
@@ -20,7 +21,11 @@ fn open_file<'a>(
     progress: &'a Cell<bool>,
 ) -> Option<Input<'a, File>> {
     match fs::open(rt, name) {
-        Ok(file) => Some(Followed::new(Watched::new(file), Watched::new(rt.stderr()), progress)),
+        Ok(file) => Some(Peeked::new(Followed::new(
+            Watched::new(file),
+            Watched::new(rt.stderr()),
+            progress,
+        ))),
         Err(_) => None,
     }
 }
@@ -36,11 +41,11 @@ fn main(rt: HostRuntime) -> ExitCode {
         return ExitCode::from(tell_no_words(&mut errors, NoWords::Memory));
     };
     let progress = Cell::new(false);
-    let mut input = Followed::new(
+    let mut input = Peeked::new(Followed::new(
         Watched::new(rt.reader()),
         Watched::new(rt.stderr()),
         &progress,
-    );
+    ));
     let followers = Followers {
         reading: &progress,
         onlooker: Teller::new(Watched::new(rt.stderr())),

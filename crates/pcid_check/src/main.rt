@@ -21,6 +21,8 @@ fn is_own(plan: Plan) -> bool {
         checkers: _,
         single: _,
         bytes: _,
+        order: _,
+        error: _,
         selection: _,
         telling,
         progress,

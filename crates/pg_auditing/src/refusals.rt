@@ -29,7 +29,8 @@ pub fn put_name<W: Sink>(errors: &mut W, name: &str) -> Result<(), Failed>
     put_all(errors, b"\n")
 }
 
-fn put_refusal<W: Sink>(errors: &mut W, number: u8, name: &str) -> Result<(), Failed>
+/// The number and the name of a refusal.
+pub fn put_refusal<W: Sink>(errors: &mut W, number: u8, name: &str) -> Result<(), Failed>
     ensures { Puts W.Sink (refusal_text number name.now) errors.old errors.new result }
 {
     put_number(errors, b"pcid-audit: refused ", number as u64)?;
@@ -38,7 +39,7 @@ fn put_refusal<W: Sink>(errors: &mut W, number: u8, name: &str) -> Result<(), Fa
 }
 
 /// Where a malformed event is, and which rule it breaks.
-fn put_place<W: Sink>(errors: &mut W, error: AuditError) -> Result<(), Failed>
+pub fn put_place<W: Sink>(errors: &mut W, error: AuditError) -> Result<(), Failed>
     ensures { Puts W.Sink (place_text error) errors.old errors.new result }
 {
     match error {

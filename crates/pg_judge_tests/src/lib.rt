@@ -10,6 +10,8 @@ mod drops;
 #[cfg(test)]
 mod histories;
 #[cfg(test)]
+mod logs;
+#[cfg(test)]
 mod merging;
 #[cfg(test)]
 mod rounds;

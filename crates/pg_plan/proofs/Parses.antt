@@ -182,18 +182,20 @@ not_read P none x p = let e : None ≡ Some x = (none x).1 p in absurd cc
 pub no_selection : (rows : List Row) → ((asked : Selection) → IsSelectionOf rows asked → ⊥) → Reads None (IsSelectionOf rows)
 no_selection rows none asked = (λ e. absurd cc, λ h. absurd (none asked h))
 
-abbrev made : Command → ℕ → Bool → Bool → Selection → Telling → Bool → Plan
-made command checkers single bytes selection telling progress = record { command = command; checkers = checkers; single = single; bytes = bytes; selection = selection; telling = telling; progress = progress }
+abbrev made : Command → ℕ → Bool → Bool → Bool → ℕ → Selection → Telling → Bool → Plan
+made command checkers single bytes order error selection telling progress = record { command = command; checkers = checkers; single = single; bytes = bytes; order = order; error = error; selection = selection; telling = telling; progress = progress }
 
-same_plan : (plan other : Plan) → plan.command ≡ other.command → plan.checkers ≡ other.checkers → plan.single ≡ other.single → plan.bytes ≡ other.bytes → plan.selection ≡ other.selection → plan.telling ≡ other.telling → plan.progress ≡ other.progress → plan ≡ other
-same_plan plan other a b c d e f g =
-    ap (λ v. made v plan.checkers plan.single plan.bytes plan.selection plan.telling plan.progress) a
-    ∙ ap (λ v. made other.command v plan.single plan.bytes plan.selection plan.telling plan.progress) b
-    ∙ ap (λ v. made other.command other.checkers v plan.bytes plan.selection plan.telling plan.progress) c
-    ∙ ap (λ v. made other.command other.checkers other.single v plan.selection plan.telling plan.progress) d
-    ∙ ap (λ v. made other.command other.checkers other.single other.bytes v plan.telling plan.progress) e
-    ∙ ap (λ v. made other.command other.checkers other.single other.bytes other.selection v plan.progress) f
-    ∙ ap (λ v. made other.command other.checkers other.single other.bytes other.selection other.telling v) g
+same_plan : (plan other : Plan) → plan.command ≡ other.command → plan.checkers ≡ other.checkers → plan.single ≡ other.single → plan.bytes ≡ other.bytes → plan.order ≡ other.order → plan.error ≡ other.error → plan.selection ≡ other.selection → plan.telling ≡ other.telling → plan.progress ≡ other.progress → plan ≡ other
+same_plan plan other a b c d h i e f g =
+    ap (λ v. made v plan.checkers plan.single plan.bytes plan.order plan.error plan.selection plan.telling plan.progress) a
+    ∙ ap (λ v. made other.command v plan.single plan.bytes plan.order plan.error plan.selection plan.telling plan.progress) b
+    ∙ ap (λ v. made other.command other.checkers v plan.bytes plan.order plan.error plan.selection plan.telling plan.progress) c
+    ∙ ap (λ v. made other.command other.checkers other.single v plan.order plan.error plan.selection plan.telling plan.progress) d
+    ∙ ap (λ v. made other.command other.checkers other.single other.bytes v plan.error plan.selection plan.telling plan.progress) h
+    ∙ ap (λ v. made other.command other.checkers other.single other.bytes other.order v plan.selection plan.telling plan.progress) i
+    ∙ ap (λ v. made other.command other.checkers other.single other.bytes other.order other.error v plan.telling plan.progress) e
+    ∙ ap (λ v. made other.command other.checkers other.single other.bytes other.order other.error other.selection v plan.progress) f
+    ∙ ap (λ v. made other.command other.checkers other.single other.bytes other.order other.error other.selection other.telling v) g
 
 -- a plan that was made of what the rows say is theirs, and no other is
 pub plan_is : (found : Option (Text × List Row)) (name : Text) (rows : List Row) (plan : Plan) → found ≡ Some (name, rows)
@@ -202,9 +204,11 @@ pub plan_is : (found : Option (Text × List Row)) (name : Text) (rows : List Row
     → Reads (Some plan.selection) (IsSelectionOf rows)
     → Reads (Some plan.telling) (IsTellingOf rows)
     → plan.single ≡ is_on (first_of (codes "single") rows) → plan.bytes ≡ is_on (first_of (codes "bytes") rows)
+    → plan.order ≡ is_on (first_of (codes "order") rows)
+    → Reads (Some plan.error) (IsAsked 0 (first_of (codes "error") rows))
     → plan.progress ≡ is_on (first_of (codes "progress") rows)
     → (other : Plan) → (Some plan ≡ Some other) ↔ IsPlanOf found other
-plan_is found name rows plan found_is commands counts events tellings single_is bytes_is progress_is other = (there, back)
+plan_is found name rows plan found_is commands counts events tellings single_is bytes_is order_is errors progress_is other = (there, back)
   where
     there : Some plan ≡ Some other → IsPlanOf found other
     there e =
@@ -214,6 +218,8 @@ plan_is found name rows plan found_is commands counts events tellings single_is 
           checkers = (counts plan.checkers).0 refl;
           single = single_is;
           bytes = bytes_is;
+          order = order_is;
+          error = (errors plan.error).0 refl;
           selection = (events plan.selection).0 refl;
           telling = (tellings plan.telling).0 refl;
           progress = progress_is;
@@ -227,9 +233,11 @@ plan_is found name rows plan found_is commands counts events tellings single_is 
         let selection_is = some_is plan.selection other.selection ((events other.selection).1 (subst (λ r. IsSelectionOf r other.selection) (sym both.1) h.selection)) in
         let alone : plan.single ≡ other.single = single_is ∙ ap (λ r. is_on (first_of (codes "single") r)) both.1 ∙ sym h.single in
         let written : plan.bytes ≡ other.bytes = bytes_is ∙ ap (λ r. is_on (first_of (codes "bytes") r)) both.1 ∙ sym h.bytes in
+        let ordered : plan.order ≡ other.order = order_is ∙ ap (λ r. is_on (first_of (codes "order") r)) both.1 ∙ sym h.order in
+        let error_is = some_is plan.error other.error ((errors other.error).1 (subst (λ r. IsAsked 0 (first_of (codes "error") r) other.error) (sym both.1) h.error)) in
         let telling_is = some_is plan.telling other.telling ((tellings other.telling).1 (subst (λ r. IsTellingOf r other.telling) (sym both.1) h.telling)) in
         let meanwhile : plan.progress ≡ other.progress = progress_is ∙ ap (λ r. is_on (first_of (codes "progress") r)) both.1 ∙ sym h.progress in
-        ap (λ x. Some x) (same_plan plan other command_is checkers_is alone written selection_is telling_is meanwhile)
+        ap (λ x. Some x) (same_plan plan other command_is checkers_is alone written ordered error_is selection_is telling_is meanwhile)
 
 -- rows of which a number is refused have no plan
 pub no_plan : (found : Option (Text × List Row)) (name : Text) (rows : List Row) → found ≡ Some (name, rows)

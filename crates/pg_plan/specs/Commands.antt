@@ -1,18 +1,19 @@
 -- What the words of a command line ask for, by what `clap` makes of them.
 use Rattle.std.specs.Prelude.{◌≡◌, ℕ, Bool, true, false, pos, List, [], ◌∷◌}
-use Rattle.std.specs.Prelude.{Option, Some, None, codes, if◌then◌else◌}
+use Rattle.std.specs.Prelude.{Option, Some, None, codes, unwrap_or, if◌then◌else◌}
 use Rattle.std.specs.Str.{bytes_eq}
 use Rattle.clap.specs.Faults.{fault_of}
 use Rattle.clap.specs.Kinds.{IsAmong, Kinds}
 use Rattle.clap.specs.Simple.{App, new_app, new_rule, on_top, subcommand_of, with_rule}
 use Rattle.clap.specs.Simple.{with_subcommand}
-use Rattle.clap.specs.Walk.{Row, Rule, Text, first_of}
-use Rattle.clap.specs.declared.builder.action.ArgAction.TheVariants.{Set, SetTrue}
+use Rattle.clap.specs.Lexer.{usize_max}
+use Rattle.clap.specs.Walk.{Row, Rule, Text, all_of, first_of}
+use Rattle.clap.specs.declared.builder.action.ArgAction.TheVariants.{Append, Set, SetTrue}
 use Rattle.clap.specs.declared.builder.value_parser.ValueParser.TheVariants as parsers
 use Rattle.clap.specs.declared.error.kind.ErrorKind.TheVariants.{DisplayHelp, DisplayVersion}
 use Rattle.pg_plan.specs.declared.request.Command.{Command}
 use Rattle.pg_plan.specs.declared.request.Command.TheVariants.{Check, Certify, Run, RunOf}
-use Rattle.pg_plan.specs.declared.request.Command.TheVariants.{Explain, Show, Upgrade}
+use Rattle.pg_plan.specs.declared.request.Command.TheVariants.{Explain, Show, Upgrade, Merge}
 use Rattle.pg_plan.specs.declared.request.Plan.{Plan}
 use Rattle.pg_plan.specs.declared.request.Selection.{Selection}
 use Rattle.pg_plan.specs.declared.request.Telling.{Telling}
@@ -30,6 +31,7 @@ command_word RunOf = codes "run-of"
 command_word Explain = codes "explain"
 command_word Show = codes "show"
 command_word Upgrade = codes "upgrade"
+command_word Merge = codes "merge"
 
 -- ---- the command line: one of the commands, of which some have options
 
@@ -81,7 +83,8 @@ check_line =
 abbrev pub certify_line : App
 certify_line =
     let line = with_rule (new_app (command_word Certify)) checkers_rule in
-    with_progress (with_rule line (switch_rule (codes "bytes")))
+    let bytes = with_rule line (switch_rule (codes "bytes")) in
+    with_progress (with_rule bytes (switch_rule (codes "order")))
 
 abbrev pub run_line : App
 run_line =
@@ -125,6 +128,22 @@ explain_line =
     let most = with_rule all most_rule in
     with_progress (with_rule most (switch_rule (codes "svg")))
 
+-- a number of 32 bits behind `--error`
+abbrev pub error_rule : Rule
+error_rule = number_rule (codes "error")
+
+-- the names of logs, one at least, behind the options
+abbrev pub logs_rule : Rule
+logs_rule = record (new_rule (codes "log")) {
+  action = Some Append;
+  value_names = 1;
+  range = Some (record { start_inclusive = 1; end_inclusive = usize_max });
+  required = true;
+}
+
+abbrev pub merge_line : App
+merge_line = with_rule (with_rule (new_app (command_word Merge)) error_rule) logs_rule
+
 -- the commands that judge a record
 abbrev pub judging_line : App
 judging_line = with_subcommand (with_subcommand bare_line check_line.top) certify_line.top
@@ -141,7 +160,9 @@ telling_line =
     with_subcommand (with_subcommand running_line explain_line.top) show_line.top
 
 abbrev pub command_line : App
-command_line = with_subcommand telling_line (plain_line (command_word Upgrade)).top
+command_line =
+    with_subcommand (with_subcommand telling_line (plain_line (command_word Upgrade)).top)
+    merge_line.top
 
 -- the kinds of error that `clap` gives for the words: none where they are taken
 abbrev pub faults : List Text → Kinds
@@ -180,6 +201,8 @@ pub record IsPlanOf (found : Option (Text × List Row)) (plan : Plan) : Type 0 w
   pub checkers : AreAsked (first_of (codes "checkers") rows) plan.checkers
   pub single : plan.single ≡ is_on (first_of (codes "single") rows)
   pub bytes : plan.bytes ≡ is_on (first_of (codes "bytes") rows)
+  pub order : plan.order ≡ is_on (first_of (codes "order") rows)
+  pub error : IsAsked 0 (first_of (codes "error") rows) plan.error
   pub selection : IsSelectionOf rows plan.selection
   pub telling : IsTellingOf rows plan.telling
   pub progress : plan.progress ≡ is_on (first_of (codes "progress") rows)
@@ -193,6 +216,15 @@ named_file (Some name) = if bytes_eq name (codes "-") then None else Some name
 abbrev pub file_in : Option (Text × List Row) → Option Text
 file_in None = None
 file_in (Some (name, rows)) = named_file (first_of (codes "file") rows)
+
+-- the names of logs that a command has, where it has some
+abbrev pub names_in : Option (Text × List Row) → Option (List Text)
+names_in None = None
+names_in (Some (name, rows)) = all_of (codes "log") rows
+
+-- and none where it has none
+abbrev pub logs_in : Option (Text × List Row) → List Text
+logs_in found = unwrap_or (names_in found) []
 
 -- the words are taken, this is their plan, and this the file that they name, where they name one
 abbrev pub Asks : List Text → Plan → Option Text → Type 0

@@ -9,7 +9,7 @@ use Rattle.pg_plan.specs.declared.request.Usage.TheVariants.{Help, Version, Faul
 
 -- the version of the program, and those of the records that it reads
 abbrev pub version_text : Text
-version_text = codes "pcid-audit 0.2.0 (record versions 1 and 2)\n"
+version_text = codes "pcid-audit 0.3.0 (record versions 1 to 4)\n"
 
 abbrev pub more_text : Text
 more_text = codes "\n\nFor more information, try '--help'.\n"

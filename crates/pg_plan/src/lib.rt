@@ -1,6 +1,7 @@
 //! What the words of the command line ask for.
 #![tactic(auto)]
 
+mod lines;
 mod planner;
 mod request;
 mod values;

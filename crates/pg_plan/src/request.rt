@@ -4,7 +4,8 @@ pub enum Command {
     /// Read a record, and write its report.
     Check,
     /// Read a record, take no notice of the moments that it names, and write whether any run of the
-    /// manual's machine has its events and, where none has, what stands behind that.
+    /// manual's machine has its events and, where none has, what stands behind that. Of a record
+    /// with spans, whether its events have an order in which some run has them.
     Certify,
     /// Read a guest script, run it, and write the report of the run's record, or the record.
     Run,
@@ -17,6 +18,8 @@ pub enum Command {
     /// Read a version 1 record, and write the version 2 record of the same events; its report goes
     /// to standard error.
     Upgrade,
+    /// Read the logs of single processors, and write the record with spans that they make.
+    Merge,
 }
 
 /// Which events are written. Of several things that are asked all must hold.
@@ -59,6 +62,12 @@ pub struct Plan {
     pub single: bool,
     /// Whether `run` and `certify` write the record in the place of its report.
     pub bytes: bool,
+    /// Whether `certify` of a record with spans writes the order that it found, in the place of the
+    /// report or of the record.
+    pub order: bool,
+    /// By how many ticks of their clocks `merge` widens each span at both ends. It is 0 where the
+    /// words say nothing.
+    pub error: u32,
     /// Which events `show` writes.
     pub selection: Selection,
     /// What `check` and `explain` tell of bad events.
@@ -68,13 +77,15 @@ pub struct Plan {
     pub progress: bool,
 }
 
-/// What the words of a command line ask for, and of which file.
-#[derive(Clone, Copy, Debug, PartialEq, Eq)]
+/// What the words of a command line ask for, and of which files.
+#[derive(Debug, Drop, PartialEq, Eq)]
 pub struct Invocation<'a> {
     pub plan: Plan,
     /// The name of the file that is read in the place of standard input, where the words have one
     /// that is not `-`.
     pub file: Option<&'a str>,
+    /// The names of the logs that `merge` reads, one at least. The other commands have none.
+    pub logs: Vec<&'a str>,
 }
 
 /// Why the words of a command line give no plan.

@@ -3,6 +3,7 @@
 
 use crate::case::no_file;
 use pg_codec::Watched;
+use pg_span_codec::Peeked;
 use pg_tool::{pcid_audit, plan};
 use std::alloc::{AllocError, AllocGlobal, Global};
 use std::process::Abort;
@@ -33,7 +34,7 @@ fn run<T: AllocGlobal + Abort + Threads + Wait + Sync>(
     output: &mut Written,
     errors: &mut Written,
 ) -> u8 {
-    let mut input = Watched::new(text);
+    let mut input = Peeked::new(Watched::new(text));
     let planned = plan(rt.alloc(), words);
     pcid_audit(rt, planned, no_file, &mut input, output, errors)
 }

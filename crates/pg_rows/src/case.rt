@@ -2,6 +2,7 @@
 
 use crate::pieces::{Crumbs, Fault, Pieces};
 use pg_codec::{Source, Watched};
+use pg_span_codec::Peeked;
 use pg_tool::{pcid_audit, plan};
 use std::alloc::AllocGlobal;
 use std::io::ErrorKind;
@@ -30,7 +31,7 @@ pub struct Case<'a> {
 pub const DEVICE: &str = "pcid-audit: refused 11 device\n";
 
 /// There are no files.
-pub fn no_file(_name: &str) -> Option<Watched<&'static [u8]>> {
+pub fn no_file(_name: &str) -> Option<Peeked<Watched<&'static [u8]>>> {
     None
 }
 
@@ -44,7 +45,7 @@ pub fn answer_on<'a, T: AllocGlobal + Abort + Threads + Wait + Sync, R: Source>(
     rt: &T,
     case: Case<'a>,
     at: usize,
-    input: &mut R,
+    input: &mut Peeked<R>,
 ) {
     let mut output = Watched::new(Vec::new(rt.alloc()));
     let mut errors = Watched::new(Vec::new(rt.alloc()));
@@ -56,7 +57,7 @@ pub fn answer_on<'a, T: AllocGlobal + Abort + Threads + Wait + Sync, R: Source>(
 
 /// Over memory.
 pub fn answer<'a, T: AllocGlobal + Abort + Threads + Wait + Sync>(rt: &T, case: Case<'a>) {
-    let mut input = Watched::new(case.input);
+    let mut input = Peeked::new(Watched::new(case.input));
     answer_on(rt, case, 0, &mut input);
 }
 
@@ -65,7 +66,7 @@ pub fn answer_by_bytes<'a, T: AllocGlobal + Abort + Threads + Wait + Sync>(
     rt: &T,
     case: Case<'a>,
 ) -> Result<(), Fail> {
-    let mut input = Watched::new(Pieces::new(case.input, 1));
+    let mut input = Peeked::new(Watched::new(Pieces::new(case.input, 1)));
     let mut output = Watched::new(Crumbs::new(rt.alloc(), None)?);
     let mut errors = Watched::new(Crumbs::new(rt.alloc(), None)?);
     let status = pcid_audit(
@@ -96,12 +97,12 @@ fn fail_read<'a, T: AllocGlobal + Abort + Threads + Wait + Sync>(
         status: 2,
         ..case
     };
-    let mut input = Watched::new(Pieces {
+    let mut input = Peeked::new(Watched::new(Pieces {
         left: case.input,
         most,
         reads: 0,
         failing: Some((read, kind)),
-    });
+    }));
     answer_on(rt, failed, read, &mut input);
 }
 
@@ -127,7 +128,7 @@ fn fail_write<'a, T: AllocGlobal + Abort + Threads + Wait + Sync>(
     write: usize,
     fault: Fault,
 ) -> Result<(), Fail> {
-    let mut input = Watched::new(case.input);
+    let mut input = Peeked::new(Watched::new(case.input));
     let mut output = Watched::new(Crumbs::new(rt.alloc(), Some((write, fault)))?);
     let mut errors = Watched::new(Vec::new(rt.alloc()));
     let status = pcid_audit(

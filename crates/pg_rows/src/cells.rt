@@ -3,6 +3,7 @@
 
 use crate::case::{Case, answer_on};
 use pg_codec::Watched;
+use pg_span_codec::Peeked;
 use std::alloc::{AllocError, AllocGlobal, Global};
 use std::process::Abort;
 use std::sync::Wait;
@@ -146,7 +147,7 @@ fn run_cells<T: AllocGlobal + Abort + Threads + Wait + Sync>(
         let denied = cell.3;
         let other = if denied.is_some() { None } else { Some(1) };
         let told = record(rt.alloc(), cell, denied)?;
-        let mut input = Watched::new(told.as_slice());
+        let mut input = Peeked::new(Watched::new(told.as_slice()));
         answer_on(
             rt,
             judged("what_the_table_says", &told, YES, 0),
@@ -154,7 +155,7 @@ fn run_cells<T: AllocGlobal + Abort + Threads + Wait + Sync>(
             &mut input,
         );
         let turned = record(rt.alloc(), cell, other)?;
-        let mut input = Watched::new(turned.as_slice());
+        let mut input = Peeked::new(Watched::new(turned.as_slice()));
         answer_on(
             rt,
             judged("what_the_table_denies", &turned, NO, 1),

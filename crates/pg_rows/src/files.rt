@@ -5,6 +5,7 @@ use crate::pieces::Pieces;
 use crate::row::bytes_of;
 use crate::walks::FRESH_WALK;
 use pg_codec::Watched;
+use pg_span_codec::Peeked;
 use pg_tool::{pcid_audit, plan};
 use std::alloc::AllocGlobal;
 use std::io::ErrorKind;
@@ -18,17 +19,17 @@ const NAME: &str = "the.file";
 
 /// The input is that of the one file there is, and standard input is not read.
 fn answer_of_file<'a, T: AllocGlobal + Abort + Threads + Wait + Sync>(rt: &T, case: Case<'a>) {
-    let mut input = Watched::new(Pieces {
+    let mut input = Peeked::new(Watched::new(Pieces {
         left: &[],
         most: 1,
         reads: 0,
         failing: Some((0, ErrorKind::Interrupted)),
-    });
+    }));
     let mut output = Watched::new(Vec::new(rt.alloc()));
     let mut errors = Watched::new(Vec::new(rt.alloc()));
     let opener = |name: &str| {
         if name == NAME {
-            Some(Watched::new(case.input))
+            Some(Peeked::new(Watched::new(case.input)))
         } else {
             None
         }
@@ -37,7 +38,7 @@ fn answer_of_file<'a, T: AllocGlobal + Abort + Threads + Wait + Sync>(rt: &T, ca
     let status = pcid_audit(rt, planned, opener, &mut input, &mut output, &mut errors);
     let is_right = is_answered(case, status, &output.inner, &errors.inner);
     assert!(rt;
-        is_right && input.inner.reads == 0,
+        is_right && input.inner.inner.reads == 0,
         "{}: {status}",
         case.name
     );

@@ -5,6 +5,7 @@ use crate::certificates::{FRESH_WALK, ROWS};
 use crate::row::{Row, bytes_of};
 use crate::walks;
 use pg_codec::Watched;
+use pg_span_codec::Peeked;
 use pg_tool::{pcid_audit, plan};
 use std::alloc::AllocGlobal;
 use std::process::Abort;
@@ -37,7 +38,7 @@ fn expect_named<T: AllocGlobal + Abort + Threads + Wait + Sync>(
     row: &Row,
 ) -> Result<(), Fail> {
     let bytes = bytes_of(rt.alloc(), row.input)?;
-    let mut input = Watched::new(bytes.as_slice());
+    let mut input = Peeked::new(Watched::new(bytes.as_slice()));
     let mut output = Watched::new(Vec::new(rt.alloc()));
     let mut errors = Watched::new(Vec::new(rt.alloc()));
     let planned = plan(rt.alloc(), NAMING);

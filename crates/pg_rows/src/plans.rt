@@ -17,13 +17,15 @@ const BARE: Plan = Plan {
     checkers: 1,
     single: false,
     bytes: false,
+    order: false,
+    error: 0,
     selection: EVERY,
     telling: Telling::First,
     progress: false,
 };
 
 /// Command lines and their plans.
-const PLANNED: [(&[&str], Plan); 27] = [
+const PLANNED: [(&[&str], Plan); 28] = [
     (&["check"], BARE),
     (
         &["certify"],
@@ -45,6 +47,14 @@ const PLANNED: [(&[&str], Plan); 27] = [
         Plan {
             command: Command::Certify,
             bytes: true,
+            ..BARE
+        },
+    ),
+    (
+        &["certify", "--order"],
+        Plan {
+            command: Command::Certify,
+            order: true,
             ..BARE
         },
     ),
@@ -259,6 +269,7 @@ fn plans(rt: HostRuntime) -> Result<(), Fail> {
         let wanted = Invocation {
             plan: plan_of_words,
             file: None,
+            logs: Vec::new(rt.alloc()),
         };
         assert_eq!(rt; plan(rt.alloc(), words).ok(), Some(wanted), "{words:?}");
     }
@@ -280,14 +291,53 @@ const NAMED: [(&[&str], Option<&str>); 8] = [
 #[test]
 fn names_of_files(rt: HostRuntime) -> Result<(), Fail> {
     for (words, file) in NAMED {
-        let wanted = Invocation { plan: BARE, file };
+        let wanted = Invocation {
+            plan: BARE,
+            file,
+            logs: Vec::new(rt.alloc()),
+        };
+        assert_eq!(rt; plan(rt.alloc(), words).ok(), Some(wanted), "{words:?}");
+    }
+    Ok(())
+}
+
+/// Command lines that name logs, the ticks of their clocks, and the logs.
+const LOGGED: [(&[&str], u32, &[&str]); 3] = [
+    (&["merge", "a.log"], 0, &["a.log"]),
+    (
+        &["merge", "a.log", "-", "a.log"],
+        0,
+        &["a.log", "-", "a.log"],
+    ),
+    (&["merge", "--error", "7", "--", "--error"], 7, &["--error"]),
+];
+
+#[test]
+fn names_of_logs(rt: HostRuntime) -> Result<(), Fail> {
+    for (words, error, names) in LOGGED {
+        let mut logs = Vec::new(rt.alloc());
+        logs.extend_from_slice(names)?;
+        let wanted = Invocation {
+            plan: Plan {
+                command: Command::Merge,
+                error,
+                ..BARE
+            },
+            file: None,
+            logs,
+        };
         assert_eq!(rt; plan(rt.alloc(), words).ok(), Some(wanted), "{words:?}");
     }
     Ok(())
 }
 
 /// Command lines that are refused.
-const FAULTS: [&[&str]; 46] = [
+const FAULTS: [&[&str]; 51] = [
+    &["merge"],
+    &["merge", "--error", "3"],
+    &["merge", "--error", "-3", "a.log"],
+    &["merge", "--progress", "a.log"],
+    &["check", "--order"],
     &[],
     &["judge"],
     &["check", "one", "two"],
@@ -375,7 +425,7 @@ fn is_help(alloc: Global, words: &[&str]) -> bool {
 fn is_version(alloc: Global, words: &[&str]) -> bool {
     match plan(alloc, words) {
         Err(Usage::Version(text)) => {
-            text.as_str() == "pcid-audit 0.2.0 (record versions 1 and 2)\n"
+            text.as_str() == "pcid-audit 0.3.0 (record versions 1 to 4)\n"
         }
         _ => false,
     }

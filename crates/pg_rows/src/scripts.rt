@@ -5,6 +5,7 @@ ghost use Rattle.std.specs.Prelude.{None};
 use crate::case::{Case, answer, answer_on};
 use crate::row::bytes_of;
 use pg_codec::{Failed, Source};
+use pg_span_codec::Peeked;
 use std::alloc::{AllocError, Global};
 use std::test::Fail;
 
@@ -332,8 +333,8 @@ fn a_script_that_is_too_long(rt: HostRuntime) -> Result<(), Fail> {
         line: "pcid-audit: script line 0 refused 11 too long\n",
         status: 2,
     };
-    let mut input = Endless { given: 0 };
+    let mut input = Peeked::new(Endless { given: 0 });
     answer_on(&rt, too_long, 0, &mut input);
-    assert_eq!(rt; input.given, 134_217_729);
+    assert_eq!(rt; input.inner.given, 134_217_729);
     Ok(())
 }

@@ -24,6 +24,8 @@ const HELP: &str =
     \x20 show     Reads a record, and writes its events, a line each\n\
     \x20 upgrade  Reads a version 1 record, and writes the version 2 record of the same \
     events\n\
+    \x20 merge    Reads logs of single processors, and writes the record with spans that \
+    they make\n\
     \x20 help     Print this message or the help of the given subcommand(s)\n\
     \n\
     Options:\n\
@@ -181,7 +183,7 @@ pub const TEXTS: [Told; 11] = [
     },
     Told {
         words: &["--version"],
-        text: "pcid-audit 0.2.0 (record versions 1 and 2)\n",
+        text: "pcid-audit 0.3.0 (record versions 1 to 4)\n",
     },
 ];
 

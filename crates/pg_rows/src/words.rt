@@ -3,6 +3,7 @@
 use crate::case::no_file;
 use crate::texts::{FAULTS, TEXTS, Told};
 use pg_codec::Watched;
+use pg_span_codec::Peeked;
 use pg_tool::{pcid_audit, plan};
 use std::alloc::AllocGlobal;
 use std::process::Abort;
@@ -20,7 +21,7 @@ fn is_told(told: Told, is_fault: bool, status: u8, output: &[u8], errors: &[u8])
 }
 
 fn expect<T: AllocGlobal + Abort + Threads + Wait + Sync>(rt: &T, told: Told, is_fault: bool) {
-    let mut input = Watched::new([].as_slice());
+    let mut input = Peeked::new(Watched::new([].as_slice()));
     let mut output = Watched::new(Vec::new(rt.alloc()));
     let mut errors = Watched::new(Vec::new(rt.alloc()));
     let planned = plan(rt.alloc(), told.words);

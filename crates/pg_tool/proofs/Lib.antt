@@ -1,1 +1,2 @@
 pub mod Guested
+mod Looking

@@ -1,12 +1,11 @@
 -- What the whole program answers, by what its words ask for, or by why they ask for nothing.
-use Rattle.std.specs.Prelude.{◌≡◌, ◌⊎◌, ℕ, Bool, true, false, List, Option, Some, None}
-use Rattle.std.specs.Prelude.{MatchOption, Result, Ok, Err, string_bytes}
-use Rattle.std.specs.Borrow.{Bor}
-use Rattle.std.specs.Fn.{FnReturnsAt, Shared}
-use Rattle.pg_codec.specs.declared.stream.Source as sources
+use Rattle.std.specs.Prelude.{◌≡◌, ◌⊎◌, ℕ, Bool, true, false, if◌then◌else◌, List}
+use Rattle.std.specs.Prelude.{Some, None}
+use Rattle.std.specs.Prelude.{MatchOption, IfSome, map, Result, Ok, Err, string_bytes}
+use Rattle.std.specs.Io.KnownBytes.{Keeps}
 use Rattle.pg_plan.specs.declared.request.Command.{Command}
 use Rattle.pg_plan.specs.declared.request.Command.TheVariants.{Check, Certify, Run, RunOf}
-use Rattle.pg_plan.specs.declared.request.Command.TheVariants.{Explain, Show, Upgrade}
+use Rattle.pg_plan.specs.declared.request.Command.TheVariants.{Explain, Show, Upgrade, Merge}
 use Rattle.pg_plan.specs.declared.request.Invocation.{Invocation}
 use Rattle.pg_plan.specs.declared.request.Plan.{Plan}
 use Rattle.pg_plan.specs.declared.request.Telling.{Telling}
@@ -14,7 +13,7 @@ use Rattle.pg_plan.specs.declared.request.Telling.TheVariants.{First, All, Pictu
 use Rattle.pg_plan.specs.declared.request.Usage.{Usage}
 use Rattle.pg_plan.specs.declared.request.Usage.TheVariants.{Help, Version, Fault, Memory}
 use Rattle.pg_report.specs.declared.error.AuditError.TheVariants.{Device}
-use Rattle.pg_report.specs.Changes.{Change, Fails, Works, Adds, AddsSome, drawn}
+use Rattle.pg_report.specs.Changes.{Change, Fails, Works, Adds, AddsSome}
 use Rattle.pg_answers.specs.Certificates.{CertifiesRecord}
 use Rattle.pg_answers.specs.Explanations.{ExplainsRecord}
 use Rattle.pg_tool.specs.Guests.{RunsGuest}
@@ -27,6 +26,12 @@ use Rattle.pg_answers.specs.RunOf.{ShowsRun}
 use Rattle.pg_auditing.specs.Streams.{Streams}
 use Rattle.pg_answers.specs.Summaries.{ChecksAll, ExplainsAll}
 use Rattle.pg_answers.specs.Upgrades.{Upgrades}
+use Rattle.pg_ordering.specs.Answers.{OrdersRecord}
+use Rattle.pg_ordering.specs.Merges.{Merges}
+use Rattle.pg_ordering.specs.declared.told.Asked.{Asked}
+use Rattle.pg_ordering.specs.declared.told.Asked.TheVariants as asking
+use Rattle.pg_span_codec.specs.Versions.{says_spans}
+pub use Rattle.pg_ordering.specs.Openings.{Opening, opens}
 
 -- 0 where the text was written, and 2 where the output failed
 abbrev pub GivesText : List ℕ → Change → Change → ℕ → Type 0
@@ -46,10 +51,40 @@ GivesUsage (Fault text) output errors status =
 GivesUsage Memory output errors status =
     StaysSame output × Tells errors memory_line × (status ≡ 3)
 
--- by so many checkers whether some run has the record's events; or the record with moments for them
+-- of a record with one order: by so many checkers whether some run has its events; or the record
+-- with moments for them
 abbrev pub CertifiesBy : ℕ → Bool → Streams → ℕ → Type 0
 CertifiesBy checkers false = CertifiesRecord checkers
 CertifiesBy checkers true = NamesRecord
+
+-- what is written of a yes of a record with spans: an order, where one is asked for
+abbrev pub asked_of : Plan → Asked
+asked_of plan =
+    if plan.order then asking.Order else if plan.bytes then asking.Record else asking.Report
+
+-- the input once its version was looked at: what was left, where that is known, still is
+pub record IsLookedAt (input looked : Change) : Type 0 where
+  pub bytes : Keeps input.old.bytes looked.old.bytes
+  pub failures : looked.old.failures ≡ input.old.failures
+  pub new : looked.new ≡ input.new
+
+-- the record's bytes begin, or don't, as those of a record with spans do
+abbrev pub Says : Bool → Change → Type 0
+Says spans input = IfSome input.old.bytes (λ bytes. spans ≡ says_spans bytes)
+
+-- the input failed before its version was known
+abbrev pub FailsToLook : Streams → ℕ → Type 0
+FailsToLook s status = Fails s.input × StaysSame s.output
+    × Tells s.errors (refusal_line Device) × (status ≡ 2)
+
+-- whether some run has the record's events, by the version of the record; or the input failed
+abbrev pub Certifies : Plan → Streams → ℕ → Type 0
+Certifies plan s status =
+    (Says true s.input × (looked : Change) × IsLookedAt s.input looked
+    × OrdersRecord (asked_of plan) (record s { input = looked }) status)
+    ⊎ (Says false s.input × (looked : Change) × IsLookedAt s.input looked
+    × CertifiesBy plan.checkers plan.bytes (record s { input = looked }) status)
+    ⊎ FailsToLook s status
 
 -- by so many checkers the record's report; or that with a summary of all bad events (and a picture
 -- is asked of `explain` alone)
@@ -68,25 +103,16 @@ ExplainsBy Picture = DrawsRecord
 -- what a plan's command does
 abbrev pub DoesCommand : Command → Plan → Streams → ℕ → Type 0
 DoesCommand Check plan s status = ChecksBy plan.checkers plan.telling s status
-DoesCommand Certify plan s status = CertifiesBy plan.checkers plan.bytes s status
+DoesCommand Certify plan s status = Certifies plan s status
 DoesCommand Run plan s status = RunsGuest plan.single plan.bytes s status
 DoesCommand RunOf plan s status = ShowsRun s status
 DoesCommand Explain plan s status = ExplainsBy plan.telling s status
 DoesCommand Show plan s status = ShowsRecord (filter_of plan) s status
 DoesCommand Upgrade plan s status = Upgrades s status
+DoesCommand Merge plan s status = ⊥
 
 abbrev pub Does : Plan → Streams → ℕ → Type 0
 Does plan = DoesCommand plan.command plan
-
--- what opening the file of a name may give: a source that is left changed so, or none
-abbrev pub Opening : Type 1
-Opening = List ℕ → Option Change → Type 0
-
-abbrev pub opens : {F S : Type 0} → Shared F (Bor (List ℕ) × Unit {0}) (Option S) →
-    sources.Ghosts S → F → Opening
-opens {F} {S} call source opener name None = FnReturnsAt call opener name None
-opens {F} {S} call source opener name (Some file) =
-    (old : S) × (new : S) × FnReturnsAt call opener name (Some old) × (file ≡ drawn source old new)
 
 -- What a plan's command does of the file of a name, which is read in the place of the input; or it
 -- could not be opened, which is told by its line, and nothing was written.
@@ -96,10 +122,35 @@ DoesNamed Opens plan name output errors status =
     × Does plan (record { input = file; output = output; errors = errors }) status)
     ⊎ (Opens name None × StaysSame output × Tells errors (unopened_line name) × (status ≡ 66))
 
+-- the command reads the logs that it names
+abbrev pub reads_logs : Command → Bool
+reads_logs Merge = true
+reads_logs Check = false
+reads_logs Certify = false
+reads_logs Run = false
+reads_logs RunOf = false
+reads_logs Explain = false
+reads_logs Show = false
+reads_logs Upgrade = false
+
+-- the logs that are named are merged
+abbrev pub MergesAsked : Opening → Invocation → Change → Change → ℕ → Type 0
+MergesAsked Opens asked output errors status =
+    Merges Opens (map (λ s. s.now) asked.logs.items) asked.plan.error output errors status
+
 -- what was asked for is done: of the input, or of the file that is named, with the input not read
-abbrev pub DoesAsked : Opening → Type 0 → Invocation → Streams → ℕ → Type 0
-DoesAsked Opens Unread asked s status = MatchOption asked.file (Does asked.plan s status)
+abbrev pub DoesFile : Opening → Type 0 → Invocation → Streams → ℕ → Type 0
+DoesFile Opens Unread asked s status = MatchOption asked.file (Does asked.plan s status)
     (λ name. Unread × DoesNamed Opens asked.plan name.now s.output s.errors status)
+
+-- or of the logs, where the command reads them
+abbrev pub DoesBy : Bool → Opening → Type 0 → Invocation → Streams → ℕ → Type 0
+DoesBy true Opens Unread asked s status =
+    Unread × MergesAsked Opens asked s.output s.errors status
+DoesBy false Opens Unread asked s status = DoesFile Opens Unread asked s status
+
+abbrev pub DoesAsked : Opening → Type 0 → Invocation → Streams → ℕ → Type 0
+DoesAsked Opens Unread asked = DoesBy (reads_logs asked.plan.command) Opens Unread asked
 
 -- All that the program promises of its streams and its status, by what `plan` made of its words:
 -- what they ask for is done; or the input was not read, and it is told why there is no plan, by the

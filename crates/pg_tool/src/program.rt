@@ -1,15 +1,17 @@
 //! The program by what its words ask for: a command, and what it reads.
 
-ghost use Rattle.std.specs.Prelude.{◌≡◌, IfOk};
+ghost use Rattle.std.specs.Prelude.{◌≡◌, IfOk, false};
 ghost use Rattle.pg_plan.specs.Commands.{AreFrom1To64};
 ghost use Rattle.pg_pool.specs.Rounds.{AreCheckers};
 ghost use Rattle.pg_progress.specs.Seats.{counts};
 ghost use Rattle.pg_report.specs.Changes.{filled};
-ghost use Rattle.pg_tool.specs.Answers.{Answers, CertifiesBy, ChecksBy, ExplainsBy, Does};
-ghost use Rattle.pg_tool.specs.Answers.{DoesNamed, GivesText, GivesUsage, opens};
+ghost use Rattle.pg_tool.specs.Answers.{Answers, Certifies, CertifiesBy, ChecksBy, ExplainsBy};
+ghost use Rattle.pg_tool.specs.Answers.{Does, DoesFile, DoesNamed, GivesText, GivesUsage};
+ghost use Rattle.pg_tool.specs.Answers.{MergesAsked, asked_of, opens, reads_logs};
 ghost use Rattle.pg_tool.specs.Guests.{guest_error_status, run_error_status};
 ghost use Rattle.pg_tool.specs.Guests.{RunsGuest, TellsGuest};
 ghost use Rattle.pg_auditing.specs.Streams.{streams};
+ghost use Rattle.pg_ordering.specs.Answers.{OrdersRecord};
 
 use crate::followers::Followers;
 use crate::guest_error::GuestError;
@@ -23,11 +25,13 @@ use pg_auditing::{
     MEMORY, REFUSED, UNOPENED, USAGE, YES, check, tell, tell_memory, tell_text, tell_unopened,
 };
 use pg_codec::{Sink, Source, put_all};
+use pg_ordering::{Asked, certify_spanned, merge};
 use pg_plan::{Command, Invocation, Plan, Telling, Usage};
 use pg_progress::{Nobody, Onlooker};
 use pg_report::AuditError;
 use pg_runner::RunError;
 use pg_script::{ScriptError, ScriptRefusal};
+use pg_span_codec::Peeked;
 use std::alloc::{AllocGlobal, Global};
 use std::cell::Cell;
 use std::sync::Wait;
@@ -120,7 +124,8 @@ fn give_text<O: Sink, E: Sink>(text: &str, output: &mut O, errors: &mut E) -> u8
     }
 }
 
-/// Certifies the record on `input`, and writes its report, or the record with moments.
+/// Certifies the record with one order on `input`, and writes its report, or the record with
+/// moments.
 fn certify_by<T: AllocGlobal + Threads + Wait + Sync, R: Source, O: Sink, E: Sink>(
     rt: &T,
     plan: Plan,
@@ -136,6 +141,55 @@ fn certify_by<T: AllocGlobal + Threads + Wait + Sync, R: Source, O: Sink, E: Sin
         name_moments(rt.alloc(), input, output, errors)
     } else {
         certify(rt, plan.checkers, input, output, errors)
+    }
+}
+
+/// What is written of a yes of a record with spans.
+fn asked_of(plan: Plan) -> Asked
+    ensures { result ≡ asked_of plan }
+{
+    if plan.order {
+        Asked::Order
+    } else if plan.bytes {
+        Asked::Record
+    } else {
+        Asked::Report
+    }
+}
+
+/// Certifies the record with spans on `input`, and writes what the plan asks for.
+fn order_by<R: Source, O: Sink, E: Sink>(
+    alloc: Global,
+    plan: Plan,
+    input: &mut R,
+    output: &mut O,
+    errors: &mut E,
+) -> u8
+    ensures { OrdersRecord (asked_of plan) (streams R.Source O.Sink E.Sink
+        (input.old, output.old, errors.old) (input.new, output.new, errors.new)) result }
+{
+    certify_spanned(alloc, asked_of(plan), input, output, errors)
+}
+
+/// Certifies the record on `input`, by its version.
+fn certify_any<T: AllocGlobal + Threads + Wait + Sync, R: Source, O: Sink, E: Sink>(
+    rt: &T,
+    plan: Plan,
+    input: &mut Peeked<R>,
+    output: &mut O,
+    errors: &mut E,
+) -> u8
+    requires { AreCheckers plan.checkers }
+    ensures { Certifies plan (streams ⟦<Peeked<R> as Source>⟧ O.Sink E.Sink
+        (input.old, output.old, errors.old) (input.new, output.new, errors.new)) result }
+{
+    match input.says_spans() {
+        Ok(true) => order_by(rt.alloc(), plan, input, output, errors),
+        Ok(false) => certify_by(rt, plan, input, output, errors),
+        Err(_) => {
+            tell(errors, AuditError::Device);
+            REFUSED
+        }
     }
 }
 
@@ -175,44 +229,47 @@ fn explain_by<R: Source, O: Sink, E: Sink>(
     }
 }
 
-/// Does what a plan says.
+/// Does what a plan says that reads one input.
 fn perform<T: AllocGlobal + Threads + Wait + Sync, R: Source, O: Sink, E: Sink, P: Onlooker + Drop>(
     rt: &T,
     plan: Plan,
-    input: &mut R,
+    input: &mut Peeked<R>,
     output: &mut O,
     errors: &mut E,
     onlooker: P,
 ) -> u8
     requires checkers { AreFrom1To64 plan.checkers }
+    requires logs { reads_logs plan.command ≡ false }
     requires onlooker { P.told onlooker ≡ counts 0 0 }
-    ensures { Does plan (streams R.Source O.Sink E.Sink
+    ensures { Does plan (streams ⟦<Peeked<R> as Source>⟧ O.Sink E.Sink
         (input.old, output.old, errors.old) (input.new, output.new, errors.new)) result }
 {
     match plan.command {
         Command::Check => check_by(rt, plan, input, output, errors),
-        Command::Certify => certify_by(rt, plan, input, output, errors),
+        Command::Certify => certify_any(rt, plan, input, output, errors),
         Command::Run => run_followed(rt, plan, input, output, errors, onlooker),
         Command::RunOf => run_of(rt.alloc(), input, output, errors),
         Command::Explain => explain_by(rt.alloc(), plan, input, output, errors),
         Command::Show => show(rt.alloc(), filter_of(plan), input, output, errors),
         Command::Upgrade => upgrade(rt.alloc(), input, output, errors),
+        Command::Merge => unreachable!(),
     }
 }
 
 /// Does what a plan says with the file of that name in the place of the input.
 fn perform_on<
     T: AllocGlobal + Threads + Wait + Sync,
-    F: Fn(&str) -> Option<S>,
+    F: Fn(&str) -> Option<Peeked<S>>,
     S: Source + Drop,
     O: Sink,
     E: Sink,
     P: Onlooker + Drop,
 >(rt: &T, plan: Plan, name: &str, opener: F, output: &mut O, errors: &mut E, onlooker: P) -> u8
     requires checkers { AreFrom1To64 plan.checkers }
+    requires logs { reads_logs plan.command ≡ false }
     requires opener { F.IsAlwaysCallable opener }
     requires onlooker { P.told onlooker ≡ counts 0 0 }
-    ensures { DoesNamed (opens F.Fn S.Source opener) plan name.now
+    ensures { DoesNamed (opens F.Fn ⟦<Peeked<S> as Source>⟧ opener) plan name.now
         (filled O.Sink output.old output.new) (filled E.Sink errors.old errors.new) result }
 {
     match opener(name) {
@@ -222,6 +279,44 @@ fn perform_on<
             UNOPENED
         }
     }
+}
+
+/// Whether a command reads the logs that it names.
+fn reads_logs(command: Command) -> bool
+    ensures { result ≡ reads_logs command }
+{
+    match command {
+        Command::Merge => true,
+        Command::Check
+        | Command::Certify
+        | Command::Run
+        | Command::RunOf
+        | Command::Explain
+        | Command::Show
+        | Command::Upgrade => false,
+    }
+}
+
+/// Merges the logs that are named.
+fn merge_asked<F: Fn(&str) -> Option<S>, S: Source + Drop, O: Sink, E: Sink>(
+    alloc: Global,
+    asked: &Invocation<'_>,
+    opener: &F,
+    output: &mut O,
+    errors: &mut E,
+) -> u8
+    requires { F.IsAlwaysCallable opener.now }
+    ensures { MergesAsked (opens F.Fn S.Source opener.now) asked.now
+        (filled O.Sink output.old output.new) (filled E.Sink errors.old errors.new) result }
+{
+    merge(
+        alloc,
+        asked.logs.as_slice(),
+        asked.plan.error,
+        opener,
+        output,
+        errors,
+    )
 }
 
 /// Whether what is read is a record whose reading is to be told of: `run` reads a script.
@@ -248,14 +343,46 @@ fn tell_usage<O: Sink, E: Sink>(why: Usage, output: &mut O, errors: &mut E) -> u
     }
 }
 
+/// Does what words ask for of one input: that of the program, or the file that they name.
+fn perform_asked<
+    T: AllocGlobal + Threads + Wait + Sync,
+    F: Fn(&str) -> Option<Peeked<S>>,
+    S: Source + Drop,
+    R: Source,
+    O: Sink,
+    E: Sink,
+    P: Onlooker + Drop,
+>(
+    rt: &T,
+    asked: &Invocation<'_>,
+    opener: F,
+    input: &mut Peeked<R>,
+    output: &mut O,
+    errors: &mut E,
+    onlooker: P,
+) -> u8
+    requires checkers { AreFrom1To64 asked.now.plan.checkers }
+    requires logs { reads_logs asked.now.plan.command ≡ false }
+    requires opener { F.IsAlwaysCallable opener }
+    requires onlooker { P.told onlooker ≡ counts 0 0 }
+    ensures { DoesFile (opens F.Fn ⟦<Peeked<S> as Source>⟧ opener) (input.new ≡ input.old) asked.now
+        (streams ⟦<Peeked<R> as Source>⟧ O.Sink E.Sink
+        (input.old, output.old, errors.old) (input.new, output.new, errors.new)) result }
+{
+    match asked.file {
+        None => perform(rt, asked.plan, input, output, errors, onlooker),
+        Some(name) => perform_on(rt, asked.plan, name, opener, output, errors, onlooker),
+    }
+}
+
 /// The whole program, over any streams: what `plan` made of the words after its name, what opens a
 /// file, what it reads where the words name none, and what it writes to. It gives the exit status,
-/// which is 64 where the words are no command of it, and 66 where the file can't be opened. Where
+/// which is 64 where the words are no command of it, and 66 where a file can't be opened. Where
 /// the words ask for progress the followers, which were told nothing before, come to know how far a
 /// record was read, or a run has come: telling of it is up to who made them.
 pub fn pcid_audit_followed<
     T: AllocGlobal + Threads + Wait + Sync,
-    F: Fn(&str) -> Option<S>,
+    F: Fn(&str) -> Option<Peeked<S>>,
     S: Source + Drop,
     R: Source,
     O: Sink,
@@ -266,15 +393,15 @@ pub fn pcid_audit_followed<
     planned: Result<Invocation<'_>, Usage>,
     opener: F,
     followers: Followers<'_, P>,
-    input: &mut R,
+    input: &mut Peeked<R>,
     output: &mut O,
     errors: &mut E,
 ) -> u8
     requires checkers { IfOk planned (λ asked. AreFrom1To64 asked.plan.checkers) }
     requires opener { F.IsAlwaysCallable opener }
     requires onlooker { P.told followers.onlooker ≡ counts 0 0 }
-    ensures { Answers planned.entry (opens F.Fn S.Source opener) (input.new ≡ input.old)
-        (streams R.Source O.Sink E.Sink
+    ensures { Answers planned.entry (opens F.Fn ⟦<Peeked<S> as Source>⟧ opener) (input.new ≡ input.old)
+        (streams ⟦<Peeked<R> as Source>⟧ O.Sink E.Sink
         (input.old, output.old, errors.old) (input.new, output.new, errors.new)) result }
 {
     let Followers { reading, onlooker } = followers;
@@ -283,16 +410,17 @@ pub fn pcid_audit_followed<
         Err(why) => return tell_usage(why, output, errors),
     };
     reading.set(tells_of_reading(asked.plan));
-    match asked.file {
-        None => perform(rt, asked.plan, input, output, errors, onlooker),
-        Some(name) => perform_on(rt, asked.plan, name, opener, output, errors, onlooker),
+    if reads_logs(asked.plan.command) {
+        merge_asked(rt.alloc(), &asked, &opener, output, errors)
+    } else {
+        perform_asked(rt, &asked, opener, input, output, errors, onlooker)
     }
 }
 
 /// The whole program over streams that tell of no progress.
 pub fn pcid_audit<
     T: AllocGlobal + Threads + Wait + Sync,
-    F: Fn(&str) -> Option<S>,
+    F: Fn(&str) -> Option<Peeked<S>>,
     S: Source + Drop,
     R: Source,
     O: Sink,
@@ -301,14 +429,14 @@ pub fn pcid_audit<
     rt: &T,
     planned: Result<Invocation<'_>, Usage>,
     opener: F,
-    input: &mut R,
+    input: &mut Peeked<R>,
     output: &mut O,
     errors: &mut E,
 ) -> u8
     requires checkers { IfOk planned (λ asked. AreFrom1To64 asked.plan.checkers) }
     requires opener { F.IsAlwaysCallable opener }
-    ensures { Answers planned.entry (opens F.Fn S.Source opener) (input.new ≡ input.old)
-        (streams R.Source O.Sink E.Sink
+    ensures { Answers planned.entry (opens F.Fn ⟦<Peeked<S> as Source>⟧ opener) (input.new ≡ input.old)
+        (streams ⟦<Peeked<R> as Source>⟧ O.Sink E.Sink
         (input.old, output.old, errors.old) (input.new, output.new, errors.new)) result }
 {
     let followers = Followers {

@@ -1,0 +1,4 @@
+pub mod Spelled
+pub mod Taking
+pub mod Telling
+pub mod Found

@@ -1,0 +1,6 @@
+pub mod Refusals
+pub mod Readings
+pub mod Texts
+pub mod Answers
+pub mod Openings
+pub mod Merges

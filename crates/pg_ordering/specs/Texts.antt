@@ -1,0 +1,29 @@
+-- What is written of a record with no one order.
+use Rattle.std.specs.Prelude.{ℕ, List, ◌++◌, length, codes, decimal}
+use Rattle.std.specs.List.{flat_map}
+use Rattle.std.specs.Int.{div_ceil}
+use Rattle.pg_report.specs.Text.{counts_text}
+use Rattle.pg_spanned.specs.Orders.{Spanned}
+use Rattle.pg_ordering.specs.declared.told.Told.{Told}
+use Rattle.pg_ordering.specs.declared.told.Told.TheVariants.{Yes, No, Undecided}
+
+-- how many segments hold all events
+abbrev pub segments_of : Spanned → ℕ
+segments_of s = div_ceil (length s.events) s.head.segment
+
+abbrev pub counts_of : Spanned → List ℕ
+counts_of s = counts_text (length s.events) (segments_of s)
+
+-- the verdict, and at which event it was come to
+abbrev pub head_text : Told → List ℕ
+head_text Yes = codes "verdict: yes\n"
+head_text (No n) = codes "verdict: no\nevent: " ++ (decimal n ++ codes "\nreason: 15 no order\n")
+head_text (Undecided n) = codes "verdict: undecided\nevent: " ++ (decimal n ++ codes "\n")
+
+-- the report
+abbrev pub told_text : Spanned → Told → List ℕ
+told_text s told = head_text told ++ counts_of s
+
+-- the number of each event of an order, a line each
+abbrev pub order_text : List ℕ → List ℕ
+order_text order = flat_map (λ n. decimal n ++ codes "\n") order

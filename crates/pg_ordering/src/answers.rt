@@ -1,0 +1,252 @@
+//! Whether the events of a record with spans have an order in which some run of the machine has
+//! them, as `certify` writes it.
+
+ghost use Rattle.std.specs.Prelude.{◌≡◌, ◌≢◌, ◌<◌, ◌^◌, length};
+ghost use Rattle.pg_check.specs.Kept.{AreWellFormed};
+ghost use Rattle.pg_event.specs.Spelling.{IsHead, record_bytes};
+ghost use Rattle.pg_report.specs.Changes.{drawn, filled};
+ghost use Rattle.pg_spanned.specs.Spanned.{IsSpanned};
+ghost use Rattle.pg_order.specs.Verdicts.{IsOrderedRun};
+ghost use Rattle.pg_auditing.specs.Streams.{streams};
+ghost use Rattle.pg_ordering.specs.Answers.{GivesOut, GivesError, AnswersRun, OrdersRecord};
+ghost use Rattle.pg_ordering.specs.Answers.{GivesReport, GivesReportAside, IsToldOf, WantsMemory};
+ghost use Rattle.pg_ordering.specs.Answers.{told_status, GivesOrder, TellsUnread};
+
+use crate::reading::{Unread, read_run};
+use crate::refusals::tell_refusal;
+use crate::texts::{order_text, told_text};
+use crate::told::{Asked, Told};
+use pg_auditing::{MEMORY, NO, REFUSED, YES, tell};
+use pg_codec::{Sink, Source, put_all, write_record};
+use pg_event::{Event, Header};
+use pg_order::{Verdict, find_ordered_run};
+use pg_report::AuditError;
+use pg_spanned::SpannedRun;
+use std::alloc::Global;
+
+/// Of what is undecided.
+const UNDECIDED: u8 = 4;
+
+fn told_status(told: Told) -> u8
+    ensures { result ≡ told_status told }
+{
+    match told {
+        Told::Yes => YES,
+        Told::No(_) => NO,
+        Told::Undecided(_) => UNDECIDED,
+    }
+}
+
+pub(crate) fn tell_memory<O: Sink, E: Sink>(output: &mut O, errors: &mut E) -> u8
+    ensures { WantsMemory
+        (filled O.Sink output.old output.new) (filled E.Sink errors.old errors.new) result }
+{
+    tell(errors, AuditError::Memory);
+    MEMORY
+}
+
+/// Writes a text to standard output, and gives the status, which is this one where that works.
+pub(crate) fn give_out<O: Sink, E: Sink>(
+    output: &mut O,
+    errors: &mut E,
+    text: &[u8],
+    good: u8,
+) -> u8
+    ensures { GivesOut text.now good
+        (filled O.Sink output.old output.new) (filled E.Sink errors.old errors.new) result }
+{
+    match put_all(output, text) {
+        Ok(()) => good,
+        Err(_) => {
+            tell(errors, AuditError::Device);
+            REFUSED
+        }
+    }
+}
+
+/// The same of standard error.
+fn give_error<O: Sink, E: Sink>(output: &mut O, errors: &mut E, text: &str, good: u8) -> u8
+    ensures { GivesError text.now good
+        (filled O.Sink output.old output.new) (filled E.Sink errors.old errors.new) result }
+{
+    match put_all(errors, text.as_bytes()) {
+        Ok(()) => good,
+        Err(_) => REFUSED,
+    }
+}
+
+/// Writes the report of what is told of a run.
+fn give_report<O: Sink, E: Sink>(
+    alloc: Global,
+    run: &SpannedRun,
+    told: Told,
+    output: &mut O,
+    errors: &mut E,
+) -> u8
+    ensures { GivesReport run.now told
+        (filled O.Sink output.old output.new) (filled E.Sink errors.old errors.new) result }
+{
+    match told_text(alloc, run, told) {
+        Ok(text) => give_out(output, errors, text.as_bytes(), told_status(told)),
+        Err(_) => tell_memory(output, errors),
+    }
+}
+
+/// Writes that report to standard error.
+fn give_report_aside<O: Sink, E: Sink>(
+    alloc: Global,
+    run: &SpannedRun,
+    told: Told,
+    output: &mut O,
+    errors: &mut E,
+) -> u8
+    ensures { GivesReportAside run.now told
+        (filled O.Sink output.old output.new) (filled E.Sink errors.old errors.new) result }
+{
+    match told_text(alloc, run, told) {
+        Ok(text) => give_error(output, errors, text.as_str(), told_status(told)),
+        Err(_) => tell_memory(output, errors),
+    }
+}
+
+/// Writes the record of these events.
+fn give_record<O: Sink, E: Sink>(
+    header: &Header,
+    found: &[Event],
+    output: &mut O,
+    errors: &mut E,
+) -> u8
+    requires head { IsHead header.now }
+    requires count { length found.now < 2 ^ 32 }
+    requires well { AreWellFormed header.now found.now }
+    ensures { GivesOut (record_bytes (record { head = header.now; events = found.now })) 0
+        (filled O.Sink output.old output.new) (filled E.Sink errors.old errors.new) result }
+{
+    match write_record(output, header, found) {
+        Ok(()) => YES,
+        Err(_) => {
+            tell(errors, AuditError::Device);
+            REFUSED
+        }
+    }
+}
+
+/// Writes the numbers of an order.
+fn give_order<O: Sink, E: Sink>(alloc: Global, order: &[u32], output: &mut O, errors: &mut E) -> u8
+    ensures { GivesOrder order.now
+        (filled O.Sink output.old output.new) (filled E.Sink errors.old errors.new) result }
+{
+    match order_text(alloc, order) {
+        Ok(text) => give_out(output, errors, text.as_bytes(), YES),
+        Err(_) => tell_memory(output, errors),
+    }
+}
+
+/// Writes what is asked for of events that have an order with a run.
+fn answer_yes<O: Sink, E: Sink>(
+    alloc: Global,
+    asked: Asked,
+    run: &SpannedRun,
+    order: &[u32],
+    found: &[Event],
+    output: &mut O,
+    errors: &mut E,
+) -> u8
+    requires { IsOrderedRun run.now order.now found.now }
+    ensures { AnswersRun asked run.now
+        (filled O.Sink output.old output.new) (filled E.Sink errors.old errors.new) result }
+{
+    let _events = run.events();
+    match asked {
+        Asked::Report => give_report(alloc, run, Told::Yes, output, errors),
+        Asked::Record => give_record(run.header(), found, output, errors),
+        Asked::Order => give_order(alloc, order, output, errors),
+    }
+}
+
+/// Writes the report of what is no yes.
+fn answer_other<O: Sink, E: Sink>(
+    alloc: Global,
+    asked: Asked,
+    run: &SpannedRun,
+    told: Told,
+    output: &mut O,
+    errors: &mut E,
+) -> u8
+    requires told { IsToldOf run.now told }
+    requires other { told ≢ Told.Yes }
+    ensures { AnswersRun asked run.now
+        (filled O.Sink output.old output.new) (filled E.Sink errors.old errors.new) result }
+{
+    match asked {
+        Asked::Report => give_report(alloc, run, told, output, errors),
+        Asked::Record => give_report_aside(alloc, run, told, output, errors),
+        Asked::Order => give_report_aside(alloc, run, told, output, errors),
+    }
+}
+
+/// Looks for an order of a run's events, and writes what it comes to.
+fn answer_run<O: Sink, E: Sink>(
+    alloc: Global,
+    asked: Asked,
+    run: &SpannedRun,
+    output: &mut O,
+    errors: &mut E,
+) -> u8
+    ensures { AnswersRun asked run.now
+        (filled O.Sink output.old output.new) (filled E.Sink errors.old errors.new) result }
+{
+    match find_ordered_run(alloc, run) {
+        Ok(Verdict::Yes { order, found }) => {
+            answer_yes(alloc, asked, run, &order, &found, output, errors)
+        }
+        Ok(Verdict::No(event)) => {
+            answer_other(alloc, asked, run, Told::No(event), output, errors)
+        }
+        Ok(Verdict::Undecided(event)) => {
+            answer_other(alloc, asked, run, Told::Undecided(event), output, errors)
+        }
+        Err(_) => tell_memory(output, errors),
+    }
+}
+
+/// Tells why there is no run, and gives the status.
+fn tell_unread<O: Sink, E: Sink>(output: &mut O, errors: &mut E, why: Unread) -> u8
+    ensures { TellsUnread why
+        (filled O.Sink output.old output.new) (filled E.Sink errors.old errors.new) result }
+{
+    match why {
+        Unread::Refused(refusal) => {
+            tell_refusal(errors, refusal);
+            REFUSED
+        }
+        Unread::Device => {
+            tell(errors, AuditError::Device);
+            REFUSED
+        }
+        Unread::Memory => tell_memory(output, errors),
+    }
+}
+
+/// Reads the record of version 3 or 4 that `input` has left, and writes whether its events have an
+/// order in which some run of the machine has them (Intel SDM, vol. 3, 4.10): the report, or where
+/// the answer is yes what is asked for in its place; then the report of another answer goes to
+/// `errors`. Nothing is written before it is ready. It gives the exit status: 0 yes, 1 no, 2
+/// refused, 3 memory, 4 undecided.
+///
+/// The record is held in memory whole.
+pub fn certify_spanned<R: Source, O: Sink, E: Sink>(
+    alloc: Global,
+    asked: Asked,
+    input: &mut R,
+    output: &mut O,
+    errors: &mut E,
+) -> u8
+    ensures { OrdersRecord asked (streams R.Source O.Sink E.Sink
+        (input.old, output.old, errors.old) (input.new, output.new, errors.new)) result }
+{
+    match read_run(alloc, input) {
+        Ok(run) => answer_run(alloc, asked, &run, output, errors),
+        Err(why) => tell_unread(output, errors, why),
+    }
+}

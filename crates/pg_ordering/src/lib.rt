@@ -1,0 +1,14 @@
+//! What `certify` answers of a record with no one order, and what `merge` makes of logs.
+#![tactic(auto)]
+
+mod answers;
+mod logs;
+mod merging;
+mod reading;
+mod refusals;
+mod texts;
+mod told;
+
+pub use answers::certify_spanned;
+pub use merging::merge;
+pub use told::{Asked, Told};

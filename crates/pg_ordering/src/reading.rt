@@ -1,0 +1,49 @@
+//! A whole record with spans, from a source.
+
+ghost use Rattle.std.specs.Prelude.{ℕ, Some};
+ghost use Rattle.pg_codec.specs.Streams.{FailsWithDevice};
+ghost use Rattle.pg_span_codec.specs.Spelling.{SpellsSpanned};
+ghost use Rattle.pg_ordering.specs.Readings.{is_device, ReadsRun};
+
+use pg_codec::{IntakeError, Source, pull_all};
+use pg_span_codec::{SpannedError, SpannedRefusal, read_spanned, spelled_where_read};
+use pg_spanned::SpannedRun;
+use std::alloc::Global;
+
+/// Why a run was not read.
+#[derive(Clone, Copy, Debug, PartialEq, Eq)]
+pub(crate) enum Unread {
+    /// The bytes spell no record of version 3 or 4: the first refusal.
+    Refused(SpannedRefusal),
+    /// A read failed.
+    Device,
+    /// Memory ran out.
+    Memory,
+}
+
+/// More bytes than memory can hold.
+const MOST: usize = usize::MAX - 1;
+
+fn read_bytes(alloc: Global, bytes: &[u8]) -> Result<SpannedRun, Unread>
+    ensures reads { ReadsRun (Some bytes.now) result }
+    ensures device { (n : ℕ) → FailsWithDevice is_device n n result }
+{
+    spelled_where_read();
+    match read_spanned(alloc, bytes) {
+        Ok(run) => Ok(run),
+        Err(SpannedError::Refused(refusal)) => Err(Unread::Refused(refusal)),
+        Err(SpannedError::Memory) => Err(Unread::Memory),
+    }
+}
+
+/// Takes in all bytes that a source has left, and reads the run that they spell.
+pub(crate) fn read_run<R: Source>(alloc: Global, input: &mut R) -> Result<SpannedRun, Unread>
+    ensures reads { ReadsRun (R.left input.old) result }
+    ensures failures { FailsWithDevice is_device (R.failed input.old) (R.failed input.new) result }
+{
+    match pull_all(alloc, input, MOST) {
+        Ok(bytes) => read_bytes(alloc, &bytes),
+        Err(IntakeError::Device) => Err(Unread::Device),
+        Err(IntakeError::TooMany | IntakeError::Memory) => Err(Unread::Memory),
+    }
+}

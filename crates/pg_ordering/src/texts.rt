@@ -1,0 +1,68 @@
+//! What is written of a record with no one order.
+
+ghost use Rattle.std.specs.Prelude.{◌≡◌, ◌++◌, IfOk, codes, decimal, string_bytes};
+ghost use Rattle.pg_ordering.specs.Texts.{told_text, order_text, segments_of, counts_of};
+ghost use Rattle.pg_ordering.specs.Texts.{head_text};
+
+use crate::told::Told;
+use pg_report::{Report, Verdict};
+use pg_spanned::SpannedRun;
+use std::alloc::{AllocError, Global};
+
+/// How many segments hold all events of a run.
+fn segments_of(run: &SpannedRun) -> u64
+    ensures { result ≡ segments_of run.now }
+{
+    (run.len() as u64).div_ceil(run.header().segment as u64)
+}
+
+/// What stands before the counts, where the answer is no yes.
+fn head_of(alloc: Global, told: Told) -> Result<String, AllocError>
+    ensures { IfOk result (λ t. string_bytes t ≡ head_text told) }
+{
+    match told {
+        Told::Yes => format!(in alloc; "verdict: yes\n"),
+        Told::No(event) => {
+            format!(in alloc; "verdict: no\nevent: {event}\nreason: 15 no order\n")
+        }
+        Told::Undecided(event) => format!(in alloc; "verdict: undecided\nevent: {event}\n"),
+    }
+}
+
+fn counts_of(alloc: Global, run: &SpannedRun) -> Result<String, AllocError>
+    ensures { IfOk result (λ t. string_bytes t ≡ counts_of run.now) }
+{
+    let events = run.len() as u64;
+    let segments = segments_of(run);
+    format!(in alloc; "events: {events}\nsegments: {segments}\n")
+}
+
+/// The report of what is told of a run.
+pub(crate) fn told_text(alloc: Global, run: &SpannedRun, told: Told) -> Result<String, AllocError>
+    ensures { IfOk result (λ t. string_bytes t ≡ told_text run.now told) }
+{
+    let mut text = head_of(alloc, told)?;
+    let counts = counts_of(alloc, run)?;
+    text.push_str(counts.as_str())?;
+    Ok(text)
+}
+
+/// The line of a number.
+fn push_number(alloc: Global, text: &mut String, number: u32) -> Result<(), AllocError>
+    ensures { IfOk result (λ _. string_bytes text.new
+        ≡ string_bytes text.old ++ (decimal number ++ codes "\n")) }
+{
+    let line = format!(in alloc; "{number}\n")?;
+    text.push_str(line.as_str())
+}
+
+/// The number of each event of an order, a line each.
+pub(crate) fn order_text(alloc: Global, order: &[u32]) -> Result<String, AllocError>
+    ensures { IfOk result (λ t. string_bytes t ≡ order_text order.now) }
+{
+    let mut text = String::new(alloc);
+    for number in order {
+        push_number(alloc, &mut text, *number)?;
+    }
+    Ok(text)
+}

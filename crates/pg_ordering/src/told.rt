@@ -1,0 +1,25 @@
+//! What is asked of a record with no one order, and what is told of it.
+
+/// What is written of a yes.
+#[derive(Clone, Copy, Debug, PartialEq, Eq)]
+pub enum Asked {
+    /// The report.
+    Report,
+    /// The record of version 1 or 2 in the order that was found, with moments that witness its
+    /// events.
+    Record,
+    /// The order: the number of each event, a line each.
+    Order,
+}
+
+/// What is told of a record with no one order.
+#[derive(Clone, Copy, Debug, PartialEq, Eq)]
+pub enum Told {
+    /// Its events have an order in which some run of the machine has them.
+    Yes,
+    /// They have none. The number of an event that says so.
+    No(u64),
+    /// No order was found, and it is not known whether there is one. The number of the event at
+    /// which the search gave up.
+    Undecided(u64),
+}

@@ -1,0 +1,7 @@
+use Rattle.pg_plan.proofs.lines.check_line.Goals as goal
+
+pub returns : goal.returns
+returns c =
+    let checkers = c.with_option-line.ensures _ _ c.new_line-line.ensures c.checkers_option.ensures in
+    let all = c.with_option-line-2.ensures _ _ checkers c.switch.ensures in
+    c.with_progress.ensures _ all

@@ -1,0 +1,344 @@
+//! The command line: its commands and their options.
+
+ghost use Rattle.clap.specs.Simple.{App, new_app, with_rule, with_subcommand};
+ghost use Rattle.clap.specs.Walk.{Rule};
+ghost use Rattle.pg_plan.specs.Making.{IsLine, IsLineOf, IsOption};
+ghost use Rattle.pg_plan.specs.Commands.{bare_line, plain_line, check_line, certify_line};
+ghost use Rattle.pg_plan.specs.Commands.{run_line, show_line, explain_line, command_line};
+ghost use Rattle.pg_plan.specs.Commands.{merge_line, error_rule, logs_rule};
+ghost use Rattle.pg_plan.specs.Commands.{file_rule, value_rule, switch_rule, checkers_rule};
+ghost use Rattle.pg_plan.specs.Commands.{number_rule, cpu_rule, most_rule, with_progress};
+
+use clap::{Arg, ArgAction, Command as CommandLine, value_parser};
+use std::alloc::{AllocError, Global};
+
+pub(crate) const CHECK: &str = "check";
+
+const CHECK_ABOUT: &str = "Reads a record, and writes its report";
+
+pub(crate) const CERTIFY: &str = "certify";
+
+const CERTIFY_ABOUT: &str = "Reads a record, whatever moments it names, and writes whether any run \
+    has its events";
+
+pub(crate) const RUN: &str = "run";
+
+const RUN_ABOUT: &str = "Reads a guest script, runs it, and writes the report of its record";
+
+pub(crate) const RUN_OF: &str = "run-of";
+
+const RUN_OF_ABOUT: &str = "Reads a record, and writes a run that has its events";
+
+pub(crate) const EXPLAIN: &str = "explain";
+
+const EXPLAIN_ABOUT: &str =
+    "Reads a record, and writes its report and, where it is no, what stands behind it";
+
+pub(crate) const SHOW: &str = "show";
+
+const SHOW_ABOUT: &str = "Reads a record, and writes its events, a line each";
+
+pub(crate) const UPGRADE: &str = "upgrade";
+
+const UPGRADE_ABOUT: &str =
+    "Reads a version 1 record, and writes the version 2 record of the same events";
+
+pub(crate) const MERGE: &str = "merge";
+
+const MERGE_ABOUT: &str =
+    "Reads logs of single processors, and writes the record with spans that they make";
+
+/// The version of the program, and of the records that it reads.
+const VERSION: &str = "0.3.0 (record versions 1 to 4)";
+
+pub(crate) const CHECKERS: &str = "checkers";
+
+const CHECKERS_ABOUT: &str = "How many checkers judge the record, from 1 to 64; 1 where left out";
+
+pub(crate) const SINGLE: &str = "single";
+
+const SINGLE_ABOUT: &str = "Run on one thread, the lines in the order of the script";
+
+pub(crate) const BYTES: &str = "bytes";
+
+const BYTES_ABOUT: &str = "Write the record itself";
+
+const FOUND_ABOUT: &str = "Write the record with the moments that were found";
+
+pub(crate) const ORDER: &str = "order";
+
+const ORDER_ABOUT: &str =
+    "Of a record with spans: write the order that was found, the number of an event a line";
+
+pub(crate) const ERROR: &str = "error";
+
+const ERROR_ABOUT: &str =
+    "By how many ticks each span is widened at both ends, where clocks differ; 0 where left out";
+
+pub(crate) const LOG: &str = "log";
+
+const LOG_ABOUT: &str = "The logs, one of each processor";
+
+pub(crate) const CPU: &str = "cpu";
+
+const CPU_ABOUT: &str = "The processor whose events are written; every one's where left out";
+
+pub(crate) const PAGE: &str = "page";
+
+const PAGE_ABOUT: &str =
+    "A linear address: what has to do with its page of 4 KB is written, and nothing else";
+
+pub(crate) const WORD: &str = "word";
+
+const WORD_ABOUT: &str = "The physical address of a word: its writes and assists are written";
+
+pub(crate) const ALL: &str = "all";
+
+const SUMMARY_ABOUT: &str = "Write a summary of all bad events behind the report";
+
+const ALL_ABOUT: &str = "Explain each bad event, and write a summary behind";
+
+pub(crate) const MOST: &str = "most";
+
+const MOST_ABOUT: &str =
+    "With --all: how many bad events are explained at most, from 1 to 1000000; 100 where left out";
+
+pub(crate) const SVG: &str = "svg";
+
+const SVG_ABOUT: &str = "Draw the first bad event, as an SVG in the place of the text";
+
+pub(crate) const PROGRESS: &str = "progress";
+
+const PROGRESS_ABOUT: &str = "Tell on standard error of each million events that were read";
+
+const RECORDED_ABOUT: &str =
+    "Tell on standard error of each million events that were recorded; not with --single";
+
+pub(crate) const FROM: &str = "from";
+
+const FROM_ABOUT: &str = "The number of the first event that is written; 0 where left out";
+
+pub(crate) const TO: &str = "to";
+
+const TO_ABOUT: &str =
+    "The number of the last event that is written, which is the record's last where left out";
+
+pub(crate) const FILE: &str = "file";
+
+const FILE_ABOUT: &str = "The file that is read; standard input where it is left out, or is -";
+
+fn bare_line<'a>(alloc: Global) -> CommandLine<'a>
+    ensures { IsLineOf bare_line result }
+{
+    CommandLine::new(alloc, "pcid-audit")
+        .about("Audits records of multiprocessor runs under x86-64 four-level paging with PCIDs")
+        .version(VERSION)
+        .no_binary_name(true)
+        .subcommand_required(true)
+}
+
+/// A command with no options. Like each step behind it, it is a `Result`, so that a chain of steps
+/// ends in one place where memory runs out.
+fn new_line<'a>(alloc: Global, name: &'a str, about: &'a str) -> Result<CommandLine<'a>, AllocError>
+    ensures { IsLine (new_app name.entry.now) result }
+{
+    Ok(CommandLine::new(alloc, name).about(about))
+}
+
+/// The command with one more option.
+fn with_option<'a>(
+    line: Result<CommandLine<'a>, AllocError>,
+    option: Arg<'a>,
+) -> Result<CommandLine<'a>, AllocError>
+    ensures { (app : App) (rule : Rule) → IsLine app line.entry → IsOption rule option.entry →
+        IsLine (with_rule app rule) result }
+{
+    line?.arg(option)
+}
+
+/// The command line with one more command.
+fn with_command<'a>(
+    line: Result<CommandLine<'a>, AllocError>,
+    command: Result<CommandLine<'a>, AllocError>,
+) -> Result<CommandLine<'a>, AllocError>
+    ensures { (app own : App) → IsLine app line.entry → IsLine own command.entry →
+        IsLine (with_subcommand app own.top) result }
+{
+    line?.subcommand(command?)
+}
+
+/// A switch behind `--` and its name.
+fn switch<'a>(alloc: Global, name: &'a str, about: &'a str) -> Arg<'a>
+    ensures { IsOption (switch_rule name.entry.now) result }
+{
+    Arg::new(alloc, name)
+        .long(name)
+        .help(about)
+        .action(ArgAction::SetTrue)
+}
+
+/// An option behind `--` and its name, with any text as its value.
+fn value_option<'a>(alloc: Global, name: &'a str, value: &'a str, about: &'a str) -> Arg<'a>
+    ensures { IsOption (value_rule name.entry.now) result }
+{
+    Arg::new(alloc, name)
+        .long(name)
+        .value_name(value)
+        .help(about)
+        .action(ArgAction::Set)
+}
+
+fn checkers_option<'a>(alloc: Global) -> Arg<'a>
+    ensures { IsOption checkers_rule result }
+{
+    let parser = value_parser!(u16).range(1..=64);
+    value_option(alloc, CHECKERS, "N", CHECKERS_ABOUT).value_parser(parser)
+}
+
+/// An event number behind `--` and a name.
+fn number_option<'a>(alloc: Global, name: &'a str, value: &'a str, about: &'a str) -> Arg<'a>
+    ensures { IsOption (number_rule name.entry.now) result }
+{
+    value_option(alloc, name, value, about).value_parser(value_parser!(u32))
+}
+
+/// A processor behind `--cpu`.
+fn cpu_option<'a>(alloc: Global) -> Arg<'a>
+    ensures { IsOption cpu_rule result }
+{
+    value_option(alloc, CPU, "P", CPU_ABOUT).value_parser(value_parser!(u16))
+}
+
+/// How many are explained, behind `--most`.
+fn most_option<'a>(alloc: Global) -> Arg<'a>
+    ensures { IsOption most_rule result }
+{
+    let parser = value_parser!(u32).range(1..=1_000_000);
+    value_option(alloc, MOST, "N", MOST_ABOUT).value_parser(parser)
+}
+
+/// By how much spans are widened, behind `--error`.
+fn error_option<'a>(alloc: Global) -> Arg<'a>
+    ensures { IsOption error_rule result }
+{
+    number_option(alloc, ERROR, "N", ERROR_ABOUT)
+}
+
+/// The names of logs, one at least, behind the options.
+fn logs_option<'a>(alloc: Global) -> Arg<'a>
+    ensures { IsOption logs_rule result }
+{
+    Arg::new(alloc, LOG)
+        .value_name("LOG")
+        .help(LOG_ABOUT)
+        .action(ArgAction::Append)
+        .num_args(1..)
+        .required(true)
+}
+
+/// A file's name behind the options.
+fn file_option<'a>(alloc: Global) -> Arg<'a>
+    ensures { IsOption file_rule result }
+{
+    Arg::new(alloc, FILE)
+        .value_name("FILE")
+        .help(FILE_ABOUT)
+        .action(ArgAction::Set)
+}
+
+/// The command with `--progress` and a file's name behind its options.
+fn with_progress<'a>(
+    alloc: Global,
+    line: Result<CommandLine<'a>, AllocError>,
+    about: &'a str,
+) -> Result<CommandLine<'a>, AllocError>
+    ensures { (app : App) → IsLine app line.entry → IsLine (with_progress app) result }
+{
+    let line = with_option(line, switch(alloc, PROGRESS, about));
+    with_option(line, file_option(alloc))
+}
+
+/// A command with no option of its own.
+fn plain_line<'a>(
+    alloc: Global,
+    name: &'a str,
+    about: &'a str,
+) -> Result<CommandLine<'a>, AllocError>
+    ensures { IsLine (plain_line name.entry.now) result }
+{
+    with_progress(alloc, new_line(alloc, name, about), PROGRESS_ABOUT)
+}
+
+fn check_line<'a>(alloc: Global) -> Result<CommandLine<'a>, AllocError>
+    ensures { IsLine check_line result }
+{
+    let line = new_line(alloc, CHECK, CHECK_ABOUT);
+    let line = with_option(line, checkers_option(alloc));
+    let line = with_option(line, switch(alloc, ALL, SUMMARY_ABOUT));
+    with_progress(alloc, line, PROGRESS_ABOUT)
+}
+
+fn certify_line<'a>(alloc: Global) -> Result<CommandLine<'a>, AllocError>
+    ensures { IsLine certify_line result }
+{
+    let line = new_line(alloc, CERTIFY, CERTIFY_ABOUT);
+    let line = with_option(line, checkers_option(alloc));
+    let line = with_option(line, switch(alloc, BYTES, FOUND_ABOUT));
+    let line = with_option(line, switch(alloc, ORDER, ORDER_ABOUT));
+    with_progress(alloc, line, PROGRESS_ABOUT)
+}
+
+fn run_line<'a>(alloc: Global) -> Result<CommandLine<'a>, AllocError>
+    ensures { IsLine run_line result }
+{
+    let line = new_line(alloc, RUN, RUN_ABOUT);
+    let line = with_option(line, checkers_option(alloc));
+    let line = with_option(line, switch(alloc, SINGLE, SINGLE_ABOUT));
+    let line = with_option(line, switch(alloc, BYTES, BYTES_ABOUT));
+    with_progress(alloc, line, RECORDED_ABOUT)
+}
+
+fn show_line<'a>(alloc: Global) -> Result<CommandLine<'a>, AllocError>
+    ensures { IsLine show_line result }
+{
+    let line = new_line(alloc, SHOW, SHOW_ABOUT);
+    let line = with_option(line, cpu_option(alloc));
+    let line = with_option(line, value_option(alloc, PAGE, "HEX", PAGE_ABOUT));
+    let line = with_option(line, value_option(alloc, WORD, "HEX", WORD_ABOUT));
+    let line = with_option(line, number_option(alloc, FROM, "A", FROM_ABOUT));
+    let line = with_option(line, number_option(alloc, TO, "B", TO_ABOUT));
+    with_option(line, file_option(alloc))
+}
+
+fn explain_line<'a>(alloc: Global) -> Result<CommandLine<'a>, AllocError>
+    ensures { IsLine explain_line result }
+{
+    let line = new_line(alloc, EXPLAIN, EXPLAIN_ABOUT);
+    let line = with_option(line, switch(alloc, ALL, ALL_ABOUT));
+    let line = with_option(line, most_option(alloc));
+    let line = with_option(line, switch(alloc, SVG, SVG_ABOUT));
+    with_progress(alloc, line, PROGRESS_ABOUT)
+}
+
+fn merge_line<'a>(alloc: Global) -> Result<CommandLine<'a>, AllocError>
+    ensures { IsLine merge_line result }
+{
+    let line = new_line(alloc, MERGE, MERGE_ABOUT);
+    let line = with_option(line, error_option(alloc));
+    with_option(line, logs_option(alloc))
+}
+
+/// The whole command line.
+pub(crate) fn command_line<'a>(alloc: Global) -> Result<CommandLine<'a>, AllocError>
+    ensures { IsLine command_line result }
+{
+    let line = Ok(bare_line(alloc));
+    let line = with_command(line, check_line(alloc));
+    let line = with_command(line, certify_line(alloc));
+    let line = with_command(line, run_line(alloc));
+    let line = with_command(line, plain_line(alloc, RUN_OF, RUN_OF_ABOUT));
+    let line = with_command(line, explain_line(alloc));
+    let line = with_command(line, show_line(alloc));
+    let line = with_command(line, plain_line(alloc, UPGRADE, UPGRADE_ABOUT));
+    with_command(line, merge_line(alloc))
+}
