@@ -1,14 +1,21 @@
 //! The auditor alone: what `pcid-audit check` does of a record, for who has not yet built the rest.
 #![tactic(auto)]
 
+ghost use Rattle.pg_pool.specs.Rounds.{AreCheckers};
+
 use pg_auditing::{
-    MEMORY, NoWords, UNOPENED, USAGE, arguments, check, tell_memory, tell_no_words, tell_text,
-    tell_unopened, words_of,
+    MEMORY, NoWords, REFUSED, UNOPENED, USAGE, arguments, check, tell, tell_memory, tell_no_words,
+    tell_spans, tell_text, tell_unopened, words_of,
 };
-use pg_codec::{Sink, Watched};
+use pg_codec::{Sink, Source, Watched};
 use pg_plan::{Command, Plan, Telling, Usage, plan};
+use pg_report::AuditError;
+use pg_span_codec::Peeked;
+use std::alloc::AllocGlobal;
 use std::fs;
 use std::process::ExitCode;
+use std::sync::Wait;
+use std::thread::Threads;
 
 /// Of words that ask for what the whole program does.
 const OTHERS: u8 = 79;
@@ -46,6 +53,30 @@ fn tell_usage<E: Sink>(errors: &mut E, usage: Usage) -> u8 {
     }
 }
 
+/// Checks the record on a source. The events of one with spans stand in no order, and it is refused.
+fn check_on<T: AllocGlobal + Threads + Wait + Sync, R: Source, O: Sink, E: Sink>(
+    rt: &T,
+    checkers: u16,
+    source: R,
+    output: &mut O,
+    errors: &mut E,
+) -> u8
+    requires { AreCheckers checkers }
+{
+    let mut input = Peeked::new(source);
+    match input.says_spans() {
+        Ok(false) => check(rt, checkers, &mut input, output, errors),
+        Ok(true) => {
+            tell_spans(errors);
+            REFUSED
+        }
+        Err(_) => {
+            tell(errors, AuditError::Device);
+            REFUSED
+        }
+    }
+}
+
 fn main(rt: HostRuntime) -> ExitCode {
     let mut output = Watched::new(rt.stdout());
     let mut errors = Watched::new(rt.stderr());
@@ -63,13 +94,13 @@ fn main(rt: HostRuntime) -> ExitCode {
     };
     let checkers = asked.plan.checkers;
     let Some(name) = asked.file else {
-        let mut input = Watched::new(rt.reader());
-        return ExitCode::from(check(&rt, checkers, &mut input, &mut output, &mut errors));
+        let input = Watched::new(rt.reader());
+        return ExitCode::from(check_on(&rt, checkers, input, &mut output, &mut errors));
     };
     let Ok(file) = fs::open(&rt, name) else {
         tell_unopened(&mut errors, name);
         return ExitCode::from(UNOPENED);
     };
-    let mut input = Watched::new(file);
-    ExitCode::from(check(&rt, checkers, &mut input, &mut output, &mut errors))
+    let input = Watched::new(file);
+    ExitCode::from(check_on(&rt, checkers, input, &mut output, &mut errors))
 }

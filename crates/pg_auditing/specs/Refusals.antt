@@ -41,6 +41,10 @@ refusal_line error =
 abbrev pub memory_line : List ℕ
 memory_line = refusal_text 1 (codes "memory") ++ codes "\n"
 
+-- the line of a record of version 3 or 4 where its events have to stand in one order
+abbrev pub spans_line : List ℕ
+spans_line = codes "pcid-audit: refused 2 version: certify judges records with spans\n"
+
 -- `pcid-audit: can't open a.record`
 abbrev pub unopened_line : List ℕ → List ℕ
 unopened_line name = codes "pcid-audit: can't open" ++ (codes " " ++ (name ++ codes "\n"))

@@ -12,7 +12,7 @@ pub use checks::check;
 pub use files::tell_unopened;
 pub use refusals::{
     put_error, put_line, put_name, put_number, put_place, put_refusal, tell, tell_error,
-    tell_memory, tell_text,
+    tell_memory, tell_spans, tell_text,
 };
 pub use statuses::{
     MEMORY, NO, REFUSED, UNOPENED, USAGE, YES, error_status, status_of, verdict_status,

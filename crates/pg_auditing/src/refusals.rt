@@ -4,7 +4,7 @@ ghost use Rattle.std.specs.Prelude.{◌++◌, codes, decimal};
 ghost use Rattle.pg_codec.specs.Writing.{Puts};
 ghost use Rattle.pg_report.specs.Changes.{filled};
 ghost use Rattle.pg_auditing.specs.Refusals.{refusal_text, place_text, refusal_line, memory_line};
-ghost use Rattle.pg_auditing.specs.Refusals.{Tells, TellsError};
+ghost use Rattle.pg_auditing.specs.Refusals.{Tells, TellsError, spans_line};
 
 use itoa::Buffer;
 use pg_codec::{Failed, Sink, put_all};
@@ -95,6 +95,17 @@ pub fn tell_text<W: Sink>(errors: &mut W, text: &str)
     ensures { Tells (filled W.Sink errors.old errors.new) text.now }
 {
     let _ = put_all(errors, text.as_bytes());
+}
+
+/// Says that a record has spans where its events have to stand in one order, and which command
+/// judges it.
+pub fn tell_spans<W: Sink>(errors: &mut W)
+    ensures { Tells (filled W.Sink errors.old errors.new) spans_line }
+{
+    tell_text(
+        errors,
+        "pcid-audit: refused 2 version: certify judges records with spans\n",
+    )
 }
 
 /// Writes that line where there is an error, and else nothing.

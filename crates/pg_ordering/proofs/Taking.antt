@@ -3,19 +3,21 @@ use Rattle.std.proofs.Common.{◌≡◌, ◌<◌, ◌+◌, ℕ, List, [], ◌∷
 use Rattle.std.specs.Prelude.{MatchResult, option_map, slice_get, slice_index_or, unwrap_or}
 use Rattle.std.proofs.lemmas.Option.{slice_get-get_or, slice_get-map}
 use Rattle.std.proofs.lemmas.List.{take_more}
+use Rattle.pg_codec.specs.Streams.{FailsWithDevice}
 use Rattle.pg_merge.specs.Logs.{Logged}
 use Rattle.pg_report.specs.Changes.{Change}
 use Rattle.pg_ordering.specs.declared.logs.Untaken.{Untaken}
 use Rattle.pg_ordering.specs.declared.logs.Untaken.TheVariants.{Unopened, Refused, Device, Memory}
-use Rattle.pg_ordering.specs.Merges.{AreLogsOf, IsLogOf, IsUntaken, ReadsLog}
+use Rattle.pg_ordering.specs.Merges.{AreLogsOf, IsLogOf, IsUntaken, ReadsLog, is_device}
 use Rattle.pg_ordering.specs.Openings.{Opening}
 
-pub read_is : (Opens : Opening) (name : List ℕ) (file : Change) → Opens name (Some file) → (result : Result Logged Untaken) → ReadsLog file.old.bytes result → MatchResult result (IsLogOf Opens name) (IsUntaken Opens name)
-read_is Opens name file there (Ok log) reads = (file, there, reads)
-read_is Opens name file there (Err (Refused e)) reads = (file, there, reads)
-read_is Opens name file there (Err Unopened) reads = absurd reads
-read_is Opens name file there (Err Device) reads = tt
-read_is Opens name file there (Err Memory) reads = tt
+pub read_is : (Opens : Opening) (name : List ℕ) (file : Change) → Opens name (Some file) → (result : Result Logged Untaken) → ReadsLog file.old.bytes result → FailsWithDevice is_device file.old.failures file.new.failures result
+    → MatchResult result (IsLogOf Opens name) (IsUntaken Opens name)
+read_is Opens name file there (Ok log) reads failures = (file, there, reads)
+read_is Opens name file there (Err (Refused e)) reads failures = (file, there, reads)
+read_is Opens name file there (Err Unopened) reads failures = absurd reads
+read_is Opens name file there (Err Device) reads failures = (file, there, failures)
+read_is Opens name file there (Err Memory) reads failures = tt
 
 one_more : (Opens : Opening) (names : List (List ℕ)) (logs : List Logged) (name : List ℕ) (log : Logged) → AreLogsOf Opens names logs → IsLogOf Opens name log → AreLogsOf Opens (names ++ name ∷ []) (logs ++ log ∷ [])
 one_more Opens [] [] name log are is = (is, tt)

@@ -1,10 +1,12 @@
 -- What `certify` answers of a record with no one order (versions 3 and 4).
-use Rattle.std.specs.Prelude.{◌≡◌, ◌⊎◌, ◌<◌, ℕ, List, length, Result, Ok, Err}
+use Rattle.std.specs.Prelude.{◌≡◌, ◌⊎◌, ℕ, List, Result, Ok, Err}
 use Rattle.pg_event.specs.declared.event.Event.{Event}
 use Rattle.pg_event.specs.Spelling.{record_bytes}
 use Rattle.pg_certify.specs.Certified.{IsCertified}
 use Rattle.pg_spanned.specs.Orders.{Spanned, IsOrder, ordered}
+use Rattle.pg_spanned.specs.Laws.{NoneOverlap}
 use Rattle.pg_order.specs.Runs.{HasOrderedRun}
+use Rattle.pg_order.specs.Verdicts.{HasNoOrderedRun}
 use Rattle.pg_report.specs.declared.error.AuditError.TheVariants as audits
 use Rattle.pg_report.specs.Changes.{Change, Fails, Works, Adds, AddsSome}
 use Rattle.pg_auditing.specs.Refusals.{StaysSame, Tells, refusal_line}
@@ -19,12 +21,12 @@ use Rattle.pg_ordering.specs.Readings.{ReadsRun, DeviceTold}
 use Rattle.pg_ordering.specs.Refusals.{spans_line}
 use Rattle.pg_ordering.specs.Texts.{told_text, order_text}
 
--- what is told is so: in some order of the events some run of the machine has them, or in none; what
--- is undecided says nothing
+-- what is told is so: in some order of the events some run of the machine has them, or in none; where
+-- no event overlaps another it is one of both, and what is undecided says nothing else
 abbrev pub IsToldOf : Spanned → Told → Type 0
 IsToldOf s Yes = HasOrderedRun s
-IsToldOf s (No n) = (n < length s.events) × (HasOrderedRun s → ⊥)
-IsToldOf s (Undecided n) = Unit {0}
+IsToldOf s (No n) = HasNoOrderedRun s n
+IsToldOf s (Undecided n) = NoneOverlap s → ⊥
 
 abbrev pub told_status : Told → ℕ
 told_status Yes = 0

@@ -4,3 +4,4 @@ pub mod Texts
 pub mod Answers
 pub mod Openings
 pub mod Merges
+pub mod Shown

@@ -1,6 +1,7 @@
 -- What `merge` answers of logs of single processors.
 use Rattle.std.specs.Prelude.{◌≡◌, ◌⊎◌, ℕ, List, [], ◌∷◌, ◌++◌, Option, Some, None, IfSome}
-use Rattle.std.specs.Prelude.{slice_get, Result, Ok, Err, codes, decimal, unwrap_or}
+use Rattle.std.specs.Prelude.{slice_get, take, Bool, true, false, Result, Ok, Err, codes, decimal}
+use Rattle.std.specs.Prelude.{unwrap_or}
 use Rattle.pg_merge.specs.declared.error.LogRefusal.{LogRefusal}
 use Rattle.pg_merge.specs.declared.error.LogRefusal.TheVariants.{Field, Stamps, Processor}
 use Rattle.pg_merge.specs.declared.error.MergeError.{MergeError}
@@ -12,7 +13,7 @@ use Rattle.pg_merge.specs.Numbers.{merge_error_number}
 use Rattle.pg_merge.specs.Reading.{log_reading}
 use Rattle.pg_merge.specs.Runs.{AreOfOneRun, Explains}
 use Rattle.pg_report.specs.declared.error.AuditError.TheVariants as audits
-use Rattle.pg_report.specs.Changes.{Change}
+use Rattle.pg_report.specs.Changes.{Change, Fails}
 use Rattle.pg_report.specs.Numbers.{error_number, error_name}
 use Rattle.pg_spanned.specs.Orders.{Spanned}
 use Rattle.pg_span_codec.specs.Spelling.{spanned_bytes}
@@ -65,6 +66,13 @@ merge_line e = refusal_text (merge_error_number e) (merge_name e) ++ codes "\n"
 
 -- ---- reading and merging
 
+-- a log was not taken since its device failed
+abbrev pub is_device : Untaken → Bool
+is_device Unopened = false
+is_device (Refused e) = false
+is_device Device = true
+is_device Memory = false
+
 -- bytes, where they are known, are a log, or this is their first refusal
 abbrev pub ReadsLog : Option (List ℕ) → Result Logged Untaken → Type 0
 ReadsLog bytes (Ok log) = IfSome bytes (λ b. log_reading b ≡ Ok log)
@@ -91,13 +99,14 @@ abbrev pub IsUntaken : Opening → List ℕ → Untaken → Type 0
 IsUntaken Opens name Unopened = Opens name None
 IsUntaken Opens name (Refused e) =
     (file : Change) × Opens name (Some file) × IfSome file.old.bytes (λ b. log_reading b ≡ Err e)
-IsUntaken Opens name Device = Unit {0}
+IsUntaken Opens name Device = (file : Change) × Opens name (Some file) × Fails file
 IsUntaken Opens name Memory = Unit {0}
 
--- the name at a place is of a file that was not taken
+-- the name at a place is of a file that was not taken, and the files of those before it were
 abbrev pub IsUntakenAt : Opening → List (List ℕ) → ℕ → Untaken → Type 0
 IsUntakenAt Opens names place why =
     (name : List ℕ) × (slice_get names place ≡ Some name) × IsUntaken Opens name why
+    × (logs : List Logged) × AreLogsOf Opens (take place names) logs
 
 -- the logs of names were taken, or the first was not that is told of
 abbrev pub TakesLogs : Opening → List (List ℕ) → Result (List Logged) Stop → Type 0

@@ -1,9 +1,10 @@
 -- What is written of a record with no one order.
-use Rattle.std.specs.Prelude.{ℕ, List, ◌++◌, length, codes, decimal}
+use Rattle.std.specs.Prelude.{ℕ, List, [], ◌++◌, length, codes, decimal}
 use Rattle.std.specs.List.{flat_map}
 use Rattle.std.specs.Int.{div_ceil}
 use Rattle.pg_report.specs.Text.{counts_text}
 use Rattle.pg_spanned.specs.Orders.{Spanned}
+use Rattle.pg_spanned_text.specs.Cause.{cause_text}
 use Rattle.pg_ordering.specs.declared.told.Told.{Told}
 use Rattle.pg_ordering.specs.declared.told.Told.TheVariants.{Yes, No, Undecided}
 
@@ -20,9 +21,15 @@ head_text Yes = codes "verdict: yes\n"
 head_text (No n) = codes "verdict: no\nevent: " ++ (decimal n ++ codes "\nreason: 15 no order\n")
 head_text (Undecided n) = codes "verdict: undecided\nevent: " ++ (decimal n ++ codes "\n")
 
--- the report
+-- why no order has a run, where that is told
+abbrev pub cause_of : Spanned → Told → List ℕ
+cause_of s Yes = []
+cause_of s (No n) = cause_text s n
+cause_of s (Undecided n) = []
+
+-- the report, and after a no its cause
 abbrev pub told_text : Spanned → Told → List ℕ
-told_text s told = head_text told ++ counts_of s
+told_text s told = head_text told ++ counts_of s ++ cause_of s told
 
 -- the number of each event of an order, a line each
 abbrev pub order_text : List ℕ → List ℕ

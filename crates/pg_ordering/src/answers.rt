@@ -211,7 +211,7 @@ fn answer_run<O: Sink, E: Sink>(
 }
 
 /// Tells why there is no run, and gives the status.
-fn tell_unread<O: Sink, E: Sink>(output: &mut O, errors: &mut E, why: Unread) -> u8
+pub(crate) fn tell_unread<O: Sink, E: Sink>(output: &mut O, errors: &mut E, why: Unread) -> u8
     ensures { TellsUnread why
         (filled O.Sink output.old output.new) (filled E.Sink errors.old errors.new) result }
 {

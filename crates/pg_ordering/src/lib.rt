@@ -6,9 +6,11 @@ mod logs;
 mod merging;
 mod reading;
 mod refusals;
+mod showing;
 mod texts;
 mod told;
 
 pub use answers::certify_spanned;
 pub use merging::merge;
+pub use showing::show_spanned;
 pub use told::{Asked, Told};

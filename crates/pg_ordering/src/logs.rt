@@ -2,7 +2,8 @@
 
 ghost use Rattle.std.specs.Prelude.{◌≡◌, map, MatchResult};
 ghost use Rattle.pg_codec.specs.Reads.{seen};
-ghost use Rattle.pg_ordering.specs.Merges.{IsLogOf, IsUntaken, ReadsLog, TakesLogs};
+ghost use Rattle.pg_codec.specs.Streams.{FailsWithDevice};
+ghost use Rattle.pg_ordering.specs.Merges.{IsLogOf, IsUntaken, ReadsLog, TakesLogs, is_device};
 ghost use Rattle.pg_ordering.specs.Openings.{opens};
 
 use pg_codec::{IntakeError, Source, pull_all};
@@ -36,7 +37,8 @@ const MOST: usize = usize::MAX - 1;
 
 /// The log that a source has left.
 fn log_in<R: Source>(alloc: Global, source: &mut R) -> Result<Log, Untaken>
-    ensures { ReadsLog (R.left source.old) result }
+    ensures reads { ReadsLog (R.left source.old) result }
+    ensures failures { FailsWithDevice is_device (R.failed source.old) (R.failed source.new) result }
 {
     let bytes = match pull_all(alloc, source, MOST) {
         Ok(bytes) => bytes,

@@ -1,12 +1,12 @@
 //! What is written of a record with no one order.
 
-ghost use Rattle.std.specs.Prelude.{◌≡◌, ◌++◌, IfOk, codes, decimal, string_bytes};
+ghost use Rattle.std.specs.Prelude.{◌≡◌, ◌++◌, IfOk, OnOk, codes, decimal, string_bytes};
 ghost use Rattle.pg_ordering.specs.Texts.{told_text, order_text, segments_of, counts_of};
-ghost use Rattle.pg_ordering.specs.Texts.{head_text};
+ghost use Rattle.pg_ordering.specs.Texts.{head_text, cause_of};
 
 use crate::told::Told;
-use pg_report::{Report, Verdict};
 use pg_spanned::SpannedRun;
+use pg_spanned_text::cause_text;
 use std::alloc::{AllocError, Global};
 
 /// How many segments hold all events of a run.
@@ -37,13 +37,32 @@ fn counts_of(alloc: Global, run: &SpannedRun) -> Result<String, AllocError>
     format!(in alloc; "events: {events}\nsegments: {segments}\n")
 }
 
-/// The report of what is told of a run.
+/// Appends why no order of a run's events has a run of the machine, where that is told.
+fn push_cause(
+    alloc: Global,
+    text: &mut String,
+    run: &SpannedRun,
+    told: Told,
+) -> Result<(), AllocError>
+    ensures { OnOk result (string_bytes text.new ≡ string_bytes text.old ++ cause_of run.now told) }
+{
+    match told {
+        Told::No(event) => {
+            let cause = cause_text(alloc, run, event)?;
+            text.push_str(cause.as_str())
+        }
+        Told::Yes | Told::Undecided(_) => Ok(()),
+    }
+}
+
+/// The report of what is told of a run, and after a no its cause.
 pub(crate) fn told_text(alloc: Global, run: &SpannedRun, told: Told) -> Result<String, AllocError>
     ensures { IfOk result (λ t. string_bytes t ≡ told_text run.now told) }
 {
     let mut text = head_of(alloc, told)?;
     let counts = counts_of(alloc, run)?;
     text.push_str(counts.as_str())?;
+    push_cause(alloc, &mut text, run, told)?;
     Ok(text)
 }
 

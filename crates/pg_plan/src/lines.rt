@@ -14,118 +14,112 @@ use std::alloc::{AllocError, Global};
 
 pub(crate) const CHECK: &str = "check";
 
-const CHECK_ABOUT: &str = "Reads a record, and writes its report";
+const CHECK_ABOUT: &str = "Check whether the moments of a record justify its events";
 
 pub(crate) const CERTIFY: &str = "certify";
 
-const CERTIFY_ABOUT: &str = "Reads a record, whatever moments it names, and writes whether any run \
-    has its events";
+const CERTIFY_ABOUT: &str =
+    "Find out whether any run has the events of a record, whatever its moments";
 
 pub(crate) const RUN: &str = "run";
 
-const RUN_ABOUT: &str = "Reads a guest script, runs it, and writes the report of its record";
+const RUN_ABOUT: &str = "Run a guest script, and write the report of its record";
 
 pub(crate) const RUN_OF: &str = "run-of";
 
-const RUN_OF_ABOUT: &str = "Reads a record, and writes a run that has its events";
+const RUN_OF_ABOUT: &str = "Write a run that has the events of an accepted record";
 
 pub(crate) const EXPLAIN: &str = "explain";
 
-const EXPLAIN_ABOUT: &str =
-    "Reads a record, and writes its report and, where it is no, what stands behind it";
+const EXPLAIN_ABOUT: &str = "Write the report of a record, and the cause of a rejection";
 
 pub(crate) const SHOW: &str = "show";
 
-const SHOW_ABOUT: &str = "Reads a record, and writes its events, a line each";
+const SHOW_ABOUT: &str = "Write the events of a record, one a line";
 
 pub(crate) const UPGRADE: &str = "upgrade";
 
-const UPGRADE_ABOUT: &str =
-    "Reads a version 1 record, and writes the version 2 record of the same events";
+const UPGRADE_ABOUT: &str = "Write a version 1 record as version 2";
 
 pub(crate) const MERGE: &str = "merge";
 
-const MERGE_ABOUT: &str =
-    "Reads logs of single processors, and writes the record with spans that they make";
+const MERGE_ABOUT: &str = "Merge the logs of single processors into a record with spans";
 
 /// The version of the program, and of the records that it reads.
 const VERSION: &str = "0.3.0 (record versions 1 to 4)";
 
 pub(crate) const CHECKERS: &str = "checkers";
 
-const CHECKERS_ABOUT: &str = "How many checkers judge the record, from 1 to 64; 1 where left out";
+const CHECKERS_ABOUT: &str = "Number of checkers that judge the record, 1 to 64 (default 1)";
 
 pub(crate) const SINGLE: &str = "single";
 
-const SINGLE_ABOUT: &str = "Run on one thread, the lines in the order of the script";
+const SINGLE_ABOUT: &str = "Execute the script's lines in order, on one thread";
 
 pub(crate) const BYTES: &str = "bytes";
 
-const BYTES_ABOUT: &str = "Write the record itself";
+const BYTES_ABOUT: &str = "Write the record instead of its report";
 
-const FOUND_ABOUT: &str = "Write the record with the moments that were found";
+const FOUND_ABOUT: &str = "Write the record with the moments found, instead of the report";
 
 pub(crate) const ORDER: &str = "order";
 
-const ORDER_ABOUT: &str =
-    "Of a record with spans: write the order that was found, the number of an event a line";
+const ORDER_ABOUT: &str = "For a record with spans, write the order found, one event number a line";
 
 pub(crate) const ERROR: &str = "error";
 
 const ERROR_ABOUT: &str =
-    "By how many ticks each span is widened at both ends, where clocks differ; 0 where left out";
+    "Ticks by which each span is widened at both ends, for clocks that differ (default 0)";
 
 pub(crate) const LOG: &str = "log";
 
-const LOG_ABOUT: &str = "The logs, one of each processor";
+const LOG_ABOUT: &str = "The logs, one for each processor";
 
 pub(crate) const CPU: &str = "cpu";
 
-const CPU_ABOUT: &str = "The processor whose events are written; every one's where left out";
+const CPU_ABOUT: &str = "Write only events of this processor";
 
 pub(crate) const PAGE: &str = "page";
 
-const PAGE_ABOUT: &str =
-    "A linear address: what has to do with its page of 4 KB is written, and nothing else";
+const PAGE_ABOUT: &str = "Write only events that concern the 4-KB page of this linear address";
 
 pub(crate) const WORD: &str = "word";
 
-const WORD_ABOUT: &str = "The physical address of a word: its writes and assists are written";
+const WORD_ABOUT: &str = "Write only writes and assists of the word at this physical address";
 
 pub(crate) const ALL: &str = "all";
 
-const SUMMARY_ABOUT: &str = "Write a summary of all bad events behind the report";
+const SUMMARY_ABOUT: &str = "Judge every event, and write a summary after the report";
 
-const ALL_ABOUT: &str = "Explain each bad event, and write a summary behind";
+const ALL_ABOUT: &str = "Explain every bad event, and write a summary";
 
 pub(crate) const MOST: &str = "most";
 
 const MOST_ABOUT: &str =
-    "With --all: how many bad events are explained at most, from 1 to 1000000; 100 where left out";
+    "With --all, explain at most this many bad events, 1 to 1000000 (default 100)";
 
 pub(crate) const SVG: &str = "svg";
 
-const SVG_ABOUT: &str = "Draw the first bad event, as an SVG in the place of the text";
+const SVG_ABOUT: &str = "Draw the first bad event as an SVG, instead of writing text";
 
 pub(crate) const PROGRESS: &str = "progress";
 
-const PROGRESS_ABOUT: &str = "Tell on standard error of each million events that were read";
+const PROGRESS_ABOUT: &str = "Report each million events read, on standard error";
 
 const RECORDED_ABOUT: &str =
-    "Tell on standard error of each million events that were recorded; not with --single";
+    "Report each million events recorded, on standard error; not with --single";
 
 pub(crate) const FROM: &str = "from";
 
-const FROM_ABOUT: &str = "The number of the first event that is written; 0 where left out";
+const FROM_ABOUT: &str = "Number of the first event to write (default 0)";
 
 pub(crate) const TO: &str = "to";
 
-const TO_ABOUT: &str =
-    "The number of the last event that is written, which is the record's last where left out";
+const TO_ABOUT: &str = "Number of the last event to write (default: the last event)";
 
 pub(crate) const FILE: &str = "file";
 
-const FILE_ABOUT: &str = "The file that is read; standard input where it is left out, or is -";
+const FILE_ABOUT: &str = "The file to read; standard input by default, or for -";
 
 fn bare_line<'a>(alloc: Global) -> CommandLine<'a>
     ensures { IsLineOf bare_line result }

@@ -50,6 +50,8 @@ mod runs;
 #[cfg(test)]
 mod scripts;
 #[cfg(test)]
+mod spans;
+#[cfg(test)]
 mod spliced;
 #[cfg(test)]
 mod streams;

@@ -1,7 +1,7 @@
 use crate::row::run_all;
 use crate::{
     all_noes, certificates, explanations, headers, invalidations, lines, many_lines, pictures,
-    refusals, rights, runs, spliced, versions, walks,
+    refusals, rights, runs, spans, spliced, versions, walks,
 };
 use std::test::Fail;
 
@@ -38,6 +38,11 @@ fn records_shown(rt: HostRuntime) -> Result<(), Fail> {
     run_all(&rt, &lines::SAMPLES)?;
     run_all(&rt, &lines::RANGES)?;
     run_all(&rt, &many_lines::ROWS)
+}
+
+#[test]
+fn records_with_spans(rt: HostRuntime) -> Result<(), Fail> {
+    run_all(&rt, &spans::ROWS)
 }
 
 #[test]

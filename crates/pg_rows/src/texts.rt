@@ -14,18 +14,14 @@ const HELP: &str =
     Usage: pcid-audit <COMMAND>\n\
     \n\
     Commands:\n\
-    \x20 check    Reads a record, and writes its report\n\
-    \x20 certify  Reads a record, whatever moments it names, and writes whether any run \
-    has its events\n\
-    \x20 run      Reads a guest script, runs it, and writes the report of its record\n\
-    \x20 run-of   Reads a record, and writes a run that has its events\n\
-    \x20 explain  Reads a record, and writes its report and, where it is no, what \
-    stands behind it\n\
-    \x20 show     Reads a record, and writes its events, a line each\n\
-    \x20 upgrade  Reads a version 1 record, and writes the version 2 record of the same \
-    events\n\
-    \x20 merge    Reads logs of single processors, and writes the record with spans that \
-    they make\n\
+    \x20 check    Check whether the moments of a record justify its events\n\
+    \x20 certify  Find out whether any run has the events of a record, whatever its moments\n\
+    \x20 run      Run a guest script, and write the report of its record\n\
+    \x20 run-of   Write a run that has the events of an accepted record\n\
+    \x20 explain  Write the report of a record, and the cause of a rejection\n\
+    \x20 show     Write the events of a record, one a line\n\
+    \x20 upgrade  Write a version 1 record as version 2\n\
+    \x20 merge    Merge the logs of single processors into a record with spans\n\
     \x20 help     Print this message or the help of the given subcommand(s)\n\
     \n\
     Options:\n\
@@ -33,19 +29,17 @@ const HELP: &str =
     \x20 -V, --version  Print version\n";
 
 /// Of `check`.
-const CHECK_HELP: &str = "Reads a record, and writes its report\n\
+const CHECK_HELP: &str = "Check whether the moments of a record justify its events\n\
     \n\
     Usage: check [OPTIONS] [FILE]\n\
     \n\
     Arguments:\n\
-    \x20 [FILE]  The file that is read; standard input where it is left out, or is -\n\
+    \x20 [FILE]  The file to read; standard input by default, or for -\n\
     \n\
     Options:\n\
-    \x20     --checkers <N>  How many checkers judge the record, from 1 to 64; 1 where \
-    left out\n\
-    \x20     --all           Write a summary of all bad events behind the report\n\
-    \x20     --progress      Tell on standard error of each million events that were \
-    read\n\
+    \x20     --checkers <N>  Number of checkers that judge the record, 1 to 64 (default 1)\n\
+    \x20     --all           Judge every event, and write a summary after the report\n\
+    \x20     --progress      Report each million events read, on standard error\n\
     \x20 -h, --help          Print help\n";
 
 /// Of what is no number, address or page.
@@ -63,7 +57,7 @@ const NO_TELLING: &str =
     For more information, try '--help'.\n";
 
 /// What is asked for goes to standard output, and the status is 0.
-pub const TEXTS: [Told; 11] = [
+pub const TEXTS: [Told; 12] = [
     Told {
         words: &["help"],
         text: HELP,
@@ -82,103 +76,111 @@ pub const TEXTS: [Told; 11] = [
     },
     Told {
         words: &["help", "certify"],
-        text: "Reads a record, whatever moments it names, and writes whether any run has its \
-        events\n\
+        text: "Find out whether any run has the events of a record, whatever its moments\n\
         \n\
         Usage: certify [OPTIONS] [FILE]\n\
         \n\
         Arguments:\n\
-        \x20 [FILE]  The file that is read; standard input where it is left out, or is -\n\
+        \x20 [FILE]  The file to read; standard input by default, or for -\n\
         \n\
         Options:\n\
-        \x20     --checkers <N>  How many checkers judge the record, from 1 to 64; 1 where \
-        left out\n\
-        \x20     --bytes         Write the record with the moments that were found\n\
-        \x20     --progress      Tell on standard error of each million events that were \
-        read\n\
+        \x20     --checkers <N>  Number of checkers that judge the record, 1 to 64 (default 1)\n\
+        \x20     --bytes         Write the record with the moments found, instead of the report\n\
+        \x20     --order         For a record with spans, write the order found, one event number \
+        a line\n\
+        \x20     --progress      Report each million events read, on standard error\n\
         \x20 -h, --help          Print help\n",
     },
     Told {
+        words: &["help", "merge"],
+        text: "Merge the logs of single processors into a record with spans\n\
+        \n\
+        Usage: merge [OPTIONS] <LOG>...\n\
+        \n\
+        Arguments:\n\
+        \x20 <LOG>...  The logs, one for each processor\n\
+        \n\
+        Options:\n\
+        \x20     --error <N>  Ticks by which each span is widened at both ends, for clocks that \
+        differ (default 0)\n\
+        \x20 -h, --help       Print help\n",
+    },
+    Told {
         words: &["help", "run"],
-        text: "Reads a guest script, runs it, and writes the report of its record\n\
+        text: "Run a guest script, and write the report of its record\n\
         \n\
         Usage: run [OPTIONS] [FILE]\n\
         \n\
         Arguments:\n\
-        \x20 [FILE]  The file that is read; standard input where it is left out, or is -\n\
+        \x20 [FILE]  The file to read; standard input by default, or for -\n\
         \n\
         Options:\n\
-        \x20     --checkers <N>  How many checkers judge the record, from 1 to 64; 1 where \
-        left out\n\
-        \x20     --single        Run on one thread, the lines in the order of the script\n\
-        \x20     --bytes         Write the record itself\n\
-        \x20     --progress      Tell on standard error of each million events that were \
-        recorded; not with --single\n\
+        \x20     --checkers <N>  Number of checkers that judge the record, 1 to 64 (default 1)\n\
+        \x20     --single        Execute the script's lines in order, on one thread\n\
+        \x20     --bytes         Write the record instead of its report\n\
+        \x20     --progress      Report each million events recorded, on standard error; \
+        not with --single\n\
         \x20 -h, --help          Print help\n",
     },
     Told {
         words: &["help", "run-of"],
-        text: "Reads a record, and writes a run that has its events\n\
+        text: "Write a run that has the events of an accepted record\n\
         \n\
         Usage: run-of [OPTIONS] [FILE]\n\
         \n\
         Arguments:\n\
-        \x20 [FILE]  The file that is read; standard input where it is left out, or is -\n\
+        \x20 [FILE]  The file to read; standard input by default, or for -\n\
         \n\
         Options:\n\
-        \x20     --progress  Tell on standard error of each million events that were read\n\
+        \x20     --progress  Report each million events read, on standard error\n\
         \x20 -h, --help      Print help\n",
     },
     Told {
         words: &["help", "explain"],
-        text: "Reads a record, and writes its report and, where it is no, what stands behind it\n\
+        text: "Write the report of a record, and the cause of a rejection\n\
         \n\
         Usage: explain [OPTIONS] [FILE]\n\
         \n\
         Arguments:\n\
-        \x20 [FILE]  The file that is read; standard input where it is left out, or is -\n\
+        \x20 [FILE]  The file to read; standard input by default, or for -\n\
         \n\
         Options:\n\
-        \x20     --all       Explain each bad event, and write a summary behind\n\
-        \x20     --most <N>  With --all: how many bad events are explained at most, from 1 \
-        to 1000000; 100 where left out\n\
-        \x20     --svg       Draw the first bad event, as an SVG in the place of the text\n\
-        \x20     --progress  Tell on standard error of each million events that were read\n\
+        \x20     --all       Explain every bad event, and write a summary\n\
+        \x20     --most <N>  With --all, explain at most this many bad events, 1 to \
+        1000000 (default 100)\n\
+        \x20     --svg       Draw the first bad event as an SVG, instead of writing text\n\
+        \x20     --progress  Report each million events read, on standard error\n\
         \x20 -h, --help      Print help\n",
     },
     Told {
         words: &["help", "show"],
-        text: "Reads a record, and writes its events, a line each\n\
+        text: "Write the events of a record, one a line\n\
         \n\
         Usage: show [OPTIONS] [FILE]\n\
         \n\
         Arguments:\n\
-        \x20 [FILE]  The file that is read; standard input where it is left out, or is -\n\
+        \x20 [FILE]  The file to read; standard input by default, or for -\n\
         \n\
         Options:\n\
-        \x20     --cpu <P>     The processor whose events are written; every one's where \
-        left out\n\
-        \x20     --page <HEX>  A linear address: what has to do with its page of 4 KB is \
-        written, and nothing else\n\
-        \x20     --word <HEX>  The physical address of a word: its writes and assists are \
-        written\n\
-        \x20     --from <A>    The number of the first event that is written; 0 where left \
-        out\n\
-        \x20     --to <B>      The number of the last event that is written, which is the \
-        record's last where left out\n\
+        \x20     --cpu <P>     Write only events of this processor\n\
+        \x20     --page <HEX>  Write only events that concern the 4-KB page of this linear \
+        address\n\
+        \x20     --word <HEX>  Write only writes and assists of the word at this physical address\n\
+        \x20     --from <A>    Number of the first event to write (default 0)\n\
+        \x20     --to <B>      Number of the last event to write (default: the last event)\n\
         \x20 -h, --help        Print help\n",
     },
     Told {
         words: &["help", "upgrade"],
-        text: "Reads a version 1 record, and writes the version 2 record of the same events\n\
+        text: "Write a version 1 record as version 2\n\
         \n\
         Usage: upgrade [OPTIONS] [FILE]\n\
         \n\
         Arguments:\n\
-        \x20 [FILE]  The file that is read; standard input where it is left out, or is -\n\
+        \x20 [FILE]  The file to read; standard input by default, or for -\n\
         \n\
         Options:\n\
-        \x20     --progress  Tell on standard error of each million events that were read\n\
+        \x20     --progress  Report each million events read, on standard error\n\
         \x20 -h, --help      Print help\n",
     },
     Told {

@@ -1,36 +1,20 @@
 -- What the whole program answers, by what its words ask for, or by why they ask for nothing.
-use Rattle.std.specs.Prelude.{◌≡◌, ◌⊎◌, ℕ, Bool, true, false, if◌then◌else◌, List}
-use Rattle.std.specs.Prelude.{Some, None}
-use Rattle.std.specs.Prelude.{MatchOption, IfSome, map, Result, Ok, Err, string_bytes}
-use Rattle.std.specs.Io.KnownBytes.{Keeps}
+use Rattle.std.specs.Prelude.{◌≡◌, ◌⊎◌, ℕ, Bool, true, false, List, Some, None}
+use Rattle.std.specs.Prelude.{MatchOption, map, Result, Ok, Err, string_bytes}
 use Rattle.pg_plan.specs.declared.request.Command.{Command}
 use Rattle.pg_plan.specs.declared.request.Command.TheVariants.{Check, Certify, Run, RunOf}
 use Rattle.pg_plan.specs.declared.request.Command.TheVariants.{Explain, Show, Upgrade, Merge}
 use Rattle.pg_plan.specs.declared.request.Invocation.{Invocation}
 use Rattle.pg_plan.specs.declared.request.Plan.{Plan}
-use Rattle.pg_plan.specs.declared.request.Telling.{Telling}
-use Rattle.pg_plan.specs.declared.request.Telling.TheVariants.{First, All, Picture}
 use Rattle.pg_plan.specs.declared.request.Usage.{Usage}
 use Rattle.pg_plan.specs.declared.request.Usage.TheVariants.{Help, Version, Fault, Memory}
 use Rattle.pg_report.specs.declared.error.AuditError.TheVariants.{Device}
 use Rattle.pg_report.specs.Changes.{Change, Fails, Works, Adds, AddsSome}
-use Rattle.pg_answers.specs.Certificates.{CertifiesRecord}
-use Rattle.pg_answers.specs.Explanations.{ExplainsRecord}
-use Rattle.pg_tool.specs.Guests.{RunsGuest}
-use Rattle.pg_tool.specs.Pictures.{DrawsRecord}
-use Rattle.pg_answers.specs.Lines.{ShowsRecord, filter_of}
-use Rattle.pg_answers.specs.Naming.{NamesRecord}
 use Rattle.pg_auditing.specs.Refusals.{StaysSame, Tells, refusal_line, memory_line, unopened_line}
-use Rattle.pg_auditing.specs.Status.{Checks}
-use Rattle.pg_answers.specs.RunOf.{ShowsRun}
 use Rattle.pg_auditing.specs.Streams.{Streams}
-use Rattle.pg_answers.specs.Summaries.{ChecksAll, ExplainsAll}
-use Rattle.pg_answers.specs.Upgrades.{Upgrades}
-use Rattle.pg_ordering.specs.Answers.{OrdersRecord}
 use Rattle.pg_ordering.specs.Merges.{Merges}
-use Rattle.pg_ordering.specs.declared.told.Asked.{Asked}
-use Rattle.pg_ordering.specs.declared.told.Asked.TheVariants as asking
-use Rattle.pg_span_codec.specs.Versions.{says_spans}
+use Rattle.pg_tool.specs.Guests.{RunsGuest}
+use Rattle.pg_tool.specs.Records.{DoesOfRecord}
 pub use Rattle.pg_ordering.specs.Openings.{Opening, opens}
 
 -- 0 where the text was written, and 2 where the output failed
@@ -51,64 +35,15 @@ GivesUsage (Fault text) output errors status =
 GivesUsage Memory output errors status =
     StaysSame output × Tells errors memory_line × (status ≡ 3)
 
--- of a record with one order: by so many checkers whether some run has its events; or the record
--- with moments for them
-abbrev pub CertifiesBy : ℕ → Bool → Streams → ℕ → Type 0
-CertifiesBy checkers false = CertifiesRecord checkers
-CertifiesBy checkers true = NamesRecord
-
--- what is written of a yes of a record with spans: an order, where one is asked for
-abbrev pub asked_of : Plan → Asked
-asked_of plan =
-    if plan.order then asking.Order else if plan.bytes then asking.Record else asking.Report
-
--- the input once its version was looked at: what was left, where that is known, still is
-pub record IsLookedAt (input looked : Change) : Type 0 where
-  pub bytes : Keeps input.old.bytes looked.old.bytes
-  pub failures : looked.old.failures ≡ input.old.failures
-  pub new : looked.new ≡ input.new
-
--- the record's bytes begin, or don't, as those of a record with spans do
-abbrev pub Says : Bool → Change → Type 0
-Says spans input = IfSome input.old.bytes (λ bytes. spans ≡ says_spans bytes)
-
--- the input failed before its version was known
-abbrev pub FailsToLook : Streams → ℕ → Type 0
-FailsToLook s status = Fails s.input × StaysSame s.output
-    × Tells s.errors (refusal_line Device) × (status ≡ 2)
-
--- whether some run has the record's events, by the version of the record; or the input failed
-abbrev pub Certifies : Plan → Streams → ℕ → Type 0
-Certifies plan s status =
-    (Says true s.input × (looked : Change) × IsLookedAt s.input looked
-    × OrdersRecord (asked_of plan) (record s { input = looked }) status)
-    ⊎ (Says false s.input × (looked : Change) × IsLookedAt s.input looked
-    × CertifiesBy plan.checkers plan.bytes (record s { input = looked }) status)
-    ⊎ FailsToLook s status
-
--- by so many checkers the record's report; or that with a summary of all bad events (and a picture
--- is asked of `explain` alone)
-abbrev pub ChecksBy : ℕ → Telling → Streams → ℕ → Type 0
-ChecksBy checkers First = Checks checkers
-ChecksBy checkers (All most) = ChecksAll
-ChecksBy checkers Picture = Checks checkers
-
--- what stands behind the first bad event; or behind so many at most, with that summary; or behind
--- the first as a picture
-abbrev pub ExplainsBy : Telling → Streams → ℕ → Type 0
-ExplainsBy First = ExplainsRecord
-ExplainsBy (All most) = ExplainsAll most
-ExplainsBy Picture = DrawsRecord
-
--- what a plan's command does
+-- what a plan's command does of one input
 abbrev pub DoesCommand : Command → Plan → Streams → ℕ → Type 0
-DoesCommand Check plan s status = ChecksBy plan.checkers plan.telling s status
-DoesCommand Certify plan s status = Certifies plan s status
+DoesCommand Check plan s status = DoesOfRecord plan s status
+DoesCommand Certify plan s status = DoesOfRecord plan s status
 DoesCommand Run plan s status = RunsGuest plan.single plan.bytes s status
-DoesCommand RunOf plan s status = ShowsRun s status
-DoesCommand Explain plan s status = ExplainsBy plan.telling s status
-DoesCommand Show plan s status = ShowsRecord (filter_of plan) s status
-DoesCommand Upgrade plan s status = Upgrades s status
+DoesCommand RunOf plan s status = DoesOfRecord plan s status
+DoesCommand Explain plan s status = DoesOfRecord plan s status
+DoesCommand Show plan s status = DoesOfRecord plan s status
+DoesCommand Upgrade plan s status = DoesOfRecord plan s status
 DoesCommand Merge plan s status = ⊥
 
 abbrev pub Does : Plan → Streams → ℕ → Type 0

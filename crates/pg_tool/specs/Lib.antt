@@ -1,3 +1,4 @@
 pub mod Guests
 pub mod Pictures
+pub mod Records
 pub mod Answers

@@ -7,6 +7,7 @@ mod guest_refusals;
 mod guests;
 mod pictures;
 mod program;
+mod records;
 
 pub use followers::Followers;
 pub use guest_error::GuestError;

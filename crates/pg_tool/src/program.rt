@@ -5,28 +5,23 @@ ghost use Rattle.pg_plan.specs.Commands.{AreFrom1To64};
 ghost use Rattle.pg_pool.specs.Rounds.{AreCheckers};
 ghost use Rattle.pg_progress.specs.Seats.{counts};
 ghost use Rattle.pg_report.specs.Changes.{filled};
-ghost use Rattle.pg_tool.specs.Answers.{Answers, Certifies, CertifiesBy, ChecksBy, ExplainsBy};
-ghost use Rattle.pg_tool.specs.Answers.{Does, DoesFile, DoesNamed, GivesText, GivesUsage};
-ghost use Rattle.pg_tool.specs.Answers.{MergesAsked, asked_of, opens, reads_logs};
+ghost use Rattle.pg_tool.specs.Answers.{Answers, Does, DoesFile, DoesNamed, GivesText, GivesUsage};
+ghost use Rattle.pg_tool.specs.Answers.{MergesAsked, opens, reads_logs};
 ghost use Rattle.pg_tool.specs.Guests.{guest_error_status, run_error_status};
 ghost use Rattle.pg_tool.specs.Guests.{RunsGuest, TellsGuest};
 ghost use Rattle.pg_auditing.specs.Streams.{streams};
-ghost use Rattle.pg_ordering.specs.Answers.{OrdersRecord};
 
 use crate::followers::Followers;
 use crate::guest_error::GuestError;
 use crate::guest_refusals::tell_guest;
 use crate::guests::run_script;
-use crate::pictures::draw;
-use pg_answers::{
-    certify, check_all, explain, explain_all, filter_of, name_moments, run_of, show, upgrade,
-};
+use crate::records::do_of_record;
 use pg_auditing::{
-    MEMORY, REFUSED, UNOPENED, USAGE, YES, check, tell, tell_memory, tell_text, tell_unopened,
+    MEMORY, REFUSED, UNOPENED, USAGE, YES, tell, tell_memory, tell_text, tell_unopened,
 };
 use pg_codec::{Sink, Source, put_all};
-use pg_ordering::{Asked, certify_spanned, merge};
-use pg_plan::{Command, Invocation, Plan, Telling, Usage};
+use pg_ordering::merge;
+use pg_plan::{Command, Invocation, Plan, Usage};
 use pg_progress::{Nobody, Onlooker};
 use pg_report::AuditError;
 use pg_runner::RunError;
@@ -124,111 +119,6 @@ fn give_text<O: Sink, E: Sink>(text: &str, output: &mut O, errors: &mut E) -> u8
     }
 }
 
-/// Certifies the record with one order on `input`, and writes its report, or the record with
-/// moments.
-fn certify_by<T: AllocGlobal + Threads + Wait + Sync, R: Source, O: Sink, E: Sink>(
-    rt: &T,
-    plan: Plan,
-    input: &mut R,
-    output: &mut O,
-    errors: &mut E,
-) -> u8
-    requires { AreCheckers plan.checkers }
-    ensures { CertifiesBy plan.checkers plan.bytes (streams R.Source O.Sink E.Sink
-        (input.old, output.old, errors.old) (input.new, output.new, errors.new)) result }
-{
-    if plan.bytes {
-        name_moments(rt.alloc(), input, output, errors)
-    } else {
-        certify(rt, plan.checkers, input, output, errors)
-    }
-}
-
-/// What is written of a yes of a record with spans.
-fn asked_of(plan: Plan) -> Asked
-    ensures { result ≡ asked_of plan }
-{
-    if plan.order {
-        Asked::Order
-    } else if plan.bytes {
-        Asked::Record
-    } else {
-        Asked::Report
-    }
-}
-
-/// Certifies the record with spans on `input`, and writes what the plan asks for.
-fn order_by<R: Source, O: Sink, E: Sink>(
-    alloc: Global,
-    plan: Plan,
-    input: &mut R,
-    output: &mut O,
-    errors: &mut E,
-) -> u8
-    ensures { OrdersRecord (asked_of plan) (streams R.Source O.Sink E.Sink
-        (input.old, output.old, errors.old) (input.new, output.new, errors.new)) result }
-{
-    certify_spanned(alloc, asked_of(plan), input, output, errors)
-}
-
-/// Certifies the record on `input`, by its version.
-fn certify_any<T: AllocGlobal + Threads + Wait + Sync, R: Source, O: Sink, E: Sink>(
-    rt: &T,
-    plan: Plan,
-    input: &mut Peeked<R>,
-    output: &mut O,
-    errors: &mut E,
-) -> u8
-    requires { AreCheckers plan.checkers }
-    ensures { Certifies plan (streams ⟦<Peeked<R> as Source>⟧ O.Sink E.Sink
-        (input.old, output.old, errors.old) (input.new, output.new, errors.new)) result }
-{
-    match input.says_spans() {
-        Ok(true) => order_by(rt.alloc(), plan, input, output, errors),
-        Ok(false) => certify_by(rt, plan, input, output, errors),
-        Err(_) => {
-            tell(errors, AuditError::Device);
-            REFUSED
-        }
-    }
-}
-
-/// Judges the record on `input`, and writes its report, or that and a summary of all bad events.
-fn check_by<T: AllocGlobal + Threads + Wait + Sync, R: Source, O: Sink, E: Sink>(
-    rt: &T,
-    plan: Plan,
-    input: &mut R,
-    output: &mut O,
-    errors: &mut E,
-) -> u8
-    requires { AreCheckers plan.checkers }
-    ensures { ChecksBy plan.checkers plan.telling (streams R.Source O.Sink E.Sink
-        (input.old, output.old, errors.old) (input.new, output.new, errors.new)) result }
-{
-    match plan.telling {
-        Telling::First | Telling::Picture => check(rt, plan.checkers, input, output, errors),
-        Telling::All(_) => check_all(rt.alloc(), input, output, errors),
-    }
-}
-
-/// Explains bad events of the record on `input`: the first, as text or drawn, or all up to so many.
-fn explain_by<R: Source, O: Sink, E: Sink>(
-    alloc: Global,
-    plan: Plan,
-    input: &mut R,
-    output: &mut O,
-    errors: &mut E,
-) -> u8
-    ensures { ExplainsBy plan.telling (streams R.Source O.Sink E.Sink
-        (input.old, output.old, errors.old) (input.new, output.new, errors.new)) result }
-{
-    match plan.telling {
-        Telling::First => explain(alloc, input, output, errors),
-        Telling::All(most) => explain_all(alloc, most, input, output, errors),
-        Telling::Picture => draw(alloc, input, output, errors),
-    }
-}
-
 /// Does what a plan says that reads one input.
 fn perform<T: AllocGlobal + Threads + Wait + Sync, R: Source, O: Sink, E: Sink, P: Onlooker + Drop>(
     rt: &T,
@@ -245,13 +135,13 @@ fn perform<T: AllocGlobal + Threads + Wait + Sync, R: Source, O: Sink, E: Sink, 
         (input.old, output.old, errors.old) (input.new, output.new, errors.new)) result }
 {
     match plan.command {
-        Command::Check => check_by(rt, plan, input, output, errors),
-        Command::Certify => certify_any(rt, plan, input, output, errors),
         Command::Run => run_followed(rt, plan, input, output, errors, onlooker),
-        Command::RunOf => run_of(rt.alloc(), input, output, errors),
-        Command::Explain => explain_by(rt.alloc(), plan, input, output, errors),
-        Command::Show => show(rt.alloc(), filter_of(plan), input, output, errors),
-        Command::Upgrade => upgrade(rt.alloc(), input, output, errors),
+        Command::Check
+        | Command::Certify
+        | Command::RunOf
+        | Command::Explain
+        | Command::Show
+        | Command::Upgrade => do_of_record(rt, plan, input, output, errors),
         Command::Merge => unreachable!(),
     }
 }

@@ -7,7 +7,7 @@ use Rattle.pg_ordering.proofs.Taking.{name_there, next_log}
 use Rattle.pg_ordering.proofs.logs.logs_of.Goals as goal
 
 pub returns-in-Err : goal.returns-in-Err
-returns-in-Err g c = (_, name_there c.args.names.now c.loop-place.place _ c.loop-place-test.true, c.in-Err.ensures)
+returns-in-Err g c = (_, name_there c.args.names.now c.loop-place.place _ c.loop-place-test.true, c.in-Err.ensures, c.loop-place.logs.items, c.loop-place.invariant)
 
 pub loop-place-preserved : goal.loop-place-preserved
 loop-place-preserved g c =

@@ -1,7 +1,7 @@
 use Rattle.std.proofs.Common.{◌≡◌, Bool, true, Ok, inl, refl, ap, ◌∙◌}
 use Rattle.pg_span_codec.specs.Versions.{says_spans}
 use Rattle.pg_tool.proofs.Looking.{finds_ok}
-use Rattle.pg_tool.proofs.program.certify_any.Goals as goal
+use Rattle.pg_tool.proofs.records.do_of_record.Goals as goal
 
 pub returns-in-Ok-true : goal.returns-in-Ok-true
 returns-in-Ok-true g c =
@@ -9,4 +9,4 @@ returns-in-Ok-true g c =
     let input = c.args.input.now in
     let looked = c.says_spans.new.self in
     let found = finds_ok g.R.Source says_spans (input.unread, input.inner) (looked.unread, looked.inner) c.says_spans.result true is c.says_spans.ensures in
-    inl (found.0, _, record { bytes = found.1; failures = found.2; new = refl }, c.order_by.ensures)
+    inl (found.0, _, record { bytes = found.1; failures = found.2; new = refl }, c.do_of_spanned.ensures)

@@ -2,7 +2,7 @@ use Rattle.std.proofs.Common.{subst}
 use Rattle.pg_auditing.specs.Streams.{streams}
 use Rattle.pg_ordering.specs.declared.told.Asked.{Asked}
 use Rattle.pg_ordering.specs.Answers.{OrdersRecord}
-use Rattle.pg_tool.proofs.program.order_by.Goals as goal
+use Rattle.pg_tool.proofs.records.order_by.Goals as goal
 
 pub returns : goal.returns
 returns g c =

@@ -1,7 +1,0 @@
-use Rattle.pg_plan.proofs.planner.check_line.Goals as goal
-
-pub returns : goal.returns
-returns c =
-    let checkers = c.with_option-line.ensures _ _ c.new_line-line.ensures c.checkers_option.ensures in
-    let all = c.with_option-line-2.ensures _ _ checkers c.switch.ensures in
-    c.with_progress.ensures _ all

@@ -1,0 +1,253 @@
+//! Records whose events have spans in the place of one order, and logs.
+
+use crate::case::{Case, is_answered};
+use crate::row::{Row, bytes_of};
+use pg_codec::Watched;
+use pg_span_codec::Peeked;
+use pg_tool::{pcid_audit, plan};
+use std::test::Fail;
+
+/// The worked example of docs/FORMAT.md: processor 1's INVLPG overlaps the last of processor 0's
+/// writes, and its read comes behind both.
+const WALK: &[&str] = &[
+    "50475245434f5244030028030210000000011000000000000000011000000000000000",
+    "010000000006000000",
+    "10000000000000100000000000000720000000000000",
+    "10000000000000200000000000000730000000000000",
+    "10000000000000300000000000000740000000000000",
+    "10000000000028400000000000000790000000000000",
+    "1301010000000050000000000000",
+    "110100000000042351000000000000002391000000000000",
+    "0206000000",
+];
+
+/// The entry is replaced before processor 1 invalidates its page and reads it by the old one.
+const STALE: &[&str] = &[
+    "50475245434f5244030028030210000000011000000000000000011000000000000000",
+    "010000000007000000",
+    "10000000000000100000000000000720000000000000",
+    "10000000000000200000000000000730000000000000",
+    "10000000000000300000000000000740000000000000",
+    "10000000000028400000000000000790000000000000",
+    "100000000000284000000000000007a0000000000000",
+    "1301000000000050000000000000",
+    "110100000000042351000000000000002391000000000000",
+    "0207000000",
+];
+
+/// No event overlaps another.
+const ONE: &[&str] = &[
+    "50475245434f5244030028030110000000011000000000000000",
+    "010000000005000000",
+    "10000000000000100000000000000720000000000000",
+    "10000000000000200000000000000730000000000000",
+    "10000000000000300000000000000740000000000000",
+    "10000000000028400000000000000790000000000000",
+    "110000000000042351000000000000002391000000000000",
+    "0205000000",
+];
+
+/// The span of event 0 begins before it.
+const BACK: &[&str] = &[
+    "50475245434f5244030028030110000000011000000000000000",
+    "010000000001000000",
+    "10000100000000100000000000000720000000000000",
+    "0201000000",
+];
+
+/// Behind the INVLPG no order has the entry of before, since what replaced it had ended.
+const STALE_LINES: &str = "verdict: no\n\
+    event: 6\n\
+    reason: 15 no order\n\
+    events: 7\n\
+    segments: 1\n\
+    event: 6 cpu 1 user read 0x5123 -> 0x9123 began 6\n\
+    read after: 5 cpu 1 invlpg 0x5000 began 5\n\
+    may read: level 4 [0x1000] = 0x2007 table, written by event 0\n\
+    may read: level 3 [0x2000] = 0x3007 table, written by event 1\n\
+    may read: level 2 [0x3000] = 0x4007 table, written by event 2\n\
+    may read: level 1 [0x4028] = 0xa007 leaf 0xa000, written by event 4\n\
+    can't read: [0x4028] = 0x9007, written by event 3: event 4 overwrites it and comes before \
+    event 5\n";
+
+const REFUSED: &str = "pcid-audit: refused 2 version: certify judges records with spans\n";
+
+pub const ROWS: [Row; 13] = [
+    Row {
+        name: "spanned_walk_certified",
+        words: &["certify"],
+        input: WALK,
+        output: "verdict: yes\n\
+            events: 6\n\
+            segments: 1\n",
+        line: "",
+        status: 0,
+    },
+    Row {
+        name: "spanned_walk_certified_by_two_checkers",
+        words: &["certify", "--checkers", "2"],
+        input: WALK,
+        output: "verdict: yes\n\
+            events: 6\n\
+            segments: 1\n",
+        line: "",
+        status: 0,
+    },
+    Row {
+        name: "spanned_walk_explained",
+        words: &["explain"],
+        input: WALK,
+        output: "verdict: yes\n\
+            events: 6\n\
+            segments: 1\n",
+        line: "",
+        status: 0,
+    },
+    Row {
+        name: "spanned_walk_shown",
+        words: &["show"],
+        input: WALK,
+        output: "0 cpu 0 write [0x1000] = 0x2007 began 0\n\
+            1 cpu 0 write [0x2000] = 0x3007 began 1\n\
+            2 cpu 0 write [0x3000] = 0x4007 began 2\n\
+            3 cpu 0 write [0x4028] = 0x9007 began 3\n\
+            4 cpu 1 invlpg 0x5000 began 3\n\
+            5 cpu 1 user read 0x5123 -> 0x9123 began 5\n",
+        line: "",
+        status: 0,
+    },
+    Row {
+        name: "spanned_walk_of_one_processor_shown",
+        words: &["show", "--cpu", "1"],
+        input: WALK,
+        output: "4 cpu 1 invlpg 0x5000 began 3\n\
+            5 cpu 1 user read 0x5123 -> 0x9123 began 5\n",
+        line: "",
+        status: 0,
+    },
+    Row {
+        name: "only_order_written",
+        words: &["certify", "--order"],
+        input: ONE,
+        output: "0\n1\n2\n3\n4\n",
+        line: "",
+        status: 0,
+    },
+    Row {
+        name: "spanned_walk_checked",
+        words: &["check"],
+        input: WALK,
+        output: "",
+        line: REFUSED,
+        status: 2,
+    },
+    Row {
+        name: "run_of_spanned_walk",
+        words: &["run-of"],
+        input: WALK,
+        output: "",
+        line: REFUSED,
+        status: 2,
+    },
+    Row {
+        name: "spanned_walk_upgraded",
+        words: &["upgrade"],
+        input: WALK,
+        output: "",
+        line: REFUSED,
+        status: 2,
+    },
+    Row {
+        name: "span_that_begins_before_event_0",
+        words: &["certify"],
+        input: BACK,
+        output: "",
+        line: "pcid-audit: refused 7 malformed event 0 rule 7\n",
+        status: 2,
+    },
+    Row {
+        name: "stale_leaf_in_no_order_certified",
+        words: &["certify"],
+        input: STALE,
+        output: STALE_LINES,
+        line: "",
+        status: 1,
+    },
+    Row {
+        name: "stale_leaf_in_no_order_explained",
+        words: &["explain"],
+        input: STALE,
+        output: STALE_LINES,
+        line: "",
+        status: 1,
+    },
+    Row {
+        name: "order_of_a_no_not_written",
+        words: &["certify", "--order"],
+        input: STALE,
+        output: "",
+        line: STALE_LINES,
+        status: 1,
+    },
+];
+
+/// What the two logs below make: the worked example in segments of 65,536 events.
+const MERGED: &[&str] = &[
+    "50475245434f5244030028030200000100011000000000000000011000000000000000",
+    "010000000006000000",
+    "10000000000000100000000000000720000000000000",
+    "10000000000000200000000000000730000000000000",
+    "10000000000000300000000000000740000000000000",
+    "10000000000028400000000000000790000000000000",
+    "1301010000000050000000000000",
+    "110100000000042351000000000000002391000000000000",
+    "0206000000",
+];
+
+/// Processor 0's log of the worked example.
+const LOG_0: &[&str] = &[
+    "50474350554c4f470100280302000000011000000000000000",
+    "01000000000000000200000000000000100000100000000000000720000000000000",
+    "03000000000000000400000000000000100000200000000000000730000000000000",
+    "05000000000000000600000000000000100000300000000000000740000000000000",
+    "07000000000000000a00000000000000100028400000000000000790000000000000",
+    "ffffffffffffffff0400000000000000",
+];
+
+/// Processor 1's.
+const LOG_1: &[&str] = &[
+    "50474350554c4f470100280302000100011000000000000000",
+    "08000000000000000b0000000000000013010050000000000000",
+    "0c000000000000000d000000000000001101042351000000000000002391000000000000",
+    "ffffffffffffffff0200000000000000",
+];
+
+#[test]
+fn logs_merged(rt: HostRuntime) -> Result<(), Fail> {
+    let expected = bytes_of(rt.alloc(), MERGED)?;
+    let first = bytes_of(rt.alloc(), LOG_0)?;
+    let second = bytes_of(rt.alloc(), LOG_1)?;
+    let merged = Case {
+        name: "logs_merged",
+        words: &["merge", "b.log", "a.log"],
+        input: &[],
+        output: &expected,
+        line: "",
+        status: 0,
+    };
+    let opener = |name: &str| {
+        if name == "a.log" {
+            Some(Peeked::new(Watched::new(first.as_slice())))
+        } else {
+            Some(Peeked::new(Watched::new(second.as_slice())))
+        }
+    };
+    let mut input = Peeked::new(Watched::new(merged.input));
+    let mut output = Watched::new(Vec::new(rt.alloc()));
+    let mut errors = Watched::new(Vec::new(rt.alloc()));
+    let planned = plan(rt.alloc(), merged.words);
+    let status = pcid_audit(&rt, planned, opener, &mut input, &mut output, &mut errors);
+    let is_right = is_answered(merged, status, &output.inner, &errors.inner);
+    assert!(rt; is_right, "{}: {status}", merged.name);
+    Ok(())
+}
