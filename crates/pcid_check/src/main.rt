@@ -54,7 +54,7 @@ fn tell_usage<E: Sink>(errors: &mut E, usage: Usage) -> u8 {
 }
 
 /// Checks the record on a source. The events of one with spans stand in no order, and it is refused.
-fn check_on<T: AllocGlobal + Threads + Wait + Sync, R: Source, O: Sink, E: Sink>(
+fn check_on<T: AllocGlobal + Threads + Wait + Sync, R: Source + Drop, O: Sink, E: Sink>(
     rt: &T,
     checkers: u16,
     source: R,
