@@ -92,8 +92,9 @@ fn fits_word(word: Option<u64>, event: &Event) -> bool
     }
 }
 
-/// Whether an event with this number is shown.
-fn fits(filter: Filter, is_its: bool, number: u64, event: &Event) -> bool
+/// Whether an event with this number is shown, where `is_its` says whether its processor is one of
+/// the page's.
+pub fn fits(filter: Filter, is_its: bool, number: u64, event: &Event) -> bool
     ensures { result ≡ fits filter is_its number event.now }
 {
     filter.from as u64 <= number
@@ -124,8 +125,9 @@ fn users(alloc: Global, page: u64, events: &[Event]) -> Result<Vec<bool>, AllocE
     Ok(marks)
 }
 
-/// A mark for each processor of the page that is asked for.
-fn marks_of(alloc: Global, page: Option<u64>, events: &[Event]) -> Result<Vec<bool>, AllocError>
+/// A mark for each processor of the page that is asked for, where these are all events of a run.
+/// `Err` is for want of memory alone.
+pub fn marks_of(alloc: Global, page: Option<u64>, events: &[Event]) -> Result<Vec<bool>, AllocError>
     ensures { IfOk result (λ marks. AreMarks events.now page marks.items) }
 {
     match page {
@@ -134,7 +136,8 @@ fn marks_of(alloc: Global, page: Option<u64>, events: &[Event]) -> Result<Vec<bo
     }
 }
 
-fn is_marked(marks: &[bool], p: u16) -> bool
+/// Whether a processor has a mark. One that has no place among them has none.
+pub fn is_marked(marks: &[bool], p: u16) -> bool
     ensures { result ≡ slice_index_or marks.now p false }
 {
     match marks.get(p as usize) {

@@ -26,10 +26,10 @@ mod walk_text;
 
 pub use bad_events::{Bad, bads, bads_are_exact, explanations_text, push_explanation};
 pub use denial::{Denial, deny};
-pub use denial_lines::{denial_text, denial_text_by};
+pub use denial_lines::{denial_text, denial_text_by, push_claim_line};
 pub use entry::WalkEntry;
 pub use explainer::{Explanation, explain};
-pub use filter::{Filter, pages_show_their_drops, shown_text};
+pub use filter::{Filter, fits, is_marked, marks_of, pages_show_their_drops, shown_text};
 pub use finding::{Finding, Limit, Misfit, Prevention, Tagged, Wish};
 pub use finding_text::{push_finding, push_numbered};
 pub use last_lines::push_last_moments;
