@@ -13,10 +13,10 @@ ghost use Rattle.pg_merge.specs.Reading.{log_reading};
 
 use crate::decoder::event_of;
 use crate::error::{LogError, LogRefusal};
-use crate::fields::u64_of;
 use crate::front::header_of;
 use crate::log::{Log, LogHeader, Stamped};
 use pg_event::{Header, MOST_SEGMENT, Refusal, processor_of};
+use pg_span_codec::u64_of;
 use std::alloc::{AllocError, Global};
 
 /// What stands in the place of a begin stamp behind the last event.
