@@ -1,19 +1,21 @@
 -- Laws of merged logs.
 use Rattle.std.proofs.Common.{◌≡◌, ℕ, zero, suc, ◌+◌, ◌-◌, ◌<◌, ◌≤◌, Bool, true, cond, ◌==◌, List, [], ◌∷◌, length, map, get_or, Some, refl, sym, ap, subst, ◌∙◌, arith, inl, inr}
 use Rattle.std.specs.Prelude.{slice_get, ◌↔◌}
-use Rattle.std.specs.List.{filter, count_by}
+use Rattle.std.specs.List.{All, filter, count_by}
 use Rattle.std.specs.List.Sorted.{IsPartitionedBy}
 use Rattle.std.proofs.lemmas.Bool.{cases_Bool, lt-ltb, ltb-true, both_ways, false_from_ne_true}
-use Rattle.std.proofs.lemmas.List.Sorted.{IsPartitionedBy-ltb}
+use Rattle.std.proofs.lemmas.List.Sorted.{IsPartitionedBy-ltb, All-permutation}
 use Rattle.std.proofs.lemmas.List.Sums.{sum_by-cons}
 use Rattle.std.proofs.lemmas.Option.{slice_get_within, get_or_from_slice_get}
 use Rattle.pg_event.specs.Form.{processor_of}
 use Rattle.pg_spanned.specs.Orders.{ended_before}
 use Rattle.pg_merge.specs.declared.log.Stamped.{Stamped}
+use Rattle.pg_merge.specs.Runs.{events_of}
 use Rattle.pg_merge.specs.Merged.{had_ended}
 use Rattle.pg_merge.specs.Laws.{MergedLogsKeepPrograms, SpansAreAsStamped}
 use Rattle.pg_merge.proofs.Lists.{counted_most}
 use Rattle.pg_merge.proofs.Ends.{rising_ends, ended_first}
+use Rattle.pg_merge.proofs.Whole.{all_spans}
 
 filter_mapped : {X Y : Type 0} (f : X → Y) (p : Y → Bool) (xs : List X) → filter p (map f xs) ≡ map f (filter (λ x. p (f x)) xs)
 filter_mapped f p [] = refl
@@ -53,8 +55,9 @@ stands_first p xs j y parted there =
     )
 
 pub spans_are_as_stamped : SpansAreAsStamped
-spans_are_as_stamped logs error run merged spans j i y x first second =
+spans_are_as_stamped logs error run merged are j i y x first second =
     let all : List Stamped = merged.all in
+    let spans : All (λ z. z.begin ≤ z.end) all = All-permutation (λ z. z.begin ≤ z.end) (events_of logs) all merged.same (all_spans logs are) in
     let ended : ℕ = count_by (had_ended error x) all in
     let parted : IsPartitionedBy (had_ended error x) all = IsPartitionedBy-ltb (λ z. z.end + error) all (x.begin - error) (rising_ends error all merged.rises) in
     let is : x ≡ get_or all i x = sym (get_or_from_slice_get all i x x second) in

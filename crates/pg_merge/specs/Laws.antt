@@ -1,10 +1,10 @@
 -- Laws of merged logs.
-use Rattle.std.specs.Prelude.{◌≡◌, ℕ, ◌+◌, ◌-◌, ◌<◌, ◌≤◌, ◌↔◌, ◌==◌, List, map, Some, slice_get}
+use Rattle.std.specs.Prelude.{◌≡◌, ℕ, ◌+◌, ◌-◌, ◌<◌, ◌↔◌, ◌==◌, List, map, Some, slice_get}
 use Rattle.std.specs.List.{All, filter}
 use Rattle.pg_event.specs.Form.{processor_of}
 use Rattle.pg_spanned.specs.Orders.{Spanned, ended_before}
 use Rattle.pg_merge.specs.declared.log.Stamped.{Stamped}
-use Rattle.pg_merge.specs.Logs.{Logged}
+use Rattle.pg_merge.specs.Logs.{Logged, IsLog}
 use Rattle.pg_merge.specs.Merged.{IsMerged}
 
 -- the events of a processor are those of its log, in its order
@@ -15,14 +15,10 @@ MergedLogsKeepPrograms =
     (λ log. filter (λ e. processor_of e == log.head.own) run.events ≡ map (λ x. x.event) log.events)
     logs
 
--- no span ends before it begins
-abbrev pub HaveSpans : List Stamped → Type 0
-HaveSpans all = All (λ x. x.begin ≤ x.end) all
-
 -- event j had ended when event i began exactly where the stamps say so
 abbrev pub SpansAreAsStamped : Type 0
 SpansAreAsStamped =
     (logs : List Logged) (error : ℕ) (run : Spanned) (merged : IsMerged logs error run) →
-    HaveSpans merged.all → (j i : ℕ) (y x : Stamped) →
+    All IsLog logs → (j i : ℕ) (y x : Stamped) →
     slice_get merged.all j ≡ Some y → slice_get merged.all i ≡ Some x →
     (j < ended_before run i) ↔ (y.end + error < x.begin - error)

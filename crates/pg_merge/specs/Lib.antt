@@ -1,5 +1,4 @@
 pub mod Logs
-pub mod Bare
 pub mod Reading
 pub mod Answers
 pub mod Numbers

@@ -3,10 +3,12 @@ use Rattle.std.specs.Prelude.{◌≡◌, ℕ, ◌+◌, ◌-◌, ◌<◌, ◌≤�
 use Rattle.std.specs.Prelude.{List, length, map}
 use Rattle.std.specs.Prelude.{Some, slice_get, slice_index, count_by}
 use Rattle.std.specs.List.{All, AllAdjacentBelow, filter}
+use Rattle.std.specs.List.Sorted.{IsPermutation}
 use Rattle.pg_event.specs.Form.{processor_of}
 use Rattle.pg_spanned.specs.Orders.{Spanned}
 use Rattle.pg_merge.specs.declared.log.Stamped.{Stamped}
 use Rattle.pg_merge.specs.Logs.{Logged}
+use Rattle.pg_merge.specs.Runs.{events_of}
 
 -- an event ended before another one, or at the same stamp, and then its processor has no greater
 -- number
@@ -28,10 +30,11 @@ pub record IsSpelledBy (all : List Stamped) (error : ℕ) (run : Spanned) : Type
   pub backs : (i : ℕ) (x : Stamped) → slice_get all i ≡ Some x →
       slice_index run.backs i ≡ i - count_by (had_ended error x) all
 
--- A run is that of logs: it has the events of each log in the log's order, and no other, as they
--- ended. Its header says which processors there are, and its events are of those.
+-- A run is that of logs: it has the events of the logs, each once and no others, as they ended, and
+-- those of each log in the log's order.
 pub record IsMerged (logs : List Logged) (error : ℕ) (run : Spanned) : Type 0 where
   pub all : List Stamped
+  pub same : IsPermutation (events_of logs) all
   pub own : All (λ log. filter (is_of log.head.own) all ≡ log.events) logs
   pub rises : AllAdjacentBelow EndsFirst all (length all)
   pub spelled : IsSpelledBy all error run

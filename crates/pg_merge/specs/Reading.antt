@@ -8,14 +8,14 @@ use Rattle.std.specs.Int.{w16, w64}
 use Rattle.pg_event.specs.declared.event.Event.{Event}
 use Rattle.pg_event.specs.declared.refusal.Refusal.TheVariants as refusals
 use Rattle.pg_event.specs.Heads.{Head, most_processors, least_maxphyaddr, most_maxphyaddr}
-use Rattle.pg_event.specs.Form.{processor_of}
+use Rattle.pg_event.specs.Form.{processor_of, broken_rule}
 use Rattle.pg_event.specs.Reading.{◌>>=◌, Part, byte_at, number_at, passing, is_between}
-use Rattle.pg_event.specs.Reading.{version_at, start_at}
+use Rattle.pg_event.specs.Reading.{version_at, start_at, processor_at, last_tag, well_formed_at}
+use Rattle.pg_span_codec.specs.Reading.{bare_at}
 use Rattle.pg_merge.specs.declared.log.LogHeader.{LogHeader}
 use Rattle.pg_merge.specs.declared.log.Stamped.{Stamped}
 use Rattle.pg_merge.specs.declared.error.LogRefusal.{LogRefusal}
 use Rattle.pg_merge.specs.declared.error.LogRefusal.TheVariants as faults
-use Rattle.pg_merge.specs.Bare.{bare_event_at}
 use Rattle.pg_merge.specs.Logs.{Logged, alone, end_mark}
 
 -- what reading a part of a log gives: its value and the bytes after it
@@ -54,6 +54,14 @@ log_header_at bytes = do
     },
     start.1,
   )
+
+-- event number i, without moments
+unfoldable pub bare_event_at : Head → ℕ → List ℕ → Part Event
+bare_event_at head i bytes = do
+  tag ← passing (is_between 0x10 (last_tag head.version)) refusals.Tag (byte_at bytes)
+  p ← processor_at head.version tag.1
+  e ← bare_at tag.0 p.0 p.1
+  well_formed_at i (broken_rule head e.0) e
 
 -- an event has to be of the log's processor
 abbrev pub own_at : ℕ → ℕ → ℕ → ℕ → Event × List ℕ → LogPart Stamped

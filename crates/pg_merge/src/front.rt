@@ -1,15 +1,15 @@
 //! The header of a log at the front of a slice.
 
-ghost use Rattle.std.specs.Prelude.{◌≡◌, ◌≤◌, ◌<◌, ◌^◌, IfOk};
-ghost use Rattle.pg_event.specs.Reading.{version_at, start_at};
-ghost use Rattle.pg_merge.specs.Answers.{Gives};
+ghost use Rattle.std.specs.Prelude.{◌≡◌, IfOk};
+ghost use Rattle.pg_event.specs.Reading.{version_at};
+ghost use Rattle.pg_codec.specs.Reads.{Gives};
 ghost use Rattle.pg_merge.specs.Logs.{AreLogSettings};
 ghost use Rattle.pg_merge.specs.Reading.{log_magic_at, log_header_at};
 
-use crate::fields::{byte_of, u16_of, u64_of};
 use crate::log::LogHeader;
 use pg_entry::{Cfg, CfgFlags};
 use pg_event::{LEAST_MAXPHYADDR, MOST_MAXPHYADDR, Refusal, Version, most_processors};
+use pg_span_codec::{byte_of, start_of, u16_of};
 
 #[tactic(auto, unfolding(crate::specs::Reading::log_magic_at))]
 fn magic_of(bytes: &[u8]) -> Result<(&[u8], &[u8]), Refusal>
@@ -35,24 +35,6 @@ fn version_of(bytes: &[u8]) -> Result<(Version, &[u8]), Refusal>
         2 => Ok((Version::Two, rest)),
         _ => Err(Refusal::Version),
     }
-}
-
-/// The CR3 of a processor at the start, and whether it has global pages.
-#[tactic(auto, unfolding(pg_event::specs::Reading::start_at))]
-fn start_of(m: u8, bytes: &[u8]) -> Result<((u64, bool), &[u8]), Refusal>
-    requires { m ≤ 52 }
-    ensures value { Gives (λ x. (x.0, x.1.now)) result (start_at m bytes.now) }
-    ensures cr3 { IfOk result (λ x. x.0.0 < 2 ^ m) }
-{
-    let (cr3, rest) = u64_of(bytes)?;
-    if cr3 >= 1 << m {
-        return Err(Refusal::HeaderField);
-    }
-    let (pge, rest) = byte_of(rest)?;
-    if pge >= 2 {
-        return Err(Refusal::HeaderField);
-    }
-    Ok(((cr3, pge == 1), rest))
 }
 
 #[tactic(auto, unfolding(crate::specs::Reading::log_header_at))]

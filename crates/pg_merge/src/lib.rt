@@ -4,7 +4,6 @@
 
 mod decoder;
 mod error;
-mod fields;
 mod front;
 mod gathering;
 mod laws;

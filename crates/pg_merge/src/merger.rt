@@ -1,10 +1,12 @@
 //! The run with spans of which logs are.
 
 ghost use Rattle.std.specs.Prelude.{◌≡◌, ◌+◌, ◌-◌, ◌<◌, ◌≤◌, ◌^◌, length, None, nat_lt, count_by};
-ghost use Rattle.std.specs.Prelude.{IfOk, MatchResult};
+ghost use Rattle.std.specs.Prelude.{[], Err, IfOk, MatchResult};
 ghost use Rattle.std.specs.List.{All, AllAdjacentBelow};
 ghost use Rattle.pg_event.specs.Form.{broken_rule};
 ghost use Rattle.pg_event.specs.Spelling.{IsHead};
+ghost use Rattle.pg_merge.specs.declared.error.MergeError.TheVariants.{NoLogs};
+ghost use Rattle.pg_merge.specs.Logs.{IsLog};
 ghost use Rattle.pg_merge.specs.Runs.{AreOfOneRun, Explains};
 ghost use Rattle.pg_merge.specs.Merged.{EndsFirst, IsSpelledBy, IsMerged};
 
@@ -58,16 +60,19 @@ fn spanned(
 }
 
 /// The run with spans of which these are the logs, in any order: all their events as they ended,
-/// and for each how many of those before it had not ended when it began. Each span is longer than its
-/// stamps say by `error` ticks on both sides, as where stamps come from clocks that differ so much.
-/// Where end stamps are the same, the event of the processor with the least number comes first.
+/// each once and no others, and for each how many of those before it had not ended when it began.
+/// Each span is longer than its stamps say by `error` ticks on both sides, for clocks that differ by
+/// so much. Where end stamps are the same, the event of the processor with the least number comes
+/// first.
 ///
 /// Fails where the logs are not those of one run, where there are 2 to the power of 32 events or
 /// more, and where memory is refused.
 pub fn merge_logs(alloc: Global, logs: &[Log], error: u64) -> Result<SpannedRun, MergeError>
-    ensures { MatchResult result
+    ensures run { MatchResult result
         (λ run. AreOfOneRun logs.now run.head × IsMerged logs.now error run)
         (λ e. Explains logs.now e) }
+    ensures logs { IfOk result (λ _. All IsLog logs.now) }
+    ensures none { logs.now ≡ [] → result ≡ Err NoLogs }
 {
     let header = match united(alloc, logs) {
         Err(error) => return Err(error),

@@ -1,27 +1,10 @@
 //! The numbers of refusals.
 
 ghost use Rattle.std.specs.Prelude.{◌≡◌};
-ghost use Rattle.pg_merge.specs.Numbers.{field_number, log_error_number, merge_error_number};
+ghost use Rattle.pg_merge.specs.Numbers.{log_error_number, merge_error_number};
 
 use crate::error::{LogError, LogRefusal, MergeError};
-use pg_event::Refusal;
-
-fn field_number(refusal: Refusal) -> u8
-    ensures { result ≡ field_number refusal }
-{
-    match refusal {
-        Refusal::Magic => 1,
-        Refusal::Version => 2,
-        Refusal::HeaderField => 3,
-        Refusal::SegmentNumber => 4,
-        Refusal::SegmentCount => 5,
-        Refusal::Tag => 6,
-        Refusal::Malformed { .. } => 7,
-        Refusal::Truncated => 8,
-        Refusal::Total => 9,
-        Refusal::Trailing => 10,
-    }
-}
+use pg_codec::ReadError;
 
 impl LogError {
     /// The number by which the error is named to users: 1 to 10 as of a record, 12 memory, 16
@@ -30,7 +13,7 @@ impl LogError {
         ensures { result ≡ log_error_number self.now }
     {
         match *self {
-            LogError::Refused(LogRefusal::Field(refusal)) => field_number(refusal),
+            LogError::Refused(LogRefusal::Field(refusal)) => ReadError::Refused(refusal).number(),
             LogError::Refused(LogRefusal::Stamps { .. }) => 16,
             LogError::Refused(LogRefusal::Processor { .. }) => 17,
             LogError::Memory => 12,

@@ -1,18 +1,22 @@
 //! The log that bytes are.
 
 ghost use Rattle.std.specs.Prelude.{◌≡◌, ◌-◌, ◌<◌, ◌^◌, ◌≤◌, IfOk, IfSome, OnOk, None, length};
-ghost use Rattle.std.specs.Prelude.{[], ◌∷◌, ◌++◌};
+ghost use Rattle.std.specs.Prelude.{[], ◌∷◌, ◌++◌, Err};
 ghost use Rattle.std.specs.List.{AllByRecursion};
+ghost use Rattle.pg_event.specs.declared.refusal.Refusal.{Refusal};
+ghost use Rattle.pg_merge.specs.declared.error.LogRefusal.TheVariants.{Field};
+ghost use Rattle.pg_merge.specs.declared.error.LogError.TheVariants.{Refused};
 ghost use Rattle.pg_merge.specs.Answers.{Gives, Answers};
 ghost use Rattle.pg_merge.specs.Logs.{alone, IsOwn, StandsAbove, Rise};
-ghost use Rattle.pg_merge.specs.Reading.{stamped_at, end_at, next_at, events_at, log_reading};
+ghost use Rattle.pg_merge.specs.Reading.{log_header_at, stamped_at, end_at, next_at, events_at};
+ghost use Rattle.pg_merge.specs.Reading.{log_reading};
 
 use crate::decoder::event_of;
 use crate::error::{LogError, LogRefusal};
-use crate::fields::u64_of;
 use crate::front::header_of;
 use crate::log::{Log, LogHeader, Stamped};
 use pg_event::{Header, MOST_SEGMENT, Refusal, processor_of};
+use pg_span_codec::u64_of;
 use std::alloc::{AllocError, Global};
 
 /// What stands in the place of a begin stamp behind the last event.
@@ -155,7 +159,9 @@ fn events_of<'a>(
 /// no log, which no log without its end mark is, or where memory is refused.
 #[tactic(auto, unfolding(crate::specs::Reading::log_reading))]
 pub fn read_log(alloc: Global, bytes: &[u8]) -> Result<Log, LogError>
-    ensures { Answers (λ log. log) result (log_reading bytes.now) }
+    ensures log { Answers (λ log. log) result (log_reading bytes.now) }
+    ensures early { (e : Refusal) → log_header_at bytes.now ≡ Err e →
+        result ≡ Err (Refused (Field e)) }
 {
     let (header, rest) = match header_of(bytes) {
         Err(refusal) => return Err(LogError::Refused(LogRefusal::Field(refusal))),

@@ -1,7 +1,7 @@
 //! Whether logs are those of one run.
 
 ghost use Rattle.std.specs.Prelude.{◌≡◌, ◌≢◌, ◌<◌, ◌≤◌, ℕ, Some, length, slice_get, MatchOption};
-ghost use Rattle.std.specs.Prelude.{MatchResult, IfOk, slice_index_or};
+ghost use Rattle.std.specs.Prelude.{MatchResult, IfOk, slice_index_or, [], Err};
 ghost use Rattle.std.specs.List.{All, AllPairs};
 ghost use Rattle.pg_event.specs.Spelling.{IsHead};
 ghost use Rattle.pg_merge.specs.declared.error.MergeError.TheVariants as errors;
@@ -113,6 +113,7 @@ pub(crate) fn united(alloc: Global, logs: &[Log]) -> Result<Header, MergeError>
         (λ e. Explains logs.now e) }
     ensures head { IfOk result (λ head. IsHead head) }
     ensures logs { IfOk result (λ _. All IsLog logs.now) }
+    ensures none { logs.now ≡ [] → result ≡ Err errors.NoLogs }
 {
     if logs.is_empty() {
         return Err(MergeError::NoLogs);

@@ -37,6 +37,6 @@ pub record MayBeLast (s : Spanned) (slot : Slot) (a v j : ℕ) : Type 0 where
 abbrev pub MayBeUnwritten : Spanned → Slot → ℕ → Type 0
 MayBeUnwritten s slot a = (i : ℕ) → WritesTo s.events a i → IsPast s slot i → ⊥
 
--- the word may hold the value in the slot
+-- the word may hold the value in the slot, in a run without assists
 abbrev pub MayHold : Spanned → Slot → ℕ → ℕ → Type 0
 MayHold s slot a v = ((j : ℕ) × MayBeLast s slot a v j) ⊎ ((v ≡ 0) × MayBeUnwritten s slot a)

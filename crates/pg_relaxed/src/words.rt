@@ -16,6 +16,10 @@ use std::alloc::{AllocError, Global};
 /// So many writes are looked at.
 const MOST_LOOKS: u64 = 100_000_000;
 
+/// So many writes are looked at for one that must follow the first of them. Where no two events of
+/// one processor overlap, at most 63 of other processors end behind it and need not follow it.
+const MOST_LATER: usize = 65;
+
 /// A write to a word: the number of its event.
 #[derive(Clone, Copy)]
 pub(crate) struct Written {
@@ -71,12 +75,13 @@ fn writes_to(alloc: Global, events: &[Event], address: u64) -> Result<Vec<Writte
     Ok(writes)
 }
 
-/// Whether one of these writes must follow event j and has come.
+/// Whether one of the first of these writes must follow event j and has come.
 fn is_overwritten(run: &SpannedRun, slot: Slot, writes: &[Written], j: u32) -> bool
     requires { AreBelow (length run.now.events) writes.now }
     ensures { IsTrue result → IsOverwritten run.now slot writes.now j }
 {
-    for written in writes {
+    let next = &writes[..writes.len().min(MOST_LATER)];
+    for written in next {
         if is_past(run, slot, written.number) && must_precede(run, j, written.number) {
             return true;
         }

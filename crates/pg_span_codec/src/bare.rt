@@ -96,9 +96,10 @@ fn assist_of(p: u16, bytes: &[u8]) -> Result<(Event, &[u8]), Refusal>
     ))
 }
 
-/// The fields of an event after its tag, processor and span.
+/// An event of a processor by the fields behind its tag, processor and span, without moments: an
+/// access and an assist get the one moment 0, which means nothing.
 #[tactic(auto, unfolding(crate::specs::Reading::bare_at, pg_event::specs::Reading::fields_at))]
-fn fields_of(tag: u8, p: u16, bytes: &[u8]) -> Result<(Event, &[u8]), Refusal>
+pub fn bare_of(tag: u8, p: u16, bytes: &[u8]) -> Result<(Event, &[u8]), Refusal>
     requires low { 0x10 ≤ tag }
     requires high { tag ≤ 0x16 }
     ensures { Gives (λ x. (x.0, x.1.now)) result (bare_at tag p bytes.now) }
@@ -114,8 +115,8 @@ fn fields_of(tag: u8, p: u16, bytes: &[u8]) -> Result<(Event, &[u8]), Refusal>
     }
 }
 
-/// The greatest tag of an event: only version 4 has assists.
-fn last_tag(version: Version) -> u8
+/// The greatest tag of an event: only version 2, and so version 4, has assists.
+pub fn last_tag(version: Version) -> u8
     ensures value { result ≡ last_tag version }
     ensures bound { result ≤ 0x16 }
 {
@@ -136,7 +137,7 @@ pub(crate) fn timed_of(version: Version, bytes: &[u8]) -> Result<((Event, u32), 
     }
     let (p, rest) = processor_number(version, rest)?;
     let (back, rest) = u32_of(rest)?;
-    match fields_of(tag, p, rest) {
+    match bare_of(tag, p, rest) {
         Err(refusal) => Err(refusal),
         Ok((event, rest)) => Ok(((event, back), rest)),
     }

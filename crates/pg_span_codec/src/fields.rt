@@ -1,4 +1,5 @@
-//! Fields at the front of a slice. Each answers its value and the bytes after it.
+//! Fields at the front of a slice. Each reader gives the value and the bytes behind it, or refuses
+//! bytes that are too few.
 
 ghost use Rattle.std.specs.Prelude.{◌≡◌, ◌≤◌, length};
 ghost use Rattle.std.specs.Int.{w16, w32, w64};
@@ -7,7 +8,8 @@ ghost use Rattle.pg_codec.specs.Reads.{Gives};
 
 use pg_event::{Outcome, Refusal, Version};
 
-pub(crate) fn byte_of(bytes: &[u8]) -> Result<(u8, &[u8]), Refusal>
+/// A byte.
+pub fn byte_of(bytes: &[u8]) -> Result<(u8, &[u8]), Refusal>
     ensures { Gives (λ x. (x.0, x.1.now)) result (byte_at bytes.now) }
 {
     match bytes {
@@ -16,7 +18,8 @@ pub(crate) fn byte_of(bytes: &[u8]) -> Result<(u8, &[u8]), Refusal>
     }
 }
 
-pub(crate) fn u16_of(bytes: &[u8]) -> Result<(u16, &[u8]), Refusal>
+/// A number of two bytes.
+pub fn u16_of(bytes: &[u8]) -> Result<(u16, &[u8]), Refusal>
     ensures { Gives (λ x. (x.0, x.1.now)) result (number_at w16 bytes.now) }
 {
     if bytes.len() < 2 {
@@ -37,7 +40,8 @@ pub(crate) fn u32_of(bytes: &[u8]) -> Result<(u32, &[u8]), Refusal>
     Ok((number, rest))
 }
 
-pub(crate) fn u64_of(bytes: &[u8]) -> Result<(u64, &[u8]), Refusal>
+/// A number of eight bytes.
+pub fn u64_of(bytes: &[u8]) -> Result<(u64, &[u8]), Refusal>
     ensures { Gives (λ x. (x.0, x.1.now)) result (number_at w64 bytes.now) }
 {
     if bytes.len() < 8 {
@@ -50,9 +54,9 @@ pub(crate) fn u64_of(bytes: &[u8]) -> Result<(u64, &[u8]), Refusal>
     Ok((number, rest))
 }
 
-/// The number of a processor, or how many there are.
+/// The number of a processor, or how many there are: a byte in version 1, two in version 2.
 #[tactic(auto, unfolding(pg_event::specs::Reading::processor_at))]
-pub(crate) fn processor_number(version: Version, bytes: &[u8]) -> Result<(u16, &[u8]), Refusal>
+pub fn processor_number(version: Version, bytes: &[u8]) -> Result<(u16, &[u8]), Refusal>
     ensures { Gives (λ x. (x.0, x.1.now)) result (processor_at version bytes.now) }
 {
     match version {

@@ -15,7 +15,10 @@ mod spelling;
 #[cfg(test)]
 mod tests;
 
+pub use bare::{bare_of, last_tag};
 pub use error::SpannedError;
+pub use fields::{byte_of, processor_number, u16_of, u64_of};
+pub use header::start_of;
 pub use laws::{no_bytes_spell_two_runs, reading_of_spanned_spelling, spelled_where_read};
 pub use peeked::Peeked;
 pub use reader::read_spanned;

@@ -31,7 +31,8 @@ impl<R> Peeked<R> {
 impl<R: Source> Peeked<R> {
     /// Whether what is left begins as a record of version 3 or 4 does: with the magic, and then
     /// with that version. All else is not said to be one, and is for the reader of the other
-    /// versions to read or to refuse. Nothing that is left is lost.
+    /// versions to read or to refuse. Nothing that is left is lost. After a failure it is unknown
+    /// what is left, and nothing more should be read.
     pub fn says_spans(&mut self) -> Result<bool, Failed>
         ensures { Finds R.Source says_spans
             (self.old.unread, self.old.inner) (self.new.unread, self.new.inner) result }

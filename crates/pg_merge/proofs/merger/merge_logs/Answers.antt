@@ -1,5 +1,6 @@
 use Rattle.std.proofs.Common.{◌≡◌, ◌≤◌, List, length, sym, ap, subst, arith, None}
 use Rattle.std.specs.List.{All, AllAdjacentBelow}
+use Rattle.std.specs.List.Sorted.{IsPermutation}
 use Rattle.std.proofs.lemmas.List.Sorted.{All-permutation, length_permutation}
 use Rattle.pg_event.specs.Form.{broken_rule}
 use Rattle.pg_merge.specs.declared.log.Stamped.{Stamped}
@@ -26,14 +27,16 @@ spanned-requires-clause-spans c =
     let here : All P c.in-Ok-gathered.all.items = subst (All P) (sym c.in-Ok-gathered.ensures.events) all in
     subst (All P) (sym c.deref.ensures.value) (All-permutation P c.in-Ok-gathered.all.items c.order.new.all.items c.in_ok-order.ensures.same here)
 
-pub returns : goal.returns
-returns c =
+pub returns-clause-run : goal.returns-clause-run
+returns-clause-run c =
     let all : List Stamped = c.deref.result.now in
+    let same : IsPermutation (events_of c.args.logs.now) all = subst (λ (xs : List Stamped). IsPermutation xs all) c.in-Ok-gathered.ensures.events (subst (IsPermutation c.in-Ok-gathered.all.items) (sym c.deref.ensures.value) c.in_ok-order.ensures.same) in
     let rises : AllAdjacentBelow EndsFirst all (length all) = subst (λ (xs : List Stamped). AllAdjacentBelow EndsFirst xs (length xs)) (sym c.deref.ensures.value) c.in_ok-order.ensures.rises in
     let ties : KeepsTies (events_of c.args.logs.now) all = subst (λ (xs : List Stamped). KeepsTies xs all) c.in-Ok-gathered.ensures.events (subst (KeepsTies c.in-Ok-gathered.all.items) (sym c.deref.ensures.value) c.in_ok-order.ensures.ties) in (
       subst (AreOfOneRun c.args.logs.now) (sym c.in-Ok-spanned.ensures.head) c.in-Ok.ensures.run,
       record {
         all = all;
+        same = same;
         own = own_kept c.args.logs.now all c.in-Ok.ensures.logs c.in-Ok.ensures.run.apart ties rises;
         rises = rises;
         spelled = c.in-Ok-spanned.ensures.run;
