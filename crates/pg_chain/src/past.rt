@@ -1,24 +1,24 @@
 ghost use Rattle.std.specs.Prelude.{◌≡◌, ◌+◌, ◌-◌, ◌<◌, ◌≤◌, ◌^◌, List, [], ◌∷◌, ◌++◌, length};
-ghost use Rattle.std.specs.Prelude.{not, true};
+ghost use Rattle.std.specs.Prelude.{not, true, ℕ};
 ghost use Rattle.std.specs.Prelude.{IfOk, IsOk, OnOk, OnErr};
 ghost use Rattle.std.specs.List.{AllByRecursion};
 ghost use Rattle.pg_event.specs.declared.event.Event.{Event};
 ghost use Rattle.pg_event.specs.Form.{processor_of};
 ghost use Rattle.pg_event.specs.Heads.{Head};
 ghost use Rattle.pg_event.specs.Spelling.{IsHead};
-ghost use Rattle.pg_event.specs.Values.{mem_at, control_at};
+ghost use Rattle.pg_event.specs.Values.{written, mem_at, control_at};
 ghost use Rattle.pg_event.specs.Invalidation.{structure_key, translation_key};
 ghost use Rattle.pg_event.specs.Invalidation.{must_drop_structure, must_drop_translation};
 ghost use Rattle.pg_event.specs.Witness.{survives};
 ghost use Rattle.pg_entry.specs.Kinds.{IsPageShift};
 ghost use Rattle.pg_timeline.specs.Timelines.{IsSpan};
-ghost use Rattle.pg_inval.specs.Drops.{may_drop, IsTableLevel};
+ghost use Rattle.pg_inval.specs.Drops.{IsTableLevel};
 ghost use Rattle.pg_inval.specs.Lists.{IsFirstDrop};
 ghost use Rattle.pg_chain.specs.Standing.{IsPast, InEachRun, IsNext, processor_count};
 ghost use Rattle.pg_chain.specs.Standing.{changes_nothing};
 
 use pg_entry::{Cfg, Entry, Level, marked};
-use pg_event::{Control, Event, Header, Outcome, Version, processor_of, says_dirty};
+use pg_event::{Control, Event, Header, MemoryChange, Outcome, Request, Version, processor_of};
 use pg_inval::Drops;
 use pg_moment::Versions;
 use pg_state::Controls;
@@ -37,6 +37,19 @@ pub struct Past {
     pub controls: Controls,
     /// What may have dropped cached entries.
     pub drops: Drops,
+}
+
+/// Whether an event leaves memory, control registers and caches as they are.
+fn changes_nothing(event: &Event) -> bool
+    ensures { result ≡ changes_nothing event.now }
+{
+    match event.request() {
+        Request::Access { outcome, .. } => match outcome {
+            Outcome::Page(_) => true,
+            Outcome::Fault(_) => false,
+        },
+        Request::Update { .. } | Request::Nothing => false,
+    }
 }
 
 impl Past {
@@ -65,29 +78,29 @@ impl Past {
             moment ≡ length events → OnErr result (IsPast self.new head events)) }
         ensures nothing { changes_nothing event.now ≡ true → IsOk result }
     {
-        match *event {
-            Event::Write { addr, value, .. } => self.versions.note(moment, addr, value),
-            Event::Assist { flags, word, .. } => {
-                let before = self.versions.at(moment, word);
-                let after = marked(Entry(before), says_dirty(flags));
-                self.versions.note(moment, word, after.0)
+        match event.memory_change() {
+            MemoryChange::Value { addr, value } => self.versions.note(moment, addr, value),
+            MemoryChange::Flags { addr, dirty } => {
+                let before = self.versions.at(moment, addr);
+                let after = marked(Entry(before), dirty);
+                self.versions.note(moment, addr, after.0)
             }
-            Event::Access { outcome, .. } => match outcome {
-                Outcome::Page(_) => Ok(()),
-                Outcome::Fault(_) => self.note_drop(moment, event),
-            },
-            Event::MovCr3 { .. }
-            | Event::Invlpg { .. }
-            | Event::Invpcid { .. }
-            | Event::MovCr4Pge { .. } => self.note_drop(moment, event),
+            MemoryChange::Nothing => {
+                if changes_nothing(event) {
+                    Ok(())
+                } else {
+                    self.note_drop(moment, event)
+                }
+            }
         }
     }
 
-    /// Notes an event that may drop entries, and so may change control registers.
+    /// Notes an event that leaves memory as it is, and may drop entries and change control
+    /// registers.
     fn note_drop(&mut self, moment: u32, event: &Event) -> Result<(), AllocError>
         requires next { IsNext self.old moment }
         requires processor { processor_of event.now < processor_count self.old }
-        requires drops { may_drop event.now ≡ true }
+        requires memory { (addr value : ℕ) → written addr value event.now ≡ value }
         ensures ok { InEachRun self.old (λ head events.
             moment ≡ length events →
             OnOk result (IsPast self.new head (events ++ event.now ∷ []))) }

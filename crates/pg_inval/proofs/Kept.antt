@@ -1,60 +1,36 @@
 -- What is known of drops, as a run grows or is cut.
 use Rattle.std.proofs.Common.{◌≡◌, ℕ, ◌+◌, ◌-◌, ◌<◌, ◌≤◌, Bool, true, false, ◌&&◌, ◌||◌, nat_lt, nat_le, nat_eq, cond, min, List, [], ◌∷◌, ◌++◌, length, length-append, Result, Ok, Err, refl, ap, sym, ◌∙◌, arith, inl, inr}
 use Rattle.std.specs.Result.{OnErr}
-use Rattle.std.proofs.lemmas.Bool.{cases_lt, false≢true, cond_both, lt-ltb, le-ltb, ltb-true}
+use Rattle.std.proofs.lemmas.Bool.{cases_lt, false≢true, and_from, eq-eqb, lt-ltb, le-ltb, ltb-true}
 use Rattle.std.proofs.lemmas.List.Sums.{fold-append}
 use Rattle.std.proofs.lemmas.List.Folds.{list_any-append}
 use Rattle.pg_event.specs.declared.event.Event.{Event}
-use Rattle.pg_event.specs.declared.event.Event.TheVariants.{Write, Access, Assist, MovCr3, Invlpg, Invpcid, MovCr4Pge}
-use Rattle.pg_event.specs.declared.event.Outcome.TheVariants.{Page, Fault}
+use Rattle.pg_entry.specs.declared.Level.TheVariants.{Two}
+use Rattle.pg_event.specs.declared.invalidation.Invalidation.{Invalidation}
+use Rattle.pg_event.specs.declared.invalidation.Invalidation.TheVariants.{Nothing, Address, Page, Pcid, Everything}
 use Rattle.pg_event.specs.declared.control.Control.{Control}
 use Rattle.pg_event.specs.declared.keys.StructureKey.{StructureKey}
 use Rattle.pg_event.specs.declared.keys.TranslationKey.{TranslationKey}
 use Rattle.pg_event.specs.Heads.{Head}
 use Rattle.pg_event.specs.Form.{processor_of}
 use Rattle.pg_event.specs.Values.{control_at}
-use Rattle.pg_event.specs.Invalidation.{must_drop_structure, must_drop_translation}
+use Rattle.pg_event.specs.Invalidation.{structure_key, bits_from, must_drop_structure, must_drop_translation}
+use Rattle.pg_event.specs.Meaning.{takes_structure, takes_translation}
 use Rattle.pg_timeline.specs.Keyed.{Keyed, AreCut}
 use Rattle.pg_inval.specs.declared.key.DropKey.{DropKey}
 use Rattle.pg_inval.specs.Keys.{is_same_key, has_key, dropped_keys}
 use Rattle.pg_inval.specs.Lists.{has_among, ArePushed, AreSame}
 use Rattle.pg_entry.specs.Kinds.{IsPageShift}
-use Rattle.pg_inval.specs.Drops.{may_drop, CacheEntry, Structure, Translation, must_drop, drops_between, keys_of, is_dropped, next_moment, MayBeCached, IsNoted, IsSame, IsCutAt, StandsFor}
+use Rattle.pg_inval.specs.Drops.{DropsNothing, CacheEntry, Structure, Translation, must_drop, drops_between, keys_of, is_dropped, next_moment, MayBeCached, IsNoted, IsSame, IsCutAt, StandsFor}
 use Rattle.pg_inval.proofs.AnyFrom.{any_from-same, any_from-none, any_from-more, any_from-below, within}
 use Rattle.pg_inval.proofs.Pushes.{has_among-pushed, has_among-cut, has_among-same, has_among-none}
-use Rattle.pg_inval.proofs.Table.{is_hit, entry_table}
+use Rattle.pg_inval.proofs.Table.{is_hit, takes, entry_table}
 use Rattle.pg_inval.proofs.Windows.{is_taken, is_taken-survives, is_taken-none, is_taken-push, is_taken-cut}
 
 pub shift-small : (shift : ℕ) → IsPageShift shift → shift < 64
 shift-small shift (inl e) = omega arith
 shift-small shift (inr (inl e)) = omega arith
 shift-small shift (inr (inr e)) = omega arith
-
--- ---- an event that may drop nothing drops no entry
-
-drops_no_structure : (s : StructureKey) (c : Control) (e : Event) → may_drop e ≡ false → must_drop_structure c e s ≡ false
-drops_no_structure s c (Write p addr value) h = refl
-drops_no_structure s c (Access p flags la (Page page) moments) h = refl
-drops_no_structure s c (Access p flags la (Fault code) moments) h = absurd (false≢true (sym h))
-drops_no_structure s c (Assist p flags la word moments) h = refl
-drops_no_structure s c (MovCr3 p operand) h = absurd (false≢true (sym h))
-drops_no_structure s c (Invlpg p la) h = absurd (false≢true (sym h))
-drops_no_structure s c (Invpcid p kind pcid la) h = absurd (false≢true (sym h))
-drops_no_structure s c (MovCr4Pge p on) h = absurd (false≢true (sym h))
-
-drops_no_translation : (t : TranslationKey) (c : Control) (e : Event) → may_drop e ≡ false → must_drop_translation c e t ≡ false
-drops_no_translation t c (Write p addr value) h = refl
-drops_no_translation t c (Access p flags la (Page page) moments) h = refl
-drops_no_translation t c (Access p flags la (Fault code) moments) h = absurd (false≢true (sym h))
-drops_no_translation t c (Assist p flags la word moments) h = refl
-drops_no_translation t c (MovCr3 p operand) h = absurd (false≢true (sym h))
-drops_no_translation t c (Invlpg p la) h = absurd (false≢true (sym h))
-drops_no_translation t c (Invpcid p kind pcid la) h = absurd (false≢true (sym h))
-drops_no_translation t c (MovCr4Pge p on) h = absurd (false≢true (sym h))
-
-drops_no_entry : (x : CacheEntry) (c : Control) (e : Event) → may_drop e ≡ false → must_drop x c e ≡ false
-drops_no_entry (Structure key) c e h = drops_no_structure key c e h
-drops_no_entry (Translation key) c e h = drops_no_translation key c e h
 
 -- whether p had to drop an entry at a moment
 abbrev is_dropped_at : Keyed DropKey Unit → ℕ → CacheEntry → ℕ → Bool
@@ -74,29 +50,50 @@ never : (b : Bool) → (b && false) ≡ false
 never true = refl
 never false = refl
 
-pub IsNoted-pushed : (old new : Keyed DropKey Unit) (moment : ℕ) (e : Event) (before : Control) → may_drop e ≡ true → new.next ≡ moment + 1 →
-    ArePushed old.entries new.entries (dropped_keys before e) moment → IsNoted old new moment e before
-IsNoted-pushed old new moment e before may next pushed = record {
-  next = next ∙ sym (ap (λ b. cond b (moment + 1) (next_moment old)) may);
+takes-must : (x : CacheEntry) (i : Invalidation) (c : Control) (e : Event) → ((key : StructureKey) → takes_structure i key ≡ must_drop_structure c e key) →
+    ((key : TranslationKey) → takes_translation i key ≡ must_drop_translation c e key) → takes x i ≡ must_drop x c e
+takes-must (Structure key) i c e structures translations = structures key
+takes-must (Translation key) i c e structures translations = translations key
+
+pub IsNoted-pushed : (old new : Keyed DropKey Unit) (moment : ℕ) (e : Event) (before : Control) (q : ℕ) (i : Invalidation) → q ≡ processor_of e →
+    ((key : StructureKey) → takes_structure i key ≡ must_drop_structure before e key) → ((key : TranslationKey) → takes_translation i key ≡ must_drop_translation before e key) →
+    new.next ≡ moment + 1 → ArePushed old.entries new.entries (dropped_keys q i) moment → IsNoted old new moment e before
+IsNoted-pushed old new moment e before q i own structures translations next pushed = record {
+  next = next;
   drops = λ p x from to cached.
-      any_from-same (is_dropped_at new p x) (λ j. is_dropped_at old p x j || (nat_eq moment j && is_hit (dropped_keys before e) (keys_of p x))) from (to - from)
-      (has_among-pushed old.entries new.entries (dropped_keys before e) moment pushed (keys_of p x))
-      ∙ any_from-more (is_dropped_at old p x) moment (is_hit (dropped_keys before e) (keys_of p x)) from to
-      ∙ ap (λ b. is_dropped old p x from to || (within from to moment && b)) (entry_table before e p x cached)
+      any_from-same (is_dropped_at new p x) (λ j. is_dropped_at old p x j || (nat_eq moment j && is_hit (dropped_keys q i) (keys_of p x))) from (to - from)
+      (has_among-pushed old.entries new.entries (dropped_keys q i) moment pushed (keys_of p x))
+      ∙ any_from-more (is_dropped_at old p x) moment (is_hit (dropped_keys q i) (keys_of p x)) from to
+      ∙ ap (λ b. is_dropped old p x from to || (within from to moment && b)) (entry_table i q p x cached)
+      ∙ ap (λ b. is_dropped old p x from to || (within from to moment && (nat_eq q p && b))) (takes-must x i before e structures translations)
+      ∙ ap (λ r. is_dropped old p x from to || (within from to moment && (nat_eq r p && must_drop x before e))) own
       ∙ ap (λ b. is_dropped old p x from to || b) (together (within from to moment) (nat_eq (processor_of e) p) (must_drop x before e));
 }
 
-drops_between-never : (m : ℕ) (e : Event) (c : Control) (p : ℕ) (x : CacheEntry) (from to : ℕ) → may_drop e ≡ false → drops_between m e c p x from to ≡ false
-drops_between-never m e c p x from to h =
-    ap (λ b. nat_le from m && nat_lt m to && nat_eq (processor_of e) p && b) (drops_no_entry x c e h)
-    ∙ never (nat_le from m && nat_lt m to && nat_eq (processor_of e) p)
+-- an event that drops nothing has no key
+takes_something : (x : CacheEntry) (i : Invalidation) (keys : List DropKey) → ((y : CacheEntry) → takes y i ≡ false) → takes x i ≡ true → keys ≡ []
+takes_something x i keys none some = absurd (false≢true (sym (none x) ∙ some))
 
-pub IsNoted-kept : (d : Keyed DropKey Unit) (moment : ℕ) (e : Event) (before : Control) → may_drop e ≡ false → IsNoted d d moment e before
-IsNoted-kept d moment e before h = record {
-  next = sym (ap (λ b. cond b (moment + 1) (next_moment d)) h);
-  drops = λ p x from to _.
-      sym (ap (λ b. is_dropped d p x from to || b) (drops_between-never moment e before p x from to h) ∙ or_false (is_dropped d p x from to));
-}
+no_keys : (q : ℕ) (i : Invalidation) → ((x : CacheEntry) → takes x i ≡ false) → dropped_keys q i ≡ []
+no_keys q Nothing none = refl
+no_keys q (Address pcid la globals) none =
+    takes_something (Structure (structure_key pcid Two la)) (Address pcid la globals) (dropped_keys q (Address pcid la globals)) none
+    (and_from (nat_eq pcid pcid) (nat_eq (bits_from 21 la) (bits_from 21 la)) (eq-eqb pcid pcid refl) (eq-eqb (bits_from 21 la) (bits_from 21 la) refl))
+no_keys q (Page pcid la) none =
+    takes_something (Structure (structure_key pcid Two la)) (Page pcid la) (dropped_keys q (Page pcid la)) none (eq-eqb pcid pcid refl)
+no_keys q (Pcid pcid) none =
+    takes_something (Structure (structure_key pcid Two 0)) (Pcid pcid) (dropped_keys q (Pcid pcid)) none (eq-eqb pcid pcid refl)
+no_keys q (Everything globals) none =
+    takes_something (Structure (structure_key 0 Two 0)) (Everything globals) (dropped_keys q (Everything globals)) none refl
+
+pub dropped_keys-none : (q : ℕ) (i : Invalidation) (c : Control) (e : Event) → ((key : StructureKey) → takes_structure i key ≡ must_drop_structure c e key) →
+    ((key : TranslationKey) → takes_translation i key ≡ must_drop_translation c e key) → DropsNothing c e → dropped_keys q i ≡ []
+dropped_keys-none q i c e structures translations none = no_keys q i (λ x. takes-must x i c e structures translations ∙ none x)
+
+drops_between-never : (m : ℕ) (e : Event) (c : Control) (p : ℕ) (x : CacheEntry) (from to : ℕ) → must_drop x c e ≡ false → drops_between m e c p x from to ≡ false
+drops_between-never m e c p x from to h =
+    ap (λ b. nat_le from m && nat_lt m to && nat_eq (processor_of e) p && b) h
+    ∙ never (nat_le from m && nat_lt m to && nat_eq (processor_of e) p)
 
 pub IsSame-same : (old new : Keyed DropKey Unit) → new.next ≡ old.next → AreSame old.entries new.entries → IsSame old new
 IsSame-same old new next same = record {
@@ -142,7 +139,7 @@ StandsFor-noted old new head events moment e before stands count read noted =
     let n : ℕ = length events in
     let at : before ≡ control_at head events (processor_of e) n = read ∙ ap (control_at head events (processor_of e)) count in
     record {
-      next = rw noted.next (cond_both (may_drop e) (moment + 1) (next_moment old) (λ k. k ≤ length (events ++ e ∷ [])) (λ _. omega arith) (λ _. omega (arith, stands.next)));
+      next = omega (arith, noted.next);
       drops = λ p x from to may.
           noted.drops p x from to may
           ∙ ap (λ b. b || drops_between moment e before p x from to) (stands.drops p x from to may)
@@ -160,10 +157,21 @@ StandsFor-same old new head events stands same = record {
 }
 
 -- an event that drops nothing
-pub StandsFor-other : (d : Keyed DropKey Unit) (head : Head) (events : List Event) (e : Event) → StandsFor d head events → may_drop e ≡ false → StandsFor d head (events ++ e ∷ [])
-StandsFor-other d head events e stands h =
-    let c : Control = control_at head events (processor_of e) (length events) in
-    StandsFor-noted d d head events (length events) e c stands refl refl (IsNoted-kept d (length events) e c h)
+pub StandsFor-other : (d : Keyed DropKey Unit) (head : Head) (events : List Event) (e : Event) → StandsFor d head events → ((c : Control) → DropsNothing c e) → StandsFor d head (events ++ e ∷ [])
+StandsFor-other d head events e stands none =
+    let more : length (events ++ e ∷ []) ≡ length events + 1 = length-append events (e ∷ []) in
+    let n : ℕ = length events in
+    let c : Control = control_at head events (processor_of e) n in
+    record {
+      next = omega (arith, stands.next);
+      drops = λ p x from to may.
+          stands.drops p x from to may
+          ∙ sym (is_taken-survives head events p (must_drop x) from to)
+          ∙ sym (or_false (is_taken head events p (must_drop x) from to))
+          ∙ ap (λ b. is_taken head events p (must_drop x) from to || b) (sym (drops_between-never n e c p x from to (none c x)))
+          ∙ sym (is_taken-push head events e p (must_drop x) from to)
+          ∙ is_taken-survives head (events ++ e ∷ []) p (must_drop x) from to;
+    }
 
 pub OnErr-holds : {T E Q : Type 0} (r : Result T E) → Q → OnErr r Q
 OnErr-holds (Ok x) q = tt

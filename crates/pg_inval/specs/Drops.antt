@@ -5,9 +5,6 @@ use Rattle.pg_entry.specs.declared.Level.{Level}
 use Rattle.pg_entry.specs.declared.Level.TheVariants.{Four, Three, Two, One}
 use Rattle.pg_entry.specs.Kinds.{IsPageShift}
 use Rattle.pg_event.specs.declared.event.Event.{Event}
-use Rattle.pg_event.specs.declared.event.Event.TheVariants.{Write, Access, Assist, MovCr3, Invlpg}
-use Rattle.pg_event.specs.declared.event.Event.TheVariants.{Invpcid, MovCr4Pge}
-use Rattle.pg_event.specs.declared.event.Outcome.TheVariants.{Page, Fault}
 use Rattle.pg_event.specs.declared.control.Control.{Control}
 use Rattle.pg_event.specs.declared.keys.StructureKey.{StructureKey}
 use Rattle.pg_event.specs.declared.keys.TranslationKey.{TranslationKey}
@@ -20,17 +17,6 @@ use Rattle.pg_timeline.specs.Keyed.{Keyed}
 use Rattle.pg_inval.specs.declared.key.DropKey.{DropKey}
 use Rattle.pg_inval.specs.Keys.{structure_keys, translation_keys}
 use Rattle.pg_inval.specs.Lists.{has_between}
-
--- whether an event is of a kind that may drop entries
-abbrev pub may_drop : Event → Bool
-may_drop (Write p addr value) = false
-may_drop (Access p flags la (Page page) moments) = false
-may_drop (Access p flags la (Fault code) moments) = true
-may_drop (Assist p flags la word moments) = false
-may_drop (MovCr3 p operand) = true
-may_drop (Invlpg p la) = true
-may_drop (Invpcid p kind pcid la) = true
-may_drop (MovCr4Pge p on) = true
 
 -- an entry of a cache, by its key
 pub data CacheEntry : Type 0 where
@@ -54,6 +40,10 @@ abbrev pub must_drop : CacheEntry → Control → Event → Bool
 must_drop (Structure key) c e = must_drop_structure c e key
 must_drop (Translation key) c e = must_drop_translation c e key
 
+-- an event drops nothing, with these control registers before it
+abbrev pub DropsNothing : Control → Event → Type 0
+DropsNothing c e = (entry : CacheEntry) → must_drop entry c e ≡ false
+
 -- whether the event with this number, and with these control registers of its processor before it,
 -- is of p, from one moment up to, not with, another, and must drop an entry
 abbrev pub drops_between : ℕ → Event → Control → ℕ → CacheEntry → ℕ → ℕ → Bool
@@ -76,7 +66,7 @@ next_moment drops = keyed.next_moment drops
 -- one more event is known, with the control registers of its processor before it
 pub record IsNoted (old new : Keyed DropKey Unit) (moment : ℕ) (event : Event) (before : Control) :
     Type 0 where
-  pub next : next_moment new ≡ (if may_drop event then moment + 1 else next_moment old)
+  pub next : next_moment new ≡ moment + 1
   pub drops : (p : ℕ) (entry : CacheEntry) (from to : ℕ) → MayBeCached entry →
       is_dropped new p entry from to
       ≡ (is_dropped old p entry from to || drops_between moment event before p entry from to)

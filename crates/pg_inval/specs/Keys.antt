@@ -1,17 +1,13 @@
 -- What an event drops, and by what an entry is dropped, as keys.
-use Rattle.std.specs.Prelude.{ℕ, ◌%◌, ◌^◌, Bool, true, false, ◌==◌, if◌then◌else◌}
-use Rattle.std.specs.Prelude.{List, [], ◌∷◌, ◌++◌}
+use Rattle.std.specs.Prelude.{ℕ, Bool, true, false, if◌then◌else◌, List, [], ◌∷◌, ◌++◌}
 use Rattle.std.specs.List.{list_any}
 use Rattle.pg_entry.specs.declared.Level.TheVariants.{Four, Three, Two}
-use Rattle.pg_entry.specs.Bits.{has_bit}
-use Rattle.pg_event.specs.declared.event.Event.{Event}
-use Rattle.pg_event.specs.declared.event.Event.TheVariants.{Write, Access, Assist, MovCr3, Invlpg}
-use Rattle.pg_event.specs.declared.event.Event.TheVariants.{Invpcid, MovCr4Pge}
-use Rattle.pg_event.specs.declared.event.Outcome.TheVariants.{Page, Fault}
-use Rattle.pg_event.specs.declared.control.Control.{Control}
 use Rattle.pg_event.specs.declared.keys.StructureKey.{StructureKey}
 use Rattle.pg_event.specs.declared.keys.TranslationKey.{TranslationKey}
-use Rattle.pg_event.specs.Invalidation.{level_shift, structure_key, translation_key, changes_pge}
+use Rattle.pg_event.specs.declared.invalidation.Invalidation.{Invalidation}
+use Rattle.pg_event.specs.declared.invalidation.Invalidation.TheVariants.{Nothing, Address, Page}
+use Rattle.pg_event.specs.declared.invalidation.Invalidation.TheVariants.{Pcid, Everything}
+use Rattle.pg_event.specs.Invalidation.{level_shift, structure_key, translation_key}
 use Rattle.pg_inval.specs.declared.key.DropKey.{DropKey}
 use Rattle.pg_inval.specs.declared.key.DropKey.TheVariants.{NotGlobal, Globals}
 use Rattle.pg_inval.specs.declared.key.DropKey.TheVariants.{StructuresOf, Structure}
@@ -64,25 +60,14 @@ globals_for p la =
     ∷ global_at p (translation_key 0 21 true la)
     ∷ global_at p (translation_key 0 30 true la) ∷ []
 
--- what an INVPCID of p drops
-abbrev pub invpcid_keys : ℕ → ℕ → ℕ → ℕ → List DropKey
-invpcid_keys p kind pcid la =
-    if kind == 0 then structures_for p pcid la ++ locals_for p pcid la else
-    if kind == 1 then StructuresOf p pcid ∷ LocalsOf p pcid ∷ [] else
-    if kind == 2 then NotGlobal p ∷ Globals p ∷ [] else NotGlobal p ∷ []
-
--- what an event drops, with these control registers of its processor before it
-abbrev pub dropped_keys : Control → Event → List DropKey
-dropped_keys c (Write p addr value) = []
-dropped_keys c (Access p flags la (Page page) moments) = []
-dropped_keys c (Access p flags la (Fault code) moments) =
-    structures_for p c.pcid la ++ (locals_for p c.pcid la ++ globals_for p la)
-dropped_keys c (Assist p flags la word moments) = []
-dropped_keys c (MovCr3 p operand) =
-    let pcid = operand % 2 ^ 12 in
-    if has_bit operand 63 then [] else StructuresOf p pcid ∷ LocalsOf p pcid ∷ []
-dropped_keys c (Invlpg p la) =
-    StructuresOf p c.pcid ∷ (locals_for p c.pcid la ++ globals_for p la)
-dropped_keys c (Invpcid p kind pcid la) = invpcid_keys p kind pcid la
-dropped_keys c (MovCr4Pge p on) =
-    if changes_pge c on then NotGlobal p ∷ Globals p ∷ [] else []
+-- what an invalidation on p drops
+abbrev pub dropped_keys : ℕ → Invalidation → List DropKey
+dropped_keys p Nothing = []
+dropped_keys p (Address pcid la globals) =
+    structures_for p pcid la
+    ++ (locals_for p pcid la ++ (if globals then globals_for p la else []))
+dropped_keys p (Page pcid la) =
+    StructuresOf p pcid ∷ (locals_for p pcid la ++ globals_for p la)
+dropped_keys p (Pcid pcid) = StructuresOf p pcid ∷ LocalsOf p pcid ∷ []
+dropped_keys p (Everything globals) =
+    NotGlobal p ∷ (if globals then Globals p ∷ [] else [])

@@ -1,4 +1,4 @@
-ghost use Rattle.std.specs.Prelude.{◌≡◌, ◌+◌, ◌<◌, ◌≤◌, not, false, List, [], ◌∷◌, ◌++◌, length};
+ghost use Rattle.std.specs.Prelude.{◌≡◌, ◌+◌, ◌<◌, ◌≤◌, not, List, [], ◌∷◌, ◌++◌, length};
 ghost use Rattle.std.specs.Prelude.{IsOk, OnOk, OnErr};
 ghost use Rattle.pg_event.specs.declared.event.Event.{Event};
 ghost use Rattle.pg_event.specs.Form.{processor_of};
@@ -8,17 +8,16 @@ ghost use Rattle.pg_event.specs.Invalidation.{must_drop_structure, must_drop_tra
 ghost use Rattle.pg_event.specs.Values.{control_at};
 ghost use Rattle.pg_event.specs.Witness.{survives};
 ghost use Rattle.pg_entry.specs.Kinds.{IsPageShift};
-ghost use Rattle.pg_inval.specs.Drops.{may_drop, Structure, Translation, IsTableLevel};
+ghost use Rattle.pg_inval.specs.Drops.{Structure, Translation, IsTableLevel, DropsNothing};
 ghost use Rattle.pg_inval.specs.Drops.{next_moment, is_dropped, IsNoted, IsSame, IsCutAt};
 ghost use Rattle.pg_inval.specs.Drops.{StandsFor};
-ghost use Rattle.pg_inval.specs.Keys.{dropped_keys};
 ghost use Rattle.pg_inval.specs.Lists.{IsFirstDrop};
 
 use crate::dropped::dropped_keys;
 use crate::key::{DropKey, structure_keys, translation_keys};
 use crate::lists::{cut_all, first_between, push_moments};
 use pg_entry::Level;
-use pg_event::{Control, Event, Outcome, structure_key, translation_key};
+use pg_event::{Control, Event, processor_of, structure_key, translation_key};
 use pg_timeline::{Probes, Timeline};
 use std::alloc::{AllocError, Global};
 use std::collections::HashMap;
@@ -43,24 +42,6 @@ impl Model for Drops {
     ghost view = { λ a. record { entries = a.by_key.entries; next = a.next } };
 
     ghost invariant = { λ a. EndsBefore is_same_key a.by_key.entries a.next };
-}
-
-/// Whether an event is of a kind that may drop entries (Intel SDM, vol. 3, 4.10.4.1): a write to
-/// memory, an access that got its answer and an assist are not.
-fn may_drop(event: &Event) -> bool
-    ensures { result ≡ may_drop event.now }
-{
-    match *event {
-        Event::Write { .. } | Event::Assist { .. } => false,
-        Event::Access { outcome, .. } => match outcome {
-            Outcome::Page(_) => false,
-            Outcome::Fault(_) => true,
-        },
-        Event::MovCr3 { .. }
-        | Event::Invlpg { .. }
-        | Event::Invpcid { .. }
-        | Event::MovCr4Pge { .. } => true,
-    }
 }
 
 impl Drops {
@@ -98,18 +79,15 @@ impl Drops {
         requires { next_moment self.old ≤ moment }
         ensures ok { OnOk result (IsNoted self.old self.new moment event.now before) }
         ensures err { OnErr result (IsSame self.old self.new) }
-        ensures others { may_drop event.now ≡ false → IsOk result }
-        ensures none { dropped_keys before event.now ≡ [] → IsOk result }
+        ensures none { DropsNothing before event.now → IsOk result }
         ensures run { (head : Head) (events : List Event) → StandsFor self.old head events →
             moment ≡ length events →
             before ≡ control_at head events (processor_of event.now) moment →
             OnOk result (StandsFor self.new head (events ++ event.now ∷ [])) }
     {
-        if may_drop(event) {
-            let keys = dropped_keys(before, event);
-            push_moments(&mut self.by_key, self.alloc, keys.as_slice(), moment)?;
-            self.next = moment as u64 + 1;
-        }
+        let keys = dropped_keys(processor_of(event), event.invalidation(before));
+        push_moments(&mut self.by_key, self.alloc, keys.as_slice(), moment)?;
+        self.next = moment as u64 + 1;
         Ok(())
     }
 

@@ -14,16 +14,20 @@ use Rattle.pg_entry.specs.declared.Cfg.{Cfg}
 use Rattle.pg_entry.specs.Kinds.{kind_of, marked, table_of}
 use Rattle.pg_entry.specs.Permission.{all_rights, joined, is_allowed, fault_code}
 use Rattle.pg_event.specs.declared.event.Event.{Event}
-use Rattle.pg_event.specs.declared.event.Event.TheVariants as events
 use Rattle.pg_event.specs.declared.event.Malformed.{Malformed}
 use Rattle.pg_event.specs.declared.event.Outcome.{Outcome}
 use Rattle.pg_event.specs.declared.event.Outcome.TheVariants.{Page, Fault}
 use Rattle.pg_event.specs.declared.event.Want.{Want}
 use Rattle.pg_event.specs.declared.event.Want.TheVariants as wants
 use Rattle.pg_event.specs.declared.control.Control.{Control}
+use Rattle.pg_event.specs.declared.meaning.Request.{Request}
+use Rattle.pg_event.specs.declared.meaning.Request.TheVariants as requests
+use Rattle.pg_event.specs.declared.meaning.MemoryChange.{MemoryChange}
+use Rattle.pg_event.specs.declared.meaning.MemoryChange.TheVariants as changes
+use Rattle.pg_event.specs.Meaning.{request_of, change_of}
 use Rattle.pg_event.specs.declared.walk.Parent.{Parent}
 use Rattle.pg_event.specs.Heads.{Head}
-use Rattle.pg_event.specs.Form.{processor_of, is_canonical, access_kind, says_dirty, broken_rule}
+use Rattle.pg_event.specs.Form.{processor_of, is_canonical, broken_rule}
 use Rattle.pg_event.specs.Values.{loaded, controlled}
 use Rattle.pg_event.specs.Invalidation.{structure_key, structure_matches, must_drop_structure}
 use Rattle.pg_event.specs.Invalidation.{must_drop_translation}
@@ -208,17 +212,16 @@ stuck_assist l p la sought =
     if finds l.head.cfg l.writes (processor_at l.processors p) la sought then None
     else Some stucks.Entry
 
+-- why what is asked of a walk of p cannot come
+abbrev pub stuck_request : Listed → ℕ → Request → Option Stuck
+stuck_request l p requests.Nothing = None
+stuck_request l p (requests.Access kind la outcome moments) = stuck_access l p kind la outcome
+stuck_request l p (requests.Update kind la word dirty moments) =
+    stuck_assist l p la (soughts.Word kind word dirty)
+
 -- why a well formed event cannot come
 abbrev pub stuck_coming : Listed → Event → Option Stuck
-stuck_coming l (events.Write p addr value) = None
-stuck_coming l (events.Access p flags la outcome moments) =
-    stuck_access l p (access_kind flags) la outcome
-stuck_coming l (events.Assist p flags la word moments) =
-    stuck_assist l p la (soughts.Word (access_kind flags) word (says_dirty flags))
-stuck_coming l (events.MovCr3 p operand) = None
-stuck_coming l (events.Invlpg p la) = None
-stuck_coming l (events.Invpcid p kind pcid la) = None
-stuck_coming l (events.MovCr4Pge p on) = None
+stuck_coming l e = stuck_request l (processor_of e) (request_of e)
 
 abbrev pub unless_malformed : Option Malformed → Option Stuck → Option Stuck
 unless_malformed None stuck = stuck
@@ -282,16 +285,15 @@ next_leaf l p la level from =
 abbrev pub next_drop : Listed → ℕ → Member → Listed
 next_drop l p member = with_processor l p (without_member (processor_at l.processors p) member)
 
--- an assist writes its word as it is then, with the bits set
+-- flags are set in the word as it is then
+abbrev pub writes_with : List (ℕ × ℕ) → MemoryChange → List (ℕ × ℕ)
+writes_with writes changes.Nothing = writes
+writes_with writes (changes.Value addr value) = writes ++ (addr, value) ∷ []
+writes_with writes (changes.Flags addr dirty) =
+    writes ++ (addr, marked dirty (value_at writes addr)) ∷ []
+
 abbrev pub writes_after : List (ℕ × ℕ) → Event → List (ℕ × ℕ)
-writes_after writes (events.Write p addr value) = writes ++ (addr, value) ∷ []
-writes_after writes (events.Access p flags la outcome moments) = writes
-writes_after writes (events.Assist p flags la word moments) =
-    writes ++ (word, marked (says_dirty flags) (value_at writes word)) ∷ []
-writes_after writes (events.MovCr3 p operand) = writes
-writes_after writes (events.Invlpg p la) = writes
-writes_after writes (events.Invpcid p kind pcid la) = writes
-writes_after writes (events.MovCr4Pge p on) = writes
+writes_after writes e = writes_with writes (change_of e)
 
 abbrev pub next_event : Listed → Event → Listed
 next_event l e =

@@ -17,7 +17,7 @@ use crate::processor::Processor;
 use crate::step::{Member, Step};
 use crate::stuck::Stuck;
 use pg_entry::{Cfg, Level, marked};
-use pg_event::{Control, Event, Header, Parent, processor_of, root_of, says_dirty, well_formed};
+use pg_event::{Control, Event, Header, MemoryChange, Parent, processor_of, root_of, well_formed};
 use std::alloc::{AllocError, Global};
 use std::marker::Model;
 
@@ -179,24 +179,20 @@ impl Machine {
         self.processors[p as usize].take(m, event);
     }
 
-    /// What an event does to memory. An assist sets its bits in the word as it is now.
+    /// What an event does to memory. Flags are set in the word as it is now.
     fn write(&mut self, event: &Event) -> Result<(), AllocError>
         ensures ok { OnOk result
             (self.new ≡ record self.old { writes = writes_after self.old.writes event.now }) }
         ensures err { OnErr result (self.new ≡ self.old) }
         ensures adds { OnErr result (adds_event event.now ≡ true) }
     {
-        match *event {
-            Event::Write { addr, value, .. } => self.memory.write(addr, value),
-            Event::Assist { flags, word, .. } => {
-                let entry = marked(self.memory.entry(word), says_dirty(flags));
-                self.memory.write(word, entry.0)
+        match event.memory_change() {
+            MemoryChange::Nothing => Ok(()),
+            MemoryChange::Value { addr, value } => self.memory.write(addr, value),
+            MemoryChange::Flags { addr, dirty } => {
+                let entry = marked(self.memory.entry(addr), dirty);
+                self.memory.write(addr, entry.0)
             }
-            Event::Access { .. }
-            | Event::MovCr3 { .. }
-            | Event::Invlpg { .. }
-            | Event::Invpcid { .. }
-            | Event::MovCr4Pge { .. } => Ok(()),
         }
     }
 }

@@ -4,7 +4,7 @@ pub mod Slots
 pub mod Pages
 pub mod Spaces
 pub mod Ranges
-pub mod Scopes
+pub mod Left
 pub mod Shadows
 pub mod Lookups
 pub mod Classified

@@ -13,7 +13,7 @@ use Rattle.pg_shadow.specs.declared.slot.Slot.{Slot}
 use Rattle.pg_shadow.specs.declared.page.Place.{Place}
 use Rattle.pg_shadow.specs.Slots.{no_slot, with_kept, bare}
 use Rattle.pg_shadow.specs.Pages.{Sheet, no_place, no_page, page_in, place_in, place_of, page_four, page_three, page_two, page_one, page_at, empty_page, IsBarePage, IsChild, IsTree}
-use Rattle.pg_shadow.specs.Scopes.{is_on_path}
+use Rattle.pg_shadow.specs.Left.{is_on_path}
 use Rattle.pg_shadow.specs.Spaces.{slot_in, path_in, is_slot, Keeps, IsSame, IsBared, IsForgotten, IsPageFor, IsAbove, HasPage}
 use Rattle.pg_shadow.proofs.Levels.{level_same, nat_eq-comm}
 

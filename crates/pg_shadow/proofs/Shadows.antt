@@ -10,7 +10,11 @@ use Rattle.pg_event.specs.declared.control.Control.{Control}
 use Rattle.pg_event.specs.Heads.{Head}
 use Rattle.pg_event.specs.Form.{processor_of}
 use Rattle.pg_event.specs.Values.{controlled, loaded}
-use Rattle.pg_event.specs.Invalidation.{level_shift, must_drop_translation}
+use Rattle.pg_event.specs.declared.keys.StructureKey.{StructureKey}
+use Rattle.pg_event.specs.declared.keys.TranslationKey.{TranslationKey}
+use Rattle.pg_event.specs.declared.invalidation.Invalidation.{Invalidation}
+use Rattle.pg_event.specs.Invalidation.{level_shift, must_drop_structure, must_drop_translation}
+use Rattle.pg_event.specs.Meaning.{takes_structure, takes_translation}
 use Rattle.pg_shadow.specs.declared.entries.KeptTable.{KeptTable}
 use Rattle.pg_shadow.specs.declared.entries.KeptLeaf.{KeptLeaf}
 use Rattle.pg_shadow.specs.declared.slot.Slot.{Slot}
@@ -18,11 +22,11 @@ use Rattle.pg_shadow.specs.declared.slot.Kept.TheVariants.{Table, Leaf}
 use Rattle.pg_shadow.specs.Caches.{Caches, empty, with_table, with_leaf, after, is_page_shift}
 use Rattle.pg_shadow.specs.Find.{chosen, found}
 use Rattle.pg_shadow.specs.Slots.{no_slot, with_kept, left_in}
-use Rattle.pg_shadow.specs.Scopes.{scope_of, global_goes}
+use Rattle.pg_shadow.specs.Left.{global_goes}
 use Rattle.pg_shadow.specs.Pages.{Sheet}
 use Rattle.pg_shadow.specs.Spaces.{nothing, slot_in, leaf_in, path_in, is_slot, Keeps, IsSame}
 use Rattle.pg_shadow.specs.Held.{Held, space_of, seen, level_of, KeepsOwn, IsSameOwn, IsLeftOwn, IsLeftGlobals}
-use Rattle.pg_shadow.proofs.Scopes.{global_goes-scope}
+use Rattle.pg_shadow.proofs.Left.{left_own-event, global_goes-taken}
 use Rattle.pg_shadow.proofs.Slots.{none_either}
 use Rattle.pg_shadow.proofs.Spaces.{slot_in-nothing}
 
@@ -262,29 +266,38 @@ left_leaf c e old new pcid s n left =
     (λ l. ap translation_of (left l))
     (λ _ _ _. none_either (goes s) None refl)
 
-global_leaf-left : (c : Control) (e : Event) (old new : List Sheet) (s n : ℕ) → IsLeftGlobals c e old new → leaf_in new s n ≡ cond (global_goes (scope_of c e) s n) None (leaf_in old s n)
-global_leaf-left c e old new s n left =
-    let goes : ℕ → Bool = λ m. global_goes (scope_of c e) m n in
+global_leaf-left : (i : Invalidation) (old new : List Sheet) (s n : ℕ) → IsLeftGlobals i old new → leaf_in new s n ≡ cond (global_goes i s n) None (leaf_in old s n)
+global_leaf-left i old new s n left =
+    let goes : ℕ → Bool = λ m. global_goes i m n in
     by_shift-both (λ m x y. x ≡ cond (goes m) None y) (translations new n) (translations old n) s
     (λ l. left.at l n)
     (λ _ _ _. none_either (goes s) None refl)
 
-after_leaf : (h : Held) (e : Event) (own : List (ℕ × List Sheet)) (globals : List Sheet) → IsLeftOwn h.control e h.own own → IsLeftGlobals h.control e h.globals globals
-    → (global : Bool) (q s n : ℕ) → leaf_in (cond global globals (space_of own q)) s n ≡ cond (must_drop_translation h.control e (record { pcid = q; shift = s; number = n; global = global })) None (leaf_in (space_at h global q) s n)
-after_leaf h e own globals left_own left_globals true q s n =
-    global_leaf-left h.control e h.globals globals s n left_globals
-    ∙ ap (λ t. cond t None (leaf_in h.globals s n)) (global_goes-scope h.control e q s n)
-after_leaf h e own globals left_own left_globals false q s n =
-    left_leaf h.control e (space_of h.own q) (space_of own q) q s n (λ l. left_own.at q l n)
+-- an invalidation takes out what an event must drop
+pub record Takes (i : Invalidation) (c : Control) (e : Event) : Type 0 where
+  pub structures : (key : StructureKey) → takes_structure i key ≡ must_drop_structure c e key
+  pub translations : (key : TranslationKey) → takes_translation i key ≡ must_drop_translation c e key
 
-pub seen-after : (h : Held) (e : Event) (own : List (ℕ × List Sheet)) (globals : List Sheet) → IsLeftOwn h.control e h.own own → IsLeftGlobals h.control e h.globals globals
+after_leaf : (h : Held) (e : Event) (i : Invalidation) (own : List (ℕ × List Sheet)) (globals : List Sheet) → Takes i h.control e → IsLeftOwn i h.own own → IsLeftGlobals i h.globals globals
+    → (global : Bool) (q s n : ℕ) → leaf_in (cond global globals (space_of own q)) s n ≡ cond (must_drop_translation h.control e (record { pcid = q; shift = s; number = n; global = global })) None (leaf_in (space_at h global q) s n)
+after_leaf h e i own globals takes left_own left_globals true q s n =
+    global_leaf-left i h.globals globals s n left_globals
+    ∙ ap (λ t. cond t None (leaf_in h.globals s n)) (global_goes-taken i q s n ∙ takes.translations (record { pcid = q; shift = s; number = n; global = true }))
+after_leaf h e i own globals takes left_own left_globals false q s n =
+    left_leaf h.control e (space_of h.own q) (space_of own q) q s n
+    (λ l. left_own.at q l n ∙ left_own-event i h.control e takes.structures takes.translations q l n (slot_in (space_of h.own q) l n))
+
+pub seen-after : (h : Held) (e : Event) (i : Invalidation) (own : List (ℕ × List Sheet)) (globals : List Sheet) → Takes i h.control e → IsLeftOwn i h.own own → IsLeftGlobals i h.globals globals
     → seen (record { width = h.width; control = controlled h.width (processor_of e) h.control e; own = own; globals = globals }) ≡ after e (seen h)
 unfolding seen
-seen-after h e own globals left_own left_globals = λ i. record {
+seen-after h e i own globals takes left_own left_globals = λ j. record {
   width = h.width;
   control = controlled h.width (processor_of e) h.control e;
-  tables = λ k. ap structure_of (left_own.at k.pcid k.level k.prefix) i;
-  leaves = λ k. after_leaf h e own globals left_own left_globals k.global k.pcid k.shift k.number i;
+  tables = λ k.
+      let was : Slot = slot_in (space_of h.own k.pcid) k.level k.prefix in
+      (ap structure_of (left_own.at k.pcid k.level k.prefix)
+      ∙ ap structure_of (left_own-event i h.control e takes.structures takes.translations k.pcid k.level k.prefix was)) j;
+  leaves = λ k. after_leaf h e i own globals takes left_own left_globals k.global k.pcid k.shift k.number j;
 }
 
 -- ---- what is found

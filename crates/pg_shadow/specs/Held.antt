@@ -1,17 +1,17 @@
 -- What a shadow is seen as.
-use Rattle.std.specs.Prelude.{◌≡◌, ℕ, None, false, nat_eq, ◌==◌, ◌&&◌, if◌then◌else◌, List}
+use Rattle.std.specs.Prelude.{◌≡◌, ℕ, None, nat_eq, ◌==◌, ◌&&◌, if◌then◌else◌, List}
 use Rattle.std.specs.Map.{lookup}
 use Rattle.std.specs.Option.{unwrap_or}
 use Rattle.pg_entry.specs.declared.Level.{Level}
 use Rattle.pg_entry.specs.declared.Level.TheVariants.{Three, Two, One}
-use Rattle.pg_event.specs.declared.event.Event.{Event}
 use Rattle.pg_event.specs.declared.control.Control.{Control}
+use Rattle.pg_event.specs.declared.invalidation.Invalidation.{Invalidation}
 use Rattle.pg_event.specs.Invalidation.{level_shift}
 use Rattle.pg_shadow.specs.declared.slot.Slot.{Slot}
 use Rattle.pg_shadow.specs.declared.slot.Kept.{Kept}
 use Rattle.pg_shadow.specs.Caches.{Caches}
-use Rattle.pg_shadow.specs.Slots.{with_kept, left_in}
-use Rattle.pg_shadow.specs.Scopes.{scope_of, global_goes}
+use Rattle.pg_shadow.specs.Slots.{with_kept}
+use Rattle.pg_shadow.specs.Left.{left_own, global_goes}
 use Rattle.pg_shadow.specs.Pages.{Sheet}
 use Rattle.pg_shadow.specs.Spaces.{nothing, slot_in, leaf_in}
 
@@ -51,16 +51,15 @@ pub record IsSameOwn (old new : List (ℕ × (List Sheet))) : Type 0 where
   pub at : (q : ℕ) (l : Level) (n : ℕ) →
       slot_in (space_of new q) l n ≡ slot_in (space_of old q) l n
 
--- each slot under each PCID has what an event leaves of it
-pub record IsLeftOwn (c : Control) (e : Event) (old new : List (ℕ × (List Sheet))) : Type 0 where
+-- each slot under each PCID has what an invalidation leaves of it
+pub record IsLeftOwn (i : Invalidation) (old new : List (ℕ × (List Sheet))) : Type 0 where
   pub at : (q : ℕ) (l : Level) (n : ℕ) → slot_in (space_of new q) l n
-      ≡ left_in c e q false l n (slot_in (space_of old q) l n)
+      ≡ left_own i q l n (slot_in (space_of old q) l n)
 
--- each global translation is there that an event leaves
-pub record IsLeftGlobals (c : Control) (e : Event) (old new : List Sheet) : Type 0 where
+-- each global translation is there that an invalidation leaves
+pub record IsLeftGlobals (i : Invalidation) (old new : List Sheet) : Type 0 where
   pub at : (l : Level) (n : ℕ) → (slot_in new l n).translation
-      ≡ (if global_goes (scope_of c e) (level_shift l) n then None
-      else (slot_in old l n).translation)
+      ≡ (if global_goes i (level_shift l) n then None else (slot_in old l n).translation)
 
 -- under one PCID the slots are what a change of it leaves, and the others are as they were
 pub record IsChangedOwn (change : Level → ℕ → Slot → Slot) (pcid : ℕ)

@@ -1,7 +1,7 @@
 pub mod Caches
 pub mod Find
 pub mod Slots
-pub mod Scopes
+pub mod Left
 pub mod Pages
 pub mod Spaces
 pub mod Held

@@ -10,7 +10,7 @@ use Rattle.pg_shadow.specs.declared.slot.Slot.{Slot}
 use Rattle.pg_shadow.specs.declared.slot.Kept.{Kept}
 use Rattle.pg_shadow.specs.declared.slot.Path.{Path}
 use Rattle.pg_shadow.specs.Slots.{no_slot, with_kept, bare}
-use Rattle.pg_shadow.specs.Scopes.{is_on_path}
+use Rattle.pg_shadow.specs.Left.{is_on_path}
 use Rattle.pg_shadow.specs.Pages.{Sheet, place_of, page_at}
 
 abbrev pub nothing : List Sheet

@@ -6,7 +6,6 @@ mod entries;
 mod law;
 mod lookup;
 mod page;
-mod scope;
 mod shadow;
 mod slot;
 mod space;

@@ -13,19 +13,18 @@ ghost use Rattle.pg_shadow.specs.Caches.{IsTableAt, IsPageAt, is_page_shift};
 ghost use Rattle.pg_shadow.specs.Find.{found, IsFound, IsInRange};
 ghost use Rattle.pg_shadow.specs.Spaces.{slot_in, path_in};
 ghost use Rattle.pg_shadow.specs.Slots.{no_slot, bare};
-ghost use Rattle.pg_shadow.specs.Scopes.{is_on_path};
+ghost use Rattle.pg_shadow.specs.Left.{is_on_path};
 ghost use Rattle.pg_shadow.specs.Held.{seen, space_of, level_of, KeepsOwn, IsSameOwn, IsLeftOwn};
 ghost use Rattle.pg_shadow.specs.Held.{IsLeftGlobals, IsChangedOwn};
 
 use crate::entries::{Found, KeptLeaf, KeptTable};
 use crate::lookup::chosen;
-use crate::scope::{Scope, scope_of};
 use crate::slot::{Kept, Path};
 use crate::space::Space;
 use pg_entry::{AccessKind, Level};
 use pg_event::{
-    Control, Event, Header, Moments, Outcome, bits_from, controlled, level_shift, loaded,
-    processor_of,
+    Control, Event, Header, Invalidation, Moments, Outcome, bits_from, controlled, level_shift,
+    loaded, processor_of,
 };
 use pg_timeline::Probes;
 use std::alloc::{AllocError, Global};
@@ -148,29 +147,29 @@ fn remove_own(own: &mut HashMap<u16, Space>, pcid: u16)
     let _ = own.remove(&pcid);
 }
 
-/// Takes out under each PCID what an event must drop.
-fn leave_own(own: &mut HashMap<u16, Space>, control: Control, event: &Event)
-    ensures { IsLeftOwn control event.now own.old.entries own.new.entries }
+/// Takes out under each PCID what an invalidation names.
+fn leave_own(own: &mut HashMap<u16, Space>, invalidation: Invalidation)
+    ensures { IsLeftOwn invalidation own.old.entries own.new.entries }
 {
-    match scope_of(control, event) {
-        Scope::Nowhere => {}
-        Scope::Path { pcid, la, .. } => forget_own(own, pcid, la),
-        Scope::Tables { pcid, la } => {
+    match invalidation {
+        Invalidation::Nothing => {}
+        Invalidation::Address { pcid, la, .. } => forget_own(own, pcid, la),
+        Invalidation::Page { pcid, la } => {
             bare_own(own, pcid);
             forget_own(own, pcid, la);
         }
-        Scope::Pcid(pcid) => remove_own(own, pcid),
-        Scope::Everywhere { .. } => own.clear(),
+        Invalidation::Pcid(pcid) => remove_own(own, pcid),
+        Invalidation::Everything { .. } => own.clear(),
     }
 }
 
-/// Takes out the global translations that an event must drop.
-fn leave_globals(globals: &mut Space, control: Control, event: &Event)
-    ensures { IsLeftGlobals control event.now globals.old globals.new }
+/// Takes out the global translations that an invalidation names.
+fn leave_globals(globals: &mut Space, invalidation: Invalidation)
+    ensures { IsLeftGlobals invalidation globals.old globals.new }
 {
-    match scope_of(control, event) {
-        Scope::Nowhere | Scope::Pcid(_) => {}
-        Scope::Path {
+    match invalidation {
+        Invalidation::Nothing | Invalidation::Pcid(_) => {}
+        Invalidation::Address {
             la,
             globals: takes,
             ..
@@ -179,8 +178,8 @@ fn leave_globals(globals: &mut Space, control: Control, event: &Event)
                 globals.forget(la);
             }
         }
-        Scope::Tables { la, .. } => globals.forget(la),
-        Scope::Everywhere { globals: takes } => {
+        Invalidation::Page { la, .. } => globals.forget(la),
+        Invalidation::Everything { globals: takes } => {
             if takes {
                 globals.clear();
             }
@@ -331,8 +330,9 @@ impl Shadow {
         ensures { seen self.new ≡ after event.now (seen self.old) }
     {
         let control = self.control;
-        leave_own(&mut self.own, control, event);
-        leave_globals(&mut self.globals, control, event);
+        let invalidation = event.invalidation(control);
+        leave_own(&mut self.own, invalidation);
+        leave_globals(&mut self.globals, invalidation);
         self.control = controlled(self.m, processor_of(event), control, event);
     }
 

@@ -3,7 +3,7 @@ ghost use Rattle.pg_event.specs.Values.{written};
 ghost use Rattle.pg_world.specs.Memory.{word_in};
 
 use pg_entry::{Entry, marked};
-use pg_event::{Event, says_dirty};
+use pg_event::{Event, MemoryChange};
 use std::alloc::{AllocError, Global};
 use std::collections::HashMap;
 use std::marker::Model;
@@ -46,17 +46,13 @@ impl Memory {
             ((a : ℕ) → word_in self.new a ≡ written a (word_in self.old a) event.now) }
         ensures err { OnErr result (self.new ≡ self.old) }
     {
-        match *event {
-            Event::Write { addr, value, .. } => self.put(addr, value),
-            Event::Assist { flags, word, .. } => {
-                let entry = marked(Entry(self.word(word)), says_dirty(flags));
-                self.put(word, entry.0)
+        match event.memory_change() {
+            MemoryChange::Nothing => Ok(()),
+            MemoryChange::Value { addr, value } => self.put(addr, value),
+            MemoryChange::Flags { addr, dirty } => {
+                let entry = marked(Entry(self.word(addr)), dirty);
+                self.put(addr, entry.0)
             }
-            Event::Access { .. }
-            | Event::MovCr3 { .. }
-            | Event::Invlpg { .. }
-            | Event::Invpcid { .. }
-            | Event::MovCr4Pge { .. } => Ok(()),
         }
     }
 

@@ -8,7 +8,7 @@ use super::Machine;
 use crate::sought::Sought;
 use crate::stuck::Stuck;
 use pg_entry::AccessKind;
-use pg_event::{Event, Outcome, Want, access_kind, processor_of, says_dirty, want_of};
+use pg_event::{Event, Outcome, Request, Want, processor_of, want_of};
 
 impl Machine {
     /// Why an event cannot come: an access needs what gives its outcome, an assist its entry.
@@ -16,33 +16,29 @@ impl Machine {
         requires { processor_of event.now < length self.now.processors }
         ensures { result ≡ stuck_coming self.now event.now }
     {
-        match *event {
-            Event::Access {
-                p,
-                flags,
+        let p = processor_of(event);
+        match event.request() {
+            Request::Nothing => None,
+            Request::Access {
+                kind,
                 la,
                 outcome,
                 ..
-            } => self.stuck_access(p, access_kind(flags), la, outcome),
-            Event::Assist {
-                p,
-                flags,
+            } => self.stuck_access(p, kind, la, outcome),
+            Request::Update {
+                kind,
                 la,
                 word,
+                dirty,
                 ..
             } => {
                 let sought = Sought::Word {
-                    access: access_kind(flags),
+                    access: kind,
                     word,
-                    with_dirty: says_dirty(flags),
+                    with_dirty: dirty,
                 };
                 self.stuck_assist(p, la, sought)
             }
-            Event::Write { .. }
-            | Event::MovCr3 { .. }
-            | Event::Invlpg { .. }
-            | Event::Invpcid { .. }
-            | Event::MovCr4Pge { .. } => None,
         }
     }
 

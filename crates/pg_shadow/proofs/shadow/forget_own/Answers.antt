@@ -1,6 +1,6 @@
 use Rattle.std.proofs.Common.{cond, sym}
 use Rattle.pg_shadow.specs.Slots.{no_slot}
-use Rattle.pg_shadow.specs.Scopes.{is_on_path}
+use Rattle.pg_shadow.specs.Left.{is_on_path}
 use Rattle.pg_shadow.proofs.Spaces.{IsChangedOwn-absent, forgets_nothing}
 use Rattle.pg_shadow.proofs.shadow.forget_own.Goals as goal
 

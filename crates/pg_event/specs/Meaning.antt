@@ -1,0 +1,66 @@
+-- What an event says, as values: what it asks of a walk, what it does to memory, and what it
+-- invalidates.
+use Rattle.std.specs.Prelude.{ℕ, Bool, true, false, not, ◌&&◌, ◌||◌, ◌==◌, if◌then◌else◌}
+use Rattle.pg_entry.specs.Kinds.{marked}
+use Rattle.pg_event.specs.declared.event.Event.{Event}
+use Rattle.pg_event.specs.declared.event.Event.TheVariants as events
+use Rattle.pg_event.specs.declared.keys.StructureKey.{StructureKey}
+use Rattle.pg_event.specs.declared.keys.TranslationKey.{TranslationKey}
+use Rattle.pg_event.specs.declared.meaning.Request.{Request}
+use Rattle.pg_event.specs.declared.meaning.Request.TheVariants as requests
+use Rattle.pg_event.specs.declared.meaning.MemoryChange.{MemoryChange}
+use Rattle.pg_event.specs.declared.meaning.MemoryChange.TheVariants as changes
+use Rattle.pg_event.specs.declared.invalidation.Invalidation.{Invalidation}
+use Rattle.pg_event.specs.declared.invalidation.Invalidation.TheVariants.{Nothing, Address, Page}
+use Rattle.pg_event.specs.declared.invalidation.Invalidation.TheVariants.{Pcid, Everything}
+use Rattle.pg_event.specs.Form.{access_kind, says_dirty}
+use Rattle.pg_event.specs.Invalidation.{structure_matches, translation_matches}
+
+-- what an event asks of a walk
+abbrev pub request_of : Event → Request
+request_of (events.Write p addr value) = requests.Nothing
+request_of (events.Access p flags la outcome moments) =
+    requests.Access (access_kind flags) la outcome moments
+request_of (events.Assist p flags la word moments) =
+    requests.Update (access_kind flags) la word (says_dirty flags) moments
+request_of (events.MovCr3 p operand) = requests.Nothing
+request_of (events.Invlpg p la) = requests.Nothing
+request_of (events.Invpcid p kind pcid la) = requests.Nothing
+request_of (events.MovCr4Pge p on) = requests.Nothing
+
+-- what an event does to memory
+abbrev pub change_of : Event → MemoryChange
+change_of (events.Write p addr value) = changes.Value addr value
+change_of (events.Access p flags la outcome moments) = changes.Nothing
+change_of (events.Assist p flags la word moments) = changes.Flags word (says_dirty flags)
+change_of (events.MovCr3 p operand) = changes.Nothing
+change_of (events.Invlpg p la) = changes.Nothing
+change_of (events.Invpcid p kind pcid la) = changes.Nothing
+change_of (events.MovCr4Pge p on) = changes.Nothing
+
+-- the value at an address after a change
+abbrev pub changed : ℕ → ℕ → MemoryChange → ℕ
+changed a value changes.Nothing = value
+changed a value (changes.Value addr new) = if addr == a then new else value
+changed a value (changes.Flags addr dirty) = if addr == a then marked dirty value else value
+
+-- whether an invalidation takes out a paging-structure-cache entry
+abbrev pub takes_structure : Invalidation → StructureKey → Bool
+takes_structure Nothing s = false
+takes_structure (Address pcid la globals) s = s.pcid == pcid && structure_matches s la
+takes_structure (Page pcid la) s = s.pcid == pcid
+takes_structure (Pcid pcid) s = s.pcid == pcid
+takes_structure (Everything globals) s = true
+
+-- whether a translation is one of a PCID, or a global one where those go
+abbrev pub goes : TranslationKey → ℕ → Bool → Bool
+goes t pcid globals = if t.global then globals else t.pcid == pcid
+
+-- whether an invalidation takes out a translation
+abbrev pub takes_translation : Invalidation → TranslationKey → Bool
+takes_translation Nothing t = false
+takes_translation (Address pcid la globals) t =
+    translation_matches t la && goes t pcid globals
+takes_translation (Page pcid la) t = translation_matches t la && goes t pcid true
+takes_translation (Pcid pcid) t = goes t pcid false
+takes_translation (Everything globals) t = globals || not t.global
