@@ -151,8 +151,8 @@ def build_anew():
     flat = os.path.join(OUT, "guest.bin")
     command("objcopy", "-O", "binary", "-j", ".guest", ELF, flat)
     parts = -(-os.path.getsize(flat) // (SECTOR * PART))
-    command("nasm", "-f", "bin", f"-DSECTORS={parts * PART}", "-o", os.path.join(OUT, "boot.bin"),
-            os.path.join(folder, "boot.asm"))
+    command("nasm", "-f", "bin", f"-DSECTORS={parts * PART}", "-I", folder + "/", "-o",
+            os.path.join(OUT, "boot.bin"), os.path.join(folder, "boot.asm"))
     return ELF
 
 
