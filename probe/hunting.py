@@ -1,6 +1,5 @@
-"""A hunt: seeds, each carried out by a job of its own, or in one boot with others. All that is known
-of a seed stands in a folder of its own, so that a hunt can be gone on with, and jobs can run
-anywhere."""
+"""A hunt: seeds, each run by a job of its own, or in one boot with others. All that is known of a
+seed is kept in a folder of its own, so that a hunt can be continued, and jobs can run anywhere."""
 import fnmatch
 import hashlib
 import json

@@ -186,10 +186,9 @@ static void record_fault(const struct access *access, const struct processor *pr
                             marks, count));
 }
 
-/* Each processor reads the page of ring 3's code there, which no record tells of. A system that keeps
- * shadow tables makes those of that page the first time, and may let go then of what it kept of
- * others: so where few events are carried out again, a stale entry would go that was seen in a long
- * run. */
+/* Each processor reads the page of ring 3's code as ring 3, which is in no record. The first time,
+ * a system with shadow tables makes those of that page, and may drop stale entries with it, which
+ * a long run would have kept: a replay of few events would not show them then. */
 void visit_ring_3(void)
 {
     const uint64_t code = place_of_stub(stub_read, 1);

@@ -1,7 +1,7 @@
-; Included by what starts processor 0, in 16-bit or 32-bit code without paging, its segments flat from
-; 0: it makes the boot tables, which map the first GB at 0 and at 0xFFFF800000000000 by 2-MB pages,
-; with A and D set, enters long mode, and jumps to the guest. The tables stay: the other processors
-; start by them.
+; Included by the code that starts processor 0: 16-bit or 32-bit code, no paging, segments from 0.
+; It makes the boot tables, which map the first GB at 0 and at 0xFFFF800000000000 by 2-MB pages,
+; with A and D set. Then it enters long mode and jumps to the guest. The tables stay, since the
+; other processors start with them.
 ROOT    equ 0x2000
 PDPT    equ 0x3000
 PD      equ 0x4000
