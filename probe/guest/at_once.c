@@ -31,14 +31,20 @@ void store_at_once(uint32_t frame, uint64_t index, uint64_t value)
     log_end();
 }
 
+/* An event with one field. */
+static void log_short(uint8_t tag, uint64_t begin, uint64_t end, uint64_t value, unsigned bytes)
+{
+    log_event(tag, begin, end);
+    log_field(value, bytes);
+    log_end();
+}
+
 void load_cr3_at_once(uint64_t operand)
 {
     const uint64_t begin = stamp();
 
     write_cr3(operand);
-    log_event(0x12, begin, stamp());
-    log_field(operand, 8);
-    log_end();
+    log_short(0x12, begin, stamp(), operand, 8);
     own()->cr3 = operand & ~(1ull << 63);
 }
 
@@ -47,9 +53,7 @@ void invalidate_page_at_once(uint64_t linear)
     const uint64_t begin = stamp();
 
     invlpg(linear);
-    log_event(0x13, begin, stamp());
-    log_field(linear, 8);
-    log_end();
+    log_short(0x13, begin, stamp(), linear, 8);
 }
 
 void invalidate_pcid_at_once(uint64_t type, uint64_t pcid, uint64_t linear)
@@ -70,9 +74,7 @@ void set_pge_at_once(uint64_t pge)
     const uint64_t begin = stamp();
 
     write_cr4(cr4);
-    log_event(0x15, begin, stamp());
-    log_field(pge, 1);
-    log_end();
+    log_short(0x15, begin, stamp(), pge, 1);
     own()->pge = pge;
 }
 
