@@ -212,8 +212,8 @@ def add_common_options(words, events=2000):
                        help="leave these kinds out, separated by commas: " + " ".join(KINDS))
 
 
-def add_folder_option(words):
-    words.add_argument("--in", dest="folder", metavar="FOLDER",
+def add_folder_option(words, name="folder"):
+    words.add_argument("--in", dest=name, metavar="FOLDER",
                        help="use the emulator of that folder, which probe/suite has filled")
 
 
