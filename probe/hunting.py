@@ -1,6 +1,5 @@
-"""A hunt: seeds, each carried out by a job of its own, or in one boot with others. All that is known
-of a seed stands in a folder of its own, so that a hunt can be gone on with, and jobs can run
-anywhere."""
+"""A hunt: seeds, each run by a job of its own, or in one boot with others. All that is known of a
+seed is kept in a folder of its own, so that a hunt can be continued, and jobs can run anywhere."""
 import fnmatch
 import hashlib
 import json
@@ -27,7 +26,7 @@ MOST_REPLAYED = 8  # forms of what is left of a record that are tried in one boo
 UNDECIDED = "undecided"
 # What a hunt says of all its runs.
 WORDS = ("system", "events", "processors", "version", "without", "limit", "spread", "threads",
-         "control", "at_once", "parameters", "kernel", "emulator_threads")
+         "control", "at_once", "parameters", "kernel", "emulator_threads", "inside")
 
 
 class Plan(types.SimpleNamespace):
@@ -36,7 +35,8 @@ class Plan(types.SimpleNamespace):
     @classmethod
     def of(cls, chosen):
         words = {name: getattr(chosen, name) for name in WORDS}
-        return cls(**{**words, "control": chosen.control or CONTROLS[chosen.system]})
+        return cls(**{**words, "control": chosen.control or CONTROLS[chosen.system],
+                      "inside": chosen.inside and os.path.abspath(chosen.inside)})
 
     @classmethod
     def read(cls, folder):
@@ -75,7 +75,9 @@ class Plan(types.SimpleNamespace):
         return self.system.startswith(NESTED)
 
     def need(self):
-        """Stops where something lacks."""
+        """Stops where something lacks. From here on emulators are those of the plan's folder."""
+        if self.inside:
+            systems.use_folder(self.inside)
         if self.is_nested():
             kernel = kernels.Kernel(self.kernel)
             systems.need(emulator(self.system), *nesting.needs(emulator(self.system), kernel))
@@ -118,6 +120,7 @@ class Plan(types.SimpleNamespace):
         words += ["--parameters", parameters] if parameters and (self.is_nested() or
                                                                  system == "xen") else []
         words += ["--kernel", self.kernel] if self.kernel else []
+        words += ["--in", self.inside] if self.inside else []
         words += ["--threads"] * self.threads + ["--emulator-threads"] * self.emulator_threads
         return shlex.join(words)
 

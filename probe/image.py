@@ -151,8 +151,8 @@ def build_anew():
     flat = os.path.join(OUT, "guest.bin")
     command("objcopy", "-O", "binary", "-j", ".guest", ELF, flat)
     parts = -(-os.path.getsize(flat) // (SECTOR * PART))
-    command("nasm", "-f", "bin", f"-DSECTORS={parts * PART}", "-o", os.path.join(OUT, "boot.bin"),
-            os.path.join(folder, "boot.asm"))
+    command("nasm", "-f", "bin", f"-DSECTORS={parts * PART}", "-I", folder + "/", "-o",
+            os.path.join(OUT, "boot.bin"), os.path.join(folder, "boot.asm"))
     return ELF
 
 
@@ -181,23 +181,24 @@ def add_run_options(words, events=2000, script_type=script):
     words.add_argument("--seed", type=int, default=1, metavar="N")
     add_common_options(words, events)
     words.add_argument("--script", type=script_type, default="0", metavar="N",
-                       help=f"a short sequence, 1 to {SCRIPTS}, in place of a random run" +
-                            ("; several, by commas" if script_type is scripts else ""))
+                       help=f"a short sequence, 1 to {SCRIPTS}, instead of a random run" +
+                            ("; several, separated by commas" if script_type is scripts else ""))
 
 
 def add_at_once(words):
     words.add_argument("--at-once", nargs="?", const="free", choices=list(MODES), metavar="HOW",
-                       help="all processors act at once, each by a random stream and with a log of "
+                       help="all processors act at once, each with a random stream and a log of "
                             "its own: " + ", ".join(MODES))
 
 
 def add_nested_options(words):
     """What is said of a KVM in an emulator."""
     words.add_argument("--parameters", metavar="TEXT",
-                       help="of KVM's module: without it npt=0 in qemu, ept=0 vpid=0 in bochs")
+                       help="of KVM's module; by default npt=0 in qemu, ept=0 vpid=0 in bochs")
     words.add_argument("--kernel", metavar="FILES|PACKAGE[/SUITE]",
-                       help="another kernel of Debian: .deb files by commas, or a package's name, "
-                            "of another suite with that behind a slash (linux-image-amd64/trixie)")
+                       help="another kernel of Debian: .deb files separated by commas, or a "
+                            "package, with a slash and its suite if that is another one "
+                            "(linux-image-amd64/trixie)")
     words.add_argument("--emulator-threads", action="store_true",
                        help="qemu: a thread of the emulator for each of its processors")
 
@@ -208,12 +209,12 @@ def add_common_options(words, events=2000):
     words.add_argument("--processors", type=int, default=1, choices=range(1, 9), metavar="N")
     words.add_argument("--version", type=int, default=1, choices=(1, 2))
     words.add_argument("--without", default="", metavar="KINDS",
-                       help="leave these out, by commas: " + " ".join(KINDS))
+                       help="leave these kinds out, separated by commas: " + " ".join(KINDS))
 
 
-def add_folder_option(words):
-    words.add_argument("--in", dest="folder", metavar="FOLDER",
-                       help="the emulator of that folder, which probe/suite has filled")
+def add_folder_option(words, name="folder"):
+    words.add_argument("--in", dest=name, metavar="FOLDER",
+                       help="use the emulator of that folder, which probe/suite has filled")
 
 
 def kinds_of(chosen, version=None):

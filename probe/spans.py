@@ -27,10 +27,10 @@ def without_others(record, numbers):
 
 
 class Overlapping:
-    """A record that is a no, or is not decided, and what is left of it. The cause of the no is the latest event of the
-    bad one's processor that drops from its caches, and without which there is no no: it stays the
-    cause. Where no single event is, the bad event alone is kept, with all that its walk can have
-    read."""
+    """A record that is a no, or is not decided, and what is left of it. The cause of the no is the
+    latest event of the bad one's processor that invalidates something, and without which certify
+    says yes: it stays the cause. Where no single event is, the bad event alone is kept, with all
+    that its walk can have read."""
 
     def __init__(self, record, notes):
         self.record, self.notes, self.reader = record, notes, causes.Reader(record)

@@ -2,7 +2,6 @@
 #include "machine.h"
 #include "probe.h"
 
-enum { INVALID_OPCODE = 6, PAGE_FAULT = 14, ZERO_FLAG = 1 << 6, FLAGS_AT_REST = 2 };
 enum { ACCESSED = 1 << 5, DIRTY = 1 << 6, MOST_CHANGES = 16 };
 
 uint32_t flags_of(const struct access *access)
@@ -16,31 +15,38 @@ uint32_t flags_of(const struct access *access)
            (access->ac ? PCID_RECORD_AC : 0);
 }
 
-static uint64_t linear_of(const struct access *access)
+/* Reads, fetches and implicit accesses are of the slot, which stays where processors act at once:
+ * each of them writes a word of its own behind it. */
+uint64_t linear_of(const struct access *access)
 {
     static const uint64_t offsets[] = {0, 24, 8, 16};
 
-    return access->page + slot_offset() + offsets[access->operation];
+    return access->page + slot_offset() + offsets[access->operation] +
+           (access->operation == WRITE && acts_at_once() ? 8 + 8 * own_number() : 0);
+}
+
+uint64_t place_of_stub(const uint8_t *stub, int is_user)
+{
+    return is_user ? RING_3 + (uint64_t)(stub - stubs_begin) : (uint64_t)stub;
 }
 
 static uint64_t code_of(const struct access *access)
 {
     static const uint8_t *const stubs[] = {stub_read, stub_write, NULL, stub_implicit};
-    const uint8_t *const stub = stubs[access->operation];
 
-    if (access->operation == FETCH)
-        return linear_of(access);
-    return access->is_user ? RING_3 + (uint64_t)(stub - stubs_begin) : (uint64_t)stub;
+    return access->operation == FETCH ? linear_of(access)
+                                      : place_of_stub(stubs[access->operation], access->is_user);
 }
 
 /* The value that a write writes: no other word has it. The stub of implicit accesses takes the
  * selector of the local table's first descriptor. */
-static uint64_t value_of(const struct access *access)
+uint64_t value_of(const struct access *access)
 {
-    static uint64_t writes;
+    static uint64_t writes[MOST_PROCESSORS];
+    const uint64_t number = own_number();
 
     if (access->operation == WRITE)
-        return 0x5EED000000000001u | ++writes << 8;
+        return 0x5EED000000000001u | number << 40 | ++writes[number] << 8;
     return 7;
 }
 
@@ -54,8 +60,8 @@ static uint64_t written_at(uint64_t value, uint64_t linear)
     return physical;
 }
 
-static uint64_t answer_of(const struct access *access, const struct processor *processor,
-                          uint64_t value)
+uint64_t answer_of(const struct access *access, const struct processor *processor,
+                   uint64_t value)
 {
     const uint64_t linear = linear_of(access);
 
@@ -71,6 +77,14 @@ static uint64_t answer_of(const struct access *access, const struct processor *p
     default:
         return processor->rax;
     }
+}
+
+void stop_by_vector(const struct processor *processor, uint64_t linear)
+{
+    say("an access of linear address", linear);
+    say("RIP", processor->rip);
+    say("CR2", processor->fault_address);
+    stop("stopped: it gave vector", processor->vector);
 }
 
 /* A word that a processor set flags of, and the first and the last level at which the walk that is
@@ -172,13 +186,12 @@ static void record_fault(const struct access *access, const struct processor *pr
                             marks, count));
 }
 
-/* Each processor reads the page of ring 3's code there, which no record tells of. A system that keeps
- * shadow tables makes those of that page the first time, and may let go then of what it kept of
- * others: so where few events are carried out again, a stale entry would go that was seen in a long
- * run. */
+/* Each processor reads the page of ring 3's code as ring 3, which is in no record. The first time,
+ * a system with shadow tables makes those of that page, and may drop stale entries with it, which
+ * a long run would have kept: a replay of few events would not show them then. */
 void visit_ring_3(void)
 {
-    const uint64_t code = RING_3 + (uint64_t)(stub_read - stubs_begin);
+    const uint64_t code = place_of_stub(stub_read, 1);
     const struct processor *processor;
     uint32_t number;
 
@@ -200,11 +213,8 @@ int access_page(const struct access *access)
     const int is_fault = processor->vector == PAGE_FAULT;
     uint64_t answer;
 
-    if (!is_fault && processor->vector != INVALID_OPCODE) {
-        say("an access of linear address", linear);
-        say("RIP", processor->rip);
-        stop("stopped: it gave vector", processor->vector);
-    }
+    if (!is_fault && processor->vector != INVALID_OPCODE)
+        stop_by_vector(processor, linear);
     answer = is_fault ? 0 : answer_of(access, processor, value); /* puts back what was written */
     record_changes(flags, linear);
     if (!is_fault) {

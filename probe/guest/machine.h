@@ -31,6 +31,8 @@ enum {
 #define MSR_EFER 0xC0000080u
 enum { EFER_NXE = 1 << 11 };
 #define FLAGS_AC (1u << 18)
+enum { ZERO_FLAG = 1 << 6, FLAGS_AT_REST = 2 };
+enum { INVALID_OPCODE = 6, PAGE_FAULT = 14 }; /* vectors */
 
 static inline uint64_t read_msr(uint32_t number)
 {

@@ -217,6 +217,28 @@ struct access {
 int access_page(const struct access *access);
 void visit_ring_3(void);
 uint32_t flags_of(const struct access *access);
+uint64_t linear_of(const struct access *access);
+uint64_t value_of(const struct access *access);
+uint64_t place_of_stub(const uint8_t *stub, int is_user);
+uint64_t answer_of(const struct access *access, const struct processor *processor,
+                   uint64_t value);
+void stop_by_vector(const struct processor *processor, uint64_t linear);
+
+/* choices.c: what random runs choose from */
+enum { PAGES = 26 };
+struct invalidation {
+    uint64_t type, pcid, linear;
+};
+void choose_pages(uint64_t count);
+uint64_t some_pcid(void);
+uint64_t likely_page(void);
+uint64_t address_to_invalidate(void);
+uint64_t random_cr3(uint64_t cr3); /* an operand of MOV to CR3, by what CR3 has */
+struct invalidation random_invalidation(uint64_t cr3); /* of INVPCID */
+struct access random_access(void);
+int is_kind_allowed(const struct access *access); /* by the kinds that are left out */
+void note_page(uint64_t page);
+void note_answered(const struct access *access);
 
 /* scenario.c, directed.c and replay.c */
 void rest_all(void);

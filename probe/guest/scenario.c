@@ -1,41 +1,10 @@
-/* Random runs. Few pages, used again and again, so that what was cached before matters. Each event
- * is a segment, and so put at once: a crash loses none. */
+/* Random runs, one processor at a time. Each event is a segment, and so put at once: a crash loses
+ * none. */
 #include "probe.h"
 
-enum { PAGES = 26, RECENT = 4, ANSWERED = 6, SEGMENT = 1 };
+enum { SEGMENT = 1 };
 
 static uint8_t buffer[PCID_RECORD_BYTES(2, SEGMENT)];
-static uint64_t pages[PAGES];    /* tested addresses */
-static uint64_t recent[RECENT];  /* the pages that are likely to be used next */
-static uint64_t last_page;
-static uint16_t pcids[4];
-static struct {
-    struct access access[ANSWERED];
-    uint32_t count;
-} answered; /* accesses that got an answer of late, to be done again */
-
-static uint64_t pick(unsigned level)
-{
-    return (uint64_t)indices[level][below(count_of_indices[level])] << (3 + 9 * level);
-}
-
-static void choose_pages(void)
-{
-    unsigned k;
-
-    pcids[0] = 0;
-    pcids[1] = 1;
-    pcids[2] = 0xFFF;
-    pcids[3] = (uint16_t)(2 + below(4000));
-    for (k = 0; k < 4 && !rules.pcide; k++)
-        pcids[k] = 0;
-    for (k = 0; k < PAGES; k++)
-        pages[k] = canonical(pick(4) | pick(3) | pick(2) | pick(1));
-    for (k = 0; k < RECENT; k++)
-        recent[k] = pages[below(PAGES)];
-    last_page = pages[0];
-    answered.count = 0;
-}
 
 /* The settings of a seed: its low bits, so that 16 seeds in a row have all of them. */
 void choose_rules(uint64_t seed)
@@ -54,7 +23,7 @@ static void choose_starts(void)
     uint32_t k;
 
     for (k = 0; k < count_of_processors; k++) {
-        processors[k].processor.cr3 = POOL_FRAME(0) | pcids[below(4)];
+        processors[k].processor.cr3 = POOL_FRAME(0) | some_pcid();
         processors[k].processor.pge = allows(GLOBAL_PAGES) && percent(75);
     }
 }
@@ -118,7 +87,7 @@ void begin_record(uint64_t seed)
     seed_random(seed);
     rest_all();
     choose_rules(seed);
-    choose_pages();
+    choose_pages(PAGES);
     choose_slot();
     begin_frames();
     begin_words();
@@ -140,31 +109,6 @@ static void write_all_tables(void)
                            random_entry(level, percent(80)));
 }
 
-static uint64_t likely_page(void)
-{
-    uint64_t page;
-
-    if (answered.count > 0 && percent(45))
-        return answered.access[below(answered.count)].page;
-    page = percent(55) ? recent[below(RECENT)] : pages[below(PAGES)];
-    recent[below(RECENT)] = page;
-    return page;
-}
-
-/* For what invalidates: mostly a likely page, at times one near it or anywhere. */
-static uint64_t some_address(void)
-{
-    uint64_t address;
-
-    if (percent(70))
-        address = likely_page();
-    else if (percent(60))
-        address = pages[below(PAGES)] ^ pick(1);
-    else
-        address = pick(4) | (random_bits() & ((1ull << 39) - 1));
-    return canonical((address & ~4095ull) | below(4096));
-}
-
 static void random_write(void)
 {
     const uint64_t chance = below(100);
@@ -183,56 +127,19 @@ static void random_write(void)
     }
 }
 
-static void random_load_cr3(void)
-{
-    const uint64_t cr3 = processors[acting].processor.cr3;
-    const uint64_t root = percent(30) ? cr3 & ~4095ull : POOL_FRAME(below(ROOTS));
-    const uint64_t keep = percent(50) && rules.pcide;
-
-    load_cr3(root | pcids[below(4)] | keep << 63);
-}
-
 static void random_invalidate_pcid(void)
 {
-    const uint64_t chance = below(10);
-    const uint64_t type = chance < 5 ? 0 : chance < 8 ? 1 : chance < 9 ? 3 : 2;
-    const uint64_t pcid =
-        percent(60) ? processors[acting].processor.cr3 & 4095 : pcids[below(4)];
+    const struct invalidation chosen = random_invalidation(processors[acting].processor.cr3);
 
-    invalidate_pcid(type, type < 2 ? pcid : 0, type == 0 ? some_address() : 0);
-}
-
-static struct access random_access(void)
-{
-    const uint64_t chance = below(100);
-    struct access access;
-
-    access.operation = chance < 48 ? READ : chance < 72 ? WRITE : chance < 92 ? FETCH : LOAD_LIMIT;
-    access.is_user = percent(55);
-    access.ac = percent(rules.smap ? 50 : 25);
-    access.page = percent(30) ? last_page : likely_page();
-    if (answered.count > 0 && percent(50)) {
-        access = answered.access[below(answered.count)];
-        if (access.operation != FETCH && percent(30))
-            access.operation = percent(60) ? READ : WRITE;
-    }
-    return access;
+    invalidate_pcid(chosen.type, chosen.pcid, chosen.linear);
 }
 
 static int may_be_done(const struct access *access)
 {
-    const uint64_t cr3 = processors[acting].processor.cr3;
-
-    if (access->is_user && !allows(USER))
-        return 0;
-    if ((access->operation == WRITE && !allows(WRITES)) ||
-        (access->operation == FETCH && !allows(FETCHES)) ||
-        (access->operation == LOAD_LIMIT && !allows(IMPLICIT)))
-        return 0;
-    if (access->operation == LOAD_LIMIT && access->ac && !allows(IMPLICIT_AC))
-        return 0;
-    return allows(CLEAR_FLAG_FAULTS) ||
-           !faults_at_clear_flag(cr3, access->page + slot_offset(), flags_of(access));
+    return is_kind_allowed(access) &&
+           (allows(CLEAR_FLAG_FAULTS) ||
+            !faults_at_clear_flag(processors[acting].processor.cr3, access->page + slot_offset(),
+                                  flags_of(access)));
 }
 
 static void access_at_random(void)
@@ -241,10 +148,9 @@ static void access_at_random(void)
 
     if (!may_be_done(&access))
         return;
-    last_page = access.page;
-    if (!access_page(&access))
-        return;
-    answered.access[answered.count < ANSWERED ? answered.count++ : below(ANSWERED)] = access;
+    note_page(access.page);
+    if (access_page(&access))
+        note_answered(&access);
 }
 
 /* A third of the seeds each invalidate often, less and seldom. */
@@ -264,11 +170,11 @@ void run_random(uint64_t seed)
         if (chance < 24)
             random_write();
         else if (chance < pages_to || (chance < pcids_to && !rules.invpcid))
-            invalidate_page(some_address());
+            invalidate_page(address_to_invalidate());
         else if (chance < pcids_to)
             random_invalidate_pcid();
         else if (chance < cr3_to)
-            random_load_cr3();
+            load_cr3(random_cr3(processors[acting].processor.cr3));
         else if (chance < pge_to && allows(GLOBAL_PAGES))
             set_pge(processors[acting].processor.pge ^ percent(60));
         else

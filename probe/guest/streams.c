@@ -6,14 +6,11 @@
 #include "machine.h"
 #include "probe.h"
 
-enum { PAGES = 26, FEW_PAGES = 5, RECENT = 4, ANSWERED = 6, MOST_PLANNED = 32 };
+enum { FEW_PAGES = 5, MOST_PLANNED = 32 };
 enum { NO_INVALIDATION, INVALIDATE_NEXT, ACCESS_NEXT };
 
 /* What all have in common. */
-static uint64_t pages[PAGES];
-static uint64_t count_of_pages, share, upper_share, events_each;
-static volatile uint64_t recent[RECENT];
-static uint16_t pcids[4];
+static uint64_t share, upper_share, events_each;
 static volatile uint64_t arrived __attribute__((aligned(64)));
 static volatile uint64_t finished; /* processors that have done their events */
 
@@ -25,47 +22,16 @@ struct planned {
 };
 
 /* What each has for itself. */
-static struct stream {
-    struct access answered[ANSWERED]; /* accesses that got an answer of late */
-    uint32_t count_of_answered, planned;
+static struct plans {
+    uint32_t planned;
     int follows_up;
-    uint64_t last_page, again, cr3; /* CR3 as it will be behind what is planned */
+    uint64_t again, cr3; /* CR3 as it will be behind what is planned */
     struct planned plan[MOST_PLANNED];
-} streams[MOST_PROCESSORS] __attribute__((aligned(64)));
+} plans[MOST_PROCESSORS] __attribute__((aligned(64)));
 
-static struct stream *own(void)
+static struct plans *own(void)
 {
-    return &streams[own_number()];
-}
-
-static uint64_t pick(unsigned level)
-{
-    return (uint64_t)indices[level][below(count_of_indices[level])] << (3 + 9 * level);
-}
-
-static uint64_t likely_page(void)
-{
-    const struct stream *const of = percent(30) ? &streams[below(count_of_processors)] : own();
-    uint64_t page;
-
-    if (of->count_of_answered > 0 && percent(45))
-        return of->answered[below(of->count_of_answered)].page;
-    page = percent(55) ? recent[below(RECENT)] : pages[below(count_of_pages)];
-    recent[below(RECENT)] = page;
-    return page;
-}
-
-static uint64_t some_address(void)
-{
-    uint64_t address;
-
-    if (percent(80))
-        address = likely_page();
-    else if (percent(60))
-        address = pages[below(count_of_pages)] ^ pick(1);
-    else
-        address = pick(4) | (random_bits() & ((1ull << 39) - 1));
-    return canonical((address & ~4095ull) | below(4096));
+    return &plans[own_number()];
 }
 
 static struct planned *plan(enum work work, uint64_t a, uint64_t b, uint64_t c)
@@ -112,52 +78,24 @@ static void plan_write(void)
     }
 }
 
-static struct access random_access(void)
-{
-    const uint64_t chance = below(100);
-    struct stream *const stream = own();
-    struct access access;
-
-    access.operation = chance < 48 ? READ : chance < 72 ? WRITE : chance < 92 ? FETCH : LOAD_LIMIT;
-    access.is_user = percent(55);
-    access.ac = percent(rules.smap ? 50 : 25);
-    access.page = percent(30) ? stream->last_page : likely_page();
-    if (stream->count_of_answered > 0 && percent(50)) {
-        access = stream->answered[below(stream->count_of_answered)];
-        if (access.operation != FETCH && percent(30))
-            access.operation = percent(60) ? READ : WRITE;
-    }
-    return access;
-}
-
-static int may_be_done(const struct access *access)
-{
-    if ((access->is_user && !allows(USER)) || (access->operation == WRITE && !allows(WRITES)) ||
-        (access->operation == FETCH && !allows(FETCHES)) ||
-        (access->operation == LOAD_LIMIT && !allows(IMPLICIT)))
-        return 0;
-    return access->operation != LOAD_LIMIT || !access->ac || allows(IMPLICIT_AC);
-}
-
 static void plan_access(int is_again)
 {
     struct access access = random_access();
 
     if (is_again)
         access.page = own()->again;
-    if (!may_be_done(&access))
+    if (!is_kind_allowed(&access))
         return;
-    own()->last_page = access.page;
+    note_page(access.page);
     plan(ACCESS, 0, 0, 0)->access = access;
 }
 
 static void plan_load(void)
 {
-    const uint64_t root = percent(30) ? own()->cr3 & ~4095ull : POOL_FRAME(below(ROOTS));
-    const uint64_t keep = percent(50) && rules.pcide;
+    const uint64_t operand = random_cr3(own()->cr3);
 
-    own()->cr3 = root | pcids[below(4)];
-    plan(MOV_CR3, own()->cr3 | keep << 63, 0, 0);
+    own()->cr3 = operand & ~(1ull << 63);
+    plan(MOV_CR3, operand, 0, 0);
 }
 
 static void plan_invalidation(void)
@@ -167,17 +105,15 @@ static void plan_invalidation(void)
         plan(INVLPG, own()->again | below(4096), 0, 0);
         own()->follows_up = percent(70) ? ACCESS_NEXT : NO_INVALIDATION;
     } else {
-        plan(INVLPG, some_address(), 0, 0);
+        plan(INVLPG, address_to_invalidate(), 0, 0);
     }
 }
 
 static void plan_invalidation_of_pcid(void)
 {
-    const uint64_t chance = below(10);
-    const uint64_t type = chance < 5 ? 0 : chance < 8 ? 1 : chance < 9 ? 3 : 2;
-    const uint64_t pcid = percent(60) ? own()->cr3 & 4095 : pcids[below(4)];
+    const struct invalidation chosen = random_invalidation(own()->cr3);
 
-    plan(INVPCID, type, type < 2 ? pcid : 0, type == 0 ? some_address() : 0);
+    plan(INVPCID, chosen.type, chosen.pcid, chosen.linear);
 }
 
 static void plan_event(void)
@@ -207,15 +143,6 @@ static void plan_event(void)
         plan_access(0);
 }
 
-static void access_as_planned(const struct access *access)
-{
-    struct stream *const stream = own();
-
-    if (access_at_once(access))
-        stream->answered[stream->count_of_answered < ANSWERED ? stream->count_of_answered++
-                                                              : below(ANSWERED)] = *access;
-}
-
 static void carry_out_plan(void)
 {
     const struct planned *planned = own()->plan, *const end = planned + own()->planned;
@@ -231,8 +158,8 @@ static void carry_out_plan(void)
             load_cr3_at_once(planned->a);
         else if (planned->work == SET_PGE)
             set_pge_at_once(processors[own_number()].processor.pge ^ planned->a);
-        else
-            access_as_planned(&planned->access);
+        else if (access_at_once(&planned->access))
+            note_answered(&planned->access);
     }
     own()->planned = 0;
 }
@@ -309,23 +236,11 @@ void follow_stream(void)
 
 static void choose(uint64_t seed)
 {
-    unsigned k;
-
     choose_rules(seed);
     is_self_mapped = 0;
     share = seed % 3;
     upper_share = seed / 6 % 2;
-    pcids[0] = 0;
-    pcids[1] = 1;
-    pcids[2] = 0xFFF;
-    pcids[3] = (uint16_t)(2 + below(4000));
-    for (k = 0; k < 4 && !rules.pcide; k++)
-        pcids[k] = 0;
-    count_of_pages = seed / 3 % 2 == 0 ? PAGES : FEW_PAGES;
-    for (k = 0; k < PAGES; k++)
-        pages[k] = canonical(pick(4) | pick(3) | pick(2) | pick(1));
-    for (k = 0; k < RECENT; k++)
-        recent[k] = pages[below(count_of_pages)];
+    choose_pages(seed / 3 % 2 == 0 ? PAGES : FEW_PAGES);
 }
 
 /* The words of all tables, by processor 0, before the others act. */
@@ -351,12 +266,11 @@ static void begin_streams(uint64_t seed)
 
     for (k = 0; k < count_of_processors; k++) {
         processor = &processors[k].processor;
-        processor->cr3 = POOL_FRAME(0) | pcids[below(4)];
+        processor->cr3 = POOL_FRAME(0) | some_pcid();
         processor->pge = allows(GLOBAL_PAGES) && settings.focus == 0 && percent(75);
-        streams[k].count_of_answered = streams[k].planned = 0;
-        streams[k].follows_up = NO_INVALIDATION;
-        streams[k].last_page = pages[0];
-        streams[k].again = 0;
+        plans[k].planned = 0;
+        plans[k].follows_up = NO_INVALIDATION;
+        plans[k].again = 0;
         seed_random_of(k, seed);
         begin_log(k);
     }

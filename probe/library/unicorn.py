@@ -1,10 +1,10 @@
 #!/usr/bin/env python3
-"""Drives Unicorn, an emulator that is a library, with random paging operations, and has
-`pcid-audit certify` judge the record: an example for emulators that boot no guest. One processor
-without PCIDs does writes of table entries (all levels and page sizes, rights, reserved bits, A and
-D, global pages), reads, writes and fetches by ring 3 and ring 0, implicit accesses (LSL), INVLPG,
-MOV to CR3 and changes of CR4.PGE. Output and status are the auditor's. It needs Unicorn 2.1 or
-newer: pip's unicorn, or Debian's python3-unicorn of trixie. docs/PROBE.md says more."""
+"""Drives Unicorn, an emulator that is a library, with random paging operations, and has `pcid-audit
+certify` judge the record: an example for emulators that boot no guest. One processor without PCIDs
+executes writes of table entries (all levels and page sizes, rights, reserved bits, A and D, global
+pages), reads, writes and fetches by ring 3 and ring 0, implicit accesses (LSL), INVLPG, MOV to CR3
+and changes of CR4.PGE. Output and status are the auditor's. It needs Unicorn 2.1 or newer: pip's
+unicorn, or Debian's python3-unicorn of trixie. docs/PROBE.md describes it."""
 import ctypes
 import os
 import random

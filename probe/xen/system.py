@@ -19,7 +19,7 @@ def write_kernel(folder, settings, replay):
             file.write(data)
     made = os.path.join(folder, "kernel")
     image.command("nasm", "-f", "elf32", f"-DREPLAY={image.REPLAY_ADDRESS}", "-I", folder + "/",
-                  "-o", made + ".o",
+                  "-I", os.path.join(image.HERE, "guest") + "/", "-o", made + ".o",
                   os.path.join(HERE, "start.asm"))
     image.command("ld", "-m", "elf_i386", *image.LINK[1:], "-T", os.path.join(HERE, "link.ld"),
                   "-o", made, made + ".o")
