@@ -222,7 +222,7 @@ pub const FAULTS: [Told; 19] = [
     Told {
         words: &[],
         text: "error: 'pcid-audit' requires a subcommand but one was not provided\n\
-        \x20 [subcommands: check, certify, run, run-of, explain, show, upgrade, help]\n\
+        \x20 [subcommands: check, certify, run, run-of, explain, show, upgrade, merge, help]\n\
         \n\
         Usage: pcid-audit <COMMAND>\n\
         \n\
