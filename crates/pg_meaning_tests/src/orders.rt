@@ -85,7 +85,7 @@ const CASES: [Case; 6] = [
     },
 ];
 
-fn push(run: &mut SpannedRun, written: &Written, back: u32) -> Result<(), Fail> {
+pub(crate) fn push(run: &mut SpannedRun, written: &Written, back: u32) -> Result<(), Fail> {
     let event = event_of(written).ok_or("moments")?;
     if run.len() >= 10_000 || back as usize > run.len() {
         return Err(Fail::from("span"));
