@@ -274,8 +274,8 @@ def disk(path, settings, replay=b""):
 
 
 def stop_on_failure(main):
-    """Runs a program's main, whose result is the exit status. A program that is told to end ends its
-    emulator first."""
+    """Runs a program's main, whose result is the exit status. A program that is told to end ends
+    its emulator first."""
     for number in (signal.SIGTERM, signal.SIGHUP):
         signal.signal(number, lambda told, _: sys.exit(128 + told))
     try:
