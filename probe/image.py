@@ -5,6 +5,7 @@ import fcntl
 import glob
 import os
 import shutil
+import signal
 import struct
 import subprocess
 import sys
@@ -273,7 +274,10 @@ def disk(path, settings, replay=b""):
 
 
 def stop_on_failure(main):
-    """Runs a program's main, whose result is the exit status."""
+    """Runs a program's main, whose result is the exit status. A program that is told to end ends
+    its emulator first."""
+    for number in (signal.SIGTERM, signal.SIGHUP):
+        signal.signal(number, lambda told, _: sys.exit(128 + told))
     try:
         sys.exit(main())
     except Stop as why:
