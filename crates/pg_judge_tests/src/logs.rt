@@ -301,7 +301,7 @@ fn bytes_of(alloc: Global, log: &Spans) -> Result<Vec<u8>, AllocError> {
         add(&mut bytes, 0, 7)?;
     }
     bytes.extend_from_slice(&[0xff; 8])?;
-    add(&mut bytes, log.2.len() as u8, 7)?;
+    bytes.extend_from_slice(&(log.2.len() as u64).to_le_bytes())?;
     Ok(bytes)
 }
 
