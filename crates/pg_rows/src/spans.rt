@@ -5,7 +5,11 @@ use crate::row::{Row, bytes_of};
 use pg_codec::Watched;
 use pg_span_codec::Peeked;
 use pg_tool::{pcid_audit, plan};
+use std::alloc::AllocGlobal;
+use std::process::Abort;
+use std::sync::Wait;
 use std::test::Fail;
+use std::thread::Threads;
 
 /// The worked example of docs/FORMAT.md: processor 1's INVLPG overlaps the last of processor 0's
 /// writes, and its read comes behind both.
@@ -222,32 +226,41 @@ const LOG_1: &[&str] = &[
     "ffffffffffffffff0200000000000000",
 ];
 
+/// The log of that name.
+fn log_of<'a>(name: &str, first: &'a [u8], second: &'a [u8]) -> &'a [u8] {
+    if name == "a.log" { first } else { second }
+}
+
+/// Merges the two logs, which are the only files.
+fn merge_logs<'a, T: AllocGlobal + Abort + Threads + Wait + Sync>(
+    rt: &T,
+    merged: Case<'a>,
+    first: &'a [u8],
+    second: &'a [u8],
+) {
+    let mut input = Peeked::new(Watched::new(merged.input));
+    let mut output = Watched::new(Vec::new(rt.alloc()));
+    let mut errors = Watched::new(Vec::new(rt.alloc()));
+    let opener = |name: &str| Some(Peeked::new(Watched::new(log_of(name, first, second))));
+    let planned = plan(rt.alloc(), merged.words);
+    let status = pcid_audit(rt, planned, opener, &mut input, &mut output, &mut errors);
+    let is_right = is_answered(merged, status, &output.inner, &errors.inner);
+    assert!(rt; is_right, "{}: {status}", merged.name);
+}
+
 #[test]
 fn logs_merged(rt: HostRuntime) -> Result<(), Fail> {
-    let expected = bytes_of(rt.alloc(), MERGED)?;
+    let output = bytes_of(rt.alloc(), MERGED)?;
     let first = bytes_of(rt.alloc(), LOG_0)?;
     let second = bytes_of(rt.alloc(), LOG_1)?;
     let merged = Case {
         name: "logs_merged",
         words: &["merge", "b.log", "a.log"],
         input: &[],
-        output: &expected,
+        output: &output,
         line: "",
         status: 0,
     };
-    let opener = |name: &str| {
-        if name == "a.log" {
-            Some(Peeked::new(Watched::new(first.as_slice())))
-        } else {
-            Some(Peeked::new(Watched::new(second.as_slice())))
-        }
-    };
-    let mut input = Peeked::new(Watched::new(merged.input));
-    let mut output = Watched::new(Vec::new(rt.alloc()));
-    let mut errors = Watched::new(Vec::new(rt.alloc()));
-    let planned = plan(rt.alloc(), merged.words);
-    let status = pcid_audit(&rt, planned, opener, &mut input, &mut output, &mut errors);
-    let is_right = is_answered(merged, status, &output.inner, &errors.inner);
-    assert!(rt; is_right, "{}: {status}", merged.name);
+    merge_logs(&rt, merged, &first, &second);
     Ok(())
 }
