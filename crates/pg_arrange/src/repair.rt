@@ -6,13 +6,13 @@ use crate::edges::{Edge, Taste, edges_of};
 use crate::learned::Learned;
 use crate::looked::Looked;
 use crate::numbers::NEVER;
-use crate::search::Maker;
+use crate::search::{End, Maker};
 use crate::sweep::{Hit, Limits, Sweep, View};
 use std::alloc::{AllocError, Global};
 use std::collections::HashMap;
 
 /// How often an event may be found to be the first that waits.
-const MOST_TRIES: u32 = 2000;
+const MOST_TRIES: u32 = 600;
 
 /// After so many of them all that was learned is forgotten, and up to so many events are taken
 /// back.
@@ -21,7 +21,7 @@ const RESTART: u32 = 40;
 const FAR_BACK: u32 = 400;
 
 /// How many events may be taken back in all, for each of the run and for so many more.
-const MOST_UNDONE: u64 = 64;
+const MOST_UNDONE: u64 = 32;
 
 const MORE: u64 = 1000;
 
@@ -236,8 +236,8 @@ impl<'a> Maker<'a> {
     }
 
     /// Another order of what stands, so that one of the events that wait is witnessed. Where none
-    /// is found, the events that wait.
-    pub(crate) fn repair(&mut self) -> Result<Option<Vec<u32>>, AllocError> {
+    /// is found, why the search ends.
+    pub(crate) fn repair(&mut self) -> Result<Option<End>, AllocError> {
         let mut held = Vec::new(self.alloc);
         let mut best: Option<Plan> = None;
         let is_hard = self.tries.stuck(self.made.low()) % 16 > 11;
@@ -260,7 +260,7 @@ impl<'a> Maker<'a> {
             }
             let (hits, is_whole) = self.some_hits(&asked, is_hard)?;
             if asked.is_hopeless || hits.is_empty() && is_whole {
-                return Ok(Some(self.waiting(event)?));
+                return Ok(Some(End::Hopeless(self.waiting(event)?)));
             }
             for hit in hits.iter() {
                 for taste in [Taste::AsMade, Taste::Turned, Taste::Random] {
@@ -270,7 +270,7 @@ impl<'a> Maker<'a> {
         }
         let tries = self.note_stuck(first)?;
         if self.is_spent(tries) {
-            return Ok(Some(self.waiting(first)?));
+            return Ok(Some(End::Spent(self.waiting(first)?)));
         }
         self.go_on(best, held.as_slice(), tries)?;
         Ok(None)

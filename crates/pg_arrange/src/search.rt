@@ -24,6 +24,18 @@ pub enum Sought {
     Stuck(Vec<u32>),
 }
 
+/// Why a search ends without an order, and the events that wait then.
+#[derive(Drop)]
+pub(crate) enum End {
+    /// Too much was tried. The first of the events that wait comes first.
+    Spent(Vec<u32>),
+    /// No walk in any order was seen that may witness the first of them.
+    Hopeless(Vec<u32>),
+}
+
+/// So many searches are made, each by other chance.
+const MOST_SEARCHES: u64 = 4;
+
 /// An event that was asked in vain whether it can come next.
 #[derive(Clone, Copy)]
 struct Wait {
@@ -94,7 +106,7 @@ fn may_wake(wait: &Option<Wait>, word: u64) -> bool {
 }
 
 impl<'a> Maker<'a> {
-    fn new(alloc: Global, run: &'a SpannedRun) -> Result<Maker<'a>, AllocError> {
+    fn new(alloc: Global, run: &'a SpannedRun, seed: u64) -> Result<Maker<'a>, AllocError> {
         let facts = Facts::of(alloc, run)?;
         let made = Made::new(alloc, &facts)?;
         let processors = facts.processors() as usize;
@@ -105,7 +117,7 @@ impl<'a> Maker<'a> {
             found: Found::new(alloc),
             learned: Learned::new(alloc),
             tries: Tries::new(alloc),
-            chance: Chance::new(1),
+            chance: Chance::new(seed),
             waits: vec![in alloc; None; processors]?,
         })
     }
@@ -241,8 +253,8 @@ impl<'a> Maker<'a> {
     }
 
     /// The next step: an event is put next, or others are taken back. Where none of these helps,
-    /// the events that wait.
-    fn step(&mut self) -> Result<Option<Vec<u32>>, AllocError> {
+    /// why it ends.
+    fn step(&mut self) -> Result<Option<End>, AllocError> {
         match self.choose()? {
             Some(event) => {
                 self.put(event)?;
@@ -253,20 +265,34 @@ impl<'a> Maker<'a> {
     }
 }
 
-/// An order of the events of a run in which each is witnessed, as far as this search sees. It gives
-/// up once an event was the first that waits so often, or so many events were taken back.
-///
-/// It fails only where memory is refused.
-pub fn find_order(alloc: Global, run: &SpannedRun) -> Result<Sought, AllocError> {
-    let mut maker = Maker::new(alloc, run)?;
+/// An order by one search, or why it ended.
+fn find_by(alloc: Global, run: &SpannedRun, seed: u64) -> Result<Result<Vec<u32>, End>, AllocError> {
+    let mut maker = Maker::new(alloc, run, seed)?;
     for _ in 0..u64::MAX {
         if maker.is_whole() {
             break;
         }
-        if let Some(waiting) = maker.step()? {
-            return Ok(Sought::Stuck(waiting));
+        if let Some(end) = maker.step()? {
+            return Ok(Err(end));
         }
     }
     let Maker { made, .. } = maker;
-    Ok(Sought::Order(made.into_order()))
+    Ok(Ok(made.into_order()))
+}
+
+/// An order of the events of a run in which each is witnessed, as far as this search sees. It begins
+/// anew by other chance, and gives up at the last, once an event was the first that waits so often,
+/// or so many events were taken back.
+///
+/// It fails only where memory is refused.
+pub fn find_order(alloc: Global, run: &SpannedRun) -> Result<Sought, AllocError> {
+    let mut waiting = Vec::new(alloc);
+    for seed in 1..=MOST_SEARCHES {
+        match find_by(alloc, run, seed)? {
+            Ok(order) => return Ok(Sought::Order(order)),
+            Err(End::Spent(events)) => waiting = events,
+            Err(End::Hopeless(events)) => return Ok(Sought::Stuck(events)),
+        }
+    }
+    Ok(Sought::Stuck(waiting))
 }

@@ -28,7 +28,6 @@ use Rattle.pg_relaxed.specs.declared.slot.Slot.{Slot}
 use Rattle.pg_relaxed.specs.declared.table.Table.{Table}
 use Rattle.pg_relaxed.specs.Caches.{Known, table_by, table_below, word_in, IsTaken, IsFilled, Grows}
 use Rattle.pg_relaxed.specs.Memory.{IsOwn, MayHold}
-use Rattle.pg_relaxed.specs.Orders.{HasNoAssist}
 use Rattle.pg_relaxed.proofs.History.{state_after, count, IsAt, Came, Before, IsFront, before_more, before_less, processor_at}
 use Rattle.pg_relaxed.proofs.Holding.{memory_holds, may_hold}
 use Rattle.pg_relaxed.proofs.Prefixes.{Agree, agree_above, same_address, shift_is}
@@ -241,9 +240,9 @@ other_front s p order w next e at other here = record {
       (here.come j own lt);
 }
 
-pub fill_covers : (s : Spanned) (slot : Slot) (la : ℕ) (k l : Known) → HasNoAssist s.events → IsOwn s.events slot.p slot.next →
+pub fill_covers : (s : Spanned) (slot : Slot) (la : ℕ) (k l : Known) → IsOwn s.events slot.p slot.next →
     Enters s slot.p la slot.next slot.ended k → Grows k l → IsFilled s slot la l → Covers s slot.p la slot.next slot.ended l
-fill_covers s slot la k l none own enters grows filled order past is came here = go past came here
+fill_covers s slot la k l own enters grows filled order past is came here = go past came here
   where
     grown : (st : State) → IsKnown st slot.p la k → IsKnown st slot.p la l
     grown st known = record {
@@ -257,7 +256,7 @@ fill_covers s slot la k l none own enters grows filled order past is came here =
 
     holds : (past : List Step) → Came s order past → IsFront s slot.p order (count past) slot.next → IsThere s slot.p la order past slot.ended l →
         (a : ℕ) → MayHold s slot a ((state_after s.head past).memory a)
-    holds past came here t a = may_hold s order is slot (count past) a _ own here t.come (memory_holds s order is none past came a)
+    holds past came here t a = may_hold s order is slot (count past) a _ own here t.come (memory_holds s order is past came a)
 
     go : (past : List Step) → Came s order past → IsFront s slot.p order (count past) slot.next → IsThere s slot.p la order past slot.ended l
     go [] came here = entered [] came here tt

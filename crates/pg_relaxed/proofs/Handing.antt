@@ -11,7 +11,7 @@ use Rattle.pg_event.specs.Wants.{want_of}
 use Rattle.pg_spanned.specs.Orders.{Spanned, ended_before}
 use Rattle.pg_relaxed.specs.declared.slot.Slot.{Slot}
 use Rattle.pg_relaxed.specs.Caches.{Known, Grows, IsFilled, IsLeft, CannotCome}
-use Rattle.pg_relaxed.specs.Orders.{HasNoAssist, HasRunInSomeOrder, IsAccess}
+use Rattle.pg_relaxed.specs.Orders.{HasRunInSomeOrder, IsAccess}
 use Rattle.pg_relaxed.proofs.History.{own_at, processor_at}
 use Rattle.pg_relaxed.proofs.Covering.{Covers, Enters, fill_covers}
 use Rattle.pg_relaxed.proofs.Entering.{HasEnded, passes, skips}
@@ -27,12 +27,12 @@ has_ended s i ended later within is j lt = elim (cases_lt j ended) [
 ]
 
 -- over an event of the processor
-pub hands_on : (s : Spanned) (p la c ended later : ℕ) (x : Event) (k f l : Known) → HasNoAssist s.events → slice_get s.events c ≡ Some x → processor_of x ≡ p → c < length s.events →
+pub hands_on : (s : Spanned) (p la c ended later : ℕ) (x : Event) (k f l : Known) → slice_get s.events c ≡ Some x → processor_of x ≡ p → c < length s.events →
     Enters s p la c ended k → Grows k f → IsFilled s (slot_of p c ended) la f → IsLeft la x f l → l.control ≡ controlled s.head.cfg.m (processor_of x) f.control x →
     later ≡ max ended (ended_before s c) → Enters s p la (c + 1) later l
-hands_on s p la c ended later x k f l none there mine within enters grows filled left control is =
+hands_on s p la c ended later x k f l there mine within enters grows filled left control is =
     let control' : l.control ≡ controlled s.head.cfg.m p f.control x = control ∙ ap (λ q. controlled s.head.cfg.m q f.control x) mine in
-    let covers : Covers s p la c ended f = fill_covers s (slot_of p c ended) la k f none (own_at s.events p c x there mine) enters grows filled in
+    let covers : Covers s p la c ended f = fill_covers s (slot_of p c ended) la k f (own_at s.events p c x there mine) enters grows filled in
     let next : suc c ≡ c + 1 = omega arith in
     subst (λ n. Enters s p la n later l) next (passes s p la c ended later x f l there mine control' left (has_ended s c ended later within is) covers)
 
@@ -43,9 +43,9 @@ hands_over s p la c ended x k there other enters =
     subst (λ n. Enters s p la n ended k) next (skips s p la c ended k (λ own. other (processor_at s.events p c x there own)) enters)
 
 -- at the event itself
-pub cannot_run : (s : Spanned) (p la i ended later flags : ℕ) (outcome : Outcome) (k f : Known) → HasNoAssist s.events → IsAccess s.events i p flags la outcome → i < length s.events →
+pub cannot_run : (s : Spanned) (p la i ended later flags : ℕ) (outcome : Outcome) (k f : Known) → IsAccess s.events i p flags la outcome → i < length s.events →
     Enters s p la i ended k → Grows k f → IsFilled s (slot_of p i ended) la f → later ≡ max ended (ended_before s i) →
     CannotCome s (slot_of p i later) la f (access_kind flags) outcome (want_of outcome) → HasRunInSomeOrder s → ⊥
-cannot_run s p la i ended later flags outcome k f none access within enters grows filled is cannot run =
-    let covers : Covers s p la i ended f = fill_covers s (slot_of p i ended) la k f none (own_at s.events p i (Access p flags la outcome access.0) access.1 refl) enters grows filled in
-    no_run s (slot_of p i ended) la later flags outcome access.0 f (slot_of p i later) none access.1 filled covers refl refl (has_ended s i ended later within is) cannot run.0 run.1 run.2 run.3 run.4
+cannot_run s p la i ended later flags outcome k f access within enters grows filled is cannot run =
+    let covers : Covers s p la i ended f = fill_covers s (slot_of p i ended) la k f (own_at s.events p i (Access p flags la outcome access.0) access.1 refl) enters grows filled in
+    no_run s (slot_of p i ended) la later flags outcome access.0 f (slot_of p i later) access.1 filled covers refl refl (has_ended s i ended later within is) cannot run.0 run.1 run.2 run.3 run.4

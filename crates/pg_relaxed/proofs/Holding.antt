@@ -1,9 +1,13 @@
 -- What memory holds in a run whose events have an order.
-use Rattle.std.proofs.Common.{◌≡◌, ◌⊎◌, ℕ, suc, ◌==◌, ◌<◌, true, false, cond, List, [], ◌∷◌, refl, ap, sym, ◌∙◌, subst, arith, inl, inr, Option, Some, None}
-use Rattle.std.specs.Prelude.{slice_get}
+use Rattle.std.proofs.Common.{◌≡◌, ◌⊎◌, ℕ, suc, ◌==◌, ◌<◌, ◌||◌, Bool, true, false, cond, List, [], ◌∷◌, refl, ap, sym, ◌∙◌, subst, arith, inl, inr, Option, Some, None}
+use Rattle.std.specs.Prelude.{slice_get, bit_or}
 use Rattle.std.proofs.lemmas.Bool.{cases_Bool, cases_eq, eq-eqb, eqb-true}
+use Rattle.std.specs.Int.{bit_at}
+use Rattle.std.proofs.lemmas.Nat.Bits.{bit_at_or, same_from_bits}
+use Rattle.pg_entry.specs.Kinds.{marked}
 use Rattle.pg_event.specs.declared.event.Event.{Event}
 use Rattle.pg_event.specs.declared.event.Event.TheVariants.{Write, Access, Assist, MovCr3, Invlpg, Invpcid, MovCr4Pge}
+use Rattle.pg_event.specs.Form.{says_dirty}
 use Rattle.pg_event.specs.Values.{written}
 use Rattle.pg_machine.specs.declared.step.Member.{Member}
 use Rattle.pg_machine.specs.declared.step.Member.TheVariants as members
@@ -13,8 +17,7 @@ use Rattle.pg_machine.specs.declared.step.Translation.{Translation}
 use Rattle.pg_machine.specs.Machine.{State, with_leaf, without}
 use Rattle.pg_spanned.specs.Orders.{Spanned, MustPrecede, IsOrder}
 use Rattle.pg_relaxed.specs.declared.slot.Slot.{Slot}
-use Rattle.pg_relaxed.specs.Memory.{Writes, WritesTo, IsOwn, IsPast, MayHold}
-use Rattle.pg_relaxed.specs.Orders.{HasNoAssist}
+use Rattle.pg_relaxed.specs.Memory.{Writes, WritesTo, IsOwn, IsPast, MayBeLeft, MayHold}
 use Rattle.pg_relaxed.proofs.History.{state_after, count, IsAt, Came, Before, IsFront, before_more, before_less, front, not_before}
 use Rattle.pg_relaxed.proofs.Same.{written_same}
 
@@ -24,15 +27,20 @@ pub record IsLast (s : Spanned) (order : List ℕ) (w a v j : ℕ) : Type 0 wher
   pub came : Before order w j
   pub last : (i : ℕ) → WritesTo s.events a i → Before order w i → MustPrecede s j i → ⊥
 
+-- what the last write has left, or 0 where none has come
+abbrev pub Left : Spanned → List ℕ → ℕ → ℕ → ℕ → Type 0
+Left s order w a v = ((j : ℕ) × IsLast s order w a v j) ⊎ ((v ≡ 0) × ((i : ℕ) → WritesTo s.events a i → Before order w i → ⊥))
+
+-- that, or that with the flags that assists have set since
 abbrev pub Holds : Spanned → List ℕ → ℕ → ℕ → ℕ → Type 0
-Holds s order w a v = ((j : ℕ) × IsLast s order w a v j) ⊎ ((v ≡ 0) × ((i : ℕ) → WritesTo s.events a i → Before order w i → ⊥))
+Holds s order w a v = Left s order w a v ⊎ ((u : ℕ) × Left s order w a u × (flag : Bool) × (v ≡ marked flag u))
 
 some_event : (x y : Event) → Some x ≡ Some y → x ≡ y
 some_event x y h = cc
 
 -- an event that does not write to the word
-other_event : (s : Spanned) (order : List ℕ) (w a v i : ℕ) → slice_get order w ≡ Some i → (WritesTo s.events a i → ⊥) → Holds s order w a v → Holds s order (suc w) a v
-other_event s order w a v i here none (inl h) = inl (
+left_by_other : (s : Spanned) (order : List ℕ) (w a v i : ℕ) → slice_get order w ≡ Some i → (WritesTo s.events a i → ⊥) → Left s order w a v → Left s order (suc w) a v
+left_by_other s order w a v i here none (inl h) = inl (
   h.0,
   record {
     writes = h.1.writes;
@@ -40,7 +48,11 @@ other_event s order w a v i here none (inl h) = inl (
     last = λ x to before must. h.1.last x to (before_less order w i x here (λ e. none (subst (WritesTo s.events a) e to)) before) must;
   },
 )
-other_event s order w a v i here none (inr h) = inr (h.0, λ x to before. h.1 x to (before_less order w i x here (λ e. none (subst (WritesTo s.events a) e to)) before))
+left_by_other s order w a v i here none (inr h) = inr (h.0, λ x to before. h.1 x to (before_less order w i x here (λ e. none (subst (WritesTo s.events a) e to)) before))
+
+other_event : (s : Spanned) (order : List ℕ) (w a v i : ℕ) → slice_get order w ≡ Some i → (WritesTo s.events a i → ⊥) → Holds s order w a v → Holds s order (suc w) a v
+other_event s order w a v i here none (inl h) = inl (left_by_other s order w a v i here none h)
+other_event s order w a v i here none (inr h) = inr (h.0, left_by_other s order w a h.0 i here none h.1, h.2, h.3)
 
 not_itself : (s : Spanned) (order : List ℕ) → IsOrder s order → (i : ℕ) → MustPrecede s i i → ⊥
 not_itself s order is i must =
@@ -49,7 +61,7 @@ not_itself s order is i must =
 
 -- an event that writes to it
 own_event : (s : Spanned) (order : List ℕ) → IsOrder s order → (w a v i : ℕ) → slice_get order w ≡ Some i → Writes s.events a v i → Holds s order (suc w) a v
-own_event s order is w a v i here writes = inl (
+own_event s order is w a v i here writes = inl (inl (
   i,
   record {
     writes = writes;
@@ -59,25 +71,44 @@ own_event s order is w a v i here writes = inl (
       | inr ne ↦ not_before s order is w i here (front s order is w i x (before_less order w i x here ne before) must)
     ];
   },
-)
+))
 
 no_write : (s : Spanned) (a i : ℕ) (x : Event) → slice_get s.events i ≡ Some x → ((q v : ℕ) → x ≡ Write q a v → ⊥) → WritesTo s.events a i → ⊥
 no_write s a i x there none to = none to.1.0 to.0 (some_event x (Write to.1.0 a to.0) (sym there ∙ to.1.1))
 
-after_write : (s : Spanned) (order : List ℕ) → IsOrder s order → HasNoAssist s.events → (w a v i : ℕ) (x : Event) → slice_get order w ≡ Some i → slice_get s.events i ≡ Some x →
+or_assoc : (a b c : ℕ) → bit_or (bit_or a b) c ≡ bit_or a (bit_or b c)
+or_assoc a b c = same_from_bits (bit_or (bit_or a b) c) (bit_or a (bit_or b c)) (λ i. let e : bit_at (bit_or (bit_or a b) c) i ≡ bit_at (bit_or a (bit_or b c)) i = omega (arith, bit_at_or (bit_or a b) c i, bit_at_or a b i, bit_at_or a (bit_or b c) i, bit_at_or b c i) in e)
+
+-- flags that are set once more
+marked_again : (d b : Bool) (u : ℕ) → marked d (marked b u) ≡ marked (d || b) u
+marked_again true true u = or_assoc u 96 96
+marked_again true false u = or_assoc u 32 96
+marked_again false true u = or_assoc u 96 32
+marked_again false false u = or_assoc u 32 32
+
+marked_left : (s : Spanned) (order : List ℕ) (w a v : ℕ) (d : Bool) → Holds s order w a v → Holds s order w a (marked d v)
+marked_left s order w a v d (inl h) = inr (v, h, d, refl)
+marked_left s order w a v d (inr h) = inr (h.0, h.1, d || h.2, ap (marked d) h.3 ∙ marked_again d h.2 h.0)
+
+after_write : (s : Spanned) (order : List ℕ) → IsOrder s order → (w a v i : ℕ) (x : Event) → slice_get order w ≡ Some i → slice_get s.events i ≡ Some x →
     Holds s order w a v → Holds s order (suc w) a (written a v x)
-after_write s order is none w a v i (Write q addr new) here there h =
+after_write s order is w a v i (Write q addr new) here there h =
     elim (cases_Bool (addr == a)) [
       | inl t ↦ subst (Holds s order (suc w) a) (sym (ap (λ b. cond b new v) t)) (own_event s order is w a new i here (q, there ∙ ap (λ n. Some (Write q n new)) (eqb-true addr a t)))
       | inr f ↦ subst (Holds s order (suc w) a) (sym (ap (λ b. cond b new v) f)) (other_event s order w a v i here
           (no_write s a i (Write q addr new) there (λ r u e. let same : addr ≡ a = cc in let no : true ≡ false = sym (eq-eqb addr a same) ∙ f in absurd (cc))) h)
     ]
-after_write s order is none w a v i (Access q flags la outcome ws) here there h = other_event s order w a v i here (no_write s a i _ there (λ r u e. absurd (cc))) h
-after_write s order is none w a v i (Assist q flags la word ws) here there h = absurd (none i q flags la word ws there)
-after_write s order is none w a v i (MovCr3 q operand) here there h = other_event s order w a v i here (no_write s a i _ there (λ r u e. absurd (cc))) h
-after_write s order is none w a v i (Invlpg q la) here there h = other_event s order w a v i here (no_write s a i _ there (λ r u e. absurd (cc))) h
-after_write s order is none w a v i (Invpcid q kind pcid la) here there h = other_event s order w a v i here (no_write s a i _ there (λ r u e. absurd (cc))) h
-after_write s order is none w a v i (MovCr4Pge q on) here there h = other_event s order w a v i here (no_write s a i _ there (λ r u e. absurd (cc))) h
+after_write s order is w a v i (Access q flags la outcome ws) here there h = other_event s order w a v i here (no_write s a i _ there (λ r u e. absurd (cc))) h
+after_write s order is w a v i (Assist q flags la word ws) here there h =
+    let still : Holds s order (suc w) a v = other_event s order w a v i here (no_write s a i _ there (λ r u e. absurd (cc))) h in
+    elim (cases_Bool (word == a)) [
+      | inl t ↦ subst (Holds s order (suc w) a) (sym (ap (λ b. cond b (marked (says_dirty flags) v) v) t)) (marked_left s order (suc w) a v (says_dirty flags) still)
+      | inr f ↦ subst (Holds s order (suc w) a) (sym (ap (λ b. cond b (marked (says_dirty flags) v) v) f)) still
+    ]
+after_write s order is w a v i (MovCr3 q operand) here there h = other_event s order w a v i here (no_write s a i _ there (λ r u e. absurd (cc))) h
+after_write s order is w a v i (Invlpg q la) here there h = other_event s order w a v i here (no_write s a i _ there (λ r u e. absurd (cc))) h
+after_write s order is w a v i (Invpcid q kind pcid la) here there h = other_event s order w a v i here (no_write s a i _ there (λ r u e. absurd (cc))) h
+after_write s order is w a v i (MovCr4Pge q on) here there h = other_event s order w a v i here (no_write s a i _ there (λ r u e. absurd (cc))) h
 
 leaf_memory : (st : State) (p : ℕ) (o : Option Translation) (a : ℕ) → (with_leaf st p o).memory a ≡ st.memory a
 leaf_memory st p None a = refl
@@ -87,26 +118,26 @@ drop_memory : (st : State) (p : ℕ) (member : Member) (a : ℕ) → (without st
 drop_memory st p (members.Structure x) a = refl
 drop_memory st p (members.Translation x) a = refl
 
-pub memory_holds : (s : Spanned) (order : List ℕ) → IsOrder s order → HasNoAssist s.events → (past : List Step) → Came s order past → (a : ℕ) →
+pub memory_holds : (s : Spanned) (order : List ℕ) → IsOrder s order → (past : List Step) → Came s order past → (a : ℕ) →
     Holds s order (count past) a ((state_after s.head past).memory a)
-memory_holds s order is none [] came a = inr (refl, λ i to before. let lt : before.0 < 0 = before.1 in omega (arith, lt))
-memory_holds s order is none (Fill4 p la ∷ past) came a = memory_holds s order is none past came.0 a
-memory_holds s order is none (Fill3 p la from ∷ past) came a = memory_holds s order is none past came.0 a
-memory_holds s order is none (Fill2 p la from ∷ past) came a = memory_holds s order is none past came.0 a
-memory_holds s order is none (FillLeaf p la level from ∷ past) came a =
-    subst (Holds s order (count past) a) (sym (leaf_memory (state_after s.head past) p _ a)) (memory_holds s order is none past came.0 a)
-memory_holds s order is none (Drop p member ∷ past) came a =
-    subst (Holds s order (count past) a) (sym (drop_memory (state_after s.head past) p member a)) (memory_holds s order is none past came.0 a)
-memory_holds s order is none (Do e ∷ past) came a =
+memory_holds s order is [] came a = inl (inr (refl, λ i to before. let lt : before.0 < 0 = before.1 in omega (arith, lt)))
+memory_holds s order is (Fill4 p la ∷ past) came a = memory_holds s order is past came.0 a
+memory_holds s order is (Fill3 p la from ∷ past) came a = memory_holds s order is past came.0 a
+memory_holds s order is (Fill2 p la from ∷ past) came a = memory_holds s order is past came.0 a
+memory_holds s order is (FillLeaf p la level from ∷ past) came a =
+    subst (Holds s order (count past) a) (sym (leaf_memory (state_after s.head past) p _ a)) (memory_holds s order is past came.0 a)
+memory_holds s order is (Drop p member ∷ past) came a =
+    subst (Holds s order (count past) a) (sym (drop_memory (state_after s.head past) p member a)) (memory_holds s order is past came.0 a)
+memory_holds s order is (Do e ∷ past) came a =
     let at : IsAt s order (count past) e = came.1 in
     let v : ℕ = (state_after s.head past).memory a in
     subst (Holds s order (suc (count past)) a) (sym (written_same e at.event at.same a v))
-    (after_write s order is none (count past) a v at.number at.event at.place at.there (memory_holds s order is none past came.0 a))
+    (after_write s order is (count past) a v at.number at.event at.place at.there (memory_holds s order is past came.0 a))
 
--- what holds in an order may hold in the slot
-pub may_hold : (s : Spanned) (order : List ℕ) → IsOrder s order → (slot : Slot) (w a v : ℕ) → IsOwn s.events slot.p slot.next → IsFront s slot.p order w slot.next →
-    ((j : ℕ) → j < slot.ended → Before order w j) → Holds s order w a v → MayHold s slot a v
-may_hold s order is slot w a v own here ended h =
+-- what is left in an order may be left in the slot
+may_be_left : (s : Spanned) (order : List ℕ) → IsOrder s order → (slot : Slot) (w a v : ℕ) → IsOwn s.events slot.p slot.next → IsFront s slot.p order w slot.next →
+    ((j : ℕ) → j < slot.ended → Before order w j) → Left s order w a v → MayBeLeft s slot a v
+may_be_left s order is slot w a v own here ended h =
     let next_left : Before order w slot.next → ⊥ = λ b. let lt : slot.next < slot.next = here.below slot.next own b in omega (arith, lt) in
     let past_came : (i : ℕ) → IsPast s slot i → Before order w i = λ i past. elim past [ inl lt ↦ ended i lt | inr mine ↦ here.come i mine.1 mine.0 ] in
     elim h [
@@ -123,3 +154,9 @@ may_hold s order is slot w a v own here ended h =
       )
       | inr z ↦ inr (z.0, λ i to past. z.1 i to (past_came i past))
     ]
+
+-- what holds in an order may hold in the slot
+pub may_hold : (s : Spanned) (order : List ℕ) → IsOrder s order → (slot : Slot) (w a v : ℕ) → IsOwn s.events slot.p slot.next → IsFront s slot.p order w slot.next →
+    ((j : ℕ) → j < slot.ended → Before order w j) → Holds s order w a v → MayHold s slot a v
+may_hold s order is slot w a v own here ended (inl h) = inl (may_be_left s order is slot w a v own here ended h)
+may_hold s order is slot w a v own here ended (inr h) = inr (h.0, may_be_left s order is slot w a h.0 own here ended h.1, h.2, h.3)

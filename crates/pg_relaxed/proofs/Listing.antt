@@ -1,16 +1,17 @@
 -- Lists of writes.
-use Rattle.std.proofs.Common.{◌≡◌, ◌⊎◌, ℕ, zero, suc, ◌+◌, ◌<◌, List, [], ◌∷◌, ◌++◌, length, get_or, take, refl, ap, sym, ◌∙◌, subst, arith, inl, inr, Some}
+use Rattle.std.proofs.Common.{◌≡◌, ◌⊎◌, ℕ, zero, suc, ◌+◌, ◌<◌, Bool, true, false, List, [], ◌∷◌, ◌++◌, length, get_or, take, refl, ap, sym, ◌∙◌, subst, arith, inl, inr, Some}
 use Rattle.std.specs.Prelude.{slice_get}
 use Rattle.std.proofs.lemmas.List.{take_more, length-take}
 use Rattle.std.proofs.lemmas.Option.{slice_get_within}
+use Rattle.pg_entry.specs.Kinds.{marked}
 use Rattle.pg_event.specs.declared.event.Event.{Event}
 use Rattle.pg_event.specs.declared.event.Event.TheVariants.{Write}
 use Rattle.pg_machine.specs.Machine.{IsIn}
 use Rattle.pg_spanned.specs.Orders.{Spanned}
 use Rattle.pg_relaxed.specs.declared.slot.Slot.{Slot}
 use Rattle.pg_relaxed.specs.declared.words.Written.{Written}
-use Rattle.pg_relaxed.specs.Memory.{Writes, IsToCome, MayBeLast, MayHold}
-use Rattle.pg_relaxed.specs.Words.{WritesValue, AreWritesTo, AreBelow, IsOverwritten, IsWritten}
+use Rattle.pg_relaxed.specs.Memory.{Writes, IsToCome, MayBeLast, MayBeLeft}
+use Rattle.pg_relaxed.specs.Words.{WritesValue, AreWritesTo, AreBelow, AreAllIn, IsMarkedIn, IsOverwritten, IsWritten}
 use Rattle.pg_relaxed.proofs.Taken.{in_left, in_right, in_either}
 
 some_event : (x y : Event) → Some x ≡ Some y → x ≡ y
@@ -95,7 +96,7 @@ are_below events a writes are w h = let to : Writes events a w.value w.number = 
 -- what a word may hold is among the values of writes that may be the last, or 0
 pub held_value : (s : Spanned) (slot : Slot) (a : ℕ) (writes : List Written) (values : List ℕ) → AreWritesTo s.events a writes →
     ((w : Written) → IsIn w writes → IsToCome s slot w.number ⊎ (IsOverwritten s slot writes w.number ⊎ IsIn w.value values)) →
-    (IsWritten s slot writes ⊎ IsIn 0 values) → (v : ℕ) → MayHold s slot a v → IsIn v values
+    (IsWritten s slot writes ⊎ IsIn 0 values) → (v : ℕ) → MayBeLeft s slot a v → IsIn v values
 held_value s slot a writes values are each zero_in v (inl h) =
     let last : MayBeLast s slot a v h.0 = h.1 in
     elim (each (record { number = h.0; value = v }) (are.all v h.0 last.writes)) [
@@ -122,3 +123,21 @@ seen_still s slot writes values more w (inr (inr h)) = inr (inr (in_left w.value
 
 pub overwritten_in : (s : Spanned) (slot : Slot) (writes part : List Written) (j : ℕ) → ((w : Written) → IsIn w part → IsIn w writes) → IsOverwritten s slot part j → IsOverwritten s slot writes j
 overwritten_in s slot writes part j inside over = record { by = over.by; there = inside over.by over.there; past = over.past; follows = over.follows }
+
+-- a value that is marked in a list is so in a longer one
+pub marked_still : (v : ℕ) (xs ys : List ℕ) → AreAllIn xs ys → IsMarkedIn v xs → IsMarkedIn v ys
+marked_still v xs ys all h = record { plain = all v h.plain; flagged = λ d. all (marked d v) (h.flagged d) }
+
+-- a list to which a value and two more were added
+pub pushed_more : (xs ys : List ℕ) (a b c : ℕ) → ys ≡ ((xs ++ a ∷ []) ++ b ∷ []) ++ c ∷ [] → AreAllIn xs ys
+pushed_more xs ys a b c is x h = subst (IsIn x) (sym is) (in_left x ((xs ++ a ∷ []) ++ b ∷ []) (c ∷ []) (in_left x (xs ++ a ∷ []) (b ∷ []) (in_left x xs (a ∷ []) h)))
+
+pub pushed_marked : (xs ys : List ℕ) (v b c : ℕ) → b ≡ marked false v → c ≡ marked true v → ys ≡ ((xs ++ v ∷ []) ++ b ∷ []) ++ c ∷ [] → IsMarkedIn v ys
+pushed_marked xs ys v b c is_b is_c is = record {
+  plain = subst (IsIn v) (sym is) (in_left v ((xs ++ v ∷ []) ++ b ∷ []) (c ∷ []) (in_left v (xs ++ v ∷ []) (b ∷ []) (in_right v xs (v ∷ []) (inl refl))));
+  flagged = λ d. subst (IsIn (marked d v)) (sym is) (flag d);
+}
+  where
+    flag : (d : Bool) → IsIn (marked d v) (((xs ++ v ∷ []) ++ b ∷ []) ++ c ∷ [])
+    flag true = in_right (marked true v) ((xs ++ v ∷ []) ++ b ∷ []) (c ∷ []) (inl is_c)
+    flag false = in_left (marked false v) ((xs ++ v ∷ []) ++ b ∷ []) (c ∷ []) (in_right (marked false v) (xs ++ v ∷ []) (b ∷ []) (inl is_b))

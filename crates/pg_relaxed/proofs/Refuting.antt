@@ -29,7 +29,6 @@ use Rattle.pg_relaxed.specs.declared.slot.Slot.{Slot}
 use Rattle.pg_relaxed.specs.declared.table.Table.{Table}
 use Rattle.pg_relaxed.specs.Caches.{Known, word_in, IsFilled, HasNoFault, CannotCome}
 use Rattle.pg_relaxed.specs.Memory.{IsOwn, MayHold}
-use Rattle.pg_relaxed.specs.Orders.{HasNoAssist}
 use Rattle.pg_relaxed.proofs.History.{state_after, count, IsAt, Came, Before, IsFront, front, front_next, not_before, own_at}
 use Rattle.pg_relaxed.proofs.Holding.{memory_holds, may_hold}
 use Rattle.pg_relaxed.proofs.Covering.{IsThere, Covers, readable}
@@ -79,7 +78,7 @@ may_bare head st (Invlpg p la) h = h
 may_bare head st (Invpcid p kind pcid la) h = h
 may_bare head st (MovCr4Pge p on) h = h
 
-module _ (s : Spanned) (slot : Slot) (la ended flags : ℕ) (outcome : Outcome) (ws : List ℕ) (k : Known) (at_event : Slot) (none : HasNoAssist s.events)
+module _ (s : Spanned) (slot : Slot) (la ended flags : ℕ) (outcome : Outcome) (ws : List ℕ) (k : Known) (at_event : Slot)
     (there : slice_get s.events slot.next ≡ Some (Access slot.p flags la outcome ws)) (filled : IsFilled s slot la k) (covers : Covers s slot.p la slot.next slot.ended k)
     (same_p : at_event.p ≡ slot.p) (same_next : at_event.next ≡ slot.next) (more : HasEnded s slot.next slot.ended at_event.ended)
     (cannot : CannotCome s at_event la k (access_kind flags) outcome (want_of outcome)) (order : List ℕ) (is : IsOrder s order) where
@@ -111,7 +110,7 @@ module _ (s : Spanned) (slot : Slot) (la ended flags : ℕ) (outcome : Outcome) 
       (subst (λ q. IsOwn s.events q at_event.next) (sym same_p) (subst (IsOwn s.events slot.p) (sym same_next) own))
       (subst (λ q. IsFront s q order (count past) at_event.next) (sym same_p) (subst (IsFront s slot.p order (count past)) (sym same_next) (here_front (count past) place)))
       (λ j lt. elim (more j lt) [ inl low ↦ t.come j low | inr must ↦ front_next s order is (count past) j slot.next place must ])
-      (memory_holds s order is none past came a)
+      (memory_holds s order is past came a)
 
   no_fault : (past : List Step) → Came s order past → slice_get order (count past) ≡ Some slot.next → (kind : Kind) (cause : Cause) →
       HasNoFault s at_event la k (access_kind flags) outcome kind cause → Faults s.head (state_after s.head past) slot.p la kind cause (access_kind flags) outcome → ⊥

@@ -1,6 +1,7 @@
 -- What a word may hold while a processor stands between two of its events, in whichever order.
-use Rattle.std.specs.Prelude.{◌≡◌, ℕ, ◌<◌, ◌⊎◌, List, Some, slice_get}
+use Rattle.std.specs.Prelude.{◌≡◌, ℕ, ◌<◌, ◌⊎◌, Bool, List, Some, slice_get}
 use Rattle.std.specs.Option.{option_map}
+use Rattle.pg_entry.specs.Kinds.{marked}
 use Rattle.pg_event.specs.declared.event.Event.{Event}
 use Rattle.pg_event.specs.declared.event.Event.TheVariants.{Write}
 use Rattle.pg_event.specs.Form.{processor_of}
@@ -37,6 +38,13 @@ pub record MayBeLast (s : Spanned) (slot : Slot) (a v j : ℕ) : Type 0 where
 abbrev pub MayBeUnwritten : Spanned → Slot → ℕ → Type 0
 MayBeUnwritten s slot a = (i : ℕ) → WritesTo s.events a i → IsPast s slot i → ⊥
 
--- the word may hold the value in the slot
+-- the value is what the last write may have left in the word
+abbrev pub MayBeLeft : Spanned → Slot → ℕ → ℕ → Type 0
+MayBeLeft s slot a v = ((j : ℕ) × MayBeLast s slot a v j) ⊎ ((v ≡ 0) × MayBeUnwritten s slot a)
+
+-- the word may hold the value in the slot: what a write left, or that with the flags that assists may
+-- have set since (Intel SDM, vol. 3, 4.8)
 abbrev pub MayHold : Spanned → Slot → ℕ → ℕ → Type 0
-MayHold s slot a v = ((j : ℕ) × MayBeLast s slot a v j) ⊎ ((v ≡ 0) × MayBeUnwritten s slot a)
+MayHold s slot a v =
+    MayBeLeft s slot a v
+    ⊎ ((u : ℕ) × MayBeLeft s slot a u × (with_dirty : Bool) × (v ≡ marked with_dirty u))

@@ -3,7 +3,7 @@
 use Rattle.std.specs.Prelude.{◌≡◌, ℕ, List, Some, slice_get}
 use Rattle.pg_event.specs.declared.event.Event.{Event}
 use Rattle.pg_event.specs.declared.event.Outcome.{Outcome}
-use Rattle.pg_event.specs.declared.event.Event.TheVariants.{Access, Assist}
+use Rattle.pg_event.specs.declared.event.Event.TheVariants.{Access}
 use Rattle.pg_machine.specs.declared.step.Step.{Step}
 use Rattle.pg_machine.specs.Machine.{IsRun, visible}
 use Rattle.pg_run_of.specs.Converse.{AreSameButMoments}
@@ -15,12 +15,6 @@ HasRunInSomeOrder s =
     (order : List ℕ) × IsOrder s order
     × (steps : List Step) × IsRun s.head steps
     × AreSameButMoments (ordered s.events order) (visible steps)
-
--- no event is an assist
-abbrev pub HasNoAssist : List Event → Type 0
-HasNoAssist events =
-    (j p flags la word : ℕ) (moments : List ℕ) →
-    slice_get events j ≡ Some (Assist p flags la word moments) → ⊥
 
 -- event i is this access, whatever its moments
 abbrev pub IsAccess : List Event → ℕ → ℕ → ℕ → ℕ → Outcome → Type 0

@@ -1,6 +1,7 @@
 -- What words may hold in a slot, by the lists of their writes.
-use Rattle.std.specs.Prelude.{◌≡◌, ℕ, ◌<◌, List, Some, slice_get}
+use Rattle.std.specs.Prelude.{◌≡◌, ℕ, ◌<◌, Bool, List, Some, slice_get}
 use Rattle.std.specs.List.{AllByRecursion}
+use Rattle.pg_entry.specs.Kinds.{marked}
 use Rattle.pg_event.specs.declared.event.Event.{Event}
 use Rattle.pg_event.specs.declared.event.Event.TheVariants.{Write}
 use Rattle.pg_machine.specs.Machine.{IsIn}
@@ -46,3 +47,12 @@ pub record IsPlaceOf (words : List Word) (place a : ℕ) : Type 0 where
   pub word : Word
   pub there : slice_get words place ≡ Some word
   pub address : word.address ≡ a
+
+-- what one list has is in another
+abbrev pub AreAllIn : List ℕ → List ℕ → Type 0
+AreAllIn xs ys = (x : ℕ) → IsIn x xs → IsIn x ys
+
+-- a value, and what it is once assists set its flags
+pub record IsMarkedIn (v : ℕ) (values : List ℕ) : Type 0 where
+  pub plain : IsIn v values
+  pub flagged : (with_dirty : Bool) → IsIn (marked with_dirty v) values

@@ -10,7 +10,7 @@ ghost use Rattle.pg_machine.specs.Machine.{Answers, IsIn, is_usable};
 ghost use Rattle.pg_relaxed.specs.Caches.{CannotCome, HasNoFault, HasNoAnswer, known_of, kind_for};
 ghost use Rattle.pg_relaxed.specs.Caches.{word_in};
 ghost use Rattle.pg_relaxed.specs.Memory.{MayHold};
-ghost use Rattle.pg_relaxed.specs.Orders.{HasNoAssist, HasRunInSomeOrder, IsAccess};
+ghost use Rattle.pg_relaxed.specs.Orders.{HasRunInSomeOrder, IsAccess};
 ghost use Rattle.pg_relaxed.specs.Words.{AreWordsOf};
 
 use crate::caches::Caches;
@@ -20,7 +20,7 @@ use crate::table::Table;
 use crate::words::Words;
 use pg_entry::{AccessKind, Cause, Entry, Kind, allowed, classify, error_code, page_offset};
 use pg_event::{
-    Control, Event, Header, Outcome, Version, Want, access_kind, entry_address, loaded,
+    Control, Event, Header, Outcome, Want, access_kind, entry_address, loaded,
     processor_of, translation_matches, want_of,
 };
 use pg_machine::Translation;
@@ -203,12 +203,11 @@ fn cannot_come(
     }
 }
 
-/// Whether no order of a run with no assist can witness an access.
+/// Whether no order of a run can witness an access.
 fn refute_access(alloc: Global, run: &SpannedRun, asked: Asked) -> Result<bool, AllocError>
     requires there { IsAccess run.now.events asked.number asked.p asked.flags asked.la
         asked.outcome }
     requires count { asked.number < length run.now.events }
-    requires assists { HasNoAssist run.now.events }
     ensures { IfOk result (λ refuted. IsTrue refuted → HasRunInSomeOrder run.now → ⊥) }
 {
     let Asked { number, p, la, .. } = asked;
@@ -244,18 +243,14 @@ fn refute_access(alloc: Global, run: &SpannedRun, asked: Asked) -> Result<bool, 
 }
 
 /// Whether no order of a run has a run of the machine, since none can witness this event. A no says
-/// nothing: neither does the answer for an event that is no access, for records of version 2, and
-/// where too much would have to be looked at.
+/// nothing: neither does the answer for an event that is no access, and where too much would have to
+/// be looked at.
 ///
 /// It fails only where memory is refused. It takes time by the events of the processor before the
 /// event, and by the writes to the words that walks for its address read.
 pub fn refute(alloc: Global, run: &SpannedRun, number: u32) -> Result<bool, AllocError>
     ensures { IfOk result (λ refuted. IsTrue refuted → HasRunInSomeOrder run.now → ⊥) }
 {
-    match run.header().version {
-        Version::One => {}
-        Version::Two => return Ok(false),
-    }
     if number as usize >= run.len() {
         return Ok(false);
     }

@@ -3,12 +3,13 @@
 ghost use Rattle.std.specs.Prelude.{◌≡◌, ◌⊎◌, ℕ, ◌<◌, ◌^◌, [], length, IfOk, OnOk, IsTrue, IsFalse};
 ghost use Rattle.std.specs.Prelude.{IfSome, IfNone};
 ghost use Rattle.pg_machine.specs.Machine.{IsIn};
-ghost use Rattle.pg_relaxed.specs.Memory.{MayHold, IsToCome};
+ghost use Rattle.pg_relaxed.specs.Memory.{MayBeLeft, MayHold, IsToCome};
 ghost use Rattle.pg_relaxed.specs.Words.{AreWritesTo, AreWordsOf, IsOverwritten, IsWritten};
-ghost use Rattle.pg_relaxed.specs.Words.{WritesValue, AreBelow, IsPlaceOf};
+ghost use Rattle.pg_relaxed.specs.Words.{WritesValue, AreBelow, IsPlaceOf, AreAllIn, IsMarkedIn};
 
 use crate::precede::must_precede;
 use crate::slot::{Slot, is_past, is_to_come};
+use pg_entry::{Entry, marked};
 use pg_event::Event;
 use pg_spanned::SpannedRun;
 use std::alloc::{AllocError, Global};
@@ -34,6 +35,8 @@ pub(crate) struct Word {
 #[derive(Drop)]
 pub(crate) struct Words {
     pub words: Vec<Word>,
+    /// What the last write may have left.
+    left_there: Vec<u64>,
     pub values: Vec<u64>,
     pub left: u64,
 }
@@ -110,7 +113,7 @@ fn may_be_last(run: &SpannedRun, slot: Slot, writes: &[Written], written: Writte
     !is_overwritten(run, slot, writes, written.number)
 }
 
-/// The values that a word may hold in a slot, put into a list.
+/// The values that the last write to a word may have left in a slot, put into a list.
 fn put_values(
     run: &SpannedRun,
     slot: Slot,
@@ -118,7 +121,7 @@ fn put_values(
     values: &mut Vec<u64>,
 ) -> Result<(), AllocError>
     requires { AreWritesTo run.now.events word.now.address word.now.writes.items }
-    ensures { OnOk result ((value : ℕ) → MayHold run.now slot word.now.address value →
+    ensures { OnOk result ((value : ℕ) → MayBeLeft run.now slot word.now.address value →
         IsIn value values.new.items) }
 {
     let writes = word.writes.as_slice();
@@ -130,6 +133,27 @@ fn put_values(
     }
     if !is_written(run, slot, writes) {
         values.push(0)?;
+    }
+    Ok(())
+}
+
+/// Adds a value, and what it is once assists set its flags.
+fn push_marked(value: u64, values: &mut Vec<u64>) -> Result<(), AllocError>
+    ensures more { OnOk result (AreAllIn values.old.items values.new.items) }
+    ensures marked { OnOk result (IsMarkedIn value values.new.items) }
+{
+    values.push(value)?;
+    values.push(marked(Entry(value), false).0)?;
+    values.push(marked(Entry(value), true).0)?;
+    Ok(())
+}
+
+/// Adds each of the values, and what it is once assists set its flags.
+fn push_all_marked(left: &[u64], values: &mut Vec<u64>) -> Result<(), AllocError>
+    ensures { OnOk result ((value : ℕ) → IsIn value left.now → IsMarkedIn value values.new.items) }
+{
+    for value in left {
+        push_marked(*value, values)?;
     }
     Ok(())
 }
@@ -152,6 +176,7 @@ impl Words {
     {
         Words {
             words: Vec::new(alloc),
+            left_there: Vec::new(alloc),
             values: Vec::new(alloc),
             left: MOST_LOOKS,
         }
@@ -193,6 +218,7 @@ impl Words {
             MayHold run.now slot address value → IsIn value self.new.values.items) }
     {
         let place = self.place_of(alloc, run.events(), address)?;
+        self.left_there.clear();
         self.values.clear();
         let word = &self.words[place];
         let looks = word.writes.len() as u64 + 1;
@@ -200,7 +226,8 @@ impl Words {
             return Ok(false);
         }
         self.left -= looks;
-        put_values(run, slot, word, &mut self.values)?;
+        put_values(run, slot, word, &mut self.left_there)?;
+        push_all_marked(&self.left_there, &mut self.values)?;
         Ok(true)
     }
 }

@@ -63,7 +63,7 @@ loop-next-preserved c =
           subst (λ (d : Control). d.root < 2 ^ 52) (sym control)
           (root-controlled s.head.cfg.m (processor_of e) filled.control e (omega (arith, low)) high (subst (λ (d : Control). d.root < 2 ^ 52) (sym grows.control) c.loop-next.invariant.root)) in
           let on : Enters s p la (n + 1) w.max-ended.result left =
-          hands_on s p la n c.loop-next.ended w.max-ended.result e before filled left c.requires.assists there mine within c.loop-next.invariant.enters grows
+          hands_on s p la n c.loop-next.ended w.max-ended.result e before filled left there mine within c.loop-next.invariant.enters grows
           (w.in_ok-fill.ensures.filled w.if-not-branch.false) w.pass.ensures.left control later in
           record {
             words = subst (λ (v : Words). AreWordsOf s.events v.words.items) (sym w.words-is) w.in_ok-fill.ensures.words;
@@ -94,7 +94,7 @@ returns c =
     let later : c.max.result ≡ max c.loop-next.ended (ended_before s i) = c.max.ensures ∙ ap (max c.loop-next.ended) c.ended_before-2.ensures.count in
     if_ok (λ cannot. IsTrue cannot → CannotCome s (slot_of p i c.max.result) la filled (access_kind c.args.asked.flags) c.args.asked.outcome (want_of c.args.asked.outcome))
     (λ refuted. IsTrue refuted → HasRunInSomeOrder s → ⊥)
-    (λ b h yes. cannot_run s p la i c.loop-next.ended c.max.result c.args.asked.flags c.args.asked.outcome before filled c.requires.assists c.requires.there c.requires.count
+    (λ b h yes. cannot_run s p la i c.loop-next.ended c.max.result c.args.asked.flags c.args.asked.outcome before filled c.requires.there c.requires.count
     (subst (λ (k : ℕ). Enters s p la k c.loop-next.ended before) end c.loop-next.invariant.enters)
     (c.in_ok-fill-2.ensures.grows c.if-not-branch-2.false) (c.in_ok-fill-2.ensures.filled c.if-not-branch-2.false) later (h yes))
     c.cannot_come.result c.cannot_come.ensures
