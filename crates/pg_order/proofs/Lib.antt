@@ -1,3 +1,4 @@
 pub mod Ordered
 pub mod Meaning
 pub mod Numbers
+pub mod Fronts

@@ -55,7 +55,7 @@ map_take (suc k) [] = refl
 map_take (suc k) (x ∷ xs) = ap (λ ys. without_moments x ∷ ys) (map_take k xs)
 
 -- a run with all events begins with the first of them
-begins : (head : Head) (events : List Event) (n : ℕ) → HasRunButMoments head events → RunBeginsWith head events n
+pub begins : (head : Head) (events : List Event) (n : ℕ) → HasRunButMoments head events → RunBeginsWith head events n
 begins head events n run = (run.0, run.1, map_take (n + 1) events ∙ (ap (take (n + 1)) run.2 ∙ sym (map_take (n + 1) (visible run.0))))
 
 -- what is denied in the only order has no run in any

@@ -1,10 +1,10 @@
 //! The events of a run in one of their orders, certified.
 
 ghost use Rattle.std.specs.Prelude.{◌≡◌, IfOk};
-ghost use Rattle.pg_spanned.specs.Orders.{IsOrder};
 ghost use Rattle.pg_spanned.specs.Spanned.{IsSpanned};
 ghost use Rattle.pg_spanned.specs.Orders.{ordered};
 ghost use Rattle.pg_order.specs.Runs.{IsToldOf, HasRunIfCertified};
+ghost use Rattle.pg_order.specs.Trying.{AreNumbers};
 
 use crate::laws::ordered_events_run;
 use pg_certify::{Certified, certify};
@@ -25,19 +25,23 @@ pub enum InOrder {
     NoOrder,
 }
 
-/// The events of a run in one of their orders.
-fn history_in_order(alloc: Global, run: &SpannedRun, order: &[u32]) -> Result<History, AllocError>
-    requires { IsOrder run.now order.now }
+/// The events of a run that have these numbers, one after another.
+pub(crate) fn history_of(
+    alloc: Global,
+    run: &SpannedRun,
+    numbers: &[u32],
+) -> Result<History, AllocError>
+    requires { AreNumbers run.now numbers.now }
     ensures events { IfOk result (λ history. history ≡ record {
       head = run.now.head;
-      events = ordered run.now.events order.now;
+      events = ordered run.now.events numbers.now;
     }) }
     ensures spanned { IfOk result (λ history. IsSpanned run.now) }
 {
     let header = run.header().clone()?;
     let mut history = History::new(alloc, header)?;
     let events = run.events();
-    for number in order {
+    for number in numbers {
         history.extend(&[events[*number as usize]])?;
     }
     Ok(history)
@@ -60,7 +64,7 @@ pub fn certify_in_order(
     if !is_order(alloc, run, order)? {
         return Ok(InOrder::NoOrder);
     }
-    let history = history_in_order(alloc, run, order)?;
+    let history = history_of(alloc, run, order)?;
     match certify(alloc, &history)? {
         Certified::Yes(found) => Ok(InOrder::Certified(found)),
         Certified::No(place) => Ok(InOrder::Denied(place)),

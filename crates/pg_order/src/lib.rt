@@ -4,6 +4,7 @@
 
 mod in_order;
 mod laws;
+mod trying;
 mod verdict;
 
 pub use in_order::{InOrder, certify_in_order};

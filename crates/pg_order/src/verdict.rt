@@ -7,6 +7,7 @@ ghost use Rattle.pg_spanned.specs.Laws.{NoneOverlap};
 ghost use Rattle.pg_order.specs.Verdicts.{IsVerdict};
 
 use crate::in_order::{InOrder, certify_in_order};
+use crate::trying::{Tried, try_orders};
 use pg_arrange::{Sought, find_order};
 use pg_certify::denied_events_have_no_run;
 use pg_event::Event;
@@ -30,6 +31,9 @@ pub enum Verdict {
     /// the search gave up, or that no moments witness in the order that the search came to.
     Undecided(u64),
 }
+
+/// All orders are tried of a run of so many events.
+const MOST_TRIED: usize = 64;
 
 /// Whether each event began after those before it had ended.
 fn none_overlap(backs: &[u32]) -> bool
@@ -74,8 +78,40 @@ fn number_at(order: &[u32], place: u64) -> u32 {
     }
 }
 
+/// The verdict in an order that trying all of them came to. The event is told where it is not what
+/// it seems.
+fn verdict_in_whole(
+    alloc: Global,
+    run: &SpannedRun,
+    order: Vec<u32>,
+    number: u32,
+) -> Result<Verdict, AllocError>
+    requires { NoneOverlap run.now → ⊥ }
+    ensures { IfOk result (IsVerdict run.now) }
+{
+    match certify_in_order(alloc, run, &order)? {
+        InOrder::Certified(found) => Ok(Verdict::Yes { order, found }),
+        InOrder::Denied(_) | InOrder::NoOrder => Ok(Verdict::Undecided(number as u64)),
+    }
+}
+
+/// The verdict by all orders, where the events are few. The event is told of a no.
+fn verdict_of_all(alloc: Global, run: &SpannedRun, number: u32) -> Result<Verdict, AllocError>
+    requires { NoneOverlap run.now → ⊥ }
+    ensures { IfOk result (IsVerdict run.now) }
+{
+    if run.len() > MOST_TRIED || number as usize >= run.len() {
+        return Ok(Verdict::Undecided(number as u64));
+    }
+    match try_orders(alloc, run)? {
+        Tried::Whole(order) => verdict_in_whole(alloc, run, order, number),
+        Tried::NoOrder => Ok(Verdict::No(number as u64)),
+        Tried::Spent => Ok(Verdict::Undecided(number as u64)),
+    }
+}
+
 /// The verdict of a run whose search gave up with these events waiting: a no, where no order can
-/// witness one of them.
+/// witness one of them, or where all orders were tried.
 fn verdict_of_waiting(
     alloc: Global,
     run: &SpannedRun,
@@ -89,7 +125,7 @@ fn verdict_of_waiting(
             return Ok(Verdict::No(*number as u64));
         }
     }
-    Ok(Verdict::Undecided(number_at(waiting, 0) as u64))
+    verdict_of_all(alloc, run, number_at(waiting, 0))
 }
 
 /// The verdict in an order that a search came to.
@@ -110,7 +146,7 @@ fn verdict_in(alloc: Global, run: &SpannedRun, order: Vec<u32>) -> Result<Verdic
 /// Looks for an order of the events of a run in which some run of the machine has them. A yes has
 /// the order, and moments for the events in it. Where no event overlaps another the answer is a yes
 /// or a no. Else it is a no where no order can witness an event that waits when the search gives up,
-/// as far as `refute` of `pg_relaxed` tells.
+/// as far as `refute` of `pg_relaxed` tells, or where a run of few events has none of all its orders.
 ///
 /// It fails only where memory is refused.
 pub fn find_ordered_run(alloc: Global, run: &SpannedRun) -> Result<Verdict, AllocError>

@@ -1,0 +1,189 @@
+//! All orders of a run with few events, tried one after another. What begins an order and has an
+//! event that no moments witness begins none with a run, whatever comes behind it.
+
+ghost use Rattle.std.specs.Prelude.{◌≡◌, ℕ, ◌<◌, ◌≤◌, ◌^◌, ◌↔◌, [], ◌∷◌, ◌++◌, length, IfOk, OnOk};
+ghost use Rattle.std.specs.Prelude.{IsTrue, IsFalse, slice_index};
+ghost use Rattle.pg_order.specs.Runs.{HasOrderedRun};
+ghost use Rattle.pg_order.specs.Trying.{AreNumbers, Lacks, LacksEarlier, NoneBegins};
+ghost use Rattle.pg_order.specs.Trying.{NoneBelow, IsTrying, IsTried};
+
+use crate::in_order::history_of;
+use pg_certify::{denied_events_have_no_run, first_denied};
+use pg_event::{Event, processor_of};
+use pg_spanned::SpannedRun;
+use std::alloc::{AllocError, Global};
+
+/// What trying all orders came to.
+#[derive(Drop)]
+pub(crate) enum Tried {
+    /// An order in which some moments witness each event, as far as this search sees.
+    Whole(Vec<u32>),
+    /// No order has a run.
+    NoOrder,
+    /// So many beginnings were looked at that it gave up.
+    Spent,
+}
+
+/// Where the search stands: each order that begins with a part of `front` and goes on with a lesser
+/// number was tried, and each that begins with `front` and goes on with a number below `next`.
+#[derive(Drop)]
+pub(crate) struct Trying {
+    pub front: Vec<u32>,
+    pub next: u32,
+}
+
+/// Whether a number stands nowhere in a list.
+fn lacks(numbers: &[u32], number: u32) -> bool
+    ensures { IsTrue result ↔ Lacks numbers.now number }
+{
+    numbers.iter().all(|other| *other != number)
+}
+
+/// Whether a list lacks an event that had ended before another began.
+fn lacks_ended(run: &SpannedRun, numbers: &[u32], number: u32) -> bool
+    requires { number < length run.now.events }
+    ensures { IsTrue result → LacksEarlier run.now numbers.now number }
+{
+    let backs = run.backs();
+    for earlier in 0..number - backs[number as usize] {
+        if lacks(numbers, earlier) {
+            return true;
+        }
+    }
+    false
+}
+
+/// Whether a list lacks an earlier event of the processor of another.
+fn lacks_own(run: &SpannedRun, numbers: &[u32], number: u32) -> bool
+    requires { number < length run.now.events }
+    ensures { IsTrue result → LacksEarlier run.now numbers.now number }
+{
+    let events = run.events();
+    let p = processor_of(&events[number as usize]);
+    for earlier in 0..number {
+        if processor_of(&events[earlier as usize]) == p && lacks(numbers, earlier) {
+            return true;
+        }
+    }
+    false
+}
+
+/// Whether an event names moments, so that it may be one that none witness.
+fn names_moments(event: &Event) -> bool {
+    match event {
+        Event::Access { .. } | Event::Assist { .. } => true,
+        Event::Write { .. }
+        | Event::MovCr3 { .. }
+        | Event::Invlpg { .. }
+        | Event::Invpcid { .. }
+        | Event::MovCr4Pge { .. } => false,
+    }
+}
+
+/// Whether no moments witness one of these events behind those before it.
+fn are_denied(alloc: Global, run: &SpannedRun, numbers: &[u32]) -> Result<bool, AllocError>
+    requires { AreNumbers run.now numbers.now }
+    ensures { IfOk result (λ denied. IsTrue denied → NoneBegins run.now numbers.now) }
+{
+    denied_events_have_no_run();
+    let history = history_of(alloc, run, numbers)?;
+    match first_denied(alloc, &history)? {
+        Some(_) => Ok(true),
+        None => Ok(false),
+    }
+}
+
+/// The least number that may go on these, the last of which is told once more: none where no moments
+/// witness the last event.
+fn first_behind(
+    alloc: Global,
+    run: &SpannedRun,
+    numbers: &[u32],
+    last: u32,
+) -> Result<u32, AllocError>
+    requires numbers { AreNumbers run.now numbers.now }
+    requires last { last < length run.now.events }
+    ensures within { IfOk result (λ first. first ≤ length run.now.events) }
+    ensures none { IfOk result (NoneBelow run.now numbers.now) }
+{
+    let events = run.events();
+    if names_moments(&events[last as usize]) && are_denied(alloc, run, numbers)? {
+        Ok(run.len() as u32)
+    } else {
+        Ok(0)
+    }
+}
+
+impl Trying {
+    /// Whether the next number may go on what the order begins with, by what must precede it.
+    fn may_follow(&self, run: &SpannedRun) -> bool
+        requires { self.now.next < length run.now.events }
+        ensures { IsFalse result → NoneBegins run.now (self.now.front.items ++ self.now.next ∷ []) }
+    {
+        lacks(&self.front, self.next)
+            && !lacks_ended(run, &self.front, self.next)
+            && !lacks_own(run, &self.front, self.next)
+    }
+
+    /// Goes on with the next number, or past it where no order with a run does.
+    fn go_on(&mut self, alloc: Global, run: &SpannedRun) -> Result<(), AllocError>
+        requires trying { IsTrying run.now self.old }
+        requires count { length run.now.events < 2 ^ 32 }
+        requires short { length self.old.front.items < length run.now.events }
+        requires next { self.old.next < length run.now.events }
+        ensures { OnOk result (IsTrying run.now self.new) }
+    {
+        if self.may_follow(run) {
+            let last = self.next;
+            self.front.push(last)?;
+            self.next = first_behind(alloc, run, &self.front, last)?;
+        } else {
+            self.next += 1;
+        }
+        Ok(())
+    }
+
+    /// Goes back by one number and past it. Says no where there is none.
+    fn go_back(&mut self, run: &SpannedRun) -> bool
+        requires trying { IsTrying run.now self.old }
+        requires count { length run.now.events < 2 ^ 32 }
+        requires short { length self.old.front.items < length run.now.events }
+        requires all { length run.now.events ≤ self.old.next }
+        ensures back { IsTrue result → IsTrying run.now self.new }
+        ensures none { IsFalse result → HasOrderedRun run.now → ⊥ }
+    {
+        match self.front.pop() {
+            Some(last) => {
+                self.next = last + 1;
+                true
+            }
+            None => false,
+        }
+    }
+}
+
+/// So many beginnings of orders are looked at, times the events.
+const MOST_LOOKS: u64 = 10_000_000;
+
+/// Tries all orders of a run, until one is found or too much was looked at.
+pub(crate) fn try_orders(alloc: Global, run: &SpannedRun) -> Result<Tried, AllocError>
+    ensures { IfOk result (IsTried run.now) }
+{
+    let count = run.len();
+    let mut trying = Trying {
+        front: Vec::new(alloc),
+        next: 0,
+    };
+    for _ in 0..MOST_LOOKS / (count as u64 + 1) {
+        if trying.front.len() >= count {
+            let Trying { front, .. } = trying;
+            return Ok(Tried::Whole(front));
+        }
+        if (trying.next as usize) < count {
+            trying.go_on(alloc, run)?;
+        } else if !trying.go_back(run) {
+            return Ok(Tried::NoOrder);
+        }
+    }
+    Ok(Tried::Spent)
+}
