@@ -11,8 +11,14 @@ use crate::sweep::{Hit, Limits, Sweep, View};
 use std::alloc::{AllocError, Global};
 use std::collections::HashMap;
 
-/// How often an event may be found to be the first that waits.
-const MOST_TRIES: u32 = 2000;
+/// How often an event may be found to be the first that waits, before the search begins again.
+const MOST_TRIES: u32 = 400;
+
+/// How often the search begins.
+const MOST_SEARCHES: u32 = 8;
+
+/// Where the search begins again, up to so many events are taken back.
+const AGAIN: u32 = 1000;
 
 /// After so many of them all that was learned is forgotten, and up to so many events are taken
 /// back.
@@ -23,7 +29,7 @@ const FAR_BACK: u32 = 400;
 /// How many events may be taken back in all, for each of the run and for so many more.
 const MOST_UNDONE: u64 = 64;
 
-const MORE: u64 = 1000;
+const MORE: u64 = 4000;
 
 const ALL_WINDOWS: u32 = NEVER;
 
@@ -34,6 +40,8 @@ pub(crate) struct Tries {
     tried: HashMap<u64, u32>,
     /// How often an event was the first that waits.
     stuck: HashMap<u32, u32>,
+    /// How often the search began.
+    searches: u32,
 }
 
 /// Edges to be learned for an event that waits.
@@ -52,6 +60,7 @@ impl Tries {
         Tries {
             tried: HashMap::new(alloc),
             stuck: HashMap::new(alloc),
+            searches: 1,
         }
     }
 
@@ -205,6 +214,18 @@ impl<'a> Maker<'a> {
         self.take_back_to(now.saturating_sub(back))
     }
 
+    /// Begins again further back by other chance, with nothing learned and nothing tried.
+    fn begin_again(&mut self) -> Result<(), AllocError> {
+        let searches = self.tries.searches.saturating_add(1);
+        self.tries = Tries {
+            searches,
+            ..Tries::new(self.alloc)
+        };
+        self.learned = Learned::new(self.alloc);
+        let now = self.made.now();
+        self.take_back_to(now.saturating_sub(AGAIN))
+    }
+
     /// Notes that this event was the first that waits, and tells how often it was.
     fn note_stuck(&mut self, event: u32) -> Result<u32, AllocError> {
         let tries = self.tries.stuck(event).saturating_add(1);
@@ -228,11 +249,13 @@ impl<'a> Maker<'a> {
         Ok(waiting)
     }
 
+    /// Whether the search gives up, and does not begin again.
     fn is_spent(&self, tries: u32) -> bool {
         let most = (self.facts.run.len() as u64)
             .saturating_add(MORE)
             .saturating_mul(MOST_UNDONE);
-        tries > MOST_TRIES || self.made.undone > most
+        let is_last = self.tries.searches >= MOST_SEARCHES;
+        tries > MOST_TRIES && is_last || self.made.undone > most
     }
 
     /// Another order of what stands, so that one of the events that wait is witnessed. Where none
@@ -272,7 +295,11 @@ impl<'a> Maker<'a> {
         if self.is_spent(tries) {
             return Ok(Some(self.waiting(first)?));
         }
-        self.go_on(best, held.as_slice(), tries)?;
+        if tries > MOST_TRIES {
+            self.begin_again()?;
+        } else {
+            self.go_on(best, held.as_slice(), tries)?;
+        }
         Ok(None)
     }
 
