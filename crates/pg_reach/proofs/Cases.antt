@@ -1,6 +1,6 @@
 -- Under which PCID and how late moments end that witness an event.
-use Rattle.std.proofs.Common.{◌≡◌, ℕ, ◌<◌, ◌≤◌, ◌==◌, ◌&&◌, not, Bool, true, false, List, [], ◌∷◌, length, refl, ap, sym, ◌∙◌, subst, inl, inr, ◌⊎◌, arith, None}
-use Rattle.std.proofs.lemmas.Bool.{cases_Bool, and_parts, eqb-true}
+use Rattle.std.proofs.Common.{◌≡◌, ℕ, ◌<◌, ◌≤◌, ◌==◌, ◌&&◌, not, Bool, true, false, List, [], ◌∷◌, length, refl, ap, sym, ◌∙◌, subst, inl, inr, ◌⊎◌, arith, Option, None}
+use Rattle.std.proofs.lemmas.Bool.{cases_Bool, cases_lt, and_parts, eqb-true}
 use Rattle.pg_entry.specs.declared.Cfg.{Cfg}
 use Rattle.pg_entry.specs.declared.Cause.{Cause}
 use Rattle.pg_entry.specs.declared.Cause.TheVariants as causes
@@ -35,7 +35,8 @@ use Rattle.pg_check.proofs.Pages.{IsPaged, kind_paged}
 use Rattle.pg_search.specs.Exact.{first_or}
 use Rattle.pg_search.specs.Law.{AreWitness}
 use Rattle.pg_reach.specs.declared.walker.Walker.{Walker}
-use Rattle.pg_reach.specs.Asking.{want_by, Asks, last_moment, pcid_of, LastsBy, EndsLate, NoneOwn, NoneGlobal, under}
+use Rattle.pg_reach.specs.Asking.{want_by, Asks, last_moment, pcid_of, LastsBy, EndsLate, AreUnder, AreLate, AreGlobal, under}
+use Rattle.pg_reach.specs.Reaching.{IsFresher}
 use Rattle.pg_reach.specs.Bounds.{translation_up_to}
 use Rattle.pg_reach.proofs.Coming.{in_order_low}
 
@@ -185,14 +186,50 @@ first_low r v (Invlpg p la) ws asks witness = absurd asks
 first_low r v (Invpcid p kind pcid la) ws asks witness = absurd asks
 first_low r v (MovCr4Pge p on) ws asks witness = absurd asks
 
--- no moments under any PCID, no moments
-pub none_at_all : (r : Recorded) (v : Walker) (e : Event) → Asks v e → (control_at r.head r.events v.p v.number).pcid ≡ v.pcid → NoneOwn r v e →
-    (uses_last (want_by e) ≡ true → (w : ℕ) → w ≤ v.number → NoneGlobal r (under v (control_at r.head r.events v.p w).pcid) e) → (ws : List ℕ) → AreWitness r.head r.events v.number e ws → ⊥
-none_at_all r v e asks now own globals ws witness =
-    elim (ends_so r v e ws asks now witness) as (λ _. ⊥) [
+-- what is found under each PCID is found
+pub all_found : (r : Recorded) (v : Walker) (e : Event) (found : Option (List ℕ)) → Asks v e → (control_at r.head r.events v.p v.number).pcid ≡ v.pcid → AreLate r v e found →
+    (uses_last (want_by e) ≡ true → (w : ℕ) → w ≤ v.number → AreGlobal r (under v (control_at r.head r.events v.p w).pcid) e found) → (ws : List ℕ) → AreWitness r.head r.events v.number e ws → IsFresher v.freshest found ws
+all_found r v e found asks now own globals ws witness =
+    elim (ends_so r v e ws asks now witness) as (λ _. IsFresher v.freshest found ws) [
       | inl a ↦ own ws witness a.0 a.1
       | inr b ↦ globals b.0 (first_or 0 ws) (first_low r v e ws asks witness) ws witness refl b.1
     ]
+
+-- what is found since a moment before which no global translation survives is found of all
+pub global_since : (r : Recorded) (v : Walker) (since : ℕ) (e : Event) (found : Option (List ℕ)) → AreUnder r v since e found → ((shift w : ℕ) → IsPageShift shift → w < since → translation_up_to r v shift true w ≡ false) → AreGlobal r v e found
+global_since r v since e found h none = λ ws witness alike lasts.
+    elim (cases_lt (last_moment ws) since) as (λ _. IsFresher v.freshest found ws) [
+      | inl lt ↦ absurd (apart lasts.2 (none lasts.0 (last_moment ws) lasts.1 lt))
+      | inr le ↦ h ws witness alike le
+    ]
+  where
+    apart : {b : Bool} → b ≡ true → b ≡ false → ⊥
+    apart h k = cc
+
+-- what is found since a moment before which no translation of the PCID survives is found of those that end late
+pub late_page : (r : Recorded) (v : Walker) (since : ℕ) (e : Event) (found : Option (List ℕ)) → since ≤ v.number → ((shift w : ℕ) → IsPageShift shift → w < since → translation_up_to r v shift false w ≡ false) → AreUnder r v since e found → AreLate r v e found
+late_page r v since e found low none h = λ ws witness alike ends.
+    elim ends as (λ _. IsFresher v.freshest found ws) [
+      | inl now ↦ h ws witness alike (omega (arith, now, low))
+      | inr page ↦ elim (cases_lt (last_moment ws) since) as (λ _. IsFresher v.freshest found ws) [
+        | inl lt ↦ absurd (apart page.1.2 (none page.1.0 (last_moment ws) page.1.1 lt))
+        | inr le ↦ h ws witness alike le
+      ]
+    ]
+  where
+    apart : {b : Bool} → b ≡ true → b ≡ false → ⊥
+    apart h k = cc
+
+-- where no page is wanted they end at the event
+pub late_now : (r : Recorded) (v : Walker) (e : Event) (found : Option (List ℕ)) → uses_last (want_by e) ≡ false → AreUnder r v v.number e found → AreLate r v e found
+late_now r v e found none h = λ ws witness alike ends.
+    elim ends as (λ _. IsFresher v.freshest found ws) [
+      | inl now ↦ h ws witness alike (omega (arith, now))
+      | inr page ↦ absurd (apart page.0 none)
+    ]
+  where
+    apart : {b : Bool} → b ≡ true → b ≡ false → ⊥
+    apart h k = cc
 
 -- the processor of an event that names moments is there
 pub processor_there : (head : Head) (v : Walker) (e : Event) → Asks v e → broken_rule head e ≡ None → v.p < length head.processors

@@ -1,7 +1,8 @@
 -- Moments that witness an event lead to a reach.
-use Rattle.std.proofs.Common.{◌≡◌, ℕ, ◌<◌, ◌≤◌, ◌^◌, ◌==◌, Bool, true, false, not, nat_le, List, [], ◌∷◌, refl, sym, subst, inl, inr, arith}
+use Rattle.std.proofs.Common.{◌≡◌, ℕ, ◌<◌, ◌≤◌, ◌^◌, ◌==◌, Bool, true, false, not, nat_le, List, [], ◌∷◌, ◌++◌, ◌∙◌, refl, sym, subst, inl, inr, arith}
 use Rattle.std.specs.List.{list_all}
 use Rattle.std.proofs.lemmas.Bool.{cases_lt, and_parts, eqb-true, leb-true}
+use Rattle.std.proofs.lemmas.List.{append_assoc}
 use Rattle.pg_entry.specs.declared.Level.{Level}
 use Rattle.pg_entry.specs.declared.Level.TheVariants.{Four, Three, Two, One}
 use Rattle.pg_entry.specs.Kinds.{kind_of, accessed}
@@ -96,51 +97,68 @@ in_bounds r v since b want small bounds level from x (y ∷ ys) h late =
     let step = step_of r v want level from x y ys small h in
     bound_step r v since b bounds level x y step.deep (in_bounds r v since b want small bounds (below level) (next_at r v level from x) y ys step.rest late) step.leads.lasts
 
--- the last reading of a walk is in the table of a reach
-pub record EndsIn (r : Recorded) (v : Walker) (want : Want) (since : ℕ) (lists : Level → List Reach) (last : Reading) : Type 0 where
+-- the last reading of a walk is in the table of a reach, to which those before it lead
+pub record EndsIn (r : Recorded) (v : Walker) (want : Want) (since : ℕ) (lists : Level → List Reach) (last : Reading) (all : List ℕ) : Type 0 where
   pub at : Level
   pub to : Parent
   pub w : ℕ
-  pub there : AreAt (lists at) to w
+  pub before : List ℕ
+  pub there : AreAt v.freshest (lists at) to w before
   pub late : since ≤ w
   pub low : w ≤ v.number
   pub under : IsUnder r v w
   pub wanted : is_wanted want (kind_of r.head.cfg at (seen (mem_at r.events) v.la at to w)) ≡ true
   pub same : last ≡ reading_at r.events v.la at to w
+  pub is : before ++ w ∷ [] ≡ all
 
-next_there : (r : Recorded) (v : Walker) (b : Bounds) (lists : Level → List Reach) → AreLevels r v b lists → (level : Level) (from : Parent) (x y : ℕ) → IsTableLevel level → bound_of b level ≤ x → x ≤ v.number → LeadsOn r v level from x y →
-    AreAt (lists level) from x → AreAt (lists (below level)) (next_at r v level from x) y
-next_there r v b lists levels level from x y deep late low leads there =
+next_there : (r : Recorded) (v : Walker) (b : Bounds) (lists : Level → List Reach) → AreLevels r v b lists → (level : Level) (from : Parent) (x y : ℕ) (ws : List ℕ) → IsTableLevel level → bound_of b level ≤ x → x ≤ v.number → LeadsOn r v level from x y →
+    AreAt v.freshest (lists level) from x ws → AreAt v.freshest (lists (below level)) (next_at r v level from x) y (ws ++ x ∷ [])
+next_there r v b lists levels level from x y ws deep late low leads there =
     let reach : Reach = there.0 in
     let table : reach.table ≡ from = there.2.table in
     let mine : LeadsOn r v level reach.table x y = subst (λ f. LeadsOn r v level f x y) (sym table) leads in
-    subst (λ f. AreAt (lists (below level)) (next_at r v level f x) y) table
-    ((levels.below level deep).next reach there.1 x y (omega (arith, there.2.from, late)) (omega (arith, there.2.to, low)) mine)
+    subst (λ f. AreAt v.freshest (lists (below level)) (next_at r v level f x) y (ws ++ x ∷ [])) table
+    ((levels.below level deep).next reach there.1 x y ws (omega (arith, there.2.from, late)) (omega (arith, there.2.to, low)) mine there.2.fresh)
 
-pub ends_in : (r : Recorded) (v : Walker) (since : ℕ) (b : Bounds) (want : Want) (lists : Level → List Reach) → v.number < 2 ^ 32 → AreBounds r v since b → AreLevels r v b lists → (level : Level) (from : Parent) (x : ℕ) (ws : List ℕ) →
-    Holds r.head r.events v.p v.la v.pcid want v.number level from (x ∷ ws) → since ≤ last_moment (x ∷ ws) → AreAt (lists level) from x →
+pub ends_in : (r : Recorded) (v : Walker) (since : ℕ) (b : Bounds) (want : Want) (lists : Level → List Reach) → v.number < 2 ^ 32 → AreBounds r v since b → AreLevels r v b lists → (level : Level) (from : Parent) (before : List ℕ) (x : ℕ) (ws : List ℕ) →
+    Holds r.head r.events v.p v.la v.pcid want v.number level from (x ∷ ws) → since ≤ last_moment (x ∷ ws) → AreAt v.freshest (lists level) from x before →
     EndsIn r v want since lists (last_or (reading_at r.events v.la level from x)
-    (readings r.head.cfg.m (mem_at r.events) v.la (below level) (given r.head.cfg.m (mem_at r.events) v.la level from x).table (given r.head.cfg.m (mem_at r.events) v.la level from x).rights ws))
-ends_in r v since b want lists small bounds levels level from x [] h late there = record {
+    (readings r.head.cfg.m (mem_at r.events) v.la (below level) (given r.head.cfg.m (mem_at r.events) v.la level from x).table (given r.head.cfg.m (mem_at r.events) v.la level from x).rights ws)) (before ++ x ∷ ws)
+ends_in r v since b want lists small bounds levels level from before x [] h late there = record {
   at = level;
   to = from;
   w = x;
+  before = before;
   there = there;
   late = late;
   low = leb-true x v.number h.order;
   under = eqb-true _ _ (and_parts _ _ h.alike).0;
   wanted = h.kinds;
   same = refl;
+  is = refl;
 }
-ends_in r v since b want lists small bounds levels level from x (y ∷ ys) h late there =
+ends_in r v since b want lists small bounds levels level from before x (y ∷ ys) h late there =
     let step = step_of r v want level from x y ys small h in
     let own : bound_of b level ≤ x = in_bounds r v since b want small bounds level from x (y ∷ ys) h late in
-    ends_in r v since b want lists small bounds levels (below level) (next_at r v level from x) y ys step.rest late
-    (next_there r v b lists levels level from x y step.deep own (in_order_low x (y ∷ ys) v.number h.order) step.leads there)
+    let end = ends_in r v since b want lists small bounds levels (below level) (next_at r v level from x) (before ++ x ∷ []) y ys step.rest late
+    (next_there r v b lists levels level from x y before step.deep own (in_order_low x (y ∷ ys) v.number h.order) step.leads there) in
+    record {
+      at = end.at;
+      to = end.to;
+      w = end.w;
+      before = end.before;
+      there = end.there;
+      late = end.late;
+      low = end.low;
+      under = end.under;
+      wanted = end.wanted;
+      same = end.same;
+      is = end.is ∙ append_assoc before (x ∷ []) (y ∷ ys);
+    }
 
 -- where the walk begins
 pub begins_in : (r : Recorded) (v : Walker) (since : ℕ) (b : Bounds) (want : Want) (lists : Level → List Reach) → v.number < 2 ^ 32 → AreBounds r v since b → AreLevels r v b lists → (x : ℕ) (ws : List ℕ) →
-    Holds r.head r.events v.p v.la v.pcid want v.number Four (root_of (control_at r.head r.events v.p x)) (x ∷ ws) → since ≤ last_moment (x ∷ ws) → AreAt (lists Four) (root_of (control_at r.head r.events v.p x)) x
+    Holds r.head r.events v.p v.la v.pcid want v.number Four (root_of (control_at r.head r.events v.p x)) (x ∷ ws) → since ≤ last_moment (x ∷ ws) → AreAt v.freshest (lists Four) (root_of (control_at r.head r.events v.p x)) x []
 begins_in r v since b want lists small bounds levels x ws h late =
     let own : b.four ≤ x = in_bounds r v since b want small bounds Four (root_of (control_at r.head r.events v.p x)) x ws h late in
     levels.roots.all x own (in_order_low x ws v.number h.order) (eqb-true _ _ (and_parts ((control_at r.head r.events v.p x).pcid == v.pcid) (list_all (λ w. (control_at r.head r.events v.p w).pcid == v.pcid) ws) h.alike).0)

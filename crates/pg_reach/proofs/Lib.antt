@@ -1,5 +1,7 @@
 mod Spans
 mod Lasts
+pub mod Fresh
+pub mod Rooms
 mod Nexts
 mod Levels
 mod Refusals

@@ -1,9 +1,7 @@
 -- The table that an entry gives is one that a walk can come to.
 use Rattle.std.proofs.Common.{◌≡◌, ℕ, ◌+◌, ◌-◌, ◌≤◌, ◌^◌, min, Bool, true, false, ◌&&◌, Some, None, List, [], ◌∷◌, ◌++◌, length, refl, ap, sym, ◌∙◌, subst, inl, inr, arith}
-use Rattle.std.specs.List.{All, Contains}
 use Rattle.std.proofs.lemmas.Bool.{cases_lt, and_from}
 use Rattle.std.proofs.lemmas.List.{length_push, length-map}
-use Rattle.std.proofs.lemmas.List.Elements.{All-push, Contains-append_left, Contains-push}
 use Rattle.pg_entry.specs.declared.Level.{Level}
 use Rattle.pg_entry.specs.declared.Level.TheVariants.{Four, Three, Two, One}
 use Rattle.pg_entry.specs.Kinds.{kind_of}
@@ -19,13 +17,16 @@ use Rattle.pg_inval.specs.Drops.{IsTableLevel}
 use Rattle.pg_search.specs.Exact as exact
 use Rattle.pg_search.specs.Exact.{first_or, IsLink, IsChain, IsWayFromRoot}
 use Rattle.pg_search.specs.Sweep.{entry_at, table_by}
+use Rattle.pg_search.specs.Freshness.{is_as_fresh}
+use Rattle.pg_search.proofs.Freshness.{fresh_more}
+use Rattle.pg_reach.proofs.Fresh.{up_to-push, later_fresh}
 use Rattle.pg_reach.proofs.Lasts.{lasts_now, lasts_within, lasts_from}
 use Rattle.pg_reach.specs.declared.walker.Walker.{Walker}
 use Rattle.pg_reach.specs.declared.reach.Reach.{Reach}
 use Rattle.pg_reach.specs.declared.view.Piece.{Piece}
 use Rattle.pg_reach.specs.Stays.{IsUnder}
 use Rattle.pg_search.specs.Lasts.{IsEnd}
-use Rattle.pg_reach.specs.Reaching.{entry_of, structure_lasts, IsLastRead, IsPiece, up_to, way_of, steps_to, IsReach, AreAt, LeadsOn, next_at, IsFilled, Covers, IsAdded, IsNextOf}
+use Rattle.pg_reach.specs.Reaching.{entry_of, structure_lasts, IsLastRead, IsPiece, up_to, way_of, steps_to, IsReach, AreFresh, Has, AreAt, LeadsOn, next_at, IsFilled, IsAdded, IsNextOf}
 
 -- one more link behind a chain
 chain_push : (head : Head) (events : List Event) (v : exact.Walker) (w y : ℕ) (level : Level) (from : Parent) (ws : List ℕ) (at : Level) (to : Parent) →
@@ -59,10 +60,6 @@ up_to-twice : (a b : ℕ) (ws : List ℕ) → up_to a (up_to b ws) ≡ up_to (mi
 up_to-twice a b [] = refl
 up_to-twice a b (x ∷ xs) = ap (λ y. y ∷ up_to a (up_to b xs)) (min_assoc a b x) ∙ ap (λ ys. min (min a b) x ∷ ys) (up_to-twice a b xs)
 
-up_to-push : (a x : ℕ) (ws : List ℕ) → up_to a (ws ++ x ∷ []) ≡ up_to a ws ++ min a x ∷ []
-up_to-push a x [] = refl
-up_to-push a x (y ∷ ys) = ap (λ zs. min a y ∷ zs) (up_to-push a x ys)
-
 deeper : (level : Level) → IsTableLevel level → steps_to (below level) ≡ steps_to level + 1
 deeper Four h = refl
 deeper Three h = refl
@@ -92,6 +89,7 @@ next_reach r v level x entry start read y deep h low order high under same next 
   few =
       let count : length y.latest ≡ length x.latest + 1 = ap length next.latest ∙ length_push (up_to read x.latest) (2 ^ 32 - 1) ∙ ap (λ n. n + 1) (length-map x.latest (min read)) in
       omega (arith, count, h.few, deeper level deep);
+  next = (up_to read x.latest, next.latest);
   way = λ w from to here.
       let m : ℕ = min w read in
       let from' : start ≤ w = omega (arith, from, next.from) in
@@ -117,20 +115,17 @@ next_reach r v level x entry start read y deep h low order high under same next 
 
 -- what is added, one piece more
 
-pub at_kept : (olds news : List Reach) → ((y : Reach) → Contains olds y → Contains news y) → (t : Parent) (w : ℕ) → AreAt olds t w → AreAt news t w
-at_kept olds news kept t w h = (h.0, kept h.0 h.1, h.2)
-
 pub filled_none : (r : Recorded) (v : Walker) (level : Level) (at : ℕ) (x : Reach) (xs : List Reach) → IsFilled r v level at at x xs xs
-filled_none r v level at x xs = record { each = λ h. h; kept = λ y h. h; next = λ w y low lt. absurd (omega (arith, low, lt)) }
+filled_none r v level at x xs = record { each = λ h. h; kept = λ t w ws h. h; next = λ w y ws low lt. absurd (omega (arith, low, lt)) }
 
 pub filled_more : (r : Recorded) (v : Walker) (level : Level) (low at until : ℕ) (x : Reach) (olds mids news : List Reach) → IsFilled r v level low at x olds mids → IsFilled r v level at until x mids news →
     IsFilled r v level low until x olds news
 filled_more r v level low at until x olds mids news h k = record {
   each = λ all. k.each (h.each all);
-  kept = λ y here. k.kept y (h.kept y here);
-  next = λ w y from lt leads. elim (cases_lt w at) as (λ _. AreAt news (next_at r v level x.table w) y) [
-    | inl before ↦ at_kept mids news k.kept (next_at r v level x.table w) y (h.next w y from before leads)
-    | inr after ↦ k.next w y after lt leads
+  kept = λ t w ws here. k.kept t w ws (h.kept t w ws here);
+  next = λ w y ws from lt leads fresh. elim (cases_lt w at) as (λ _. AreAt v.freshest news (next_at r v level x.table w) y (ws ++ w ∷ [])) [
+    | inl before ↦ k.kept (next_at r v level x.table w) y (ws ++ w ∷ []) (h.next w y ws from before leads fresh)
+    | inr after ↦ k.next w y ws after lt leads fresh
   ];
 }
 
@@ -138,8 +133,8 @@ filled_more r v level low at until x olds mids news h k = record {
 pub filled_unread : (r : Recorded) (v : Walker) (level : Level) (at : ℕ) (x : Reach) (piece : Piece) (xs : List Reach) → piece.read ≡ None → IsPiece r v level x.table at x.to piece → IsFilled r v level at (piece.to + 1) x xs xs
 filled_unread r v level at x piece xs none h = record {
   each = λ all. all;
-  kept = λ y here. here;
-  next = λ w y low lt leads.
+  kept = λ t w ws here. here;
+  next = λ w y ws low lt leads fresh.
       let unread : IsLastRead r v at piece.to None = subst (IsLastRead r v at piece.to) none h.read in
       absurd (unread w low (omega (arith, lt)) leads.under);
 }
@@ -149,8 +144,8 @@ pub filled_nowhere : (r : Recorded) (v : Walker) (level : Level) (at : ℕ) (x :
     IsPiece r v level x.table at x.to piece → IsFilled r v level at (piece.to + 1) x xs xs
 filled_nowhere r v level at x piece xs none h = record {
   each = λ all. all;
-  kept = λ y here. here;
-  next = λ w y low lt leads.
+  kept = λ t w ws here. here;
+  next = λ w y ws low lt leads fresh.
       let value : entry_of r v level x.table w ≡ piece.entry = h.same w low (omega (arith, lt)) in
       let both : (is_table (kind_of r.head.cfg level piece.entry) && may_cache r.head.version piece.entry) ≡ true =
       and_from _ _ (ap (λ e. is_table (kind_of r.head.cfg level e)) (sym value) ∙ leads.is_table) (ap (may_cache r.head.version) (sym value) ∙ leads.cached) in
@@ -160,40 +155,34 @@ filled_nowhere r v level at x piece xs none h = record {
     apart : {b : Bool} → b ≡ true → b ≡ false → ⊥
     apart h k = cc
 
--- a reach that is added is there
-pub added_covers : (olds news : List Reach) (x : Reach) → IsAdded olds news x → Covers news x
-added_covers olds news x (inl h) = (h.1.0, subst (λ (ys : List Reach). Contains ys h.1.0) (sym h.0) h.1.1, h.1.2)
-added_covers olds news x (inr h) = (x, subst (λ (ys : List Reach). Contains ys x) (sym h) (Contains-push olds x), record { table = refl; from = omega arith; to = omega arith })
-
-pub added_kept : (olds news : List Reach) (x : Reach) → IsAdded olds news x → (y : Reach) → Contains olds y → Contains news y
-added_kept olds news x (inl h) y here = subst (λ (ys : List Reach). Contains ys y) (sym h.0) here
-added_kept olds news x (inr h) y here = subst (λ (ys : List Reach). Contains ys y) (sym h) (Contains-append_left olds (x ∷ []) y here)
-
-pub added_each : (P : Reach → Type 0) (olds news : List Reach) (x : Reach) → IsAdded olds news x → P x → All P olds → All P news
-added_each P olds news x (inl h) here all = subst (All P) (sym h.0) all
-added_each P olds news x (inr h) here all = subst (All P) (sym h) (All-push P olds x all here)
+-- what the next reach has where reading at a moment leads on
+next_has : (r : Recorded) (v : Walker) (level : Level) (at read : ℕ) (x y : Reach) (piece : Piece) (w t : ℕ) (ws : List ℕ) → IsReach r v level x → IsNextOf r v level x piece.entry at read y → entry_of r v level x.table w ≡ piece.entry → at ≤ w → w ≤ read →
+    LeadsOn r v level x.table w t → t ≤ y.to → AreFresh v.freshest x ws w → Has v.freshest (next_at r v level x.table w) t (ws ++ w ∷ []) y
+next_has r v level at read x y piece w t ws reach next value from early leads to fresh = record {
+  table = next.table ∙ ap (table_by r.head.cfg.m x.table) (sym value);
+  from = omega (arith, next.from, from, leads.order);
+  to = to;
+  fresh = λ f.
+      let q : ℕ = min t read in
+      let last : min t (2 ^ 32 - 1) ≡ t = omega (arith, leads.small) in
+      let is : up_to t y.latest ≡ up_to q x.latest ++ t ∷ [] = ap (up_to t) next.latest ∙ up_to-push t (2 ^ 32 - 1) (up_to read x.latest) ∙ ap (λ zs. zs ++ min t (2 ^ 32 - 1) ∷ []) (up_to-twice t read x.latest) ∙ ap (λ z. up_to q x.latest ++ z ∷ []) last in
+      let mine : is_as_fresh (up_to q x.latest) (ws ++ w ∷ []) ≡ true = later_fresh x w q ws reach.next (omega (arith, leads.small)) (omega (arith, early, leads.order)) (fresh f) in
+      ap (λ ms. is_as_fresh ms ((ws ++ w ∷ []) ++ t ∷ [])) is ∙ fresh_more (up_to q x.latest) (ws ++ w ∷ []) t mine;
+}
 
 pub filled_one : (r : Recorded) (v : Walker) (level : Level) (at read : ℕ) (x y : Reach) (piece : Piece) (olds news : List Reach) → IsTableLevel level → IsReach r v level x → x.from ≤ at → IsPiece r v level x.table at x.to piece →
-    piece.read ≡ Some read → IsNextOf r v level x piece.entry at read y → IsAdded olds news y → IsFilled r v level at (piece.to + 1) x olds news
+    piece.read ≡ Some read → IsNextOf r v level x piece.entry at read y → IsAdded v.freshest olds news y → IsFilled r v level at (piece.to + 1) x olds news
 filled_one r v level at read x y piece olds news deep reach low h is next added =
     let last : IsLastRead r v at piece.to (Some read) = subst (IsLastRead r v at piece.to) is h.read in
     let mine : IsReach r v (below level) y = next_reach r v level x piece.entry at read y deep reach low last.0 (omega (arith, last.1, h.high)) last.2 (λ w from to. h.same w from (omega (arith, to, last.1))) next in
-    let there = added_covers olds news y added in
     record {
-      each = added_each (IsReach r v (below level)) olds news y added mine;
-      kept = added_kept olds news y added;
-      next = λ w t from lt leads.
+      each = added.each r v (below level) mine;
+      kept = added.kept;
+      next = λ w t ws from lt leads fresh.
           let value : entry_of r v level x.table w ≡ piece.entry = h.same w from (omega (arith, lt)) in
           let early : w ≤ read = last.3 w from (omega (arith, lt)) leads.under in
-          let to : t ≤ y.to = lasting_end r v level w read t y.to early next.to leads in (
-            there.0,
-            there.1,
-            record {
-              table = there.2.table ∙ next.table ∙ ap (table_by r.head.cfg.m x.table) (sym value);
-              from = omega (arith, there.2.from, next.from, from, leads.order);
-              to = omega (arith, there.2.to, to);
-            },
-          );
+          let to : t ≤ y.to = lasting_end r v level w read t y.to early next.to leads in
+          added.new (next_at r v level x.table w) t (ws ++ w ∷ []) (next_has r v level at read x y piece w t ws reach next value from early leads to fresh);
     }
   where
     lasting_end : (r : Recorded) (v : Walker) (level : Level) (w read t end : ℕ) → w ≤ read → IsEnd (structure_lasts r v level read) read end → LeadsOn r v level x.table w t → t ≤ end
@@ -204,7 +193,7 @@ filled_one r v level at read x y piece olds news deep reach low h is next added 
         ]
 
 pub filled_less : (r : Recorded) (v : Walker) (level : Level) (low until more : ℕ) (x : Reach) (olds news : List Reach) → until ≤ more → IsFilled r v level low more x olds news → IsFilled r v level low until x olds news
-filled_less r v level low until more x olds news less h = record { each = h.each; kept = h.kept; next = λ w y from lt leads. h.next w y from (omega (arith, lt, less)) leads }
+filled_less r v level low until more x olds news less h = record { each = h.each; kept = h.kept; next = λ w y ws from lt leads fresh. h.next w y ws from (omega (arith, lt, less)) leads fresh }
 
 pub piece_within : (r : Recorded) (v : Walker) (level : Level) (table : Parent) (at last most : ℕ) (piece : Piece) → last ≤ most → IsPiece r v level table at last piece → IsPiece r v level table at most piece
 piece_within r v level table at last most piece less h = record { low = h.low; high = omega (arith, h.high, less); same = h.same; read = h.read }

@@ -1,5 +1,5 @@
 -- Where no reading of a reach witnesses an event, no moments do.
-use Rattle.std.proofs.Common.{◌≡◌, ℕ, ◌+◌, ◌<◌, ◌≤◌, ◌^◌, ◌==◌, min, max, true, List, [], ◌∷◌, ◌++◌, length, refl, ap, sym, ◌∙◌, subst, arith, None}
+use Rattle.std.proofs.Common.{◌≡◌, ℕ, ◌+◌, ◌<◌, ◌≤◌, ◌^◌, ◌==◌, min, max, true, List, [], ◌∷◌, ◌++◌, length, refl, ap, sym, ◌∙◌, subst, arith, Bool, Option, None}
 use Rattle.std.specs.List.{All}
 use Rattle.std.proofs.lemmas.Bool.{and_parts, eqb-true}
 use Rattle.std.proofs.lemmas.List.Elements.{All-contains}
@@ -38,8 +38,10 @@ use Rattle.pg_search.specs.Law.{with_moments}
 use Rattle.pg_reach.specs.declared.walker.Walker.{Walker}
 use Rattle.pg_reach.specs.declared.reach.Reach.{Reach}
 use Rattle.pg_reach.specs.declared.since.Bounds.{Bounds}
-use Rattle.pg_reach.specs.Reaching.{way_of, IsReach}
-use Rattle.pg_reach.specs.Asking.{want_by, Asks, last_moment, pcid_of, NoneUnder}
+use Rattle.pg_reach.specs.Reaching.{way_of, up_to, IsReach, IsFresher}
+use Rattle.pg_search.specs.Freshness.{is_as_fresh}
+use Rattle.pg_reach.proofs.Fresh.{later_fresh, fresher_on}
+use Rattle.pg_reach.specs.Asking.{want_by, Asks, last_moment, pcid_of, AreUnder}
 use Rattle.pg_reach.specs.Bounds.{AreBounds}
 use Rattle.pg_reach.specs.Ends.{IsRefused, AreRefused}
 use Rattle.pg_reach.proofs.Coming.{AreLevels, EndsIn, begins_in, ends_in}
@@ -65,16 +67,16 @@ way_comes head events v w ws at to h =
     subst (λ first. Comes head events v.p v.la v.pcid w Four (root_at head events v.p first) ws at to) (first_is w ws) (chain_comes head events v w Four (root_at head events v.p (first_or w ws)) ws at to h.1)
 
 -- the reaches of each level, with what is refused there
-pub record AreWhole (r : Recorded) (v : Walker) (e : Event) (since : ℕ) (b : Bounds) (lists : Level → List Reach) : Type 0 where
+pub record AreWhole (r : Recorded) (v : Walker) (e : Event) (since : ℕ) (b : Bounds) (lists : Level → List Reach) (found : Option (List ℕ)) : Type 0 where
   pub bounds : AreBounds r v since b
   pub levels : AreLevels r v b lists
   pub each : (level : Level) → All (IsReach r v level) (lists level)
-  pub refused : (level : Level) → All (λ x. AreRefused r v e level (max x.from since) (min x.to v.number + 1) x) (lists level)
+  pub refused : (level : Level) → All (λ x. AreRefused r v e level (max x.from since) (min x.to v.number + 1) x found) (lists level)
   pub small : v.number < 2 ^ 32
   pub within : v.number ≤ length r.events
 
 -- reading the end of a walk at the latest moment at which it may be
-record Latest (r : Recorded) (v : Walker) (e : Event) (want : Want) (at : Level) (to : Parent) (w : ℕ) : Type 0 where
+record Latest (r : Recorded) (v : Walker) (e : Event) (want : Want) (at : Level) (to : Parent) (w : ℕ) (found : Option (List ℕ)) (all : List ℕ) : Type 0 where
   m : ℕ
   ws : List ℕ
   later : w ≤ m
@@ -82,19 +84,22 @@ record Latest (r : Recorded) (v : Walker) (e : Event) (want : Want) (at : Level)
   comes : Comes r.head r.events v.p v.la v.pcid m Four (root_at r.head r.events v.p (next_or m ws)) ws at to
   ends : Ends r.head r.events v.p v.la v.pcid want v.number at to m
   same : seen (mem_at r.events) v.la at to m ≡ seen (mem_at r.events) v.la at to w
-  none : failing_event r.head r.events v.number (with_moments (ws ++ m ∷ []) e) ≡ None → ⊥
+  none : failing_event r.head r.events v.number (with_moments (ws ++ m ∷ []) e) ≡ None → IsFresher v.freshest found all
 
-latest_of : (r : Recorded) (v : Walker) (e : Event) (since : ℕ) (b : Bounds) (lists : Level → List Reach) (last : Reading) → AreWhole r v e since b lists → (h : EndsIn r v (want_by e) since lists last) → Latest r v e (want_by e) h.at h.to h.w
-latest_of r v e since b lists last whole h =
+latest_of : (r : Recorded) (v : Walker) (e : Event) (since : ℕ) (b : Bounds) (lists : Level → List Reach) (found : Option (List ℕ)) (last : Reading) (all : List ℕ) → AreWhole r v e since b lists found → (h : EndsIn r v (want_by e) since lists last all) →
+    Latest r v e (want_by e) h.at h.to h.w found all
+latest_of r v e since b lists found last all whole h =
     let x : Reach = h.there.0 in
     let table : x.table ≡ h.to = h.there.2.table in
     let seen_in : Parent → ℕ → ℕ = λ t k. seen (mem_at r.events) v.la h.at t k in
     let reach : IsReach r v h.at x = All-contains (IsReach r v h.at) (lists h.at) x (whole.each h.at) h.there.1 in
-    let refused : AreRefused r v e h.at (max x.from since) (min x.to v.number + 1) x = All-contains (λ x. AreRefused r v e h.at (max x.from since) (min x.to v.number + 1) x) (lists h.at) x (whole.refused h.at) h.there.1 in
+    let refused : AreRefused r v e h.at (max x.from since) (min x.to v.number + 1) x found = All-contains (λ x. AreRefused r v e h.at (max x.from since) (min x.to v.number + 1) x found) (lists h.at) x (whole.refused h.at) h.there.1 in
     let wanted : is_wanted (want_by e) (kind_of r.head.cfg h.at (seen_in x.table h.w)) ≡ true = ap (λ t. is_wanted (want_by e) (kind_of r.head.cfg h.at (seen_in t h.w))) table ∙ h.wanted in
-    let is : IsRefused r v e h.at x h.w = refused h.w (omega (arith, h.there.2.from, h.late)) (omega (arith, h.there.2.to, h.low)) h.under wanted in
+    let is : IsRefused r v e h.at x found h.w = refused h.w (omega (arith, h.there.2.from, h.late)) (omega (arith, h.there.2.to, h.low)) h.under wanted in
     let by = reach.way is.m (omega (arith, h.there.2.from, is.later)) is.within is.under in
     let value : seen_in h.to is.m ≡ seen_in h.to h.w = subst (λ t. seen_in t is.m ≡ seen_in t h.w) table is.same in
+    let small : is.m < 2 ^ 32 = omega (arith, is.before, whole.small) in
+    let fresh : v.freshest ≡ true → is_as_fresh (up_to is.m x.latest) all ≡ true = λ f. ap (is_as_fresh (up_to is.m x.latest)) (sym h.is) ∙ later_fresh x h.w is.m h.before reach.next small is.later (h.there.2.fresh f) in
     record {
       m = is.m;
       ws = by.0;
@@ -103,7 +108,7 @@ latest_of r v e since b lists last whole h =
       comes = way_comes r.head r.events (way_of v) is.m by.0 h.at h.to (subst (λ (t : Parent). IsWayFromRoot r.head r.events (way_of v) is.m by.0 h.at t) table by.2);
       ends = record { low = is.before; wanted = ap (λ n. is_wanted (want_by e) (kind_of r.head.cfg h.at n)) value ∙ h.wanted; alike = is.under };
       same = value;
-      none = λ good. is.none (ap (λ (ms : List ℕ). failing_event r.head r.events v.number (with_moments ms e)) by.1 ∙ good);
+      none = λ good. fresher_on v.freshest found (up_to is.m x.latest) all (is.none (ap (λ (ms : List ℕ). failing_event r.head r.events v.number (with_moments ms e)) by.1 ∙ good)) fresh;
     }
 
 -- an access
@@ -125,10 +130,10 @@ end_later head events c pcid at to w m low high within same kinds.Reserved h =
     ap (λ k. failing_fault head.cfg c causes.Reserved k c.outcome) (sym is) ∙ h
 end_later head events c pcid at to w m low high within same (kinds.Table addr) h = absurd (cc)
 
-access_refused : (r : Recorded) (v : Walker) (flags : ℕ) (outcome : Outcome) (own : List ℕ) (since : ℕ) (b : Bounds) (lists : Level → List Reach) → AreWhole r v (Access v.p flags v.la outcome own) since b lists →
-    (ws : List ℕ) → failing_access r.head r.events (claim_of v.number v.p flags v.la outcome) ws ≡ None → pcid_of r v ws ≡ v.pcid → since ≤ last_moment ws → ⊥
-access_refused r v flags outcome own since b lists whole [] good alike late = absurd (cc)
-access_refused r v flags outcome own since b lists whole (w ∷ ws) good alike late =
+access_refused : (r : Recorded) (v : Walker) (flags : ℕ) (outcome : Outcome) (own : List ℕ) (since : ℕ) (b : Bounds) (lists : Level → List Reach) (found : Option (List ℕ)) → AreWhole r v (Access v.p flags v.la outcome own) since b lists found →
+    (ws : List ℕ) → failing_access r.head r.events (claim_of v.number v.p flags v.la outcome) ws ≡ None → pcid_of r v ws ≡ v.pcid → since ≤ last_moment ws → IsFresher v.freshest found ws
+access_refused r v flags outcome own since b lists found whole [] good alike late = absurd (cc)
+access_refused r v flags outcome own since b lists found whole (w ∷ ws) good alike late =
     let head : Head = r.head in
     let events : List Event = r.events in
     let e : Event = Access v.p flags v.la outcome own in
@@ -141,8 +146,8 @@ access_refused r v flags outcome own since b lists whole (w ∷ ws) good alike l
     let h = claim_holds head events c start.pcid (w ∷ ws) read rest good in
     let holds : Holds head events v.p v.la v.pcid (want_of outcome) v.number Four root (w ∷ ws) = subst (λ pcid. Holds head events v.p v.la pcid (want_of outcome) v.number Four root (w ∷ ws)) alike
     (record { order = h.walk.order; kinds = h.walk.kinds; alike = h.walk.alike; kept = h.walk.kept; cached = h.flags.tables }) in
-    let end = ends_in r v since b (want_of outcome) lists whole.small whole.bounds whole.levels Four root w ws holds late (begins_in r v since b (want_of outcome) lists whole.small whole.bounds whole.levels w ws holds late) in
-    let latest = latest_of r v e since b lists (last_or read rest) whole end in
+    let end = ends_in r v since b (want_of outcome) lists whole.small whole.bounds whole.levels Four root [] w ws holds late (begins_in r v since b (want_of outcome) lists whole.small whole.bounds whole.levels w ws holds late) in
+    let latest = latest_of r v e since b lists found (last_or read rest) (w ∷ ws) whole end in
     let value : (last_or read rest).value ≡ seen (mem_at events) v.la end.at end.to end.w = ap (λ (q : Reading). q.value) end.same in
     let ends : failing_end head events c v.pcid (reading_at events v.la end.at end.to end.w) (kind_of head.cfg end.at (seen (mem_at events) v.la end.at end.to end.w)) ≡ None =
     ap (λ pcid. failing_end head events c pcid (reading_at events v.la end.at end.to end.w) (kind_of head.cfg end.at (seen (mem_at events) v.la end.at end.to end.w))) (sym alike)
@@ -155,10 +160,10 @@ access_refused r v flags outcome own since b lists whole (w ∷ ws) good alike l
 
 -- an assist
 
-assist_refused : (r : Recorded) (v : Walker) (flags word : ℕ) (own : List ℕ) (since : ℕ) (b : Bounds) (lists : Level → List Reach) → judges_accessed r.head.version ≡ true → AreWhole r v (Assist v.p flags v.la word own) since b lists →
-    (ws : List ℕ) → failing_assist r.head r.events (update_of v.number v.p flags v.la word) ws ≡ None → pcid_of r v ws ≡ v.pcid → since ≤ last_moment ws → ⊥
-assist_refused r v flags word own since b lists judged whole [] good alike late = absurd (cc)
-assist_refused r v flags word own since b lists judged whole (w ∷ ws) good alike late =
+assist_refused : (r : Recorded) (v : Walker) (flags word : ℕ) (own : List ℕ) (since : ℕ) (b : Bounds) (lists : Level → List Reach) (found : Option (List ℕ)) → judges_accessed r.head.version ≡ true → AreWhole r v (Assist v.p flags v.la word own) since b lists found →
+    (ws : List ℕ) → failing_assist r.head r.events (update_of v.number v.p flags v.la word) ws ≡ None → pcid_of r v ws ≡ v.pcid → since ≤ last_moment ws → IsFresher v.freshest found ws
+assist_refused r v flags word own since b lists found judged whole [] good alike late = absurd (cc)
+assist_refused r v flags word own since b lists found judged whole (w ∷ ws) good alike late =
     let head : Head = r.head in
     let events : List Event = r.events in
     let e : Event = Assist v.p flags v.la word own in
@@ -171,8 +176,8 @@ assist_refused r v flags word own since b lists judged whole (w ∷ ws) good ali
     let h = update_holds head events u start.pcid (w ∷ ws) read rest good in
     let holds : Holds head events v.p v.la v.pcid wants.Present v.number Four root (w ∷ ws) = subst (λ pcid. Holds head events v.p v.la pcid wants.Present v.number Four root (w ∷ ws)) alike
     (record { order = h.walk.order; kinds = h.walk.kinds; alike = h.walk.alike; kept = h.walk.kept; cached = h.tables }) in
-    let end = ends_in r v since b wants.Present lists whole.small whole.bounds whole.levels Four root w ws holds late (begins_in r v since b wants.Present lists whole.small whole.bounds whole.levels w ws holds late) in
-    let latest = latest_of r v e since b lists (last_or read rest) whole end in
+    let end = ends_in r v since b wants.Present lists whole.small whole.bounds whole.levels Four root [] w ws holds late (begins_in r v since b wants.Present lists whole.small whole.bounds whole.levels w ws holds late) in
+    let latest = latest_of r v e since b lists found (last_or read rest) (w ∷ ws) whole end in
     let updated : is_updated head.cfg u (reading_at events v.la end.at end.to end.w) ≡ true = ap (is_updated head.cfg u) (sym end.same) ∙ h.updated in
     let now : end.w ≡ v.number = eqb-true _ _ (and_parts _ _ (and_parts _ _ updated).0).0 in
     let is : latest.m ≡ end.w = omega (arith, now, latest.later, latest.before) in
@@ -180,19 +185,19 @@ assist_refused r v flags word own since b lists judged whole (w ∷ ws) good ali
 
 -- any event
 
-pub none_under : (r : Recorded) (v : Walker) (e : Event) (since : ℕ) (b : Bounds) (lists : Level → List Reach) → broken_rule r.head e ≡ None → Asks v e → AreWhole r v e since b lists → NoneUnder r v since e
-none_under r v (Access p flags la outcome own) since b lists well asks whole = λ ws witness alike late.
-    let mine : AreWhole r v (Access v.p flags v.la outcome own) since b lists = subst (λ q. AreWhole r v (Access q flags v.la outcome own) since b lists) (sym asks.0) (subst (λ a. AreWhole r v (Access p flags a outcome own) since b lists) (sym asks.1) whole) in
+pub all_under : (r : Recorded) (v : Walker) (e : Event) (since : ℕ) (b : Bounds) (lists : Level → List Reach) (found : Option (List ℕ)) → broken_rule r.head e ≡ None → Asks v e → AreWhole r v e since b lists found → AreUnder r v since e found
+all_under r v (Access p flags la outcome own) since b lists found well asks whole = λ ws witness alike late.
+    let mine : AreWhole r v (Access v.p flags v.la outcome own) since b lists found = subst (λ q. AreWhole r v (Access q flags v.la outcome own) since b lists found) (sym asks.0) (subst (λ a. AreWhole r v (Access p flags a outcome own) since b lists found) (sym asks.1) whole) in
     let good : failing_access r.head r.events (claim_of v.number v.p flags v.la outcome) ws ≡ None =
     ap (λ q. failing_access r.head r.events (claim_of v.number q flags v.la outcome) ws) asks.0 ∙ ap (λ a. failing_access r.head r.events (claim_of v.number p flags a outcome) ws) asks.1 ∙ witness.good in
-    access_refused r v flags outcome own since b lists mine ws good alike late
-none_under r v (Assist p flags la word own) since b lists well asks whole = λ ws witness alike late.
-    let mine : AreWhole r v (Assist v.p flags v.la word own) since b lists = subst (λ q. AreWhole r v (Assist q flags v.la word own) since b lists) (sym asks.0) (subst (λ a. AreWhole r v (Assist p flags a word own) since b lists) (sym asks.1) whole) in
+    access_refused r v flags outcome own since b lists found mine ws good alike late
+all_under r v (Assist p flags la word own) since b lists found well asks whole = λ ws witness alike late.
+    let mine : AreWhole r v (Assist v.p flags v.la word own) since b lists found = subst (λ q. AreWhole r v (Assist q flags v.la word own) since b lists found) (sym asks.0) (subst (λ a. AreWhole r v (Assist p flags a word own) since b lists found) (sym asks.1) whole) in
     let good : failing_assist r.head r.events (update_of v.number v.p flags v.la word) ws ≡ None =
     ap (λ q. failing_assist r.head r.events (update_of v.number q flags v.la word) ws) asks.0 ∙ ap (λ a. failing_assist r.head r.events (update_of v.number p flags a word) ws) asks.1 ∙ witness.good in
-    assist_refused r v flags word own since b lists (assist_judged r.head p flags la word own well) mine ws good alike late
-none_under r v (Write p addr value) since b lists well asks whole = absurd asks
-none_under r v (MovCr3 p operand) since b lists well asks whole = absurd asks
-none_under r v (Invlpg p la) since b lists well asks whole = absurd asks
-none_under r v (Invpcid p kind pcid la) since b lists well asks whole = absurd asks
-none_under r v (MovCr4Pge p on) since b lists well asks whole = absurd asks
+    assist_refused r v flags word own since b lists found (assist_judged r.head p flags la word own well) mine ws good alike late
+all_under r v (Write p addr value) since b lists found well asks whole = absurd asks
+all_under r v (MovCr3 p operand) since b lists found well asks whole = absurd asks
+all_under r v (Invlpg p la) since b lists found well asks whole = absurd asks
+all_under r v (Invpcid p kind pcid la) since b lists found well asks whole = absurd asks
+all_under r v (MovCr4Pge p on) since b lists found well asks whole = absurd asks

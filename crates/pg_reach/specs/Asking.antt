@@ -14,6 +14,7 @@ use Rattle.pg_search.specs.Exact.{first_or}
 use Rattle.pg_search.specs.Law.{AreWitness, names_moments}
 use Rattle.pg_reach.specs.declared.walker.Walker.{Walker}
 use Rattle.pg_reach.specs.Bounds.{translation_up_to}
+use Rattle.pg_reach.specs.Reaching.{IsFresher}
 
 -- what it wants of the entry that is read last, where it names moments
 abbrev pub want_by : Event → Want
@@ -45,10 +46,11 @@ last_moment (w ∷ x ∷ xs) = last_moment (x ∷ xs)
 abbrev pub pcid_of : Recorded → Walker → List ℕ → ℕ
 pcid_of r v ws = (control_at r.head r.events v.p (first_or 0 ws)).pcid
 
--- no moments under the PCID witness the event of which the last is not before this one
-abbrev pub NoneUnder : Recorded → Walker → ℕ → Event → Type 0
-NoneUnder r v since e = (ws : List ℕ) → AreWitness r.head r.events v.number e ws →
-    pcid_of r v ws ≡ v.pcid → since ≤ last_moment ws → ⊥
+-- moments under the PCID, of which the last is not before this one, witness the event only where
+-- such are found
+abbrev pub AreUnder : Recorded → Walker → ℕ → Event → Option (List ℕ) → Type 0
+AreUnder r v since e found = (ws : List ℕ) → AreWitness r.head r.events v.number e ws →
+    pcid_of r v ws ≡ v.pcid → since ≤ last_moment ws → IsFresher v.freshest found ws
 
 -- a translation of some page size survives from the last of the moments up to the event (4.10.4.1)
 abbrev pub LastsBy : Recorded → Walker → Bool → List ℕ → Type 0
@@ -61,15 +63,15 @@ abbrev pub EndsLate : Recorded → Walker → Event → List ℕ → Type 0
 EndsLate r v e ws =
     (last_moment ws ≡ v.number) ⊎ ((uses_last (want_by e) ≡ true) × LastsBy r v false ws)
 
--- no moments under the PCID that end so witness the event
-abbrev pub NoneOwn : Recorded → Walker → Event → Type 0
-NoneOwn r v e = (ws : List ℕ) → AreWitness r.head r.events v.number e ws →
-    pcid_of r v ws ≡ v.pcid → EndsLate r v e ws → ⊥
+-- moments under the PCID that end so witness the event only where such are found
+abbrev pub AreLate : Recorded → Walker → Event → Option (List ℕ) → Type 0
+AreLate r v e found = (ws : List ℕ) → AreWitness r.head r.events v.number e ws →
+    pcid_of r v ws ≡ v.pcid → EndsLate r v e ws → IsFresher v.freshest found ws
 
--- no moments under the PCID witness the event, by a global translation
-abbrev pub NoneGlobal : Recorded → Walker → Event → Type 0
-NoneGlobal r v e = (ws : List ℕ) → AreWitness r.head r.events v.number e ws →
-    pcid_of r v ws ≡ v.pcid → LastsBy r v true ws → ⊥
+-- the same of moments under the PCID that make a global translation
+abbrev pub AreGlobal : Recorded → Walker → Event → Option (List ℕ) → Type 0
+AreGlobal r v e found = (ws : List ℕ) → AreWitness r.head r.events v.number e ws →
+    pcid_of r v ws ≡ v.pcid → LastsBy r v true ws → IsFresher v.freshest found ws
 
 -- the same walker under another PCID
 abbrev pub under : Walker → ℕ → Walker
@@ -78,5 +80,11 @@ under v pcid = record v { pcid = pcid }
 -- the processor and the address of an event that names moments
 abbrev pub IsWalkOf : Event → Option (ℕ × ℕ) → Type 0
 IsWalkOf e None = names_moments e ≡ false
-IsWalkOf e (Some walk) = (pcid number : ℕ) →
-    Asks (record { p = walk.0; la = walk.1; pcid = pcid; number = number }) e
+IsWalkOf e (Some walk) = (pcid number : ℕ) (freshest : Bool) →
+    Asks (record {
+      p = walk.0;
+      la = walk.1;
+      pcid = pcid;
+      number = number;
+      freshest = freshest;
+    }) e

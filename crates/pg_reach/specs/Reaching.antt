@@ -1,6 +1,6 @@
 -- To which tables a walk can come, and when (Intel SDM, vol. 3, 4.10.3).
-use Rattle.std.specs.Prelude.{◌≡◌, ℕ, ◌+◌, ◌<◌, ◌≤◌, ◌^◌, ◌-◌, min, max, Bool, true, false, ◌&&◌, List, [], ◌∷◌, ◌++◌, map}
-use Rattle.std.specs.Prelude.{Option, MatchOption, length, ◌⊎◌}
+use Rattle.std.specs.Prelude.{◌≡◌, ℕ, ◌+◌, ◌<◌, ◌≤◌, ◌^◌, ◌-◌, min, max, Bool, true, false, ◌&&◌}
+use Rattle.std.specs.Prelude.{List, [], ◌∷◌, ◌++◌, map, Option, Some, None, MatchOption, length}
 use Rattle.std.specs.List.{All, Contains}
 use Rattle.pg_entry.specs.declared.Level.{Level}
 use Rattle.pg_entry.specs.declared.Level.TheVariants.{Four, Three, Two, One}
@@ -15,6 +15,7 @@ use Rattle.pg_event.specs.Wants.{is_table}
 use Rattle.pg_event.specs.Witness.{survives}
 use Rattle.pg_machine.specs.Machine.{may_cache}
 use Rattle.pg_timeline.specs.declared.timeline.Span.{Span}
+use Rattle.pg_search.specs.Freshness.{is_as_fresh}
 use Rattle.pg_search.specs.Exact as exact
 use Rattle.pg_search.specs.Exact.{IsWayFromRoot}
 use Rattle.pg_search.specs.Lasts.{IsEnd}
@@ -68,23 +69,46 @@ abbrev pub ComesBy : Recorded → Walker → Level → Parent → ℕ → List �
 ComesBy r v level table w moments = (ws : List ℕ) × (moments ≡ ws ++ w ∷ [])
     × IsWayFromRoot r.head r.events (way_of v) w ws level table
 
+-- moments with the greatest of all behind them, which stands for the one that comes next
+abbrev pub AreOpen : List ℕ → Type 0
+AreOpen latest = (ws : List ℕ) × (latest ≡ ws ++ (2 ^ 32 - 1) ∷ [])
+
 -- a walk may read in the table at each moment from one up to another at which the processor has the
 -- PCID, by the latest moments that are not later
 pub record IsReach (r : Recorded) (v : Walker) (level : Level) (x : Reach) : Type 0 where
   pub within : x.table.table < 2 ^ 52
   pub few : length x.latest ≤ steps_to level + 1
+  pub next : AreOpen x.latest
   pub way : (w : ℕ) → x.from ≤ w → w ≤ x.to → IsUnder r v w →
       ComesBy r v level x.table w (up_to w x.latest)
 
--- a reach has the table at a moment
-pub record Has (at : Parent) (w : ℕ) (x : Reach) : Type 0 where
+-- moments are as many as others, and none is later than that in its place
+abbrev pub AreWithin : List ℕ → List ℕ → Type 0
+AreWithin [] [] = Unit {0}
+AreWithin [] (u ∷ us) = ⊥
+AreWithin (w ∷ ws) [] = ⊥
+AreWithin (w ∷ ws) (u ∷ us) = (w ≤ u) × AreWithin ws us
+
+-- where the freshest moments are asked for, those of a reach are as fresh as these, of which the
+-- last is that of the reading in its table
+abbrev pub AreFresh : Bool → Reach → List ℕ → ℕ → Type 0
+AreFresh freshest x ws w = freshest ≡ true → is_as_fresh (up_to w x.latest) (ws ++ w ∷ []) ≡ true
+
+-- moments have been found: any, or where the freshest are asked for, such as are as fresh as these
+abbrev pub IsFresher : Bool → Option (List ℕ) → List ℕ → Type 0
+IsFresher freshest None ws = ⊥
+IsFresher freshest (Some found) ws = freshest ≡ true → is_as_fresh found ws ≡ true
+
+-- a reach has the table at a moment, to which these moments lead
+pub record Has (freshest : Bool) (at : Parent) (w : ℕ) (ws : List ℕ) (x : Reach) : Type 0 where
   pub table : x.table ≡ at
   pub from : x.from ≤ w
   pub to : w ≤ x.to
+  pub fresh : AreFresh freshest x ws w
 
 -- one of the reaches has the table at a moment
-abbrev pub AreAt : List Reach → Parent → ℕ → Type 0
-AreAt xs table w = (x : Reach) × Contains xs x × Has table w x
+abbrev pub AreAt : Bool → List Reach → Parent → ℕ → List ℕ → Type 0
+AreAt freshest xs table w ws = (x : Reach) × Contains xs x × Has freshest table w ws x
 
 -- reading in a table at a moment leads to another, and its structure entry survives to a later one
 pub record LeadsOn (r : Recorded) (v : Walker) (level : Level) (table : Parent) (w y : ℕ) :
@@ -100,34 +124,64 @@ pub record LeadsOn (r : Recorded) (v : Walker) (level : Level) (table : Parent) 
 abbrev pub next_at : Recorded → Walker → Level → Parent → ℕ → Parent
 next_at r v level table w = table_by r.head.cfg.m table (entry_of r v level table w)
 
+-- what some reaches have others have
+abbrev pub AreKept : Bool → List Reach → List Reach → Type 0
+AreKept freshest olds news = (table : Parent) (w : ℕ) (ws : List ℕ) →
+    AreAt freshest olds table w ws → AreAt freshest news table w ws
+
 -- some reaches have each table that reading in the table of another, from one moment up to, not
 -- with, another, leads to
 abbrev pub AreNext : Recorded → Walker → Level → ℕ → ℕ → List Reach → Reach → Type 0
-AreNext r v level low until nexts x = (w y : ℕ) → low ≤ w → w < until →
-    LeadsOn r v level x.table w y → AreAt nexts (next_at r v level x.table w) y
+AreNext r v level low until nexts x = (w y : ℕ) (ws : List ℕ) → low ≤ w → w < until →
+    LeadsOn r v level x.table w y → AreFresh v.freshest x ws w →
+    AreAt v.freshest nexts (next_at r v level x.table w) y (ws ++ w ∷ [])
 
 -- these are added, and nothing is lost
 pub record IsFilled (r : Recorded) (v : Walker) (level : Level) (low until : ℕ) (x : Reach)
     (olds news : List Reach) : Type 0 where
   pub each : All (IsReach r v (below level)) olds → All (IsReach r v (below level)) news
-  pub kept : (y : Reach) → Contains olds y → Contains news y
+  pub kept : AreKept v.freshest olds news
   pub next : AreNext r v level low until news x
 
--- a reach has the table of another at each of its moments
-pub record Stretches (x y : Reach) : Type 0 where
+-- a reach may stand for another at each moment that both have
+pub record Stands (freshest : Bool) (x y : Reach) : Type 0 where
   pub table : y.table ≡ x.table
+  pub fresh : freshest ≡ true → AreWithin x.latest y.latest
+
+-- and has each of its moments
+pub record Stretches (freshest : Bool) (x y : Reach) : Type 0 where
+  pub stands : Stands freshest x y
   pub from : y.from ≤ x.from
   pub to : x.to ≤ y.to
 
-abbrev pub Covers : List Reach → Reach → Type 0
-Covers xs x = (y : Reach) × Contains xs y × Stretches x y
+-- one of the reaches may stand for another at each of its moments
+abbrev pub IsCovered : Bool → List Reach → Reach → Type 0
+IsCovered freshest xs x = (y : Reach) × Contains xs y × Stretches freshest x y
 
--- with one reach more, or as they were, where one has its table at each of its moments
-abbrev pub IsAdded : List Reach → List Reach → Reach → Type 0
-IsAdded olds news x = ((news ≡ olds) × Covers olds x) ⊎ (news ≡ olds ++ x ∷ [])
+-- a reach up to where another begins, which stands for it from there on
+pub record IsCut (freshest : Bool) (x y cut : Reach) : Type 0 where
+  pub stands : Stands freshest x y
+  pub is : cut ≡ record x { to = cut.to }
+  pub before : cut.to + 1 ≡ y.from
+  pub less : cut.to ≤ x.to
+  pub to : x.to ≤ y.to
 
--- the reach that an entry in the table of another gives, which may be read from a moment on and last
--- at `read`
+-- with one reach more they have what they had
+pub record HasRoom (freshest : Bool) (olds news : List Reach) (x : Reach) : Type 0 where
+  pub each : (r : Recorded) (v : Walker) (level : Level) →
+      All (IsReach r v level) olds → All (IsReach r v level) news
+  pub kept : AreKept freshest olds (news ++ x ∷ [])
+
+-- with one reach more, or with those that have what it has
+pub record IsAdded (freshest : Bool) (olds news : List Reach) (x : Reach) : Type 0 where
+  pub each : (r : Recorded) (v : Walker) (level : Level) → IsReach r v level x →
+      All (IsReach r v level) olds → All (IsReach r v level) news
+  pub kept : AreKept freshest olds news
+  pub new : (table : Parent) (w : ℕ) (ws : List ℕ) → Has freshest table w ws x →
+      AreAt freshest news table w ws
+
+-- the reach that an entry in the table of another gives, which may be read from a moment on and
+-- last at `read`
 pub record IsNextOf (r : Recorded) (v : Walker) (level : Level) (x : Reach) (entry start read : ℕ)
     (y : Reach) : Type 0 where
   pub is_table : is_table (kind_of r.head.cfg level entry) ≡ true
@@ -163,13 +217,15 @@ root_reach s = record {
   latest = (2 ^ 32 - 1) ∷ [];
 }
 
--- reaches are those of the stays, of which one may serve for another
-pub record AreRootsOf (stays : List (Span Control)) (roots : List Reach) : Type 0 where
-  pub each : All (λ x. (s : Span Control) × Contains stays s × (root_reach s ≡ x)) roots
-  pub all : (s : Span Control) → Contains stays s → Covers roots (root_reach s)
+-- reaches have the root at each moment of some stays
+pub record AreRootsOf (r : Recorded) (v : Walker) (stays : List (Span Control))
+    (roots : List Reach) : Type 0 where
+  pub each : All (IsReach r v Four) roots
+  pub all : (s : Span Control) → Contains stays s → (w : ℕ) → s.from ≤ w → w ≤ s.to →
+      AreAt v.freshest roots (root_of s.value) w []
 
 -- reaches have the root at each moment, from one up to another, at which the processor has the PCID
 pub record AreRoots (r : Recorded) (v : Walker) (low : ℕ) (roots : List Reach) : Type 0 where
   pub each : All (IsReach r v Four) roots
   pub all : (w : ℕ) → low ≤ w → w ≤ v.number → IsUnder r v w →
-      AreAt roots (root_of (control_at r.head r.events v.p w)) w
+      AreAt v.freshest roots (root_of (control_at r.head r.events v.p w)) w []

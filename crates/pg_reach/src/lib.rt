@@ -9,4 +9,4 @@ mod stays;
 mod view;
 mod walker;
 
-pub use finder::any_moments;
+pub use finder::{any_moments, freshest_moments, freshest_moments_at};

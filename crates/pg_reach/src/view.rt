@@ -1,9 +1,10 @@
 //! What a search sees of a run.
 
-ghost use Rattle.std.specs.Prelude.{◌≡◌, ◌<◌, ◌≤◌, ◌^◌, ◌+◌, ◌&&◌, min, max, length, IfOk, OnOk, None};
-ghost use Rattle.std.specs.Prelude.{IfSome, IfNone};
+ghost use Rattle.std.specs.Prelude.{◌≡◌, ◌<◌, ◌≤◌, ◌^◌, ◌+◌, ◌&&◌, ℕ, min, max, length};
+ghost use Rattle.std.specs.Prelude.{List, IfOk, OnOk, IfSome};
 ghost use Rattle.std.specs.List.{All};
 ghost use Rattle.pg_entry.specs.Kinds.{kind_of};
+ghost use Rattle.std.specs.Prelude.{None};
 ghost use Rattle.pg_event.specs.Form.{broken_rule};
 ghost use Rattle.pg_event.specs.Wants.{is_table};
 ghost use Rattle.pg_chain.specs.Standing.{IsPast};
@@ -13,9 +14,10 @@ ghost use Rattle.pg_inval.specs.Drops.{IsTableLevel};
 ghost use Rattle.pg_reach.specs.Stays.{AreSpans};
 ghost use Rattle.pg_reach.specs.Reaching.{IsPiece, IsReach, IsNextReach, IsFilled, AreBelow};
 ghost use Rattle.pg_reach.specs.Reaching.{AreRoots};
+ghost use Rattle.pg_reach.specs.Reaching.{IsFresher};
 ghost use Rattle.pg_reach.specs.Ends.{IsNoEnd, AreRefused};
 
-use crate::reach::{Reach, up_to};
+use crate::reach::{Reach, is_enough, up_to};
 use crate::reaches::Reaches;
 use crate::stays::{latest_of, stays_of};
 use crate::walker::{Walker, want_by};
@@ -159,7 +161,7 @@ impl<'a> View<'a> {
             return Ok(());
         };
         match self.next(level, x, Entry(piece.entry), at, read) {
-            Some(next) => nexts.add(next),
+            Some(next) => nexts.add(self.walker.freshest, next),
             None => Ok(()),
         }
     }
@@ -218,18 +220,19 @@ impl<'a> View<'a> {
     {
         let mut roots = Reaches::new(alloc);
         for stay in &self.stays {
-            roots.add(Reach {
+            let root = Reach {
                 from: stay.from,
                 to: stay.to,
                 table: root_of(stay.value),
                 latest: Moments::first(u32::MAX),
-            })?;
+            };
+            roots.add(self.walker.freshest, root)?;
         }
         Ok(roots)
     }
 
     /// The moments with which an event is witnessed that reads a piece of the table of a reach
-    /// last.
+    /// last, or those that were found before, where these are enough.
     fn end_by(
         &self,
         memo: &mut Memo<'_>,
@@ -237,29 +240,39 @@ impl<'a> View<'a> {
         level: Level,
         x: &Reach,
         piece: &Piece,
+        found: Option<Moments>,
     ) -> Option<Moments>
         requires past { IsPast memo.old self.now.run.head self.now.run.events }
         requires well { broken_rule self.now.run.head event.now ≡ None }
+        requires some { IfSome found (AreWitness self.now.run.head self.now.run.events
+            self.now.walker.number event.now) }
         ensures memo { memo.new ≡ memo.old }
         ensures some { IfSome result (AreWitness self.now.run.head self.now.run.events
             self.now.walker.number event.now) }
-        ensures none { IfNone result (IsNoEnd self.now.run self.now.walker event.now level x.now
-            piece.now) }
+        ensures fresher { (ws : List ℕ) → IsFresher self.now.walker.freshest found ws →
+            IsFresher self.now.walker.freshest result ws }
+        ensures none { IsNoEnd self.now.run self.now.walker event.now level x.now piece.now
+            result }
     {
-        let read = piece.read?;
+        let Some(read) = piece.read else {
+            return found;
+        };
         let kind = classify(self.seen.header().cfg, level, Entry(piece.entry));
         if !is_wanted(want_by(event), kind) {
-            return None;
+            return found;
         }
         let moments = up_to(read, &x.latest);
+        if is_enough(self.walker.freshest, &found, &moments) {
+            return found;
+        }
         match failing(memo, self.walker.number, &with_moments(event, moments)) {
             None => Some(moments),
-            Some(_) => None,
+            Some(_) => found,
         }
     }
 
     /// The moments with which an event is witnessed that reads the table of a reach last, from a
-    /// moment on.
+    /// moment on, or those that were found before, where these are enough.
     fn end_in(
         &self,
         memo: &mut Memo<'_>,
@@ -267,34 +280,42 @@ impl<'a> View<'a> {
         level: Level,
         since: u32,
         x: &Reach,
+        found: Option<Moments>,
     ) -> Option<Moments>
         requires past { IsPast memo.old self.now.run.head self.now.run.events }
         requires well { broken_rule self.now.run.head event.now ≡ None }
         requires low { self.now.low ≤ since }
         requires within { x.now.table.table < 2 ^ 52 }
+        requires some { IfSome found (AreWitness self.now.run.head self.now.run.events
+            self.now.walker.number event.now) }
         ensures memo { memo.new ≡ memo.old }
         ensures some { IfSome result (AreWitness self.now.run.head self.now.run.events
             self.now.walker.number event.now) }
-        ensures none { IfNone result (AreRefused self.now.run self.now.walker event.now level
-            (max x.now.from since) (min x.now.to self.now.walker.number + 1) x.now) }
+        ensures fresher { (ws : List ℕ) → IsFresher self.now.walker.freshest found ws →
+            IsFresher self.now.walker.freshest result ws }
+        ensures none { AreRefused self.now.run self.now.walker event.now level
+            (max x.now.from since) (min x.now.to self.now.walker.number + 1) x.now result }
     {
         let last = x.to.min(self.walker.number);
+        let most = up_to(last, &x.latest);
+        let mut best = found;
         let mut at = x.from.max(since);
         while at <= last {
-            let piece = self.piece_at(level, x.table, at, last);
-            if let Some(moments) = self.end_by(memo, event, level, x, &piece) {
-                return Some(moments);
+            if is_enough(self.walker.freshest, &best, &most) {
+                return best;
             }
+            let piece = self.piece_at(level, x.table, at, last);
+            best = self.end_by(memo, event, level, x, &piece, best);
             match piece.to.checked_add(1) {
                 Some(next) => at = next,
-                None => return None,
+                None => return best,
             }
         }
-        None
+        best
     }
 
     /// The moments with which an event is witnessed that reads the table of one of some reaches
-    /// last, from a moment on.
+    /// last, from a moment on, or those that were found before, where these are enough.
     pub(crate) fn end_among(
         &self,
         memo: &mut Memo<'_>,
@@ -302,22 +323,26 @@ impl<'a> View<'a> {
         level: Level,
         since: u32,
         reaches: &[Reach],
+        found: Option<Moments>,
     ) -> Option<Moments>
         requires past { IsPast memo.old self.now.run.head self.now.run.events }
         requires well { broken_rule self.now.run.head event.now ≡ None }
         requires low { self.now.low ≤ since }
         requires each { All (IsReach self.now.run self.now.walker level) reaches.now }
+        requires some { IfSome found (AreWitness self.now.run.head self.now.run.events
+            self.now.walker.number event.now) }
         ensures memo { memo.new ≡ memo.old }
         ensures some { IfSome result (AreWitness self.now.run.head self.now.run.events
             self.now.walker.number event.now) }
-        ensures none { IfNone result (All (λ x. AreRefused self.now.run self.now.walker event.now
-            level (max x.from since) (min x.to self.now.walker.number + 1) x) reaches.now) }
+        ensures fresher { (ws : List ℕ) → IsFresher self.now.walker.freshest found ws →
+            IsFresher self.now.walker.freshest result ws }
+        ensures none { All (λ x. AreRefused self.now.run self.now.walker event.now level
+            (max x.from since) (min x.to self.now.walker.number + 1) x result) reaches.now }
     {
+        let mut best = found;
         for x in reaches {
-            if let Some(moments) = self.end_in(memo, event, level, since, x) {
-                return Some(moments);
-            }
+            best = self.end_in(memo, event, level, since, x, best);
         }
-        None
+        best
     }
 }

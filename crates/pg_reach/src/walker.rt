@@ -3,13 +3,15 @@ ghost use Rattle.pg_reach.specs.Asking.{want_by};
 
 use pg_event::{Event, Want, want_of};
 
-/// Who walks: a processor, for a linear byte address, under a PCID, before the event with a number.
+/// Who walks: a processor, for a linear byte address, under a PCID, before the event with a number;
+/// and whether the freshest moments are asked for, and not any.
 #[derive(Clone, Copy)]
 pub(crate) struct Walker {
     pub p: u16,
     pub la: u64,
     pub pcid: u16,
     pub number: u32,
+    pub freshest: bool,
 }
 
 /// What an event that names moments wants of the entry that it reads last; of others nothing is

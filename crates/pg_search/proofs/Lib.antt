@@ -1,4 +1,4 @@
-mod Freshness
+pub mod Freshness
 mod Lists
 pub mod Swept
 pub mod Stepping

@@ -4,7 +4,7 @@ ghost use Rattle.pg_search.specs.Freshness.{is_as_fresh, IsAsFresh};
 use pg_event::Moments;
 
 /// Whether these moments are as fresh as others, or fresher.
-pub(crate) fn are_as_fresh(a: &[u32], b: &[u32]) -> bool
+pub fn are_as_fresh(a: &[u32], b: &[u32]) -> bool
     ensures { result ≡ is_as_fresh a.now b.now }
 {
     let Some((x, before)) = a.split_last() else {

@@ -21,6 +21,7 @@ mod ways;
 
 pub use brief::{bare, with_moments};
 pub use finder::{find_moments, find_moments_at, names_moments};
+pub use fresh::are_as_fresh;
 pub use kept_run::KeptRun;
 pub use last::{Last, last_moments, last_moments_at};
 pub use laws::{

@@ -141,8 +141,8 @@ impl<'a> Seen<'a> {
         self.past.structure_survives(p, pcid, level, la, from, to)
     }
 
-    /// The last moment, from this one on, up to which that entry survives; the greatest of all where
-    /// no event drops it.
+    /// The last moment, from this one on, up to which that entry survives; the greatest of all
+    /// where no event drops it.
     pub fn structure_end(&self, p: u16, pcid: u16, level: Level, la: u64, from: u32) -> u32
         requires { IsTableLevel level }
         ensures { let key = structure_key pcid level la in
@@ -180,6 +180,30 @@ impl<'a> Seen<'a> {
         match past.first_drop_of_translation(p, pcid, shift, la, global, from, &mut probes) {
             Some(first) => first >= to,
             None => true,
+        }
+    }
+
+    /// The last moment, from this one on, up to which a translation of an address survives; the
+    /// greatest of all where no event drops it.
+    pub fn translation_end(
+        &self,
+        p: u16,
+        pcid: u16,
+        shift: u8,
+        la: u64,
+        global: bool,
+        from: u32,
+    ) -> u32
+        requires { IsPageShift shift }
+        ensures { let key = translation_key pcid shift global la in
+            IsEnd (λ w. survives self.now.head self.now.events p
+            (λ c e. must_drop_translation c e key) from w) from result }
+    {
+        let mut probes = Probes::new();
+        let past = self.past;
+        match past.first_drop_of_translation(p, pcid, shift, la, global, from, &mut probes) {
+            Some(first) => first,
+            None => u32::MAX,
         }
     }
 

@@ -1,21 +1,20 @@
-use Rattle.std.proofs.Common.{◌≡◌, ◌+◌, min, max, List, Option, Some, None, subst}
-use Rattle.std.specs.Prelude.{IfNone}
+use Rattle.std.proofs.Common.{◌≡◌, ℕ, ◌+◌, min, max, List, Option, subst}
 use Rattle.std.specs.List.{All}
 use Rattle.pg_entry.specs.declared.Level.{Level}
 use Rattle.pg_entry.specs.declared.Level.TheVariants.{Four, Three, Two, One}
+use Rattle.pg_event.specs.declared.event.Event.{Event}
+use Rattle.pg_event.specs.Spelling.{Recorded}
 use Rattle.pg_event.specs.Walk.{below}
+use Rattle.pg_reach.specs.declared.walker.Walker.{Walker}
 use Rattle.pg_inval.specs.Drops.{IsTableLevel}
 use Rattle.pg_reach.specs.declared.reach.Reach.{Reach}
 use Rattle.pg_reach.specs.Views.{Viewed}
 use Rattle.pg_reach.specs.Reaching.{IsReach, AreRoots, AreBelow}
 use Rattle.pg_reach.specs.Bounds.{bound_of}
 use Rattle.pg_reach.specs.Ends.{AreRefused}
-use Rattle.pg_reach.proofs.Whole.{AreWhole, none_under}
+use Rattle.pg_reach.proofs.Refusals.{IsBetter, all_better}
+use Rattle.pg_reach.proofs.Whole.{AreWhole, all_under}
 use Rattle.pg_reach.proofs.finder.search_under.Goals as goal
-
-if_none : {X : Type 0} {P Q : Type 0} (o : Option X) → (P → Q) → IfNone o P → IfNone o Q
-if_none None f h = f h
-if_none (Some x) f h = h
 
 -- the reaches of each level
 abbrev by_level : List Reach → List Reach → List Reach → List Reach → Level → List Reach
@@ -24,34 +23,41 @@ by_level fours threes twos ones Three = threes
 by_level fours threes twos ones Two = twos
 by_level fours threes twos ones One = ones
 
-pub returns-clause-none : goal.returns-clause-none
-returns-clause-none c = if_none c.end_among-4.result (λ last.
-    let view : Viewed = c.in_ok-view.view in
-    let mine : Viewed = record { run = c.args.seen.now; walker = c.args.walker.now; low = c.args.bounds.four } in
-    let is : view ≡ mine = c.in_ok-view.ensures in
-    let refused : Level → Viewed → List Reach → Type 0 = λ level v xs. All (λ x. AreRefused v.run v.walker c.args.event.now level (max x.from c.args.bounds.one) (min x.to v.walker.number + 1) x) xs in
-    let roots : AreRoots mine.run mine.walker mine.low c.in_ok-fours.fours = subst (λ (v : Viewed). AreRoots v.run v.walker v.low c.in_ok-fours.fours) is c.in_ok-fours.ensures in
-    let threes : AreBelow mine.run mine.walker Four c.args.bounds.four c.in_ok-fours.fours c.in_ok-threes.threes = subst (λ (v : Viewed). AreBelow v.run v.walker Four c.args.bounds.four c.in_ok-fours.fours c.in_ok-threes.threes) is
-    (subst (λ (xs : List Reach). AreBelow view.run view.walker Four c.args.bounds.four xs c.in_ok-threes.threes) c.as_slice.ensures c.in_ok-threes.ensures) in
-    let twos : AreBelow mine.run mine.walker Three c.args.bounds.three c.in_ok-threes.threes c.in_ok-twos.twos = subst (λ (v : Viewed). AreBelow v.run v.walker Three c.args.bounds.three c.in_ok-threes.threes c.in_ok-twos.twos) is
-    (subst (λ (xs : List Reach). AreBelow view.run view.walker Three c.args.bounds.three xs c.in_ok-twos.twos) c.as_slice-2.ensures c.in_ok-twos.ensures) in
-    let ones : AreBelow mine.run mine.walker Two c.args.bounds.two c.in_ok-twos.twos c.in_ok-ones.ones = subst (λ (v : Viewed). AreBelow v.run v.walker Two c.args.bounds.two c.in_ok-twos.twos c.in_ok-ones.ones) is
-    (subst (λ (xs : List Reach). AreBelow view.run view.walker Two c.args.bounds.two xs c.in_ok-ones.ones) c.as_slice-3.ensures c.in_ok-ones.ensures) in
+pub returns-clause-all : goal.returns-clause-all
+returns-clause-all c =
+    let view : Viewed = c.args.view.now in
+    let r : Recorded = view.run in
+    let v : Walker = view.walker in
+    let e : Event = c.args.event.now in
+    let since : ℕ = c.args.bounds.one in
+    let found : Option (List ℕ) = c.end_among-four.result in
+    let refused : Level → List Reach → Option (List ℕ) → Type 0 = λ level xs found. All (λ x. AreRefused r v e level (max x.from since) (min x.to v.number + 1) x found) xs in
+    let roots : AreRoots r v c.args.bounds.four c.in_ok-fours.fours = subst (λ low. AreRoots r v low c.in_ok-fours.fours) c.requires.low c.in_ok-fours.ensures in
+    let threes : AreBelow r v Four c.args.bounds.four c.in_ok-fours.fours c.in_ok-threes.threes = subst (λ (xs : List Reach). AreBelow r v Four c.args.bounds.four xs c.in_ok-threes.threes) c.as_slice.ensures c.in_ok-threes.ensures in
+    let twos : AreBelow r v Three c.args.bounds.three c.in_ok-threes.threes c.in_ok-twos.twos = subst (λ (xs : List Reach). AreBelow r v Three c.args.bounds.three xs c.in_ok-twos.twos) c.as_slice-2.ensures c.in_ok-twos.ensures in
+    let ones : AreBelow r v Two c.args.bounds.two c.in_ok-twos.twos c.in_ok-ones.ones = subst (λ (xs : List Reach). AreBelow r v Two c.args.bounds.two xs c.in_ok-ones.ones) c.as_slice-3.ensures c.in_ok-ones.ensures in
+    let one : refused One c.in_ok-ones.ones c.end_among-one.result = subst (λ (xs : List Reach). refused One xs c.end_among-one.result) c.as_slice-4.ensures c.end_among-one.ensures.none in
+    let two : refused Two c.in_ok-twos.twos c.end_among-two.result = subst (λ (xs : List Reach). refused Two xs c.end_among-two.result) c.as_slice-5.ensures c.end_among-two.ensures.none in
+    let three : refused Three c.in_ok-threes.threes c.end_among-three.result = subst (λ (xs : List Reach). refused Three xs c.end_among-three.result) c.as_slice-6.ensures c.end_among-three.ensures.none in
+    let four : refused Four c.in_ok-fours.fours found = subst (λ (xs : List Reach). refused Four xs found) c.as_slice-7.ensures c.end_among-four.ensures.none in
+    let by_three : IsBetter v.freshest c.end_among-three.result found = c.end_among-four.ensures.fresher in
+    let by_two : IsBetter v.freshest c.end_among-two.result found = λ ws h. by_three ws (c.end_among-three.ensures.fresher ws h) in
+    let by_one : IsBetter v.freshest c.end_among-one.result found = λ ws h. by_two ws (c.end_among-two.ensures.fresher ws h) in
     let lists : Level → List Reach = by_level c.in_ok-fours.fours c.in_ok-threes.threes c.in_ok-twos.twos c.in_ok-ones.ones in
-    let whole : AreWhole mine.run mine.walker c.args.event.now c.args.bounds.one c.args.bounds lists = record {
+    let whole : AreWhole r v e since c.args.bounds lists found = record {
       bounds = c.requires.bounds;
       levels = record {
         roots = roots;
-        below = λ level. elim level as (λ l. IsTableLevel l → AreBelow mine.run mine.walker l (bound_of c.args.bounds l) (lists l) (lists (below l))) [ Four ↦ λ deep. threes | Three ↦ λ deep. twos | Two ↦ λ deep. ones | One ↦ λ deep. absurd deep ];
+        below = λ level. elim level as (λ l. IsTableLevel l → AreBelow r v l (bound_of c.args.bounds l) (lists l) (lists (below l))) [ Four ↦ λ deep. threes | Three ↦ λ deep. twos | Two ↦ λ deep. ones | One ↦ λ deep. absurd deep ];
       };
-      each = λ level. elim level as (λ l. All (IsReach mine.run mine.walker l) (lists l)) [ Four ↦ roots.each | Three ↦ threes.each | Two ↦ twos.each | One ↦ ones.each ];
-      refused = λ level. elim level as (λ l. refused l mine (lists l)) [
-        | Four ↦ subst (λ (v : Viewed). refused Four v c.in_ok-fours.fours) is (subst (refused Four view) c.as_slice-7.ensures last)
-        | Three ↦ subst (λ (v : Viewed). refused Three v c.in_ok-threes.threes) is (subst (refused Three view) c.as_slice-6.ensures c.in_default-end_among-2.ensures.none)
-        | Two ↦ subst (λ (v : Viewed). refused Two v c.in_ok-twos.twos) is (subst (refused Two view) c.as_slice-5.ensures c.in_default-end_among.ensures.none)
-        | One ↦ subst (λ (v : Viewed). refused One v c.in_ok-ones.ones) is (subst (refused One view) c.as_slice-4.ensures c.in_default.ensures.none)
+      each = λ level. elim level as (λ l. All (IsReach r v l) (lists l)) [ Four ↦ roots.each | Three ↦ threes.each | Two ↦ twos.each | One ↦ ones.each ];
+      refused = λ level. elim level as (λ l. refused l (lists l) found) [
+        | Four ↦ four
+        | Three ↦ all_better r v e Three since c.in_ok-threes.threes c.end_among-three.result found by_three three
+        | Two ↦ all_better r v e Two since c.in_ok-twos.twos c.end_among-two.result found by_two two
+        | One ↦ all_better r v e One since c.in_ok-ones.ones c.end_among-one.result found by_one one
       ];
       small = c.requires.small;
       within = c.requires.within;
     } in
-    none_under c.args.seen.now c.args.walker.now c.args.event.now c.args.bounds.one c.args.bounds lists c.requires.well c.requires.asks whole) c.end_among-4.ensures.none
+    all_under r v e since c.args.bounds lists found c.requires.well c.requires.asks whole
