@@ -67,37 +67,6 @@ fn search_under(
     Ok(four)
 }
 
-/// Moments under the walker's PCID that witness an event, of which the last is not before this one,
-/// or those that were found before, where these are enough.
-fn search_since(
-    alloc: Global,
-    seen: &Seen<'_>,
-    memo: &mut Memo<'_>,
-    event: &Event,
-    walker: Walker,
-    since: u32,
-    found: Option<Moments>,
-) -> Result<Option<Moments>, AllocError>
-    requires past { IsPast memo.old seen.now.head seen.now.events }
-    requires well { broken_rule seen.now.head event.now ≡ None }
-    requires asks { Asks walker event.now }
-    requires within { walker.number ≤ length seen.now.events }
-    requires small { walker.number < 2 ^ 32 }
-    requires some { IfSome found
-        (AreWitness seen.now.head seen.now.events walker.number event.now) }
-    ensures memo { memo.new ≡ memo.old }
-    ensures some { IfOk result (λ r. IfSome r
-        (AreWitness seen.now.head seen.now.events walker.number event.now)) }
-    ensures fresher { IfOk result (λ r. (ws : List ℕ) →
-        IsFresher walker.freshest found ws → IsFresher walker.freshest r ws) }
-    ensures all { IfOk result (AreUnder seen.now walker since event.now) }
-{
-    let bounds = bounds_from(seen, &walker, since);
-    let spans = spans_of(alloc, seen, walker.p, bounds.four, walker.number)?;
-    let view = View::new(alloc, seen, walker, bounds.four, &spans)?;
-    search_under(alloc, &view, memo, event, bounds, found)
-}
-
 /// Whether an event wants a page, which may be cached.
 fn wants_page(event: &Event) -> bool
     ensures { result ≡ uses_last (want_by event.now) }
@@ -129,7 +98,10 @@ fn search_own(
     } else {
         walker.number
     };
-    search_since(alloc, seen, memo, event, walker, since, None)
+    let bounds = bounds_from(seen, &walker, since);
+    let spans = spans_of(alloc, seen, walker.p, bounds.four, walker.number)?;
+    let view = View::new(alloc, seen, walker, bounds.four, &spans)?;
+    search_under(alloc, &view, memo, event, bounds, None)
 }
 
 /// Moments that witness an event by a global translation, under any PCID, or those that were found
@@ -170,8 +142,9 @@ fn search_globals(
             pcid: *pcid,
             ..walker
         };
-        let since = page_since(seen, &other, true);
-        let fresher = search_since(alloc, seen, memo, event, other, since, best)?;
+        let bounds = bounds_from(seen, &other, page_since(seen, &other, true));
+        let view = View::new(alloc, seen, other, bounds.four, &spans)?;
+        let fresher = search_under(alloc, &view, memo, event, bounds, best)?;
         best = fresher;
     }
     Ok(best)

@@ -4,26 +4,46 @@ use Rattle.std.proofs.lemmas.List.{take_more, take_all}
 use Rattle.std.proofs.lemmas.List.Elements.{All-push, All-weaker, All-contains}
 use Rattle.pg_event.specs.declared.control.Control.{Control}
 use Rattle.pg_timeline.specs.declared.timeline.Span.{Span}
+use Rattle.std.specs.Prelude.{IfSome}
+use Rattle.pg_event.specs.declared.event.Event.{Event}
+use Rattle.pg_event.specs.Spelling.{Recorded}
+use Rattle.pg_search.specs.Law.{AreWitness}
 use Rattle.pg_reach.specs.declared.walker.Walker.{Walker}
-use Rattle.pg_reach.specs.Stays.{IsSteady, ArePcids}
+use Rattle.pg_reach.specs.declared.since.Bounds.{Bounds}
+use Rattle.pg_reach.specs.Views.{Viewed}
+use Rattle.pg_reach.proofs.Refusals.{IsBetter}
+use Rattle.pg_reach.specs.Stays.{IsSteady, AreSpans, ArePcids}
 use Rattle.pg_reach.specs.Asking.{under, AreUnder, AreGlobal}
 use Rattle.pg_reach.proofs.Cases.{global_since}
 use Rattle.pg_reach.proofs.finder.search_globals.Goals as goal
 
+pub new-requires : goal.new-requires
+new-requires c =
+    subst (λ (ss : List (Span Control)). AreSpans c.args.seen.now c.args.walker.p c.bounds_from-bounds.result.four c.args.walker.number ss) (sym c.deref-in-loop-pcid.ensures.value)
+    (record { each = c.in_ok-spans.ensures.each; all = λ w from to. c.in_ok-spans.ensures.all w (omega arith) to })
+
 pub loop-pcid-preserved : goal.loop-pcid-preserved
 loop-pcid-preserved c =
+    let r : Recorded = c.args.seen.now in
+    let e : Event = c.args.event.now in
     let xs : List ℕ = c.deref-pcid-items.result.now in
     let i : ℕ = c.loop-pcid.pcid-index in
     let pcid : ℕ = get_or xs i 0 in
+    let v : Walker = under c.args.walker pcid in
     let better : Option (List ℕ) = c.in_ok-fresher.fresher in
-    let all : Option (List ℕ) → ℕ → Type 0 = λ found pcid. AreGlobal c.args.seen.now (under c.args.walker pcid) c.args.event.now found in
+    let bounds : Bounds = c.bounds_from-bounds.result in
+    let fresher : IsBetter v.freshest c.loop-pcid.best better = subst (λ (w : Viewed). IsBetter w.walker.freshest c.loop-pcid.best better) c.in_ok-view.ensures c.in_ok-fresher.ensures.fresher in
+    let some : IfSome better (AreWitness r.head r.events v.number e) = subst (λ (w : Viewed). IfSome better (AreWitness w.run.head w.run.events w.walker.number e)) c.in_ok-view.ensures c.in_ok-fresher.ensures.some in
+    let mine : AreUnder r v bounds.one e better = subst (λ (w : Viewed). AreUnder w.run w.walker bounds.one e better) c.in_ok-view.ensures c.in_ok-fresher.ensures.all in
+    let since : AreUnder r v c.page_since.result e better = subst (λ since. AreUnder r v since e better) c.bounds_from-bounds.ensures.one mine in
+    let all : Option (List ℕ) → ℕ → Type 0 = λ found pcid. AreGlobal r (under c.args.walker pcid) e found in
     record {
-      memo = c.search_since.ensures.memo ∙ c.loop-pcid.invariant.memo;
-      some = c.in_ok-fresher.ensures.some;
-      fresher = λ ws h. c.in_ok-fresher.ensures.fresher ws (c.loop-pcid.invariant.fresher ws h);
+      memo = c.search_under.ensures.memo ∙ c.loop-pcid.invariant.memo;
+      some = some;
+      fresher = λ ws h. fresher ws (c.loop-pcid.invariant.fresher ws h);
       all = subst (All (all better)) (sym (take_more xs i 0 c.loop-pcid-test.true)) (All-push (all better) (take i xs) pcid
-          (All-weaker (all c.loop-pcid.best) (all better) (λ q old. λ ws witness alike lasts. c.in_ok-fresher.ensures.fresher ws (old ws witness alike lasts)) (take i xs) c.loop-pcid.invariant.all)
-          (global_since c.args.seen.now (under c.args.walker pcid) c.page_since-since.result c.args.event.now better c.in_ok-fresher.ensures.all c.page_since-since.ensures.since));
+          (All-weaker (all c.loop-pcid.best) (all better) (λ q old. λ ws witness alike lasts. fresher ws (old ws witness alike lasts)) (take i xs) c.loop-pcid.invariant.all)
+          (global_since r v c.page_since.result e better since c.page_since.ensures.since));
     }
 
 pub returns-clause-all : goal.returns-clause-all

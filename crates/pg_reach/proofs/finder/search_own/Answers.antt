@@ -4,6 +4,8 @@ use Rattle.std.proofs.lemmas.Result.{IfOk-weaker}
 use Rattle.pg_event.specs.declared.event.Event.{Event}
 use Rattle.pg_event.specs.Spelling.{Recorded}
 use Rattle.pg_reach.specs.declared.walker.Walker.{Walker}
+use Rattle.pg_reach.specs.declared.since.Bounds.{Bounds}
+use Rattle.pg_reach.specs.Views.{Viewed}
 use Rattle.pg_reach.specs.Asking.{AreUnder, AreLate}
 use Rattle.pg_reach.proofs.Cases.{late_page, late_now}
 use Rattle.pg_reach.proofs.finder.search_own.Goals as goal
@@ -14,9 +16,12 @@ returns-clause-all c =
     let r : Recorded = c.args.seen.now in
     let v : Walker = c.args.walker in
     let e : Event = c.args.event.now in
-    elim c.if-wants_page.branch as (λ _. IfOk c.search_since.result (AreLate r v e)) [
-      | then-wants_page b ↦ IfOk-weaker c.search_since.result _ _ (λ found h. late_page r v b.page_since-since.result e found b.page_since-since.ensures.within b.page_since-since.ensures.since h)
-          (subst (λ since. IfOk c.search_since.result (AreUnder r v since e)) b.since-is c.search_since.ensures.all)
-      | else-wants_page b ↦ IfOk-weaker c.search_since.result _ _ (λ found h. late_now r v e found (sym c.wants_page.ensures ∙ b.if-wants_page.false) h)
-          (subst (λ since. IfOk c.search_since.result (AreUnder r v since e)) b.since-is c.search_since.ensures.all)
+    let bounds : Bounds = c.bounds_from-bounds.result in
+    let mine : IfOk c.search_under.result (AreUnder r v bounds.one e) = subst (λ (w : Viewed). IfOk c.search_under.result (AreUnder w.run w.walker bounds.one e)) c.in_ok-view.ensures c.search_under.ensures.all in
+    let under : IfOk c.search_under.result (AreUnder r v c.if-wants_page.since e) = subst (λ since. IfOk c.search_under.result (AreUnder r v since e)) c.bounds_from-bounds.ensures.one mine in
+    elim c.if-wants_page.branch as (λ _. IfOk c.search_under.result (AreLate r v e)) [
+      | then-wants_page b ↦ IfOk-weaker c.search_under.result _ _ (λ found h. late_page r v b.page_since-since.result e found b.page_since-since.ensures.within b.page_since-since.ensures.since h)
+        (subst (λ since. IfOk c.search_under.result (AreUnder r v since e)) b.since-is under)
+      | else-wants_page b ↦ IfOk-weaker c.search_under.result _ _ (λ found h. late_now r v e found (sym c.wants_page.ensures ∙ b.if-wants_page.false) h)
+        (subst (λ since. IfOk c.search_under.result (AreUnder r v since e)) b.since-is under)
     ]
