@@ -21,7 +21,8 @@ use crate::walk_finding::{Asked, tagged, walk_finding};
 use pg_chain::EntryRead;
 use pg_check::History;
 use pg_event::{Claim, Event, Moments, Update, Want, claim_of, update_of, want_of};
-use pg_search::{Last, find_moments, last_moments};
+use pg_reach::freshest_moments;
+use pg_search::{Last, last_moments};
 use std::alloc::{AllocError, Global};
 
 /// What stands behind a "no".
@@ -242,7 +243,11 @@ fn last_of(
 }
 
 /// What stands behind the least reason that fails for an event, or `None` where the event is
-/// witnessed. It takes a few passes over the events. `Err` is for want of memory alone.
+/// witnessed.
+///
+/// The past is asked first whether other moments prove the event. One search then goes over the
+/// events before it, in a few passes: where there are other moments, for the freshest of them, and
+/// else for when the event would last have been witnessed. `Err` is for want of memory alone.
 pub fn explain(alloc: Global, history: &History, i: u64) -> Result<Option<Explanation>, AllocError>
     requires { i < length history.now.events }
     ensures { IfOk result (λ x. MatchOption x
@@ -254,7 +259,7 @@ pub fn explain(alloc: Global, history: &History, i: u64) -> Result<Option<Explan
     match tell_event(alloc, history, number, &event)? {
         None => Ok(None),
         Some(Told { walk, finding }) => {
-            let other = find_moments(alloc, history, i)?;
+            let other = freshest_moments(alloc, history, i)?;
             let last = last_of(alloc, history, i, &other)?;
             Ok(Some(Explanation {
                 number,

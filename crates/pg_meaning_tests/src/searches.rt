@@ -2,7 +2,8 @@ use crate::written::{ACCESSED, INVLPG, MAPPED, READ, WRITE, Written, add_all, st
 use pg_certify::{Certified, certify};
 use pg_check::History;
 use pg_event::{Event, Moments, Outcome, Version};
-use pg_search::{find_moments, names_moments};
+use pg_reach::freshest_moments;
+use pg_search::names_moments;
 use std::alloc::{AllocGlobal, Global};
 use std::process::Abort;
 use std::test::Fail;
@@ -232,7 +233,7 @@ fn found_of(alloc: Global, history: &History) -> Result<Option<Moments>, Fail> {
     if count == 0 || !names_moments(&history.events()[(count - 1) as usize]) {
         return Err(Fail::from("names no moments"));
     }
-    Ok(find_moments(alloc, history, count - 1)?)
+    Ok(freshest_moments(alloc, history, count - 1)?)
 }
 
 /// Adds events, and says whether what is found for the last is as the step says.

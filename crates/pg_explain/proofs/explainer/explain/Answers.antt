@@ -25,8 +25,8 @@ returns-in-None c =
     slice_get_read _ _ _ _ refl c.requires (rw c.events.ensures.events at c.index-events-i.is) in
     rw at (rw c.in-None.is at c.in_ok-tell_event.ensures)
 
-pub find_moments-requires-clause-names : goal.find_moments-requires-clause-names
-find_moments-requires-clause-names c =
+pub freshest_moments-requires-clause-names : goal.freshest_moments-requires-clause-names
+freshest_moments-requires-clause-names c =
     let at : slice_get c.args.history.now.events c.args.i ≡ Some c.index-events-i.result =
     slice_get_read _ _ _ _ refl c.requires (rw c.events.ensures.events at c.index-events-i.is) in
     let told = rw c.in-Some.is at c.in_ok-tell_event.ensures in
