@@ -1,22 +1,19 @@
 //! Events judged one by one, each by moments that are guessed or, where guesses fail, searched.
 
-ghost use Rattle.std.specs.Prelude.{◌≡◌, ◌<◌, ◌≤◌, ◌^◌, true, length, Some, None, slice_get};
+ghost use Rattle.std.specs.Prelude.{◌≡◌, ◌<◌, ◌≤◌, ◌^◌, true, length, None};
 ghost use Rattle.std.specs.Prelude.{IfOk, IfSome, IfNone};
 ghost use Rattle.std.specs.List.{AllByRecursion};
 ghost use Rattle.pg_event.specs.Form.{broken_rule, processor_of};
 ghost use Rattle.pg_event.specs.Spelling.{AreMoments};
 ghost use Rattle.pg_search.specs.Law.{names_moments};
-ghost use Rattle.pg_certify.specs.Certified.{IsFoundFor, IsUnwitnessed, IsDenied, Certifies};
-ghost use Rattle.pg_certify.specs.Certified.{CanBeCertified};
-ghost use Rattle.pg_certify.specs.Shares.{IsDealt, IsLeastDenied};
+ghost use Rattle.pg_certify.specs.Certified.{IsFoundFor, IsUnwitnessed};
 
 use crate::case::{Asks, Case, case_of};
 use crate::guesses::{Guesses, Part, Scope, key_of};
 use crate::mapped::Events;
 use crate::pcids::Pcids;
-use crate::share::Share;
 use crate::walk::{Walk, address_by, first_moments, is_global, last_of, tables_up_to, walk_by};
-use pg_check::{History, Memo, failing};
+use pg_check::{Memo, failing};
 use pg_entry::has_bit;
 use pg_event::{Event, Moments, Outcome, Reason};
 use pg_reach::any_moments;
@@ -167,8 +164,8 @@ impl<'a> Certifier<'a> {
         self.guesses
     }
 
-    /// The event with these moments, or the least reason by which they do not witness it. Each event
-    /// asks it, so that to copy what it gives would cost much.
+    /// The event with these moments, or the least reason by which they do not witness it. Each
+    /// event asks it, so that to copy what it gives would cost much.
     #[inline(always)]
     fn judge(&mut self, event: &Event, i: u32, moments: Moments) -> Result<Event, Reason>
         requires { broken_rule self.old.head event.now ≡ None }
@@ -760,89 +757,4 @@ impl<'a> Certifier<'a> {
             None => Ok(Some(*event)),
         }
     }
-}
-
-/// The event with this number.
-fn event_at(history: &History, i: u64) -> &Event
-    requires { i < length history.now.events }
-    ensures there { slice_get history.now.events i ≡ Some result.now }
-    ensures well { broken_rule history.now.head result.now ≡ None }
-{
-    &history.events()[i as usize]
-}
-
-/// Of the events of a share, the least that no moments witness, or `None` where some moments
-/// witness each.
-pub(crate) fn first_denied_of(
-    alloc: Global,
-    history: &History,
-    share: Share,
-) -> Result<Option<u64>, AllocError>
-    ensures { IfOk result (IsLeastDenied
-        (IsDealt share.checkers history.now.events share.number)
-        history.now.head history.now.events) }
-{
-    let count = share.size_of(history.len());
-    let events = Events::Whole(history.events());
-    let mut certifier = Certifier::new(
-        alloc,
-        Seen::of(history),
-        events,
-        Guesses::new(alloc),
-        count,
-    );
-    for i in 0..history.len() {
-        let asked = event_at(history, i);
-        if share.has(asked) {
-            match certifier.find(i as u32, asked)? {
-                Some(_) => {}
-                None => return Ok(Some(i)),
-            }
-        }
-        certifier.see(i as u32, asked);
-    }
-    Ok(None)
-}
-
-/// The least event that no moments witness, or `None` where some moments make the run's events an
-/// accepted record.
-///
-/// It fails only where memory is refused.
-pub fn first_denied(alloc: Global, history: &History) -> Result<Option<u64>, AllocError>
-    ensures denied { IfOk result
-        (λ r. IfSome r (IsDenied history.now.head history.now.events)) }
-    ensures certified { IfOk result
-        (λ r. IfNone r (CanBeCertified history.now.head history.now.events)) }
-{
-    first_denied_of(alloc, history, Share::new(0, 1))
-}
-
-/// Moments for all events of a run, or the least event that no moments witness: `first_denied`
-/// tells the same and keeps nothing.
-///
-/// It fails only where memory is refused.
-pub fn certify(alloc: Global, history: &History) -> Result<Certified, AllocError>
-    ensures { IfOk result (Certifies history.now.head history.now.events) }
-{
-    let count = history.len() as usize;
-    let events = Events::Whole(history.events());
-    let mut certifier = Certifier::new(
-        alloc,
-        Seen::of(history),
-        events,
-        Guesses::new(alloc),
-        count,
-    );
-    let mut found = Vec::new(alloc);
-    for i in 0..history.len() {
-        let asked = event_at(history, i);
-        match certifier.find(i as u32, asked)? {
-            Some(event) => {
-                found.push(event)?;
-            }
-            None => return Ok(Certified::No(i)),
-        }
-        certifier.see(i as u32, asked);
-    }
-    Ok(Certified::Yes(found))
 }

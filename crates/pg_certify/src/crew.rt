@@ -7,8 +7,8 @@ ghost use Rattle.pg_certify.specs.Certified.{IsDenied, CanBeCertified};
 ghost use Rattle.pg_certify.specs.Shares.{AreAnswers, IsDealtBelow, IsLeastDenied, earlier};
 ghost use Rattle.pg_certify.specs.declared.crew.CertifyError.TheVariants.{Memory};
 
-use crate::certifier::{first_denied, first_denied_of};
 use crate::share::Share;
+use crate::whole::{first_denied, first_denied_of};
 use pg_check::History;
 use std::alloc::{AllocError, Global};
 use std::sync::Wait;

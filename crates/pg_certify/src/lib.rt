@@ -17,13 +17,15 @@ mod numbering;
 mod pcids;
 mod share;
 mod walk;
+mod whole;
 mod window;
 
 pub use account::Accounting;
-pub use certifier::{Certified, certify, first_denied};
+pub use certifier::Certified;
 pub use certifying::Certifying;
 pub use crew::{CertifyError, first_denied_by};
 pub use laws::{
     certified_events_run, certified_exactly_where_a_run_exists, denied_events_have_no_run,
 };
 pub use numbering::{Numbered, Numbering, kept_whole};
+pub use whole::{certify, first_denied};

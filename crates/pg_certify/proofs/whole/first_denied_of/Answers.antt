@@ -8,8 +8,8 @@ use Rattle.pg_certify.specs.Certified.{IsFound}
 use Rattle.pg_certify.specs.Shares.{IsDealt}
 use Rattle.pg_certify.proofs.Founds.{found_at}
 use Rattle.pg_certify.proofs.Shares.{denied_share, each_found, not_dealt}
-use Rattle.pg_certify.proofs.certifier.first_denied_of.Goals as goal
-use Rattle.pg_certify.proofs.certifier.first_denied_of.Goals.{then-has+in_ok-find+in-Some, else-has}
+use Rattle.pg_certify.proofs.whole.first_denied_of.Goals as goal
+use Rattle.pg_certify.proofs.whole.first_denied_of.Goals.{then-has+in_ok-find+in-Some, else-has}
 
 pub see-requires : goal.see-requires
 see-requires c =

@@ -2,7 +2,7 @@ use Rattle.std.proofs.Common.{◌≡◌, ℕ, ◌<◌}
 use Rattle.pg_run_of.specs.Converse.{HasMoments}
 use Rattle.pg_search.specs.Law.{CanBeWitnessed}
 use Rattle.pg_certify.proofs.Gathered.{UpTo}
-use Rattle.pg_certify.proofs.certifier.certify.Given as goal
+use Rattle.pg_certify.proofs.whole.certify.Given as goal
 
 abbrev pub invariant-loop-i : goal.invariant-loop-i
 invariant-loop-i l = record {

@@ -1,6 +1,6 @@
 use Rattle.pg_certify.specs.Shares.{IsDealt}
 use Rattle.pg_certify.proofs.Shares.{certified_if_ok, denied_if_ok, whole_share}
-use Rattle.pg_certify.proofs.certifier.first_denied.Goals as goal
+use Rattle.pg_certify.proofs.whole.first_denied.Goals as goal
 
 pub returns-clause-denied : goal.returns-clause-denied
 returns-clause-denied c =

@@ -9,7 +9,7 @@ use Rattle.pg_search.specs.Law.{CanBeWitnessed}
 use Rattle.pg_certify.specs.Certified.{IsFound}
 use Rattle.pg_certify.proofs.Gathered.{UpTo, one_more}
 use Rattle.pg_certify.proofs.Founds.{denied_at, found_at, found_can, found_good, each_more, all_found}
-use Rattle.pg_certify.proofs.certifier.certify.Goals as goal
+use Rattle.pg_certify.proofs.whole.certify.Goals as goal
 
 pub returns-in-None : goal.returns-in-None
 returns-in-None c =

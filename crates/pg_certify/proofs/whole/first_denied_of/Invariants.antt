@@ -2,7 +2,7 @@ use Rattle.std.proofs.Common.{◌≡◌, ℕ, ◌<◌}
 use Rattle.pg_event.specs.declared.event.Event.{Event}
 use Rattle.pg_certify.specs.Certified.{IsFound}
 use Rattle.pg_certify.specs.Shares.{IsDealt}
-use Rattle.pg_certify.proofs.certifier.first_denied_of.Given as goal
+use Rattle.pg_certify.proofs.whole.first_denied_of.Given as goal
 
 abbrev pub invariant-loop-i : goal.invariant-loop-i
 invariant-loop-i l = record {
