@@ -5,3 +5,4 @@ mod Shares
 pub mod Windows
 mod Accounts
 mod Packed
+pub mod Named

@@ -12,7 +12,8 @@ pub(crate) type Spanned = (Written, u32);
 /// What is to be told.
 enum Told {
     Yes,
-    No(u64),
+    Never(u64),
+    NoneOfAll(u64),
     Undecided(u64),
 }
 
@@ -56,7 +57,7 @@ const CASES: [Case; 6] = [
     Case {
         name: "one order alone, which has none",
         events: &[(REMAP, 0), (OWN_INVLPG, 0), (OLD_READ, 0)],
-        told: Told::No(7),
+        told: Told::Never(7),
         order: &[],
     },
     Case {
@@ -74,13 +75,13 @@ const CASES: [Case; 6] = [
     Case {
         name: "an invalidation behind the write, and a read that overlaps it alone",
         events: &[(REMAP, 0), (OWN_INVLPG, 0), (OLD_READ, 1)],
-        told: Told::No(7),
+        told: Told::Never(7),
         order: &[],
     },
     Case {
-        name: "a wrong error code, which no order is asked for",
+        name: "a wrong error code, and all orders tried",
         events: &[(WRONG_CODE, 1)],
-        told: Told::Undecided(5),
+        told: Told::NoneOfAll(5),
         order: &[],
     },
 ];
@@ -118,7 +119,8 @@ fn is_told(alloc: Global, run: &SpannedRun, told: &Told) -> Result<bool, Fail> {
         (Verdict::Yes { order, found }, Told::Yes) => {
             is_order(alloc, run, &order)? && found.len() == run.len()
         }
-        (Verdict::No(event), Told::No(at)) => event == *at,
+        (Verdict::Never(event), Told::Never(at)) => event == *at,
+        (Verdict::NoneOfAll(event), Told::NoneOfAll(at)) => event == *at,
         (Verdict::Undecided(event), Told::Undecided(at)) => event == *at,
         _ => false,
     })

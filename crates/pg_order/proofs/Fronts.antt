@@ -153,3 +153,6 @@ numbers_back s front i numbers = record {
 
 pub last_within : (s : Spanned) (front : List ℕ) (i : ℕ) → AreNumbers s (front ++ i ∷ []) → i < length s.events
 last_within s front i numbers = numbers.within (length front) i (end_at front [] i)
+
+pub nothing_below : (s : Spanned) (front : List ℕ) → NoneBelow s front 0
+nothing_below s front i lt = absurd (omega (arith, lt))

@@ -1,9 +1,10 @@
 -- What an answer means for runs of the machine.
-use Rattle.std.proofs.Common.{◌≡◌, ℕ, zero, suc, ◌+◌, ◌≤◌, List, [], ◌∷◌, length, take, map, arith, refl, sym, ap, subst, ◌∙◌, Option, Some, None}
+use Rattle.std.proofs.Common.{◌≡◌, ℕ, zero, suc, ◌+◌, ◌-◌, ◌^◌, ◌<◌, ◌≤◌, List, [], ◌∷◌, length, take, map, arith, refl, sym, ap, subst, ◌∙◌, Option, Some, None}
 use Rattle.std.specs.Prelude.{slice_get}
 use Rattle.std.specs.Option.{option_to_list}
 use Rattle.std.proofs.lemmas.List.{length-append}
-use Rattle.std.proofs.lemmas.List.FromFn.{length-range_with_len}
+use Rattle.std.proofs.lemmas.List.FromFn.{length-range_with_len, get_or-range_with_len}
+use Rattle.std.proofs.lemmas.Option.{slice_get-get_or, slice_get_within}
 use Rattle.pg_event.specs.declared.event.Event.{Event}
 use Rattle.pg_event.specs.Heads.{Head}
 use Rattle.pg_event.specs.Form.{broken_rule}
@@ -16,8 +17,9 @@ use Rattle.pg_certify.specs.Certified.{IsDenied, HasRunButMoments, CertifiedEven
 use Rattle.pg_spanned.specs.Orders.{Spanned, IsOrder}
 use Rattle.pg_spanned.specs.Spanned.{IsSpanned}
 use Rattle.pg_spanned.specs.Laws.{ends, NoneOverlap, NoOverlapNoOtherOrder}
-use Rattle.pg_spanned.proofs.Places.{AllByRecursion-at}
+use Rattle.pg_spanned.proofs.Places.{AllByRecursion-at, some_same}
 use Rattle.pg_spanned.specs.Orders.{ordered}
+use Rattle.pg_relaxed.specs.Orders.{RunComesTo, NeverComes}
 use Rattle.pg_order.specs.Runs.{HasOrderedRun, OrderedEventsRun, OrderedExactlyWhereARunExists}
 
 well_one : (head : Head) (events : List Event) (i : ℕ) (o : Option Event) → slice_get events i ≡ o → AreWellFormed head events → AreWellFormed head (option_to_list o)
@@ -58,9 +60,21 @@ map_take (suc k) (x ∷ xs) = ap (λ ys. without_moments x ∷ ys) (map_take k x
 pub begins : (head : Head) (events : List Event) (n : ℕ) → HasRunButMoments head events → RunBeginsWith head events n
 begins head events n run = (run.0, run.1, map_take (n + 1) events ∙ (ap (take (n + 1)) run.2 ∙ sym (map_take (n + 1) (visible run.0))))
 
--- what is denied in the only order has no run in any
-pub denied_in_only_order : DeniedEventsHaveNoRun → NoOverlapNoOtherOrder → (s : Spanned) (order : List ℕ) (place : ℕ) → IsSpanned s → NoneOverlap s → IsOrder s order → IsDenied s.head (ordered s.events order) place → HasOrderedRun s → ⊥
-denied_in_only_order law only s order place spanned none is denied run =
-    let same : run.0 ≡ order = only s run.0 none run.1 ∙ sym (only s order none is) in
-    let here : HasRunButMoments s.head (ordered s.events order) = subst (λ (o : List ℕ). HasRunButMoments s.head (ordered s.events o)) same run.2 in
-    (law s.head (ordered s.events order) place (ordered-well s.head s.events order spanned.well) (omega (arith, length-ordered s.events order, is.count, spanned.count)) denied).0 (begins s.head (ordered s.events order) place here)
+-- in the only order no run comes to what is denied there
+pub denied_never_comes : DeniedEventsHaveNoRun → NoOverlapNoOtherOrder → (s : Spanned) (i : ℕ) → IsSpanned s → NoneOverlap s → IsDenied s.head (ordered s.events (ends s)) i → NeverComes s i
+denied_never_comes law only s i spanned none denied order place is at run =
+    let same : order ≡ ends s = only s order none is in
+    let low : place < length (ends s) = slice_get_within (ends s) place i (ap (λ (o : List ℕ). slice_get o place) (sym same) ∙ at) in
+    let below : place < length s.events = omega (arith, low, length-range_with_len 0 (length s.events)) in
+    let own : slice_get (ends s) place ≡ Some place =
+    slice_get-get_or (ends s) place 0 low ∙ ap Some (get_or-range_with_len 0 (length s.events) place 0 below ∙ (omega arith)) in
+    let number : place ≡ i = some_same place i (sym own ∙ (ap (λ (o : List ℕ). slice_get o place) (sym same) ∙ at)) in
+    let few : length (ordered s.events (ends s)) ≤ 2 ^ 32 - 1 = omega (arith, ordered_within s, spanned.count) in
+    let here : RunComesTo s (ends s) i = subst (λ (o : List ℕ). RunComesTo s o i) same (subst (RunComesTo s order) number run) in
+    (law s.head (ordered s.events (ends s)) i (ordered-well s.head s.events (ends s) spanned.well) few denied).0 here
+
+-- where in no order a run comes to an event, no order has a run
+pub never_comes_none_runs : (s : Spanned) (i : ℕ) → i < length s.events → NeverComes s i → HasOrderedRun s → ⊥
+never_comes_none_runs s i within never run =
+    let place = run.1.each i within in
+    never run.0 place.0 run.1 (slice_get-get_or run.0 place.0 i place.1 ∙ ap Some place.2) (begins s.head (ordered s.events run.0) place.0 run.2)

@@ -93,25 +93,19 @@ fn are_denied(alloc: Global, run: &SpannedRun, numbers: &[u32]) -> Result<bool, 
     }
 }
 
-/// The least number that may go on these, the last of which is told once more: none where no moments
-/// witness the last event.
-fn first_behind(
+/// Whether no moments witness the last of these events, which is told once more.
+fn is_last_denied(
     alloc: Global,
     run: &SpannedRun,
     numbers: &[u32],
     last: u32,
-) -> Result<u32, AllocError>
+) -> Result<bool, AllocError>
     requires numbers { AreNumbers run.now numbers.now }
     requires last { last < length run.now.events }
-    ensures within { IfOk result (λ first. first ≤ length run.now.events) }
-    ensures none { IfOk result (NoneBelow run.now numbers.now) }
+    ensures { IfOk result (λ denied. IsTrue denied → NoneBegins run.now numbers.now) }
 {
     let events = run.events();
-    if names_moments(&events[last as usize]) && are_denied(alloc, run, numbers)? {
-        Ok(run.len() as u32)
-    } else {
-        Ok(0)
-    }
+    Ok(names_moments(&events[last as usize]) && are_denied(alloc, run, numbers)?)
 }
 
 impl Trying {
@@ -136,7 +130,12 @@ impl Trying {
         if self.may_follow(run) {
             let last = self.next;
             self.front.push(last)?;
-            self.next = first_behind(alloc, run, &self.front, last)?;
+            if is_last_denied(alloc, run, &self.front, last)? {
+                self.front.pop();
+                self.next += 1;
+            } else {
+                self.next = 0;
+            }
         } else {
             self.next += 1;
         }

@@ -24,11 +24,14 @@ pub enum Verdict {
         /// The events in this order, each with moments that witness it.
         found: Vec<Event>,
     },
-    /// They have none. The event, by its number, that says so: no order can witness it, or where no
-    /// event overlaps another, no moments do in the only order.
-    No(u64),
-    /// No order was found. It is not known whether there is one. The event, by its number, at which
-    /// the search gave up, or that no moments witness in the order that the search came to.
+    /// They have none, since in no order a run of the machine comes to this event, by its number.
+    Never(u64),
+    /// They have none: all their orders were tried. The event, by its number, is the first that the
+    /// search for an order could not place.
+    NoneOfAll(u64),
+    /// No order was found. It is not known whether there is one. The event, by its number, is the
+    /// first that the search could not place, or that no moments witness in the order that it came
+    /// to.
     Undecided(u64),
 }
 
@@ -65,15 +68,24 @@ fn verdict_in_only_order(alloc: Global, run: &SpannedRun) -> Result<Verdict, All
     let order = numbers_below(alloc, run.len() as u32)?;
     match certify_in_order(alloc, run, &order)? {
         InOrder::Certified(found) => Ok(Verdict::Yes { order, found }),
-        InOrder::Denied(place) => Ok(Verdict::No(place)),
+        InOrder::Denied(place) => Ok(Verdict::Never(place)),
         InOrder::NoOrder => unreachable!(),
     }
 }
 
-/// The number that stands at a place, or 0 where none does.
-fn number_at(order: &[u32], place: u64) -> u32 {
-    match order.get(place as usize) {
-        Some(number) => *number,
+/// The number that stands at a place of a list, or 0 where none of an event does.
+fn number_at(run: &SpannedRun, numbers: &[u32], place: u64) -> u32
+    requires { NoneOverlap run.now → ⊥ }
+    ensures { result < length run.now.events }
+{
+    match numbers.get(place as usize) {
+        Some(number) => {
+            if (*number as usize) < run.len() {
+                *number
+            } else {
+                0
+            }
+        }
         None => 0,
     }
 }
@@ -86,7 +98,8 @@ fn verdict_in_whole(
     order: Vec<u32>,
     number: u32,
 ) -> Result<Verdict, AllocError>
-    requires { NoneOverlap run.now → ⊥ }
+    requires overlap { NoneOverlap run.now → ⊥ }
+    requires within { number < length run.now.events }
     ensures { IfOk result (IsVerdict run.now) }
 {
     match certify_in_order(alloc, run, &order)? {
@@ -97,21 +110,22 @@ fn verdict_in_whole(
 
 /// The verdict by all orders, where the events are few. The event is told of a no.
 fn verdict_of_all(alloc: Global, run: &SpannedRun, number: u32) -> Result<Verdict, AllocError>
-    requires { NoneOverlap run.now → ⊥ }
+    requires overlap { NoneOverlap run.now → ⊥ }
+    requires within { number < length run.now.events }
     ensures { IfOk result (IsVerdict run.now) }
 {
-    if run.len() > MOST_TRIED || number as usize >= run.len() {
+    if run.len() > MOST_TRIED {
         return Ok(Verdict::Undecided(number as u64));
     }
     match try_orders(alloc, run)? {
         Tried::Whole(order) => verdict_in_whole(alloc, run, order, number),
-        Tried::NoOrder => Ok(Verdict::No(number as u64)),
+        Tried::NoOrder => Ok(Verdict::NoneOfAll(number as u64)),
         Tried::Spent => Ok(Verdict::Undecided(number as u64)),
     }
 }
 
-/// The verdict of a run whose search gave up with these events waiting: a no, where no order can
-/// witness one of them, or where all orders were tried.
+/// The verdict of a run whose search gave up with these events waiting: a no, where in no order a run
+/// comes to one of them, or where all orders were tried.
 fn verdict_of_waiting(
     alloc: Global,
     run: &SpannedRun,
@@ -121,11 +135,11 @@ fn verdict_of_waiting(
     ensures { IfOk result (IsVerdict run.now) }
 {
     for number in waiting {
-        if (*number as usize) < run.len() && refute(alloc, run, *number)? {
-            return Ok(Verdict::No(*number as u64));
+        if refute(alloc, run, *number)? {
+            return Ok(Verdict::Never(*number as u64));
         }
     }
-    verdict_of_all(alloc, run, number_at(waiting, 0))
+    verdict_of_all(alloc, run, number_at(run, waiting, 0))
 }
 
 /// The verdict in an order that a search came to.
@@ -136,17 +150,18 @@ fn verdict_in(alloc: Global, run: &SpannedRun, order: Vec<u32>) -> Result<Verdic
     match certify_in_order(alloc, run, &order)? {
         InOrder::Certified(found) => Ok(Verdict::Yes { order, found }),
         InOrder::Denied(place) => {
-            let number = number_at(&order, place);
+            let number = number_at(run, &order, place);
             verdict_of_waiting(alloc, run, &[number])
         }
-        InOrder::NoOrder => Ok(Verdict::Undecided(0)),
+        InOrder::NoOrder => verdict_of_waiting(alloc, run, &[]),
     }
 }
 
 /// Looks for an order of the events of a run in which some run of the machine has them. A yes has
 /// the order, and moments for the events in it. Where no event overlaps another the answer is a yes
-/// or a no. Else it is a no where no order can witness an event that waits when the search gives up,
-/// as far as `refute` of `pg_relaxed` tells, or where a run of few events has none of all its orders.
+/// or a no. Else it is a no where in no order a run comes to an event that waits when the search gives
+/// up, as far as `refute` of `pg_relaxed` tells, or where a run of at most 64 events has no order with
+/// a run.
 ///
 /// It fails only where memory is refused.
 pub fn find_ordered_run(alloc: Global, run: &SpannedRun) -> Result<Verdict, AllocError>

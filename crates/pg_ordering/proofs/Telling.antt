@@ -7,14 +7,15 @@ use Rattle.pg_spanned.specs.Orders.{Spanned}
 use Rattle.pg_ordering.specs.declared.told.Asked.{Asked}
 use Rattle.pg_ordering.specs.declared.told.Asked.TheVariants.{Report, Record, Order}
 use Rattle.pg_ordering.specs.declared.told.Told.{Told}
-use Rattle.pg_ordering.specs.declared.told.Told.TheVariants.{Yes, No, Undecided}
+use Rattle.pg_ordering.specs.declared.told.Told.TheVariants.{Yes, Never, NoneOfAll, Undecided}
 use Rattle.pg_ordering.specs.Answers.{Gives, GivesOther}
 use Rattle.pg_ordering.specs.Texts.{order_text}
 
 -- what is no yes is given as that
 pub gives_other : (asked : Asked) (s : Spanned) (told : Told) (output errors : Change) (status : ℕ) → told ≢ Yes → GivesOther asked s told output errors status → Gives asked s told output errors status
 gives_other asked s Yes output errors status other gives = absurd (other refl)
-gives_other asked s (No n) output errors status other gives = gives
+gives_other asked s (Never n) output errors status other gives = gives
+gives_other asked s (NoneOfAll n) output errors status other gives = gives
 gives_other asked s (Undecided n) output errors status other gives = gives
 
 pub order_more : (order : List ℕ) (k : ℕ) → k < length order → order_text (take (k + 1) order) ≡ order_text (take k order) ++ (decimal (get_or order k 0) ++ codes "\n")

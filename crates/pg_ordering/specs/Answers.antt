@@ -1,13 +1,15 @@
 -- What `certify` answers of a record with no one order (versions 3 and 4).
 use Rattle.std.specs.Prelude.{◌≡◌, ◌⊎◌, ℕ, List, Result, Ok, Err}
 use Rattle.pg_event.specs.declared.event.Event.{Event}
-use Rattle.pg_event.specs.Spelling.{record_bytes}
+use Rattle.pg_event.specs.Spelling.{Recorded, record_bytes}
+use Rattle.pg_run_of.specs.Law.{HasRun}
 use Rattle.pg_certify.specs.Certified.{IsCertified}
 use Rattle.pg_spanned.specs.Orders.{Spanned, IsOrder, ordered}
-use Rattle.pg_spanned.specs.Laws.{NoneOverlap}
+use Rattle.pg_span_codec.specs.Spelling.{IsSpelled}
 use Rattle.pg_order.specs.Runs.{HasOrderedRun}
-use Rattle.pg_order.specs.Verdicts.{HasNoOrderedRun}
+use Rattle.pg_order.specs.Verdicts.{HasNoRunTo, HasNoOrderedRun, IsUndecided}
 use Rattle.pg_report.specs.declared.error.AuditError.TheVariants as audits
+use Rattle.pg_report.specs.Audits.{SpellsOne}
 use Rattle.pg_report.specs.Changes.{Change, Fails, Works, Adds, AddsSome}
 use Rattle.pg_auditing.specs.Refusals.{StaysSame, Tells, refusal_line}
 use Rattle.pg_auditing.specs.Streams.{Streams}
@@ -16,21 +18,23 @@ use Rattle.pg_ordering.specs.declared.reading.Unread.TheVariants.{Refused, Devic
 use Rattle.pg_ordering.specs.declared.told.Asked.{Asked}
 use Rattle.pg_ordering.specs.declared.told.Asked.TheVariants.{Report, Record, Order}
 use Rattle.pg_ordering.specs.declared.told.Told.{Told}
-use Rattle.pg_ordering.specs.declared.told.Told.TheVariants.{Yes, No, Undecided}
+use Rattle.pg_ordering.specs.declared.told.Told.TheVariants.{Yes, Never, NoneOfAll, Undecided}
 use Rattle.pg_ordering.specs.Readings.{ReadsRun, DeviceTold}
 use Rattle.pg_ordering.specs.Refusals.{spans_line}
 use Rattle.pg_ordering.specs.Texts.{told_text, order_text}
 
 -- what is told is so: in some order of the events some run of the machine has them, or in none; where
 -- no event overlaps another it is one of both, and what is undecided says nothing else
-abbrev pub IsToldOf : Spanned → Told → Type 0
-IsToldOf s Yes = HasOrderedRun s
-IsToldOf s (No n) = HasNoOrderedRun s n
-IsToldOf s (Undecided n) = NoneOverlap s → ⊥
+abbrev pub IsSo : Spanned → Told → Type 0
+IsSo s Yes = HasOrderedRun s
+IsSo s (Never n) = HasNoRunTo s n
+IsSo s (NoneOfAll n) = HasNoOrderedRun s n
+IsSo s (Undecided n) = IsUndecided s n
 
 abbrev pub told_status : Told → ℕ
 told_status Yes = 0
-told_status (No n) = 1
+told_status (Never n) = 1
+told_status (NoneOfAll n) = 1
 told_status (Undecided n) = 4
 
 -- a text was written to standard output, and the status is this one; or the output failed, and it
@@ -71,13 +75,22 @@ pub record IsCertifiedIn (s : Spanned) (order : List ℕ) (found : List Event) :
   pub order_of : IsOrder s order
   pub certified : IsCertified s.head (ordered s.events order) found
 
--- what is written of a yes: its report; or the record in such an order, with such moments; or such
--- an order
+-- the record in such an order, with such moments: some run of the machine has exactly its events, so
+-- that `check` accepts it, and its bytes spell it alone
+pub record IsNamedInOrder (s : Spanned) (named : Recorded) : Type 0 where
+  pub order : List ℕ
+  pub order_of : IsOrder s order
+  pub head : named.head ≡ s.head
+  pub certified : IsCertified s.head (ordered s.events order) named.events
+  pub run : HasRun s.head named.events
+  pub one : IsSpelled s → SpellsOne (record_bytes named) named
+
+-- what is written of a yes: its report; or such a record; or such an order
 abbrev pub GivesYes : Asked → Spanned → Change → Change → ℕ → Type 0
 GivesYes Report s output errors status = GivesReport s Yes output errors status
 GivesYes Record s output errors status =
-    (order : List ℕ) × (found : List Event) × IsCertifiedIn s order found
-    × GivesOut (record_bytes (record { head = s.head; events = found })) 0 output errors status
+    (named : Recorded) × IsNamedInOrder s named
+    × GivesOut (record_bytes named) 0 output errors status
 GivesYes Order s output errors status =
     (order : List ℕ) × (found : List Event) × IsCertifiedIn s order found
     × GivesOrder order output errors status
@@ -91,13 +104,14 @@ GivesOther Order s told output errors status = GivesReportAside s told output er
 
 abbrev pub Gives : Asked → Spanned → Told → Change → Change → ℕ → Type 0
 Gives asked s Yes = GivesYes asked s
-Gives asked s (No n) = GivesOther asked s (No n)
+Gives asked s (Never n) = GivesOther asked s (Never n)
+Gives asked s (NoneOfAll n) = GivesOther asked s (NoneOfAll n)
 Gives asked s (Undecided n) = GivesOther asked s (Undecided n)
 
 -- of a run an answer that is so is given, or memory ran out
 abbrev pub AnswersRun : Asked → Spanned → Change → Change → ℕ → Type 0
 AnswersRun asked s output errors status =
-    ((told : Told) × IsToldOf s told × Gives asked s told output errors status)
+    ((told : Told) × IsSo s told × Gives asked s told output errors status)
     ⊎ WantsMemory output errors status
 
 -- no run was read: nothing was written, and the line of the reason is told

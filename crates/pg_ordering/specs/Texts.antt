@@ -6,7 +6,7 @@ use Rattle.pg_report.specs.Text.{counts_text}
 use Rattle.pg_spanned.specs.Orders.{Spanned}
 use Rattle.pg_spanned_text.specs.Cause.{cause_text}
 use Rattle.pg_ordering.specs.declared.told.Told.{Told}
-use Rattle.pg_ordering.specs.declared.told.Told.TheVariants.{Yes, No, Undecided}
+use Rattle.pg_ordering.specs.declared.told.Told.TheVariants.{Yes, Never, NoneOfAll, Undecided}
 
 -- how many segments hold all events
 abbrev pub segments_of : Spanned → ℕ
@@ -15,16 +15,26 @@ segments_of s = div_ceil (length s.events) s.head.segment
 abbrev pub counts_of : Spanned → List ℕ
 counts_of s = counts_text (length s.events) (segments_of s)
 
+-- a no at an event
+abbrev pub no_text : ℕ → List ℕ
+no_text n = codes "verdict: no\nevent: " ++ (decimal n ++ codes "\nreason: 15 no order\n")
+
 -- the verdict, and at which event it was come to
 abbrev pub head_text : Told → List ℕ
 head_text Yes = codes "verdict: yes\n"
-head_text (No n) = codes "verdict: no\nevent: " ++ (decimal n ++ codes "\nreason: 15 no order\n")
+head_text (Never n) = no_text n
+head_text (NoneOfAll n) = no_text n
 head_text (Undecided n) = codes "verdict: undecided\nevent: " ++ (decimal n ++ codes "\n")
+
+-- what stands behind a no where all orders were tried
+abbrev pub none_of_all : List ℕ
+none_of_all = codes "all orders: each was tried, and none has a run\n"
 
 -- why no order has a run, where that is told
 abbrev pub cause_of : Spanned → Told → List ℕ
 cause_of s Yes = []
-cause_of s (No n) = cause_text s n
+cause_of s (Never n) = cause_text s n
+cause_of s (NoneOfAll n) = none_of_all
 cause_of s (Undecided n) = []
 
 -- the report, and after a no its cause

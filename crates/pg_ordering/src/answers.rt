@@ -9,7 +9,7 @@ ghost use Rattle.pg_spanned.specs.Spanned.{IsSpanned};
 ghost use Rattle.pg_order.specs.Verdicts.{IsOrderedRun};
 ghost use Rattle.pg_auditing.specs.Streams.{streams};
 ghost use Rattle.pg_ordering.specs.Answers.{GivesOut, GivesError, AnswersRun, OrdersRecord};
-ghost use Rattle.pg_ordering.specs.Answers.{GivesReport, GivesReportAside, IsToldOf, WantsMemory};
+ghost use Rattle.pg_ordering.specs.Answers.{GivesReport, GivesReportAside, IsSo, WantsMemory};
 ghost use Rattle.pg_ordering.specs.Answers.{told_status, GivesOrder, TellsUnread};
 
 use crate::reading::{Unread, read_run};
@@ -32,7 +32,7 @@ fn told_status(told: Told) -> u8
 {
     match told {
         Told::Yes => YES,
-        Told::No(_) => NO,
+        Told::Never(_) | Told::NoneOfAll(_) => NO,
         Told::Undecided(_) => UNDECIDED,
     }
 }
@@ -173,7 +173,7 @@ fn answer_other<O: Sink, E: Sink>(
     output: &mut O,
     errors: &mut E,
 ) -> u8
-    requires told { IsToldOf run.now told }
+    requires told { IsSo run.now told }
     requires other { told ≢ Told.Yes }
     ensures { AnswersRun asked run.now
         (filled O.Sink output.old output.new) (filled E.Sink errors.old errors.new) result }
@@ -200,8 +200,11 @@ fn answer_run<O: Sink, E: Sink>(
         Ok(Verdict::Yes { order, found }) => {
             answer_yes(alloc, asked, run, &order, &found, output, errors)
         }
-        Ok(Verdict::No(event)) => {
-            answer_other(alloc, asked, run, Told::No(event), output, errors)
+        Ok(Verdict::Never(event)) => {
+            answer_other(alloc, asked, run, Told::Never(event), output, errors)
+        }
+        Ok(Verdict::NoneOfAll(event)) => {
+            answer_other(alloc, asked, run, Told::NoneOfAll(event), output, errors)
         }
         Ok(Verdict::Undecided(event)) => {
             answer_other(alloc, asked, run, Told::Undecided(event), output, errors)

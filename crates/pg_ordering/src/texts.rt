@@ -2,12 +2,15 @@
 
 ghost use Rattle.std.specs.Prelude.{◌≡◌, ◌++◌, IfOk, OnOk, codes, decimal, string_bytes};
 ghost use Rattle.pg_ordering.specs.Texts.{told_text, order_text, segments_of, counts_of};
-ghost use Rattle.pg_ordering.specs.Texts.{head_text, cause_of};
+ghost use Rattle.pg_ordering.specs.Texts.{head_text, cause_of, none_of_all};
 
 use crate::told::Told;
 use pg_spanned::SpannedRun;
 use pg_spanned_text::cause_text;
 use std::alloc::{AllocError, Global};
+
+/// What stands behind a no where all orders were tried.
+const NONE_OF_ALL: &str = "all orders: each was tried, and none has a run\n";
 
 /// How many segments hold all events of a run.
 fn segments_of(run: &SpannedRun) -> u64
@@ -22,7 +25,7 @@ fn head_of(alloc: Global, told: Told) -> Result<String, AllocError>
 {
     match told {
         Told::Yes => format!(in alloc; "verdict: yes\n"),
-        Told::No(event) => {
+        Told::Never(event) | Told::NoneOfAll(event) => {
             format!(in alloc; "verdict: no\nevent: {event}\nreason: 15 no order\n")
         }
         Told::Undecided(event) => format!(in alloc; "verdict: undecided\nevent: {event}\n"),
@@ -47,10 +50,11 @@ fn push_cause(
     ensures { OnOk result (string_bytes text.new ≡ string_bytes text.old ++ cause_of run.now told) }
 {
     match told {
-        Told::No(event) => {
+        Told::Never(event) => {
             let cause = cause_text(alloc, run, event)?;
             text.push_str(cause.as_str())
         }
+        Told::NoneOfAll(_) => text.push_str(NONE_OF_ALL),
         Told::Yes | Told::Undecided(_) => Ok(()),
     }
 }

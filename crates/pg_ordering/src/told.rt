@@ -17,8 +17,11 @@ pub enum Asked {
 pub enum Told {
     /// Its events have an order in which some run of the machine has them.
     Yes,
-    /// They have none. The number of an event that says so.
-    No(u64),
+    /// They have none, since in no order a run of the machine comes to this event, by its number.
+    Never(u64),
+    /// They have none: all their orders were tried. The number of the first event that the search
+    /// for an order could not place.
+    NoneOfAll(u64),
     /// No order was found, and it is not known whether there is one. The number of the event at
     /// which the search gave up.
     Undecided(u64),

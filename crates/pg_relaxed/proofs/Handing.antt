@@ -11,7 +11,7 @@ use Rattle.pg_event.specs.Wants.{want_of}
 use Rattle.pg_spanned.specs.Orders.{Spanned, ended_before}
 use Rattle.pg_relaxed.specs.declared.slot.Slot.{Slot}
 use Rattle.pg_relaxed.specs.Caches.{Known, Grows, IsFilled, IsLeft, CannotCome}
-use Rattle.pg_relaxed.specs.Orders.{HasRunInSomeOrder, IsAccess}
+use Rattle.pg_relaxed.specs.Orders.{NeverComes, IsAccess}
 use Rattle.pg_relaxed.proofs.History.{own_at, processor_at}
 use Rattle.pg_relaxed.proofs.Covering.{Covers, Enters, fill_covers}
 use Rattle.pg_relaxed.proofs.Entering.{HasEnded, passes, skips}
@@ -45,7 +45,7 @@ hands_over s p la c ended x k there other enters =
 -- at the event itself
 pub cannot_run : (s : Spanned) (p la i ended later flags : ℕ) (outcome : Outcome) (k f : Known) → IsAccess s.events i p flags la outcome → i < length s.events →
     Enters s p la i ended k → Grows k f → IsFilled s (slot_of p i ended) la f → later ≡ max ended (ended_before s i) →
-    CannotCome s (slot_of p i later) la f (access_kind flags) outcome (want_of outcome) → HasRunInSomeOrder s → ⊥
-cannot_run s p la i ended later flags outcome k f access within enters grows filled is cannot run =
+    CannotCome s (slot_of p i later) la f (access_kind flags) outcome (want_of outcome) → NeverComes s i
+cannot_run s p la i ended later flags outcome k f access within enters grows filled is cannot order place orders at run =
     let covers : Covers s p la i ended f = fill_covers s (slot_of p i ended) la k f (own_at s.events p i (Access p flags la outcome access.0) access.1 refl) enters grows filled in
-    no_run s (slot_of p i ended) la later flags outcome access.0 f (slot_of p i later) access.1 filled covers refl refl (has_ended s i ended later within is) cannot run.0 run.1 run.2 run.3 run.4
+    no_run s (slot_of p i ended) la later flags outcome access.0 f (slot_of p i later) access.1 filled covers refl refl (has_ended s i ended later within is) cannot order orders place at run.0 run.1 run.2

@@ -1,9 +1,9 @@
 -- An event that nothing known gives has no run in any order.
-use Rattle.std.proofs.Common.{◌≡◌, ℕ, zero, suc, ◌+◌, ◌<◌, true, List, [], ◌∷◌, ◌++◌, length, refl, ap, sym, ◌∙◌, subst, arith, inl, inr, Option, Some, None}
+use Rattle.std.proofs.Common.{◌≡◌, ℕ, zero, suc, ◌+◌, ◌<◌, ◌≤◌, true, List, [], ◌∷◌, ◌++◌, length, take, refl, ap, sym, ◌∙◌, subst, arith, inl, inr, Option, Some, None}
 use Rattle.std.specs.Prelude.{slice_get}
 use Rattle.std.specs.Option.{option_map, option_to_list}
 use Rattle.std.proofs.lemmas.Bool.{cases_eq, cases_lt, and_parts}
-use Rattle.std.proofs.lemmas.Option.{slice_get-map, slice_get_within, slice_get-get_or}
+use Rattle.std.proofs.lemmas.Option.{slice_get-map, slice_get_within}
 use Rattle.pg_entry.specs.declared.Cause.{Cause}
 use Rattle.pg_entry.specs.declared.Cause.TheVariants as causes
 use Rattle.pg_entry.specs.declared.Kind.{Kind}
@@ -38,6 +38,13 @@ use Rattle.pg_relaxed.proofs.Entering.{HasEnded, own_precedes}
 mapped_some : {X Y : Type 0} (f : X → Y) (o : Option X) (y : Y) → option_map f o ≡ Some y → (x : X) × (o ≡ Some x) × (f x ≡ y)
 mapped_some f None y h = absurd (cc)
 mapped_some f (Some x) y h = (x, refl, cc)
+
+-- the events at the beginning of a list
+at_take : (count n : ℕ) (events : List Event) → n < count → slice_get (take count events) n ≡ slice_get events n
+at_take zero n events lt = absurd (omega (arith, lt))
+at_take (suc count) n [] lt = refl
+at_take (suc count) zero (e ∷ es) lt = refl
+at_take (suc count) (suc n) (e ∷ es) lt = at_take count n es (omega (arith, lt))
 
 there_is : (events : List Event) (i : ℕ) → i < length events → (e : Event) × (slice_get events i ≡ Some e)
 there_is [] i lt = absurd (omega (arith, lt))
@@ -143,35 +150,41 @@ module _ (s : Spanned) (slot : Slot) (la ended flags : ℕ) (outcome : Outcome) 
       no_outcome past came place (want_of outcome) cannot
       (subst (λ x. MayCome s.head (state_after s.head past) x) bare (may_bare s.head (state_after s.head past) e may))
 
-  goes : (steps past : List Step) → Came s order past → RunsFrom s.head (state_after s.head past) steps → ((n : ℕ) (e : Event) → slice_get (visible steps) n ≡ Some e → IsAt s order (count past + n) e) →
-      (n : ℕ) → slice_get order (count past + n) ≡ Some slot.next → (e : Event) → slice_get (visible steps) n ≡ Some e → ⊥
-  goes [] past came run each n place e at = absurd (cc)
-  goes (Fill4 q b ∷ steps) past came run each n place e at = goes steps (Fill4 q b ∷ past) (came, run.0) run.1 each n place e at
-  goes (Fill3 q b from ∷ steps) past came run each n place e at = goes steps (Fill3 q b from ∷ past) (came, run.0) run.1 each n place e at
-  goes (Fill2 q b from ∷ steps) past came run each n place e at = goes steps (Fill2 q b from ∷ past) (came, run.0) run.1 each n place e at
-  goes (FillLeaf q b level from ∷ steps) past came run each n place e at = goes steps (FillLeaf q b level from ∷ past) (came, run.0) run.1 each n place e at
-  goes (Drop q member ∷ steps) past came run each n place e at = goes steps (Drop q member ∷ past) (came, run.0) run.1 each n place e at
-  goes (Do x ∷ steps) past came run each zero place e at =
+  goes : (n : ℕ) (steps past : List Step) → Came s order past → RunsFrom s.head (state_after s.head past) steps →
+      ((m : ℕ) (e : Event) → m ≤ n → slice_get (visible steps) m ≡ Some e → IsAt s order (count past + m) e) →
+      slice_get order (count past + n) ≡ Some slot.next → (e : Event) → slice_get (visible steps) n ≡ Some e → ⊥
+  goes n [] past came run each place e at = absurd (cc)
+  goes n (Fill4 q b ∷ steps) past came run each place e at = goes n steps (Fill4 q b ∷ past) (came, run.0) run.1 each place e at
+  goes n (Fill3 q b from ∷ steps) past came run each place e at = goes n steps (Fill3 q b from ∷ past) (came, run.0) run.1 each place e at
+  goes n (Fill2 q b from ∷ steps) past came run each place e at = goes n steps (Fill2 q b from ∷ past) (came, run.0) run.1 each place e at
+  goes n (FillLeaf q b level from ∷ steps) past came run each place e at = goes n steps (FillLeaf q b level from ∷ past) (came, run.0) run.1 each place e at
+  goes n (Drop q member ∷ steps) past came run each place e at = goes n steps (Drop q member ∷ past) (came, run.0) run.1 each place e at
+  goes zero (Do x ∷ steps) past came run each place e at =
       let here : count past + 0 ≡ count past = omega arith in
-      no_event past came x (subst (λ w. IsAt s order w x) here (each 0 x refl)) (subst (λ w. slice_get order w ≡ Some slot.next) here place) run.0.1
-  goes (Do x ∷ steps) past came run each (suc n) place e at =
+      no_event past came x (subst (λ w. IsAt s order w x) here (each 0 x (omega arith) refl)) (subst (λ w. slice_get order w ≡ Some slot.next) here place) run.0.1
+  goes (suc n) (Do x ∷ steps) past came run each place e at =
       let here : count past + 0 ≡ count past = omega arith in
       let next : (m : ℕ) → count past + suc m ≡ suc (count past) + m = λ m. omega arith in
-      goes steps (Do x ∷ past) (came, subst (λ w. IsAt s order w x) here (each 0 x refl)) run.1
-      (λ m y there. subst (λ w. IsAt s order w y) (next m) (each (suc m) y there)) n (subst (λ w. slice_get order w ≡ Some slot.next) (next n) place) e at
+      goes n steps (Do x ∷ past) (came, subst (λ w. IsAt s order w x) here (each 0 x (omega arith) refl)) run.1
+      (λ m y le there. subst (λ w. IsAt s order w y) (next m) (each (suc m) y (omega (arith, le)) there)) (subst (λ w. slice_get order w ≡ Some slot.next) (next n) place) e at
 
-  pub no_run : (steps : List Step) → IsRun s.head steps → AreSameButMoments (ordered s.events order) (visible steps) → ⊥
-  no_run steps run same =
+  -- no run has the events up to the place of the event
+  pub no_run : (place : ℕ) → slice_get order place ≡ Some slot.next → (steps : List Step) → IsRun s.head steps →
+      AreSameButMoments (take (place + 1) (ordered s.events order)) (take (place + 1) (visible steps)) → ⊥
+  no_run place at steps run same =
       let low : (a b : ℕ) → slice_get order a ≡ Some b → b < length s.events = λ a b h. order_within s order is a b h in
-      let found = is.each slot.next within in
-      let place : slice_get order found.0 ≡ Some slot.next = slice_get-get_or order found.0 slot.next found.1 ∙ ap Some found.2 in
-      let mine : slice_get (ordered s.events order) found.0 ≡ Some (Access slot.p flags la outcome ws) = ordered_at s.events order low found.0 slot.next _ place there in
-      let seen : (n : ℕ) → option_map without_moments (slice_get (ordered s.events order) n) ≡ option_map without_moments (slice_get (visible steps) n) =
-      λ n. sym (slice_get-map without_moments (ordered s.events order) n) ∙ (ap (λ (xs : List Event). slice_get xs n) same ∙ slice_get-map without_moments (visible steps) n) in
-      let theirs = mapped_some without_moments (slice_get (visible steps) found.0) _ (sym (seen found.0) ∙ ap (option_map without_moments) mine) in
+      let mine : slice_get (ordered s.events order) place ≡ Some (Access slot.p flags la outcome ws) = ordered_at s.events order low place slot.next _ at there in
+      let seen : (n : ℕ) → n ≤ place → option_map without_moments (slice_get (ordered s.events order) n) ≡ option_map without_moments (slice_get (visible steps) n) =
+      λ n le.
+          let lt : n < place + 1 = omega (arith, le) in
+          let first = slice_get-map without_moments (take (place + 1) (ordered s.events order)) n in
+          let second = slice_get-map without_moments (take (place + 1) (visible steps)) n in
+          ap (option_map without_moments) (sym (at_take (place + 1) n (ordered s.events order) lt))
+          ∙ (sym first ∙ (ap (λ (xs : List Event). slice_get xs n) same ∙ (second ∙ ap (option_map without_moments) (at_take (place + 1) n (visible steps) lt)))) in
+      let theirs = mapped_some without_moments (slice_get (visible steps) place) _ (sym (seen place (omega arith)) ∙ ap (option_map without_moments) mine) in
       let zero_first : (n : ℕ) → n ≡ 0 + n = λ n. omega arith in
-      goes steps [] tt run (λ n e h.
-      let ours = mapped_some without_moments (slice_get (ordered s.events order) n) (without_moments e) (seen n ∙ ap (option_map without_moments) h) in
+      goes place steps [] tt run (λ n e le h.
+      let ours = mapped_some without_moments (slice_get (ordered s.events order) n) (without_moments e) (seen n le ∙ ap (option_map without_moments) h) in
       let from = ordered_from s.events order low n ours.0 ours.1 in
       subst (λ w. IsAt s order w e) (zero_first n) (record { number = from.0; event = ours.0; place = from.1; there = from.2; same = sym ours.2 }))
-      found.0 (subst (λ w. slice_get order w ≡ Some slot.next) (zero_first found.0) place) theirs.0 theirs.1
+      (subst (λ w. slice_get order w ≡ Some slot.next) (zero_first place) at) theirs.0 theirs.1

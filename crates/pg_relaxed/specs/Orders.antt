@@ -1,6 +1,6 @@
--- Records with no one order: whether some order of the events has a run of the machine (Intel SDM,
+-- Records with no one order: whether an event comes to pass in some order of the events (Intel SDM,
 -- vol. 3, 4.10).
-use Rattle.std.specs.Prelude.{◌≡◌, ℕ, List, Some, slice_get}
+use Rattle.std.specs.Prelude.{◌≡◌, ℕ, ◌+◌, List, Some, take, slice_get}
 use Rattle.pg_event.specs.declared.event.Event.{Event}
 use Rattle.pg_event.specs.declared.event.Outcome.{Outcome}
 use Rattle.pg_event.specs.declared.event.Event.TheVariants.{Access}
@@ -9,12 +9,17 @@ use Rattle.pg_machine.specs.Machine.{IsRun, visible}
 use Rattle.pg_run_of.specs.Converse.{AreSameButMoments}
 use Rattle.pg_spanned.specs.Orders.{Spanned, IsOrder, ordered}
 
--- in some order of the events they are those of a run, but for their moments
-abbrev pub HasRunInSomeOrder : Spanned → Type 0
-HasRunInSomeOrder s =
-    (order : List ℕ) × IsOrder s order
-    × (steps : List Step) × IsRun s.head steps
-    × AreSameButMoments (ordered s.events order) (visible steps)
+-- a run of the machine begins with the events of an order up to a place, but for their moments
+abbrev pub RunComesTo : Spanned → List ℕ → ℕ → Type 0
+RunComesTo s order place =
+    (steps : List Step) × IsRun s.head steps
+    × AreSameButMoments (take (place + 1) (ordered s.events order))
+    (take (place + 1) (visible steps))
+
+-- in no order of the events a run comes to event i
+abbrev pub NeverComes : Spanned → ℕ → Type 0
+NeverComes s i = (order : List ℕ) (place : ℕ) → IsOrder s order →
+    slice_get order place ≡ Some i → RunComesTo s order place → ⊥
 
 -- event i is this access, whatever its moments
 abbrev pub IsAccess : List Event → ℕ → ℕ → ℕ → ℕ → Outcome → Type 0

@@ -10,7 +10,7 @@ ghost use Rattle.pg_machine.specs.Machine.{Answers, IsIn, is_usable};
 ghost use Rattle.pg_relaxed.specs.Caches.{CannotCome, HasNoFault, HasNoAnswer, known_of, kind_for};
 ghost use Rattle.pg_relaxed.specs.Caches.{word_in};
 ghost use Rattle.pg_relaxed.specs.Memory.{MayHold};
-ghost use Rattle.pg_relaxed.specs.Orders.{HasRunInSomeOrder, IsAccess};
+ghost use Rattle.pg_relaxed.specs.Orders.{NeverComes, IsAccess};
 ghost use Rattle.pg_relaxed.specs.Words.{AreWordsOf};
 
 use crate::caches::Caches;
@@ -208,7 +208,7 @@ fn refute_access(alloc: Global, run: &SpannedRun, asked: Asked) -> Result<bool, 
     requires there { IsAccess run.now.events asked.number asked.p asked.flags asked.la
         asked.outcome }
     requires count { asked.number < length run.now.events }
-    ensures { IfOk result (λ refuted. IsTrue refuted → HasRunInSomeOrder run.now → ⊥) }
+    ensures { IfOk result (λ refuted. IsTrue refuted → NeverComes run.now asked.number) }
 {
     let Asked { number, p, la, .. } = asked;
     let header = run.header();
@@ -242,14 +242,15 @@ fn refute_access(alloc: Global, run: &SpannedRun, asked: Asked) -> Result<bool, 
     cannot_come(alloc, run, &mut words, &caches, at_event, asked)
 }
 
-/// Whether no order of a run has a run of the machine, since none can witness this event. A no says
-/// nothing: neither does the answer for an event that is no access, and where too much would have to
-/// be looked at.
+/// Whether in no order of its events a run of the machine comes to this event, by its number, so that
+/// no order has a run. A no says nothing: it is the answer for an event that is no access too, and
+/// where too much would have to be looked at.
 ///
 /// It fails only where memory is refused. It takes time by the events of the processor before the
 /// event, and by the writes to the words that walks for its address read.
 pub fn refute(alloc: Global, run: &SpannedRun, number: u32) -> Result<bool, AllocError>
-    ensures { IfOk result (λ refuted. IsTrue refuted → HasRunInSomeOrder run.now → ⊥) }
+    ensures within { IfOk result (λ refuted. IsTrue refuted → number < length run.now.events) }
+    ensures never { IfOk result (λ refuted. IsTrue refuted → NeverComes run.now number) }
 {
     if number as usize >= run.len() {
         return Ok(false);

@@ -7,7 +7,8 @@ use Rattle.pg_certify.specs.Certified.{IsCertified, IsDenied}
 use Rattle.pg_answers.specs.declared.shown.Naming.TheVariants.{Named, Denied}
 use Rattle.pg_answers.specs.Naming.{IsNaming, with_events}
 use Rattle.pg_answers.proofs.GivenTexts.{memory_fails, text_told}
-use Rattle.pg_answers.proofs.Named.{is_named, same_count, well_alike}
+use Rattle.pg_certify.proofs.Named.{same_count, well_alike}
+use Rattle.pg_answers.proofs.Named.{is_named}
 use Rattle.pg_answers.proofs.naming.write_found.Goals as goal
 
 pub write_events-requires-clause-count : goal.write_events-requires-clause-count

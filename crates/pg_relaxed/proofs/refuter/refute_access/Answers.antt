@@ -12,7 +12,7 @@ use Rattle.pg_spanned.specs.Orders.{Spanned, ended_before}
 use Rattle.pg_relaxed.specs.declared.caches.Caches.{Caches}
 use Rattle.pg_relaxed.specs.declared.words.Words.{Words}
 use Rattle.pg_relaxed.specs.Caches.{Known, Grows, CannotCome, known_of}
-use Rattle.pg_relaxed.specs.Orders.{HasRunInSomeOrder}
+use Rattle.pg_relaxed.specs.Orders.{NeverComes}
 use Rattle.pg_relaxed.specs.Words.{AreWordsOf}
 use Rattle.pg_relaxed.proofs.Covering.{Enters}
 use Rattle.pg_relaxed.proofs.Entering.{starts}
@@ -93,7 +93,7 @@ returns c =
     let filled : Known = known_of c.fill-2.new.self in
     let later : c.max.result ≡ max c.loop-next.ended (ended_before s i) = c.max.ensures ∙ ap (max c.loop-next.ended) c.ended_before-2.ensures.count in
     if_ok (λ cannot. IsTrue cannot → CannotCome s (slot_of p i c.max.result) la filled (access_kind c.args.asked.flags) c.args.asked.outcome (want_of c.args.asked.outcome))
-    (λ refuted. IsTrue refuted → HasRunInSomeOrder s → ⊥)
+    (λ refuted. IsTrue refuted → NeverComes s i)
     (λ b h yes. cannot_run s p la i c.loop-next.ended c.max.result c.args.asked.flags c.args.asked.outcome before filled c.requires.there c.requires.count
     (subst (λ (k : ℕ). Enters s p la k c.loop-next.ended before) end c.loop-next.invariant.enters)
     (c.in_ok-fill-2.ensures.grows c.if-not-branch-2.false) (c.in_ok-fill-2.ensures.filled c.if-not-branch-2.false) later (h yes))
