@@ -17,8 +17,8 @@ use pg_entry::Level;
 use pg_event::{Event, Outcome, processor_of};
 use std::alloc::{AllocError, Global};
 
-/// Appends the line of an event without the moments that it names, without its end. `Err` is for want
-/// of memory alone, and may leave a part of the line.
+/// Appends the line of an event without the moments that it names, without its end. `Err` is for
+/// want of memory alone, and may leave a part of the line.
 pub fn push_claim_line(text: &mut String, number: u32, event: &Event) -> Result<(), AllocError>
     ensures { OnOk result
         (string_bytes text.new ≡ string_bytes text.old ++ claim_line number event.now) }

@@ -32,8 +32,8 @@ NoneBegins s front = (rest : List ℕ) → IsOrder s (front ++ rest) →
 abbrev pub NoneBelow : Spanned → List ℕ → ℕ → Type 0
 NoneBelow s front bound = (i : ℕ) → i < bound → NoneBegins s (front ++ i ∷ [])
 
--- no order with a run begins with the numbers that are done and goes on with lesser ones than these,
--- or with these and then with one below a bound
+-- no order with a run begins with the numbers that are done and goes on with lesser ones than
+-- these, or with these and then with one below a bound
 unfoldable pub AreTried : Spanned → List ℕ → List ℕ → ℕ → Type 0
 AreTried s done [] next = NoneBelow s done next
 AreTried s done (i ∷ is) next = NoneBelow s done i × AreTried s (done ++ i ∷ []) is next

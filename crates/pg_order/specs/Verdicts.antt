@@ -15,8 +15,8 @@ pub record IsOrderedRun (s : Spanned) (order : List ℕ) (found : List Event) : 
   pub certified : IsCertified s.head (ordered s.events order) found
   pub run : HasOrderedRun s
 
--- in no order a run comes to the event, so no order has a run; where no event overlaps another, it is
--- the least that no moments witness in the one order that they have
+-- in no order a run comes to the event, so no order has a run; where no event overlaps another, it
+-- is the least that no moments witness in the one order that they have
 pub record HasNoRunTo (s : Spanned) (event : ℕ) : Type 0 where
   pub within : event < length s.events
   pub never : NeverComes s event

@@ -124,8 +124,8 @@ fn verdict_of_all(alloc: Global, run: &SpannedRun, number: u32) -> Result<Verdic
     }
 }
 
-/// The verdict of a run whose search gave up with these events waiting: a no, where in no order a run
-/// comes to one of them, or where all orders were tried.
+/// The verdict of a run whose search gave up with these events waiting: a no, where in no order a
+/// run comes to one of them, or where all orders were tried.
 fn verdict_of_waiting(
     alloc: Global,
     run: &SpannedRun,
@@ -159,9 +159,9 @@ fn verdict_in(alloc: Global, run: &SpannedRun, order: Vec<u32>) -> Result<Verdic
 
 /// Looks for an order of the events of a run in which some run of the machine has them. A yes has
 /// the order, and moments for the events in it. Where no event overlaps another the answer is a yes
-/// or a no. Else it is a no where in no order a run comes to an event that waits when the search gives
-/// up, as far as `refute` of `pg_relaxed` tells, or where a run of at most 64 events has no order with
-/// a run.
+/// or a no. Else it is a no where in no order a run comes to an event that waits when the search
+/// gives up, as far as `refute` of `pg_relaxed` tells, or where a run of at most 64 events has no
+/// order with a run.
 ///
 /// It fails only where memory is refused.
 pub fn find_ordered_run(alloc: Global, run: &SpannedRun) -> Result<Verdict, AllocError>

@@ -23,8 +23,8 @@ use Rattle.pg_ordering.specs.Readings.{ReadsRun, DeviceTold}
 use Rattle.pg_ordering.specs.Refusals.{spans_line}
 use Rattle.pg_ordering.specs.Texts.{told_text, order_text}
 
--- what is told is so: in some order of the events some run of the machine has them, or in none; where
--- no event overlaps another it is one of both, and what is undecided says nothing else
+-- what is told is so: in some order of the events some run of the machine has them, or in none;
+-- where no event overlaps another it is one of both, and what is undecided says nothing else
 abbrev pub IsSo : Spanned → Told → Type 0
 IsSo s Yes = HasOrderedRun s
 IsSo s (Never n) = HasNoRunTo s n
@@ -75,8 +75,8 @@ pub record IsCertifiedIn (s : Spanned) (order : List ℕ) (found : List Event) :
   pub order_of : IsOrder s order
   pub certified : IsCertified s.head (ordered s.events order) found
 
--- the record in such an order, with such moments: some run of the machine has exactly its events, so
--- that `check` accepts it, and its bytes spell it alone
+-- the record in such an order, with such moments: some run of the machine has exactly its events,
+-- so that `check` accepts it, and its bytes spell it alone
 pub record IsNamedInOrder (s : Spanned) (named : Recorded) : Type 0 where
   pub order : List ℕ
   pub order_of : IsOrder s order
@@ -127,9 +127,9 @@ abbrev pub Follows : Asked → Result Spanned Unread → Change → Change → �
 Follows asked (Ok s) output errors status = AnswersRun asked s output errors status
 Follows asked (Err why) output errors status = TellsUnread why output errors status
 
--- all that is promised of the answer of a record with no one order: where the bytes of the input are
--- known, they spell the run that is answered, or this is their first refusal; and it is told of the
--- device exactly where the input failed
+-- all that is promised of the answer of a record with no one order: where the bytes of the input
+-- are known, they spell the run that is answered, or this is their first refusal; and it is told of
+-- the device exactly where the input failed
 abbrev pub OrdersRecord : Asked → Streams → ℕ → Type 0
 OrdersRecord asked st status =
     (read : Result Spanned Unread) × ReadsRun st.input.old.bytes read

@@ -5,8 +5,8 @@ use Rattle.pg_auditing.specs.Refusals.{refusal_line}
 use Rattle.pg_span_codec.specs.declared.refusal.SpannedRefusal.{SpannedRefusal}
 use Rattle.pg_span_codec.specs.declared.refusal.SpannedRefusal.TheVariants.{Plain, Back}
 
--- as that of a record with one order; the span of an event that begins before the first event breaks
--- rule 7
+-- as that of a record with one order; the span of an event that begins before the first event
+-- breaks rule 7
 abbrev pub spans_line : SpannedRefusal → List ℕ
 spans_line (Plain refusal) = refusal_line (audits.Refused refusal)
 spans_line (Back event) =

@@ -18,9 +18,9 @@ abbrev pub LinesFollow : Filter → Result Spanned Unread → Change → Change 
 LinesFollow filter (Ok s) output errors status = GivesLines filter s output errors status
 LinesFollow filter (Err why) output errors status = TellsUnread why output errors status
 
--- all that is promised of it: where the bytes of the input are known, they spell the run whose lines
--- are written, or this is their first refusal; and it is told of the device exactly where the input
--- failed
+-- all that is promised of it: where the bytes of the input are known, they spell the run whose
+-- lines are written, or this is their first refusal; and it is told of the device exactly where the
+-- input failed
 abbrev pub ShowsSpans : Filter → Streams → ℕ → Type 0
 ShowsSpans filter st status =
     (read : Result Spanned Unread) × ReadsRun st.input.old.bytes read

@@ -38,7 +38,8 @@ const MOST: usize = usize::MAX - 1;
 /// The log that a source has left.
 fn log_in<R: Source>(alloc: Global, source: &mut R) -> Result<Log, Untaken>
     ensures reads { ReadsLog (R.left source.old) result }
-    ensures failures { FailsWithDevice is_device (R.failed source.old) (R.failed source.new) result }
+    ensures failures { FailsWithDevice is_device
+        (R.failed source.old) (R.failed source.new) result }
 {
     let bytes = match pull_all(alloc, source, MOST) {
         Ok(bytes) => bytes,

@@ -164,10 +164,10 @@ fn answer_logs<O: Sink, E: Sink>(
     }
 }
 
-/// Reads the logs of the files of these names, one of each processor of a run, and writes the record
-/// of version 3 or 4 that they make, each span longer on both sides by so many ticks of the clocks.
-/// Nothing is written before it is ready. It gives the exit status: 0 a record, 2 refused, 3 memory,
-/// 66 a file that can't be opened.
+/// Reads the logs of the files of these names, one of each processor of a run, and writes the
+/// record of version 3 or 4 that they make, each span longer on both sides by so many ticks of the
+/// clocks. Nothing is written before it is ready. It gives the exit status: 0 a record, 2 refused,
+/// 3 memory, 66 a file that can't be opened.
 pub fn merge<F: Fn(&str) -> Option<S>, S: Source + Drop, O: Sink, E: Sink>(
     alloc: Global,
     names: &[&str],

@@ -242,9 +242,9 @@ fn refute_access(alloc: Global, run: &SpannedRun, asked: Asked) -> Result<bool, 
     cannot_come(alloc, run, &mut words, &caches, at_event, asked)
 }
 
-/// Whether in no order of its events a run of the machine comes to this event, by its number, so that
-/// no order has a run. A no says nothing: it is the answer for an event that is no access too, and
-/// where too much would have to be looked at.
+/// Whether in no order of its events a run of the machine comes to this event, by its number, so
+/// that no order has a run. A no says nothing: it is the answer for an event that is no access too,
+/// and where too much would have to be looked at.
 ///
 /// It fails only where memory is refused. It takes time by the events of the processor before the
 /// event, and by the writes to the words that walks for its address read.

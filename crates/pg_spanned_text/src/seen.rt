@@ -3,7 +3,8 @@
 ghost use Rattle.std.specs.Prelude.{◌≡◌, ◌++◌, ◌≤◌, IfOk, OnOk};
 ghost use Rattle.pg_spanned_text.specs.Seen.{bound_of, gone_by, seen_of_write, seen_from};
 ghost use Rattle.pg_spanned_text.specs.Seen.{unwritten, seen_word, seen_in, seen_at};
-ghost use Rattle.pg_spanned_text.specs.Seen.{put_below, put_table, tables_below, seen_next, seen_of};
+ghost use Rattle.pg_spanned_text.specs.Seen.{put_below, put_table, tables_below};
+ghost use Rattle.pg_spanned_text.specs.Seen.{seen_next, seen_of};
 
 use crate::drops::put_once;
 use crate::span::Span;

@@ -290,7 +290,8 @@ pub fn pcid_audit_followed<
     requires checkers { IfOk planned (λ asked. AreFrom1To64 asked.plan.checkers) }
     requires opener { F.IsAlwaysCallable opener }
     requires onlooker { P.told followers.onlooker ≡ counts 0 0 }
-    ensures { Answers planned.entry (opens F.Fn ⟦<Peeked<S> as Source>⟧ opener) (input.new ≡ input.old)
+    ensures { Answers planned.entry (opens F.Fn ⟦<Peeked<S> as Source>⟧ opener)
+        (input.new ≡ input.old)
         (streams ⟦<Peeked<R> as Source>⟧ O.Sink E.Sink
         (input.old, output.old, errors.old) (input.new, output.new, errors.new)) result }
 {
@@ -325,7 +326,8 @@ pub fn pcid_audit<
 ) -> u8
     requires checkers { IfOk planned (λ asked. AreFrom1To64 asked.plan.checkers) }
     requires opener { F.IsAlwaysCallable opener }
-    ensures { Answers planned.entry (opens F.Fn ⟦<Peeked<S> as Source>⟧ opener) (input.new ≡ input.old)
+    ensures { Answers planned.entry (opens F.Fn ⟦<Peeked<S> as Source>⟧ opener)
+        (input.new ≡ input.old)
         (streams ⟦<Peeked<R> as Source>⟧ O.Sink E.Sink
         (input.old, output.old, errors.old) (input.new, output.new, errors.new)) result }
 {
