@@ -176,11 +176,11 @@ module _ (s : Spanned) (slot : Slot) (la ended flags : ℕ) (outcome : Outcome) 
       let mine : slice_get (ordered s.events order) place ≡ Some (Access slot.p flags la outcome ws) = ordered_at s.events order low place slot.next _ at there in
       let seen : (n : ℕ) → n ≤ place → option_map without_moments (slice_get (ordered s.events order) n) ≡ option_map without_moments (slice_get (visible steps) n) =
       λ n le.
-          let lt : n < place + 1 = omega (arith, le) in
-          let first = slice_get-map without_moments (take (place + 1) (ordered s.events order)) n in
-          let second = slice_get-map without_moments (take (place + 1) (visible steps)) n in
-          ap (option_map without_moments) (sym (at_take (place + 1) n (ordered s.events order) lt))
-          ∙ (sym first ∙ (ap (λ (xs : List Event). slice_get xs n) same ∙ (second ∙ ap (option_map without_moments) (at_take (place + 1) n (visible steps) lt)))) in
+      let lt : n < place + 1 = omega (arith, le) in
+      let first = slice_get-map without_moments (take (place + 1) (ordered s.events order)) n in
+      let second = slice_get-map without_moments (take (place + 1) (visible steps)) n in
+      ap (option_map without_moments) (sym (at_take (place + 1) n (ordered s.events order) lt))
+      ∙ (sym first ∙ (ap (λ (xs : List Event). slice_get xs n) same ∙ (second ∙ ap (option_map without_moments) (at_take (place + 1) n (visible steps) lt)))) in
       let theirs = mapped_some without_moments (slice_get (visible steps) place) _ (sym (seen place (omega arith)) ∙ ap (option_map without_moments) mine) in
       let zero_first : (n : ℕ) → n ≡ 0 + n = λ n. omega arith in
       goes place steps [] tt run (λ n e le h.
