@@ -19,22 +19,22 @@ back longer after front i pushed popped =
 counted : (v : Vec ℕ Global) (after : List ℕ) → after ≡ take (vec_len v - 1) v.items → after ≡ take (length v.items - 1) v.items
 counted v after h = cc
 
-pub returns-then-is_last_denied : goal.returns-then-is_last_denied
-returns-then-is_last_denied c =
+pub returns-then-branch : goal.returns-then-branch
+returns-then-branch c =
     let s : Spanned = c.args.run.now in
     let front : List ℕ = c.args.self.now.front.items in
     let i : ℕ = c.args.self.now.next in
     let pushed : c.push.new.self.items ≡ front ++ i ∷ [] = c.in_ok-push.ensures.items in
     let same : c.pop.new.self.items ≡ front = back c.push.new.self.items c.pop.new.self.items front i pushed (counted c.push.new.self c.pop.new.self.items c.pop.ensures.rest) in
-    let none : NoneBegins s (front ++ i ∷ []) = subst (NoneBegins s) (c.deref.ensures.value ∙ pushed) (c.in_ok-is_last_denied.ensures c.if-is_last_denied.true) in
+    let none : NoneBegins s (front ++ i ∷ []) = subst (NoneBegins s) (c.deref.ensures.value ∙ pushed) (c.in_ok-is_last_denied.ensures c.if-branch.true) in
     record {
       numbers = subst (AreNumbers s) (sym same) c.requires.trying.numbers;
       next = omega (arith, c.requires.next);
       tried = subst (λ (xs : List ℕ). AreTried s [] xs (i + 1)) (sym same) (tried_past s [] front i c.requires.trying.tried none);
     }
 
-pub returns-else-is_last_denied : goal.returns-else-is_last_denied
-returns-else-is_last_denied c =
+pub returns-else-branch : goal.returns-else-branch
+returns-else-branch c =
     let s : Spanned = c.args.run.now in
     let front : List ℕ = c.args.self.now.front.items in
     let i : ℕ = c.args.self.now.next in
