@@ -1,6 +1,6 @@
 -- Orders that begin with some numbers.
-use Rattle.std.proofs.Common.{◌≡◌, ℕ, zero, suc, ◌+◌, ◌^◌, ◌<◌, ◌≤◌, List, [], ◌∷◌, ◌++◌, length, take, map, get_or, refl, sym, ap, subst, ◌∙◌, arith, inl, inr, Some, None}
-use Rattle.std.specs.Prelude.{slice_get, slice_index}
+use Rattle.std.proofs.Common.{◌≡◌, ℕ, zero, suc, ◌+◌, ◌<◌, ◌≤◌, List, [], ◌∷◌, ◌++◌, length, take, map, refl, sym, ap, subst, ◌∙◌, arith, inl, inr, Some}
+use Rattle.std.specs.Prelude.{slice_get}
 use Rattle.std.specs.Option.{option_to_list}
 use Rattle.std.proofs.lemmas.Bool.{cases_lt}
 use Rattle.std.proofs.lemmas.List.{length-append}
@@ -81,12 +81,6 @@ exhausted s front bound short all none (x ∷ xs) is run =
 pub none_left : (s : Spanned) (bound : ℕ) → 0 < length s.events → length s.events ≤ bound → AreTried s [] [] bound → HasOrderedRun s → ⊥
 unfolding AreTried
 none_left s bound some all tried run = exhausted s [] bound some all tried run.0 run.1 run.2
-
--- whatever goes on numbers of which none begins an order with a run
-pub none_behind : (s : Spanned) (front : List ℕ) (bound : ℕ) → NoneBegins s front → NoneBelow s front bound
-none_behind s front bound none i lt rest is run =
-    let there = joined front rest i in
-    none (i ∷ rest) (subst (IsOrder s) there is) (subst (λ (o : List ℕ). HasRunButMoments s.head (ordered s.events o)) there run)
 
 one_more : (s : Spanned) (front : List ℕ) (i : ℕ) → NoneBelow s front i → NoneBegins s (front ++ i ∷ []) → NoneBelow s front (i + 1)
 one_more s front i none here k lt = elim (cases_lt k i) [

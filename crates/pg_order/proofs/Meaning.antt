@@ -14,7 +14,7 @@ use Rattle.pg_machine.specs.Machine.{visible}
 use Rattle.pg_run_of.specs.Converse.{without_moments}
 use Rattle.pg_search.specs.Law.{RunBeginsWith}
 use Rattle.pg_certify.specs.Certified.{IsDenied, HasRunButMoments, CertifiedEventsRun, CertifiedExactlyWhereARunExists, DeniedEventsHaveNoRun}
-use Rattle.pg_spanned.specs.Orders.{Spanned, IsOrder}
+use Rattle.pg_spanned.specs.Orders.{Spanned}
 use Rattle.pg_spanned.specs.Spanned.{IsSpanned}
 use Rattle.pg_spanned.specs.Laws.{ends, NoneOverlap, NoOverlapNoOtherOrder}
 use Rattle.pg_spanned.proofs.Places.{AllByRecursion-at, some_same}

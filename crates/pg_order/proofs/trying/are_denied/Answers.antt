@@ -1,8 +1,8 @@
-use Rattle.std.proofs.Common.{◌≡◌, ℕ, List, ap, subst, Option, Some}
+use Rattle.std.proofs.Common.{ℕ, List, subst, Option}
 use Rattle.std.specs.Prelude.{IfSome}
 use Rattle.pg_event.specs.Spelling.{Recorded}
 use Rattle.pg_certify.specs.Certified.{IsDenied}
-use Rattle.pg_spanned.specs.Orders.{Spanned, ordered}
+use Rattle.pg_spanned.specs.Orders.{Spanned}
 use Rattle.pg_order.proofs.Fronts.{none_begins_denied}
 use Rattle.pg_order.proofs.trying.are_denied.Goals as goal
 

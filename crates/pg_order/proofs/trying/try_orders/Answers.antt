@@ -1,6 +1,5 @@
-use Rattle.std.proofs.Common.{◌≡◌, ℕ, ◌<◌, [], List, Vec, Global, sym, ap, subst, arith}
+use Rattle.std.proofs.Common.{ℕ, [], List, sym, subst, arith}
 use Rattle.pg_spanned.specs.Orders.{Spanned}
-use Rattle.pg_order.specs.declared.trying.Trying.{Trying}
 use Rattle.pg_order.specs.Trying.{AreNumbers, AreTried, IsTrying}
 use Rattle.pg_order.proofs.Fronts.{nothing_tried, numbers_of_none}
 use Rattle.pg_order.proofs.trying.try_orders.Goals as goal

@@ -1,4 +1,4 @@
-use Rattle.std.proofs.Common.{◌≡◌, ◌<◌, ◌≤◌, ℕ, List, length, subst, arith}
+use Rattle.std.proofs.Common.{◌<◌, ◌≤◌, ℕ, List, length, subst, arith}
 use Rattle.pg_certify.specs.Certified.{IsDenied}
 use Rattle.pg_spanned.specs.Laws.{ends}
 use Rattle.pg_spanned.specs.Orders.{Spanned, ordered}

@@ -1,6 +1,4 @@
-use Rattle.std.proofs.Common.{ℕ, length, ◌<◌}
 use Rattle.pg_spanned.specs.Orders.{Spanned}
-use Rattle.pg_relaxed.specs.Orders.{NeverComes}
 use Rattle.pg_order.proofs.Meaning.{never_comes_none_runs}
 use Rattle.pg_order.proofs.verdict.verdict_of_waiting.Goals as goal
 

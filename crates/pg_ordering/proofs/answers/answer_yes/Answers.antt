@@ -1,7 +1,6 @@
 use Rattle.std.proofs.Common.{inl, sym, subst}
 use Rattle.pg_report.specs.Changes.{filled}
 use Rattle.pg_ordering.specs.declared.told.Asked.{Asked}
-use Rattle.pg_ordering.specs.declared.told.Asked.TheVariants.{Record}
 use Rattle.pg_ordering.specs.declared.told.Told.TheVariants.{Yes}
 use Rattle.pg_check.specs.Kept.{AreWellFormed}
 use Rattle.pg_event.specs.Heads.{Head}

@@ -1,4 +1,4 @@
-use Rattle.std.proofs.Common.{◌≡◌, ◌<◌, ◌+◌, ℕ, List, ◌∷◌, [], ◌++◌, Bor, length, map, take, sym, subst}
+use Rattle.std.proofs.Common.{◌<◌, ◌+◌, ℕ, List, length, map, take, sym, subst}
 use Rattle.std.proofs.lemmas.List.{length-map}
 use Rattle.pg_merge.specs.Logs.{Logged}
 use Rattle.pg_ordering.specs.Merges.{AreLogsOf}

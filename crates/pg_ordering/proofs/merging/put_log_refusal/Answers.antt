@@ -1,4 +1,4 @@
-use Rattle.std.proofs.Common.{◌++◌, codes, decimal, ap, ap₂, sym}
+use Rattle.std.proofs.Common.{ap, ap₂, sym}
 use Rattle.std.proofs.lemmas.Result.{err_from_is_err_and}
 use Rattle.pg_codec.proofs.Written.{puts_same}
 use Rattle.pg_codec.proofs.Segments.{puts_then, puts_fails}

@@ -1,4 +1,4 @@
-use Rattle.std.proofs.Common.{◌≡◌, ◌++◌, ℕ, List, codes, decimal, get_or, ap, sym, ◌∙◌, arith, string_bytes}
+use Rattle.std.proofs.Common.{◌++◌, ℕ, List, codes, decimal, get_or, ap, sym, ◌∙◌, arith}
 use Rattle.std.proofs.lemmas.List.{take_all}
 use Rattle.pg_ordering.specs.Texts.{order_text}
 use Rattle.pg_ordering.proofs.Telling.{order_more}

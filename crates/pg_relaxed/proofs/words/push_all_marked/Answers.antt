@@ -1,8 +1,8 @@
-use Rattle.std.proofs.Common.{ℕ, List, sym, subst, take}
+use Rattle.std.proofs.Common.{ℕ, sym, subst}
 use Rattle.pg_machine.specs.Machine.{IsIn}
 use Rattle.pg_relaxed.specs.Words.{IsMarkedIn}
 use Rattle.pg_relaxed.proofs.Listing.{marked_still}
-use Rattle.pg_relaxed.proofs.Taken.{one_more_get, none_taken, take_all}
+use Rattle.pg_relaxed.proofs.Taken.{one_more_get, take_all}
 use Rattle.pg_relaxed.proofs.words.push_all_marked.Goals as goal
 
 pub loop-value-preserved : goal.loop-value-preserved

@@ -1,4 +1,4 @@
-use Rattle.std.proofs.Common.{◌≡◌, ℕ, [], ◌∷◌, ◌++◌, List, ap, ◌∙◌}
+use Rattle.std.proofs.Common.{ℕ, [], ◌∷◌, ◌++◌, List, ap, ◌∙◌}
 use Rattle.pg_relaxed.proofs.Listing.{pushed_more, pushed_marked}
 use Rattle.pg_relaxed.proofs.words.push_marked.Goals as goal
 

@@ -1,8 +1,8 @@
-use Rattle.std.proofs.Common.{◌≡◌, ℕ, ◌+◌, ◌<◌, ◌≤◌, ◌^◌, [], ◌∷◌, ◌++◌, List, length, sym, ap, subst, ◌∙◌, arith, refl, Vec, Global}
+use Rattle.std.proofs.Common.{◌≡◌, ℕ, ◌+◌, ◌<◌, [], ◌∷◌, ◌++◌, List, length, ap, subst, arith, refl, Vec, Global}
 use Rattle.std.proofs.lemmas.List.{length-append}
 use Rattle.std.specs.Vec.{vec_len}
 use Rattle.pg_spanned.specs.Orders.{Spanned}
-use Rattle.pg_order.specs.Trying.{AreNumbers, AreTried, IsTrying}
+use Rattle.pg_order.specs.Trying.{AreNumbers, AreTried}
 use Rattle.pg_order.proofs.Fronts.{none_left, tried_back, numbers_back, last_within}
 use Rattle.pg_order.proofs.trying.Trying.go_back.Goals as goal
 

@@ -1,8 +1,8 @@
-use Rattle.std.proofs.Common.{◌≡◌, ℕ, ◌+◌, ◌-◌, ◌<◌, ◌≤◌, [], ◌∷◌, ◌++◌, List, length, take, refl, sym, ap, subst, ◌∙◌, arith, Vec, Global}
+use Rattle.std.proofs.Common.{◌≡◌, ℕ, ◌+◌, ◌-◌, [], ◌∷◌, ◌++◌, List, length, take, refl, sym, ap, subst, ◌∙◌, arith, Vec, Global}
 use Rattle.std.proofs.lemmas.List.{length-append}
 use Rattle.std.specs.Vec.{vec_len}
 use Rattle.pg_spanned.specs.Orders.{Spanned}
-use Rattle.pg_order.specs.Trying.{AreNumbers, NoneBegins, NoneBelow, AreTried, IsTrying}
+use Rattle.pg_order.specs.Trying.{AreNumbers, NoneBegins, AreTried}
 use Rattle.pg_order.proofs.Fronts.{tried_past, tried_on, numbers_on, nothing_below}
 use Rattle.pg_order.proofs.trying.Trying.go_on.Goals as goal
 
