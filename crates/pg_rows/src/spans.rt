@@ -39,6 +39,22 @@ const STALE: &[&str] = &[
     "0207000000",
 ];
 
+/// Processor 1 reads the new page, invalidates it and reads the old one, while processor 0 replaces the
+/// entry. Each read may come in some order: the first behind the write, the second before it.
+const NEW_THEN_OLD: &[&str] = &[
+    "50475245434f5244030028030210000000011000000000000000011000000000000000",
+    "010000000008000000",
+    "10000000000000100000000000000720000000000000",
+    "10000000000000200000000000000730000000000000",
+    "10000000000000300000000000000740000000000000",
+    "10000000000028400000000000000790000000000000",
+    "1101000000000423510000000000000023a1000000000000",
+    "1301000000000050000000000000",
+    "110100000000042351000000000000002391000000000000",
+    "100003000000284000000000000007a0000000000000",
+    "0208000000",
+];
+
 /// No event overlaps another.
 const ONE: &[&str] = &[
     "50475245434f5244030028030110000000011000000000000000",
@@ -59,6 +75,14 @@ const BACK: &[&str] = &[
     "0201000000",
 ];
 
+/// The first read is placed behind the write, and the second then in no order.
+const NEW_THEN_OLD_LINES: &str = "verdict: no\n\
+    event: 6\n\
+    reason: 15 no order\n\
+    events: 8\n\
+    segments: 1\n\
+    all orders: each was tried, and none has a run\n";
+
 /// Behind the INVLPG no order has the entry of before, since what replaced it had ended.
 const STALE_LINES: &str = "verdict: no\n\
     event: 6\n\
@@ -76,7 +100,7 @@ const STALE_LINES: &str = "verdict: no\n\
 
 const REFUSED: &str = "pcid-audit: refused 2 version: certify judges records with spans\n";
 
-pub const ROWS: [Row; 13] = [
+pub const ROWS: [Row; 15] = [
     Row {
         name: "spanned_walk_certified",
         words: &["certify"],
@@ -182,6 +206,22 @@ pub const ROWS: [Row; 13] = [
         words: &["explain"],
         input: STALE,
         output: STALE_LINES,
+        line: "",
+        status: 1,
+    },
+    Row {
+        name: "reads_that_exclude_one_another_certified",
+        words: &["certify"],
+        input: NEW_THEN_OLD,
+        output: NEW_THEN_OLD_LINES,
+        line: "",
+        status: 1,
+    },
+    Row {
+        name: "reads_that_exclude_one_another_explained",
+        words: &["explain"],
+        input: NEW_THEN_OLD,
+        output: NEW_THEN_OLD_LINES,
         line: "",
         status: 1,
     },
