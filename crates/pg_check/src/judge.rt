@@ -11,7 +11,7 @@ ghost use Rattle.pg_chain.specs.Standing.{IsPast, processor_count};
 use crate::access::failing_access;
 use crate::assist::failing_assist;
 use crate::memo::Memo;
-use pg_event::{Claim, Event, Reason, Update, access_kind, says_dirty};
+use pg_event::{Claim, Event, Reason, Request, Update, processor_of};
 
 /// The least reason that fails for an event with this number, perhaps with other moments than those
 /// that the record names: so moments can be tried. It is judged by the past of a memo, which keeps
@@ -22,10 +22,11 @@ pub fn failing(memo: &mut Memo<'_>, number: u32, event: &Event) -> Option<Reason
     ensures failing { (head : Head) (events : List Event) → IsPast memo.old head events →
         result ≡ failing_event head events number event.now }
 {
-    match *event {
-        Event::Access {
-            p,
-            flags,
+    let p = processor_of(event);
+    match event.request() {
+        Request::Nothing => None,
+        Request::Access {
+            kind,
             la,
             outcome,
             moments,
@@ -33,34 +34,29 @@ pub fn failing(memo: &mut Memo<'_>, number: u32, event: &Event) -> Option<Reason
             let claim = Claim {
                 number,
                 p,
-                kind: access_kind(flags),
+                kind,
                 la,
                 outcome,
             };
             failing_access(memo, &claim, &moments)
         }
-        Event::Assist {
-            p,
-            flags,
+        Request::Update {
+            kind,
             la,
             word,
+            dirty,
             moments,
         } => {
             let update = Update {
                 number,
                 p,
-                kind: access_kind(flags),
+                kind,
                 la,
                 word,
-                dirty: says_dirty(flags),
+                dirty,
             };
             failing_assist(memo.past(), &update, &moments)
         }
-        Event::Write { .. }
-        | Event::MovCr3 { .. }
-        | Event::Invlpg { .. }
-        | Event::Invpcid { .. }
-        | Event::MovCr4Pge { .. } => None,
     }
 }
 

@@ -7,8 +7,10 @@ use Rattle.pg_entry.specs.declared.Level.{Level}
 use Rattle.pg_entry.specs.declared.Level.TheVariants.{Four, Three, Two, One}
 use Rattle.pg_entry.specs.Kinds.{table_of}
 use Rattle.pg_event.specs.declared.event.Event.{Event}
-use Rattle.pg_event.specs.declared.event.Event.TheVariants.{Write, Access, Assist, MovCr3, Invlpg}
-use Rattle.pg_event.specs.declared.event.Event.TheVariants.{Invpcid, MovCr4Pge}
+use Rattle.pg_event.specs.declared.meaning.Request.{Request}
+use Rattle.pg_event.specs.declared.meaning.Request.TheVariants as requests
+use Rattle.pg_event.specs.Form.{processor_of}
+use Rattle.pg_event.specs.Meaning.{request_of}
 use Rattle.pg_event.specs.declared.event.Want.{Want}
 use Rattle.pg_event.specs.declared.event.Want.TheVariants.{Present}
 use Rattle.pg_event.specs.Heads.{Head}
@@ -77,17 +79,18 @@ moments_fills head events want p la (w ∷ ws) =
     let root : Visit = record { p = p; la = la; level = Four; from = root_at head events p w } in
     fills_from head events want root (w ∷ ws)
 
--- the fills of an event: an access has some, and an assist those of the levels above its entry
-abbrev pub event_fills : Head → List Event → Event → List Fill
-event_fills head events (Write p addr value) = []
-event_fills head events (Access p flags la outcome moments) =
+-- the fills of what is asked of a walk of p: an access has some, and an update those of the levels
+-- above its entry
+abbrev pub request_fills : Head → List Event → ℕ → Request → List Fill
+request_fills head events p requests.Nothing = []
+request_fills head events p (requests.Access kind la outcome moments) =
     moments_fills head events (want_of outcome) p la moments
-event_fills head events (Assist p flags la word moments) =
+request_fills head events p (requests.Update kind la word dirty moments) =
     moments_fills head events Present p la moments
-event_fills head events (MovCr3 p operand) = []
-event_fills head events (Invlpg p la) = []
-event_fills head events (Invpcid p kind pcid la) = []
-event_fills head events (MovCr4Pge p on) = []
+
+-- the fills of an event
+abbrev pub event_fills : Head → List Event → Event → List Fill
+event_fills head events e = request_fills head events (processor_of e) (request_of e)
 
 -- the fills of all events, in the order of the events
 abbrev pub fills_of : Head → List Event → List Fill

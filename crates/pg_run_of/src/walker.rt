@@ -6,7 +6,7 @@ use crate::fill::Fill;
 use crate::visit::{Visit, descend, next_address};
 use pg_check::History;
 use pg_entry::Level;
-use pg_event::{Event, Moments, Want, root_of, uses_last, want_of};
+use pg_event::{Event, Moments, Request, Want, processor_of, root_of, uses_last, want_of};
 use std::alloc::{AllocError, Global};
 
 /// MAXPHYADDR.
@@ -96,22 +96,18 @@ fn push_fills(fills: &mut Vec<Fill>, history: &History, event: &Event) -> Result
         ++ event_fills history.now.head history.now.events event.now) }
     ensures few { OnOk result (length fills.new.items ≤ length fills.old.items + 4) }
 {
-    match *event {
-        Event::Access {
-            p,
+    let p = processor_of(event);
+    match event.request() {
+        Request::Nothing => Ok(()),
+        Request::Access {
             la,
             outcome,
             moments,
             ..
         } => push_moments(fills, history, p, la, want_of(outcome), &moments),
-        Event::Assist { p, la, moments, .. } => {
+        Request::Update { la, moments, .. } => {
             push_moments(fills, history, p, la, Want::Present, &moments)
         }
-        Event::Write { .. }
-        | Event::MovCr3 { .. }
-        | Event::Invlpg { .. }
-        | Event::Invpcid { .. }
-        | Event::MovCr4Pge { .. } => Ok(()),
     }
 }
 
