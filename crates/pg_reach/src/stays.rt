@@ -92,11 +92,10 @@ pub(crate) fn latest_of(spans: &[Span<Control>], at: u32, to: u32) -> Option<u32
     requires moments { at ≤ to }
     ensures { IsLatest spans.now at to result }
 {
-    let last = count_to(spans, to).checked_sub(1)?;
-    let moment = spans[last].to.min(to);
-    if at <= moment {
-        Some(moment)
-    } else {
-        None
+    let count = count_to(spans, to);
+    if count == 0 {
+        return None;
     }
+    let moment = spans[count - 1].to.min(to);
+    if at <= moment { Some(moment) } else { None }
 }

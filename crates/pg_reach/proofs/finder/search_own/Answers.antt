@@ -21,7 +21,7 @@ returns-clause-all c =
     let under : IfOk c.search_under.result (AreUnder r v c.if-wants_page.since e) = subst (λ since. IfOk c.search_under.result (AreUnder r v since e)) c.bounds_from-bounds.ensures.one mine in
     elim c.if-wants_page.branch as (λ _. IfOk c.search_under.result (AreLate r v e)) [
       | then-wants_page b ↦ IfOk-weaker c.search_under.result _ _ (λ found h. late_page r v b.page_since-since.result e found b.page_since-since.ensures.within b.page_since-since.ensures.since h)
-        (subst (λ since. IfOk c.search_under.result (AreUnder r v since e)) b.since-is under)
+          (subst (λ since. IfOk c.search_under.result (AreUnder r v since e)) b.since-is under)
       | else-wants_page b ↦ IfOk-weaker c.search_under.result _ _ (λ found h. late_now r v e found (sym c.wants_page.ensures ∙ b.if-wants_page.false) h)
-        (subst (λ since. IfOk c.search_under.result (AreUnder r v since e)) b.since-is under)
+          (subst (λ since. IfOk c.search_under.result (AreUnder r v since e)) b.since-is under)
     ]
