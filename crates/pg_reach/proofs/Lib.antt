@@ -1,3 +1,4 @@
+mod Order
 mod Spans
 mod Lasts
 pub mod Fresh

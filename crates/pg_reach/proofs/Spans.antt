@@ -1,14 +1,15 @@
 -- Spans that have a moment, one span more.
-use Rattle.std.proofs.Common.{◌≡◌, ℕ, ◌<◌, ◌≤◌, max, min, nat_eq, Bool, true, ◌||◌, List, [], ◌∷◌, ◌++◌, ◌⊎◌, inl, inr, sym, ◌∙◌, subst, ap, false, arith, Option, Some, None}
-use Rattle.std.specs.List.{Contains, list_any}
+use Rattle.std.proofs.Common.{◌≡◌, ℕ, ◌<◌, ◌≤◌, nat_eq, Bool, true, ◌||◌, List, [], ◌∷◌, ◌++◌, length, get_or, take, ◌⊎◌, inl, inr, sym, ◌∙◌, subst, ap, false, arith, Option, Some, None}
+use Rattle.std.specs.List.{All, Contains, list_any}
 use Rattle.std.proofs.lemmas.Bool.{cases_lt, cases_Bool, eqb-true}
 use Rattle.std.proofs.lemmas.List.Elements.{All-push, All-weaker, All-contains, Contains-append_left, Contains-append_right, Contains-push, Contains-push_cases}
 use Rattle.pg_event.specs.declared.control.Control.{Control}
 use Rattle.pg_timeline.specs.declared.timeline.Span.{Span}
 use Rattle.pg_event.specs.Spelling.{Recorded}
 use Rattle.pg_reach.specs.declared.walker.Walker.{Walker}
-use Rattle.pg_reach.specs.Stays.{IsSteady, IsStay, IsWithin, AreSpans, AreStays, IsLatest, AreOwn, ArePcids, later}
+use Rattle.pg_reach.specs.Stays.{IsSteady, IsStay, IsWithin, AreSpans, AreStays, IsLatest, AreInOrder, AreOwn, ArePcids}
 use Rattle.pg_reach.specs.Reaching.{IsLastRead}
+use Rattle.pg_reach.proofs.Order.{order_push, before_next}
 
 -- what stands where there is no span
 abbrev pub no_span : Span Control
@@ -27,50 +28,6 @@ within_cases xs s w h =
       | inr e ↦ inr (subst (λ (x : Span Control). (x.from ≤ w) × (w ≤ x.to)) (sym e) (h.2, h.3))
     ]
 
--- one span more that does not meet the moments
-pub latest_apart : (xs : List (Span Control)) (s : Span Control) (at to : ℕ) (latest : Option ℕ) → IsLatest xs at to latest → (max s.from at ≤ min s.to to → ⊥) → IsLatest (xs ++ s ∷ []) at to latest
-latest_apart xs s at to None h apart = λ w low high here.
-    elim (within_cases xs s w here) as (λ _. ⊥) [ inl a ↦ h w low high a | inr b ↦ apart (omega (arith, b.0, b.1, low, high)) ]
-latest_apart xs s at to (Some m) h apart = (
-  h.0,
-  h.1,
-  within_kept xs s m h.2,
-  λ w low high here. elim (within_cases xs s w here) as (λ _. w ≤ m) [
-    | inl a ↦ h.3 w low high a
-    | inr b ↦ absurd (apart (omega (arith, b.0, b.1, low, high)))
-  ],
-)
-
--- one more that does, up to a moment
-pub latest_met : (xs : List (Span Control)) (s : Span Control) (at to : ℕ) (latest : Option ℕ) → IsLatest xs at to latest → max s.from at ≤ min s.to to → IsLatest (xs ++ s ∷ []) at to (Some (later latest (min s.to to)))
-latest_met xs s at to None h meets = (
-  omega (arith, meets),
-  omega arith,
-  within_new xs s (min s.to to) (omega (arith, meets)) (omega arith),
-  λ w low high here. elim (within_cases xs s w here) as (λ _. w ≤ min s.to to) [
-    | inl a ↦ absurd (h w low high a)
-    | inr b ↦ omega (arith, b.1, high)
-  ],
-)
-latest_met xs s at to (Some n) h meets =
-    let m : ℕ = min s.to to in
-    let here : IsWithin (xs ++ s ∷ []) m = within_new xs s m (omega (arith, meets)) (omega arith) in
-    let most : (w : ℕ) → at ≤ w → w ≤ to → IsWithin (xs ++ s ∷ []) w → (w ≤ n) ⊎ (w ≤ m) = λ w low high here. elim (within_cases xs s w here) as (λ _. (w ≤ n) ⊎ (w ≤ m)) [
-      | inl a ↦ inl (h.3 w low high a)
-      | inr b ↦ inr (omega (arith, b.1, high))
-    ] in
-    elim (cases_lt n m) as (λ _. IsLatest (xs ++ s ∷ []) at to (Some (max n m))) [
-      | inl lt ↦
-          let is : m ≡ max n m = omega (arith, lt) in
-          let low : at ≤ m = omega (arith, meets) in
-          let high : m ≤ to = omega arith in
-          subst (λ k. IsLatest (xs ++ s ∷ []) at to (Some k)) is (low, high, here, λ w low high in'. elim (most w low high in') as (λ _. w ≤ m) [ inl a ↦ omega (arith, a, lt) | inr b ↦ b ])
-      | inr le ↦
-          let is : n ≡ max n m = omega (arith, le) in
-          subst (λ k. IsLatest (xs ++ s ∷ []) at to (Some k)) is
-          (h.0, h.1, within_kept xs s n h.2, λ w low high in'. elim (most w low high in') as (λ _. w ≤ n) [ inl a ↦ a | inr b ↦ omega (arith, b, le) ])
-    ]
-
 -- one moment's span more
 pub within_next : (xs : List (Span Control)) (s : Span Control) (low at : ℕ) → ((w : ℕ) → low ≤ w → w < at → IsWithin xs w) → s.from ≡ at → (w : ℕ) → low ≤ w → w ≤ s.to → IsWithin (xs ++ s ∷ []) w
 within_next xs s low at h from w above below =
@@ -86,8 +43,15 @@ HasIn pcid xs s = Contains xs s × (s.value.pcid ≡ pcid)
 in_more : (pcid : ℕ) (xs : List (Span Control)) (s x : Span Control) → HasIn pcid xs x → HasIn pcid (xs ++ s ∷ []) x
 in_more pcid xs s x h = (Contains-append_left xs (s ∷ []) x h.0, h.1)
 
-pub own_more : (pcid : ℕ) (xs ys : List (Span Control)) (s' : Span Control) → AreOwn pcid xs ys → s'.value.pcid ≡ pcid → AreOwn pcid (xs ++ s' ∷ []) (ys ++ s' ∷ [])
-own_more pcid xs ys s' h own = record {
+own_before : (pcid : ℕ) (xs : List (Span Control)) (i : ℕ) (ys : List (Span Control)) → AreInOrder xs → i < length xs → AreOwn pcid (take i xs) ys → All (λ x. x.to < (get_or xs i no_span).from) ys
+own_before pcid xs i ys order lt h = All-weaker (HasIn pcid (take i xs)) (λ x. x.to < (get_or xs i no_span).from) (λ x here. before_next xs i no_span order lt x here.0) ys h.each
+
+own_order : (pcid : ℕ) (xs : List (Span Control)) (i : ℕ) (ys : List (Span Control)) → AreInOrder xs → i < length xs → AreOwn pcid (take i xs) ys → AreInOrder (ys ++ get_or xs i no_span ∷ [])
+own_order pcid xs i ys order lt h = order_push ys (get_or xs i no_span) h.order (own_before pcid xs i ys order lt h) (order.each i no_span lt)
+
+own_with : (pcid : ℕ) (xs ys : List (Span Control)) (s' : Span Control) → AreInOrder (ys ++ s' ∷ []) → AreOwn pcid xs ys → s'.value.pcid ≡ pcid → AreOwn pcid (xs ++ s' ∷ []) (ys ++ s' ∷ [])
+own_with pcid xs ys s' order h own = record {
+  order = order;
   each = All-push (HasIn pcid (xs ++ s' ∷ [])) ys s' (All-weaker (HasIn pcid xs) (HasIn pcid (xs ++ s' ∷ [])) (in_more pcid xs s') ys h.each) (Contains-push xs s', own);
   all = λ x here is. elim (Contains-push_cases xs s' x here) as (λ _. Contains (ys ++ s' ∷ []) x) [
     | inl a ↦ Contains-append_left ys (s' ∷ []) x (h.all x a is)
@@ -95,8 +59,13 @@ own_more pcid xs ys s' h own = record {
   ];
 }
 
+pub own_more : (pcid : ℕ) (xs : List (Span Control)) (i : ℕ) (ys : List (Span Control)) → AreInOrder xs → i < length xs → AreOwn pcid (take i xs) ys → (get_or xs i no_span).value.pcid ≡ pcid →
+    AreOwn pcid (take i xs ++ get_or xs i no_span ∷ []) (ys ++ get_or xs i no_span ∷ [])
+own_more pcid xs i ys order lt h own = own_with pcid (take i xs) ys (get_or xs i no_span) (own_order pcid xs i ys order lt h) h own
+
 pub own_other : (pcid : ℕ) (xs ys : List (Span Control)) (s : Span Control) → AreOwn pcid xs ys → (s.value.pcid ≡ pcid → ⊥) → AreOwn pcid (xs ++ s ∷ []) ys
 own_other pcid xs ys s h other = record {
+  order = h.order;
   each = All-weaker (HasIn pcid xs) (HasIn pcid (xs ++ s ∷ [])) (in_more pcid xs s) ys h.each;
   all = λ x here is. elim (Contains-push_cases xs s x here) as (λ _. Contains ys x) [
     | inl a ↦ h.all x a is
@@ -115,6 +84,7 @@ last_read r v low stays at to (Some m) h above under latest =
 -- the spans of a processor that have the PCID are its stays
 pub stays_by : (r : Recorded) (v : Walker) (low : ℕ) (spans stays : List (Span Control)) → AreSpans r v.p low v.number spans → AreOwn v.pcid spans stays → AreStays r v low stays
 stays_by r v low spans stays h own = record {
+  order = own.order;
   each = All-weaker (HasIn v.pcid spans) (IsStay r v) (λ s here. record { steady = All-contains (IsSteady r v.p) spans s h.each here.0; pcid = here.1 }) stays own.each;
   all = λ w from till here.
       let s = h.all w from till in

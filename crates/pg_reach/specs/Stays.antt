@@ -1,5 +1,6 @@
 -- When a processor has a PCID.
-use Rattle.std.specs.Prelude.{◌≡◌, ℕ, ◌<◌, ◌≤◌, ◌^◌, max, List, Option, Some, None, MatchOption}
+use Rattle.std.specs.Prelude.{◌≡◌, ℕ, ◌<◌, ◌≤◌, ◌^◌, List, Option, Some, None, MatchOption}
+use Rattle.std.specs.Prelude.{length, slice_index_or}
 use Rattle.std.specs.List.{All, Contains}
 use Rattle.pg_event.specs.declared.control.Control.{Control}
 use Rattle.pg_event.specs.Spelling.{Recorded}
@@ -26,30 +27,42 @@ pub record IsStay (r : Recorded) (v : Walker) (s : Span Control) : Type 0 where
 abbrev pub IsWithin : List (Span Control) → ℕ → Type 0
 IsWithin spans w = (s : Span Control) × Contains spans s × (s.from ≤ w) × (w ≤ s.to)
 
+-- spans that have moments, each behind those before it
+pub record AreInOrder (spans : List (Span Control)) : Type 0 where
+  pub each : (i : ℕ) (d : Span Control) → i < length spans →
+      (slice_index_or spans i d).from ≤ (slice_index_or spans i d).to
+  pub next : (i j : ℕ) (d : Span Control) → i < j → j < length spans →
+      (slice_index_or spans i d).to < (slice_index_or spans j d).from
+
+-- so many of the spans begin no later than a moment, and the others later
+pub record IsCountTo (spans : List (Span Control)) (moment count : ℕ) : Type 0 where
+  pub within : count ≤ length spans
+  pub before : (i : ℕ) (d : Span Control) → i < count → (slice_index_or spans i d).from ≤ moment
+  pub behind : (i : ℕ) (d : Span Control) → count ≤ i → i < length spans →
+      moment < (slice_index_or spans i d).from
+
 -- spans that have each moment from one up to another
 pub record AreSpans (r : Recorded) (p low number : ℕ) (spans : List (Span Control)) : Type 0 where
+  pub order : AreInOrder spans
   pub each : All (IsSteady r p) spans
   pub all : (w : ℕ) → low ≤ w → w ≤ number → IsWithin spans w
 
 -- the stays, which have each moment from one up to another at which the processor has the PCID
 pub record AreStays (r : Recorded) (v : Walker) (low : ℕ) (stays : List (Span Control)) : Type 0
   where
+    pub order : AreInOrder stays
     pub each : All (IsStay r v) stays
     pub all : (w : ℕ) → low ≤ w → w ≤ v.number → IsUnder r v w → IsWithin stays w
 
 -- the stays are those of some spans that have the PCID
 pub record AreOwn (pcid : ℕ) (spans stays : List (Span Control)) : Type 0 where
+  pub order : AreInOrder stays
   pub each : All (λ s. Contains spans s × (s.value.pcid ≡ pcid)) stays
   pub all : (s : Span Control) → Contains spans s → s.value.pcid ≡ pcid → Contains stays s
 
 -- the PCIDs of some spans are among these
 abbrev pub ArePcids : List (Span Control) → List ℕ → Type 0
 ArePcids spans pcids = (s : Span Control) → Contains spans s → Contains pcids s.value.pcid
-
--- the later of two moments
-abbrev pub later : Option ℕ → ℕ → ℕ
-later None moment = moment
-later (Some other) moment = max other moment
 
 -- the latest of the moments of some spans, from one moment up to another
 abbrev pub IsLatest : List (Span Control) → ℕ → ℕ → Option ℕ → Type 0

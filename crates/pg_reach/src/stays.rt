@@ -1,7 +1,8 @@
 //! When a processor has a PCID.
 
 ghost use Rattle.std.specs.Prelude.{◌≡◌, ◌<◌, ◌≤◌, ◌^◌, ℕ, length, IfOk};
-ghost use Rattle.pg_reach.specs.Stays.{AreSpans, AreOwn, ArePcids, IsLatest, later};
+ghost use Rattle.pg_reach.specs.Stays.{AreSpans, AreOwn, ArePcids, IsLatest, AreInOrder};
+ghost use Rattle.pg_reach.specs.Stays.{IsCountTo};
 
 use pg_event::Control;
 use pg_search::Seen;
@@ -43,6 +44,7 @@ pub(crate) fn stays_of(
     spans: &[Span<Control>],
     pcid: u16,
 ) -> Result<Vec<Span<Control>>, AllocError>
+    requires { AreInOrder spans.now }
     ensures { IfOk result (λ stays. AreOwn pcid spans.now stays.items) }
 {
     let mut stays = Vec::new(alloc);
@@ -67,27 +69,33 @@ pub(crate) fn pcids_of(alloc: Global, spans: &[Span<Control>]) -> Result<Vec<u16
     Ok(pcids)
 }
 
-/// The latest moment of some spans, from one moment up to another.
-pub(crate) fn latest_of(spans: &[Span<Control>], at: u32, to: u32) -> Option<u32>
-    requires { at ≤ to }
-    ensures { IsLatest spans.now at to result }
+/// How many of some spans begin no later than a moment, by halving.
+fn count_to(spans: &[Span<Control>], moment: u32) -> usize
+    requires { AreInOrder spans.now }
+    ensures { IsCountTo spans.now moment result }
 {
-    let mut latest = None;
-    for span in spans {
-        let moment = span.to.min(to);
-        if span.from.max(at) <= moment {
-            latest = Some(later(latest, moment));
+    let (mut low, mut high) = (0, spans.len());
+    while low < high {
+        let middle = low + (high - low) / 2;
+        if spans[middle].from <= moment {
+            low = middle + 1;
+        } else {
+            high = middle;
         }
     }
-    latest
+    low
 }
 
-/// The later of two moments.
-fn later(latest: Option<u32>, moment: u32) -> u32
-    ensures { result ≡ later latest moment }
+/// The latest moment of some spans, from one moment up to another.
+pub(crate) fn latest_of(spans: &[Span<Control>], at: u32, to: u32) -> Option<u32>
+    requires order { AreInOrder spans.now }
+    requires moments { at ≤ to }
+    ensures { IsLatest spans.now at to result }
 {
-    match latest {
-        Some(other) => other.max(moment),
-        None => moment,
+    let count = count_to(spans, to);
+    if count == 0 {
+        return None;
     }
+    let moment = spans[count - 1].to.min(to);
+    if at <= moment { Some(moment) } else { None }
 }

@@ -20,7 +20,7 @@ use Rattle.pg_reach.proofs.finder.search_globals.Goals as goal
 pub new-requires : goal.new-requires
 new-requires c =
     subst (λ (ss : List (Span Control)). AreSpans c.args.seen.now c.args.walker.p c.bounds_from-bounds.result.four c.args.walker.number ss) (sym c.deref-in-loop-pcid.ensures.value)
-    (record { each = c.in_ok-spans.ensures.each; all = λ w from to. c.in_ok-spans.ensures.all w (omega arith) to })
+    (record { order = c.in_ok-spans.ensures.order; each = c.in_ok-spans.ensures.each; all = λ w from to. c.in_ok-spans.ensures.all w (omega arith) to })
 
 pub loop-pcid-preserved : goal.loop-pcid-preserved
 loop-pcid-preserved c =

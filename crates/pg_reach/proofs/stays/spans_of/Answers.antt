@@ -1,9 +1,10 @@
-use Rattle.std.proofs.Common.{◌≡◌, ◌+◌, ◌<◌, ◌^◌, ◌++◌, ◌∷◌, [], List, sym, subst, refl, arith}
+use Rattle.std.proofs.Common.{◌≡◌, ◌+◌, ◌<◌, ◌≤◌, ◌^◌, ◌++◌, ◌∷◌, [], List, sym, subst, refl, arith}
 use Rattle.std.specs.List.{All}
-use Rattle.std.proofs.lemmas.List.Elements.{All-push}
+use Rattle.std.proofs.lemmas.List.Elements.{All-push, All-weaker}
 use Rattle.pg_event.specs.declared.control.Control.{Control}
 use Rattle.pg_timeline.specs.declared.timeline.Span.{Span}
-use Rattle.pg_reach.specs.Stays.{IsSteady, IsWithin}
+use Rattle.pg_reach.specs.Stays.{IsSteady, IsWithin, AreInOrder}
+use Rattle.pg_reach.proofs.Order.{order_push}
 use Rattle.pg_reach.proofs.Spans.{within_next}
 use Rattle.pg_reach.proofs.stays.spans_of.Goals as goal
 
@@ -18,8 +19,11 @@ loop-at-preserved c =
       root = c.control_span-span.ensures.root;
       small = c.min-to.type_inv;
     } in
+    let some : s.from ≤ s.to = omega (arith, c.min-to.ensures, c.control_span-span.ensures.span.high, c.loop-at-test.true) in
     record {
       order = omega (arith, c.loop-at.invariant.order, c.min-to.ensures, next, c.control_span-span.ensures.span.high, c.loop-at-test.true);
+      rising = subst AreInOrder (sym now) (order_push olds s c.loop-at.invariant.rising c.loop-at.invariant.before some);
+      before = subst (All (λ (x : Span Control). x.to < c.in-Some.next)) (sym now) (All-push (λ x. x.to < c.in-Some.next) olds s (All-weaker (λ x. x.to < c.loop-at.at) (λ x. x.to < c.in-Some.next) (λ x lt. omega (arith, lt, next, some)) olds c.loop-at.invariant.before) (omega (arith, next)));
       each = subst (All (IsSteady c.args.seen.now c.args.p)) (sym now) (All-push (IsSteady c.args.seen.now c.args.p) olds s c.loop-at.invariant.each steady);
       all = λ w low lt. subst (λ (xs : List (Span Control)). IsWithin xs w) (sym now) (within_next olds s c.args.low c.loop-at.at c.loop-at.invariant.all refl w low (omega (arith, next, lt)));
     }
@@ -35,7 +39,9 @@ returns-in-None c =
       small = c.min-to.type_inv;
     } in
     let over : c.min-to.result + 1 < 2 ^ 32 → ⊥ = c.in-None.ensures in
+    let some : s.from ≤ s.to = omega (arith, c.min-to.ensures, c.control_span-span.ensures.span.high, c.loop-at-test.true) in
     record {
+      order = subst AreInOrder (sym now) (order_push olds s c.loop-at.invariant.rising c.loop-at.invariant.before some);
       each = subst (All (IsSteady c.args.seen.now c.args.p)) (sym now) (All-push (IsSteady c.args.seen.now c.args.p) olds s c.loop-at.invariant.each steady);
       all = λ w low high. subst (λ (xs : List (Span Control)). IsWithin xs w) (sym now) (within_next olds s c.args.low c.loop-at.at c.loop-at.invariant.all refl w low (omega (arith, over, high, c.ranges.number.fits)));
     }

@@ -18,7 +18,7 @@ loop-span-preserved c =
     (elim c.if-span-pcid.branch as (λ _. AreOwn c.args.pcid (take i xs ++ s ∷ []) c.if-span-pcid.stays.items) [
       | then-span-pcid+in_ok-push b ↦
           let now : c.if-span-pcid.stays.items ≡ olds ++ s ∷ [] = ap (λ (x : Vec (Span Control) Global). x.items) b.stays-is ∙ b.in_ok-push.ensures.items in
-          subst (AreOwn c.args.pcid (take i xs ++ s ∷ [])) (sym now) (own_more c.args.pcid (take i xs) olds s c.loop-span.invariant b.if-span-pcid.true)
+          subst (AreOwn c.args.pcid (take i xs ++ s ∷ [])) (sym now) (own_more c.args.pcid xs i olds c.requires c.loop-span-test.true c.loop-span.invariant b.if-span-pcid.true)
       | else-span-pcid b ↦
           let now : c.if-span-pcid.stays.items ≡ olds = ap (λ (x : Vec (Span Control) Global). x.items) b.stays-is in
           subst (AreOwn c.args.pcid (take i xs ++ s ∷ [])) (sym now) (own_other c.args.pcid (take i xs) olds s c.loop-span.invariant b.if-span-pcid.false)

@@ -2,11 +2,17 @@ use Rattle.std.proofs.Common.{◌≡◌, ℕ, List, ◌≤◌, ap, sym, ◌∙�
 use Rattle.pg_event.specs.Values.{mem_at}
 use Rattle.pg_event.specs.declared.control.Control.{Control}
 use Rattle.pg_timeline.specs.declared.timeline.Span.{Span}
-use Rattle.pg_reach.specs.Stays.{AreStays, IsLatest}
+use Rattle.pg_reach.specs.Stays.{AreInOrder, AreStays, IsLatest}
 use Rattle.pg_reach.specs.Reaching.{entry_of}
 use Rattle.pg_reach.specs.Views.{Viewed}
 use Rattle.pg_reach.proofs.Spans.{last_read}
 use Rattle.pg_reach.proofs.view.View.piece_at.Goals as goal
+
+pub latest_of-requires-clause-order : goal.latest_of-requires-clause-order
+latest_of-requires-clause-order c =
+    let view : Viewed = c.args.self.now in
+    let stays : AreStays view.run view.walker view.low c.self.inside.stays.items = subst (λ (v : Viewed). AreStays v.run v.walker v.low c.self.inside.stays.items) c.self.view_is c.self.invariant in
+    subst AreInOrder (sym c.deref.ensures.value) stays.order
 
 pub returns : goal.returns
 returns c =
