@@ -11,8 +11,12 @@ use crate::sweep::{Hit, Limits, Sweep, View};
 use std::alloc::{AllocError, Global};
 use std::collections::HashMap;
 
-/// How often an event may be found to be the first that waits.
-const MOST_TRIES: u32 = 2000;
+/// How often an event may be found to be the first that waits, before it is looked for what is
+/// surely in order around it.
+const MOST_TRIES: u32 = 200;
+
+/// How often that is looked for.
+const MOST_ROUNDS: u32 = 8;
 
 /// After so many of them all that was learned is forgotten, and up to so many events are taken
 /// back.
@@ -34,6 +38,8 @@ pub(crate) struct Tries {
     tried: HashMap<u64, u32>,
     /// How often an event was the first that waits.
     stuck: HashMap<u32, u32>,
+    /// How often it was looked for what is surely in order.
+    rounds: u32,
 }
 
 /// Edges to be learned for an event that waits.
@@ -52,6 +58,7 @@ impl Tries {
         Tries {
             tried: HashMap::new(alloc),
             stuck: HashMap::new(alloc),
+            rounds: 0,
         }
     }
 
@@ -84,7 +91,7 @@ fn key_of(event: u32, edges: &[Edge]) -> u64 {
 
 impl<'a> Maker<'a> {
     /// The walks that may witness an event in some order, and whether all were looked at.
-    fn possible_hits(&self, asked: &Asked, limits: Limits) -> Result<(Vec<Hit>, bool), AllocError> {
+    pub(crate) fn possible_hits(&self, asked: &Asked, limits: Limits) -> Result<(Vec<Hit>, bool), AllocError> {
         let view = View {
             facts: &self.facts,
             made: &self.made,
@@ -205,6 +212,19 @@ impl<'a> Maker<'a> {
         self.take_back_to(now.saturating_sub(back))
     }
 
+    /// Begins again further back with what is surely in order, and with nothing learned or tried.
+    /// Says no where no order may be.
+    fn begin_again(&mut self, event: u32) -> Result<bool, AllocError> {
+        let rounds = self.tries.rounds.saturating_add(1);
+        self.tries = Tries {
+            rounds,
+            ..Tries::new(self.alloc)
+        };
+        self.learned = Learned::new(self.alloc);
+        self.made.undone = 0;
+        self.deduce(event)
+    }
+
     /// Notes that this event was the first that waits, and tells how often it was.
     fn note_stuck(&mut self, event: u32) -> Result<u32, AllocError> {
         let tries = self.tries.stuck(event).saturating_add(1);
@@ -270,7 +290,10 @@ impl<'a> Maker<'a> {
         }
         let tries = self.note_stuck(first)?;
         if self.is_spent(tries) {
-            return Ok(Some(self.waiting(first)?));
+            if self.tries.rounds >= MOST_ROUNDS || !self.begin_again(first)? {
+                return Ok(Some(self.waiting(first)?));
+            }
+            return Ok(None);
         }
         self.go_on(best, held.as_slice(), tries)?;
         Ok(None)

@@ -113,11 +113,22 @@ impl<'a> Maker<'a> {
     /// The next event of a processor, where all that had ended before it began have a place.
     pub(crate) fn front(&self, p: u16) -> Option<u32> {
         let event = self.facts.own(p, self.made.count(p))?;
-        if self.facts.since(event) <= self.made.low() {
+        if self.facts.since(event) <= self.made.low() && !self.is_early(event) {
             Some(event)
         } else {
             None
         }
+    }
+
+    /// Whether an event is known to come behind one that has no place yet.
+    fn is_early(&self, event: u32) -> bool {
+        if self.facts.sure.is_none() {
+            return false;
+        }
+        (0..self.facts.processors()).any(|q| match self.facts.sure.count(event, q) {
+            Some(count) => self.made.count(q) < count,
+            None => false,
+        })
     }
 
     /// Whether an event is witnessed if it comes next, by a search of so many windows; else what it

@@ -129,6 +129,11 @@ pub(crate) struct Sweep<'v> {
     pub is_whole: bool,
 }
 
+/// Whether what was written to a word was surely overwritten before a source of what was read above.
+fn is_dead_above(facts: &Facts<'_>, word: u32, writer: u32, source: u32) -> bool {
+    source != NEVER && facts.is_dead_before(word, writer, source)
+}
+
 impl<'v> Sweep<'v> {
     pub(crate) fn new(
         alloc: Global,
@@ -361,6 +366,22 @@ impl<'v> Sweep<'v> {
         hit
     }
 
+    /// Whether what was written was surely overwritten before what was read above it was written.
+    fn is_dead(&self, spell: &Spell, word: u32, writer: u32) -> bool {
+        let View { facts, is_made, .. } = self.view;
+        if is_made {
+            return false;
+        }
+        if facts.is_dead_below(word, writer, spell.bound) {
+            return true;
+        }
+        !facts.sure.is_none()
+            && spell.readings.iter().take(spell.count).any(|above| {
+                is_dead_above(facts, word, writer, above.writer)
+                    || is_dead_above(facts, word, writer, above.assist)
+            })
+    }
+
     fn read_version(
         &mut self,
         level: Level,
@@ -372,8 +393,7 @@ impl<'v> Sweep<'v> {
         let view = self.view;
         let from = version.from.max(spell.from);
         let to = version.to.min(spell.to);
-        let is_dead = !view.is_made && view.facts.is_dead_below(word, version.writer, spell.bound);
-        if from > to || is_dead {
+        if from > to || self.is_dead(spell, word, version.writer) {
             return Ok(());
         }
         let hit = self.hit_of(
@@ -463,6 +483,12 @@ impl<'v> Sweep<'v> {
             && view
                 .facts
                 .is_dead_below(reading.word, reading.writer, since)
+        {
+            return Ok(());
+        }
+        if !view.is_made
+            && !view.facts.sure.is_none()
+            && view.facts.is_dead_before(reading.word, reading.writer, asked.event)
         {
             return Ok(());
         }
