@@ -241,6 +241,7 @@ impl<'a> Maker<'a> {
             let raised = self.facts.sure.raised;
             for number in first..last.saturating_add(1) {
                 if !self.deduce_of(number)? {
+                    //LAB eprintln!("contradiction at {} around {} raised {}", number, event, self.facts.sure.raised);
                     return Ok(false);
                 }
                 looks = looks.saturating_add(1);

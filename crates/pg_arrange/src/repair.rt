@@ -12,11 +12,14 @@ use std::alloc::{AllocError, Global};
 use std::collections::HashMap;
 
 /// How often an event may be found to be the first that waits, before it is looked for what is
-/// surely in order around it.
-const MOST_TRIES: u32 = 200;
+/// surely in order around it; twice as often after each three times that it was.
+const MOST_TRIES: u32 = 30;
 
-/// How often that is looked for.
-const MOST_ROUNDS: u32 = 8;
+/// How often that is looked for around an event.
+const MOST_ROUNDS: u32 = 12;
+
+/// Events that are so many apart are looked at one by one.
+const APART: u32 = 400;
 
 /// After so many of them all that was learned is forgotten, and up to so many events are taken
 /// back.
@@ -27,7 +30,7 @@ const FAR_BACK: u32 = 400;
 /// How many events may be taken back in all, for each of the run and for so many more.
 const MOST_UNDONE: u64 = 64;
 
-const MORE: u64 = 1000;
+const MORE: u64 = 4000;
 
 const ALL_WINDOWS: u32 = NEVER;
 
@@ -38,8 +41,9 @@ pub(crate) struct Tries {
     tried: HashMap<u64, u32>,
     /// How often an event was the first that waits.
     stuck: HashMap<u32, u32>,
-    /// How often it was looked for what is surely in order.
+    /// How often it was looked for what is surely in order around an event.
     rounds: u32,
+    around: u32,
 }
 
 /// Edges to be learned for an event that waits.
@@ -59,6 +63,7 @@ impl Tries {
             tried: HashMap::new(alloc),
             stuck: HashMap::new(alloc),
             rounds: 0,
+            around: 0,
         }
     }
 
@@ -212,16 +217,24 @@ impl<'a> Maker<'a> {
         self.take_back_to(now.saturating_sub(back))
     }
 
+    /// How often it was looked for what is surely in order around an event.
+    fn rounds(&self, event: u32) -> u32 {
+        if self.tries.around.abs_diff(event) < APART {
+            self.tries.rounds
+        } else {
+            0
+        }
+    }
+
     /// Begins again further back with what is surely in order, and with nothing learned or tried.
     /// Says no where no order may be.
     fn begin_again(&mut self, event: u32) -> Result<bool, AllocError> {
-        let rounds = self.tries.rounds.saturating_add(1);
         self.tries = Tries {
-            rounds,
+            rounds: self.rounds(event).saturating_add(1),
+            around: event,
             ..Tries::new(self.alloc)
         };
         self.learned = Learned::new(self.alloc);
-        self.made.undone = 0;
         self.deduce(event)
     }
 
@@ -248,16 +261,40 @@ impl<'a> Maker<'a> {
         Ok(waiting)
     }
 
-    fn is_spent(&self, tries: u32) -> bool {
+    /// Whether the search gives up, and does not begin again around this event.
+    fn is_spent(&self, event: u32) -> bool {
         let most = (self.facts.run.len() as u64)
             .saturating_add(MORE)
             .saturating_mul(MOST_UNDONE);
-        tries > MOST_TRIES || self.made.undone > most
+        self.rounds(event) >= MOST_ROUNDS || self.made.undone > most
+    }
+
+    /// Puts an event next that waits, where it is witnessed by what a short look did not see.
+    fn look_far(&mut self) -> Result<bool, AllocError> {
+        for p in 0..self.facts.processors() {
+            let Some(event) = self.front(p) else {
+                continue;
+            };
+            if self.learned.holds(&self.made, event) || !self.may_be_far(p, event) {
+                continue;
+            }
+            let Some(asked) = asked_of(&self.facts, event) else {
+                continue;
+            };
+            if self.look(&asked, ALL_WINDOWS)?.is_none() {
+                self.put(event)?;
+                return Ok(true);
+            }
+        }
+        Ok(false)
     }
 
     /// Another order of what stands, so that one of the events that wait is witnessed. Where none
     /// is found, the events that wait.
     pub(crate) fn repair(&mut self) -> Result<Option<Vec<u32>>, AllocError> {
+        if self.look_far()? {
+            return Ok(None);
+        }
         let mut held = Vec::new(self.alloc);
         let mut best: Option<Plan> = None;
         let is_hard = self.tries.stuck(self.made.low()) % 16 > 11;
@@ -274,10 +311,6 @@ impl<'a> Maker<'a> {
             let Some(asked) = asked_of(&self.facts, event) else {
                 continue;
             };
-            if self.look(&asked, ALL_WINDOWS)?.is_none() {
-                self.put(event)?;
-                return Ok(None);
-            }
             let (hits, is_whole) = self.some_hits(&asked, is_hard)?;
             if asked.is_hopeless || hits.is_empty() && is_whole {
                 return Ok(Some(self.waiting(event)?));
@@ -289,8 +322,8 @@ impl<'a> Maker<'a> {
             }
         }
         let tries = self.note_stuck(first)?;
-        if self.is_spent(tries) {
-            if self.tries.rounds >= MOST_ROUNDS || !self.begin_again(first)? {
+        if tries > MOST_TRIES << (self.tries.rounds / 3).min(8) {
+            if self.is_spent(first) || !self.begin_again(first)? {
                 return Ok(Some(self.waiting(first)?));
             }
             return Ok(None);

@@ -31,6 +31,8 @@ struct Wait {
     /// Whether it is worth asking again: a word that was looked at was written since.
     is_stale: bool,
     looked: Looked,
+    /// Whether all windows were looked at.
+    is_whole: bool,
 }
 
 /// So many windows between drops are looked at before another event is tried.
@@ -132,23 +134,32 @@ impl<'a> Maker<'a> {
     }
 
     /// Whether an event is witnessed if it comes next, by a search of so many windows; else what it
-    /// looked at.
+    /// looked at, and whether these were all windows.
     pub(crate) fn look(
         &mut self,
         asked: &Asked,
         windows: u32,
-    ) -> Result<Option<Looked>, AllocError> {
+    ) -> Result<Option<(Looked, bool)>, AllocError> {
         let mut witness = Witness {
             alloc: self.alloc,
             facts: &self.facts,
             made: &self.made,
             found: &mut self.found,
             looked: Looked::new(),
+            is_whole: true,
         };
         if witness.is_witnessed(asked, windows)? {
             Ok(None)
         } else {
-            Ok(Some(witness.looked))
+            Ok(Some((witness.looked, witness.is_whole)))
+        }
+    }
+
+    /// Whether an event waits that was not looked for in all windows.
+    pub(crate) fn may_be_far(&self, p: u16, event: u32) -> bool {
+        match self.waits.get(p as usize) {
+            Some(Some(wait)) => wait.event != event || !wait.is_whole,
+            _ => true,
         }
     }
 
@@ -170,13 +181,14 @@ impl<'a> Maker<'a> {
         }
         match self.look(&asked, FEW_WINDOWS)? {
             None => Ok(true),
-            Some(looked) => {
+            Some((looked, is_whole)) => {
                 self.set_wait(
                     p,
                     Some(Wait {
                         event,
                         is_stale: false,
                         looked,
+                        is_whole,
                     }),
                 );
                 Ok(false)

@@ -2,7 +2,7 @@
 //! the slots of its processor.
 
 use crate::asked::Asked;
-use crate::drops::PAGES;
+use crate::drops::StructureDrops;
 use crate::facts::Facts;
 use crate::looked::Looked;
 use crate::made::Made;
@@ -118,6 +118,8 @@ pub(crate) struct Sweep<'v> {
     /// For each size of page the first slot from which on a translation lasts up to the event, and
     /// a global one.
     lows: [(u32, u32); 3],
+    /// When structure entries of the PCID are dropped.
+    drops: StructureDrops<'v>,
     end: u32,
     over: Vec<Spell>,
     under: Vec<Spell>,
@@ -148,6 +150,10 @@ impl<'v> Sweep<'v> {
             limits,
             pcid: asked.control.pcid,
             lows: [(NEVER, NEVER); 3],
+            drops: view
+                .facts
+                .drops
+                .structures(asked.p, asked.control.pcid, asked.la),
             end: 0,
             over: Vec::new(alloc),
             under: Vec::new(alloc),
@@ -173,46 +179,37 @@ impl<'v> Sweep<'v> {
             ..
         } = *self.asked;
         if !self.asked.is_page() {
-            let drops = &self.view.facts.drops;
-            let from = drops.structure_from(p, control.pcid, Level::Two, la, slot);
+            let from = self.drops.from(Level::Two, slot);
             return self.window(from, slot);
         }
-        self.set_lows(true);
-        self.windows(control.pcid)?;
+        let view = self.view;
+        self.lows = view
+            .facts
+            .drops
+            .translations_from(p, control.pcid, la, slot);
+        self.leave_out(!control.pge, false);
+        self.windows()?;
         if control.pge {
-            self.set_lows(false);
-            let view = self.view;
+            self.leave_out(false, true);
             for pcid in view.facts.stays.pcids(p) {
                 if *pcid != control.pcid && !self.is_done() {
-                    self.windows(*pcid)?;
+                    self.pcid = *pcid;
+                    self.drops = view.facts.drops.structures(p, *pcid, la);
+                    self.windows()?;
                 }
             }
         }
         Ok(())
     }
 
-    fn set_lows(&mut self, is_own: bool) {
-        let Asked {
-            p,
-            slot,
-            control,
-            la,
-            ..
-        } = *self.asked;
-        let drops = &self.view.facts.drops;
-        for (i, level) in PAGES.iter().enumerate() {
-            let own = if is_own {
-                drops.translation_from(p, (control.pcid, *level, false), la, slot)
-            } else {
-                NEVER
-            };
-            let global = if control.pge {
-                drops.translation_from(p, (control.pcid, *level, true), la, slot)
-            } else {
-                NEVER
-            };
-            if let Some(low) = self.lows.get_mut(i) {
-                *low = (own, global);
+    /// Leaves global translations out, or those of the PCID alone.
+    fn leave_out(&mut self, globals: bool, others: bool) {
+        for low in self.lows.iter_mut() {
+            if globals {
+                low.1 = NEVER;
+            }
+            if others {
+                low.0 = NEVER;
             }
         }
     }
@@ -231,9 +228,9 @@ impl<'v> Sweep<'v> {
     }
 
     /// The windows between drops under a PCID, the latest first.
-    fn windows(&mut self, pcid: u16) -> Result<(), AllocError> {
-        self.pcid = pcid;
-        let Asked { p, slot, la, .. } = *self.asked;
+    fn windows(&mut self) -> Result<(), AllocError> {
+        let pcid = self.pcid;
+        let Asked { p, slot, .. } = *self.asked;
         let view = self.view;
         let lows = self.lows;
         let least = lows
@@ -243,10 +240,7 @@ impl<'v> Sweep<'v> {
         for _ in 0..self.limits.windows {
             match view.facts.stays.last(p, pcid, last) {
                 Some(end) if end >= least => {
-                    let from = view
-                        .facts
-                        .drops
-                        .structure_from(p, pcid, Level::Two, la, end);
+                    let from = self.drops.from(Level::Two, end);
                     self.window(from, end)?;
                     if self.is_done() || from == 0 {
                         return Ok(());
@@ -266,9 +260,11 @@ impl<'v> Sweep<'v> {
         let p = self.asked.p;
         self.end = view.end(p, last);
         self.over.clear();
-        for stay in view.facts.stays.of(p, self.pcid) {
-            if stay.last < first || stay.first > last {
-                continue;
+        let stays = view.facts.stays.of(p, self.pcid);
+        let skipped = stays.partition_point(|stay| stay.last < first);
+        for stay in stays.iter().skip(skipped) {
+            if stay.first > last {
+                break;
             }
             self.over.push(Spell {
                 table: stay.root,
@@ -513,15 +509,9 @@ impl<'v> Sweep<'v> {
 
     /// Until when a structure entry of a slot lasts.
     fn lasts_to(&self, level: Level, slot: u32) -> u32 {
-        let Asked { p, la, .. } = *self.asked;
-        match self
-            .view
-            .facts
-            .drops
-            .structure_to(p, self.pcid, level, la, slot)
-        {
+        match self.drops.to(level, slot) {
             drop if drop == NEVER => self.end,
-            drop => self.view.end(p, drop).min(self.end),
+            drop => self.view.end(self.asked.p, drop).min(self.end),
         }
     }
 
