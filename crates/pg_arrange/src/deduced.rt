@@ -9,6 +9,7 @@ use crate::search::Maker;
 use crate::sure::Sure;
 use crate::sweep::{Hit, Limits, Reading, View};
 use std::alloc::{AllocError, Global};
+use std::collections::HashMap;
 
 /// So many events before the one that waits are looked at, and so many behind it.
 const BEFORE: u32 = 300;
@@ -18,8 +19,14 @@ const BEHIND: u32 = 100;
 /// So many events before the first of them, and behind the last, have a place among what is sure.
 const MORE: u32 = 700;
 
-/// So often events are looked at.
-const MOST_LOOKS: u32 = 20_000;
+/// So often all of them are looked at.
+const MOST_PASSES: u32 = 32;
+
+/// Edges are supposed between events so near.
+const NEAR: u32 = 60;
+
+/// From so many edges those are chosen that are supposed.
+const MOST_OPEN: usize = 400;
 
 /// Events with more walks than these tell nothing.
 const MOST_HITS: usize = 24;
@@ -161,10 +168,23 @@ fn follows(facts: &Facts<'_>, edge: Edge, needs: &[Edge]) -> bool {
     })
 }
 
+/// How often walks need an edge.
+fn noted(counts: &HashMap<u64, u32>, edge: Edge) -> u32 {
+    let key = (edge.before as u64) << 32 | edge.after as u64;
+    match counts.get(&key) {
+        Some(count) => *count,
+        None => 0,
+    }
+}
+
 impl<'a> Maker<'a> {
     /// What all walks that may witness an event need: none where there is no such walk; nothing
-    /// where not all of them are known.
-    fn needs_of_all(&self, asked: &Asked) -> Result<Option<Vec<Edge>>, AllocError> {
+    /// where not all of them are known. What some need is added to `open`.
+    fn needs_of_all(
+        &self,
+        asked: &Asked,
+        open: &mut Vec<Edge>,
+    ) -> Result<Option<Vec<Edge>>, AllocError> {
         let limits = Limits {
             windows: MOST_WINDOWS,
             hits: MOST_HITS,
@@ -180,6 +200,9 @@ impl<'a> Maker<'a> {
             if are_in_vain(&self.facts, needs.as_slice()) {
                 continue;
             }
+            if open.len() < MOST_OPEN {
+                open.extend_from_slice(needs.as_slice())?;
+            }
             common = match common {
                 None => Some(needs),
                 Some(mut edges) => {
@@ -192,19 +215,100 @@ impl<'a> Maker<'a> {
     }
 
     /// Learns what all walks that may witness an event need. Says no where none may.
-    fn deduce_of(&mut self, event: u32) -> Result<bool, AllocError> {
+    fn deduce_of(&mut self, event: u32, open: &mut Vec<Edge>) -> Result<bool, AllocError> {
         let Some(asked) = asked_of(&self.facts, event) else {
             return Ok(true);
         };
-        let Some(needs) = self.needs_of_all(&asked)? else {
+        let Some(needs) = self.needs_of_all(&asked, open)? else {
             return Ok(false);
         };
         for edge in needs.iter() {
-            if !self.facts.note_order(edge.before, edge.after) {
+            if !self.facts.note_order(edge.before, edge.after)? {
                 return Ok(false);
             }
         }
         Ok(true)
+    }
+
+    /// Learns what follows of events from one to another. Says no where no order may be.
+    fn deduce_all(&mut self, range: (u32, u32), open: &mut Vec<Edge>) -> Result<bool, AllocError> {
+        let (first, last) = range;
+        for _ in 0..MOST_PASSES {
+            let mark = self.facts.sure.mark();
+            open.clear();
+            for number in first..last.saturating_add(1) {
+                if !self.deduce_of(number, open)? {
+                    return Ok(false);
+                }
+            }
+            if self.facts.sure.mark() == mark {
+                break;
+            }
+        }
+        Ok(true)
+    }
+
+    /// The edge that most walks need, of those that are open; one of the first by chance.
+    fn most_needed(&mut self, open: &[Edge]) -> Result<Option<Edge>, AllocError> {
+        let mut counts: HashMap<u64, u32> = HashMap::new(self.alloc);
+        let mut best: Option<(u32, Edge)> = None;
+        for edge in open {
+            let Edge { before, after } = *edge;
+            let is_known = self.facts.must_precede(before, after)
+                || self.facts.must_precede(after, before);
+            if is_known || before == after {
+                continue;
+            }
+            let count = noted(&counts, *edge).saturating_add(1);
+            counts.insert((before as u64) << 32 | after as u64, count)?;
+            let score = count.saturating_mul(4).saturating_add(self.chance.below(16));
+            best = match best {
+                Some((most, edge)) if most >= score => Some((most, edge)),
+                _ => Some((score, *edge)),
+            };
+        }
+        Ok(best.map(|(_, edge)| edge))
+    }
+
+    /// Takes an edge for sure, or the other way round where nothing may be then. Says no where
+    /// neither may be.
+    fn suppose(
+        &mut self,
+        edge: Edge,
+        range: (u32, u32),
+        open: &mut Vec<Edge>,
+    ) -> Result<bool, AllocError> {
+        let mark = self.facts.sure.mark();
+        let Edge { before, after } = edge;
+        if self.facts.note_order(before, after)? && self.deduce_all(range, open)? {
+            return Ok(true);
+        }
+        self.facts.sure.take_back_to(mark);
+        Ok(self.facts.note_order(after, before)? && self.deduce_all(range, open)?)
+    }
+
+    /// Supposes so many edges around an event, of which none contradicts another as far as is seen.
+    fn suppose_all(&mut self, event: u32, most: u32) -> Result<(), AllocError> {
+        let end = number(self.facts.run.len()).saturating_sub(1);
+        let range = (
+            event.saturating_sub(NEAR),
+            event.saturating_add(NEAR).min(end),
+        );
+        let mut open = Vec::new(self.alloc);
+        if !self.deduce_all(range, &mut open)? {
+            return Ok(());
+        }
+        for _ in 0..most {
+            let Some(edge) = self.most_needed(open.as_slice())? else {
+                break;
+            };
+            let mark = self.facts.sure.mark();
+            if !self.suppose(edge, range, &mut open)? {
+                self.facts.sure.take_back_to(mark);
+                break;
+            }
+        }
+        Ok(())
     }
 
     /// Makes room for what is sure of these events.
@@ -226,34 +330,33 @@ impl<'a> Maker<'a> {
                 counts.push(count)?;
             }
         }
-        self.facts.sure = Sure::from(from, processors as usize, counts);
+        self.facts.sure = Sure::from(self.alloc, from, processors as usize, counts);
+        self.surely = 0;
         Ok(())
     }
 
-    /// Learns what surely is in order around an event that waits, and takes back what may not be
-    /// so. Says no where no order may be.
-    pub(crate) fn deduce(&mut self, event: u32) -> Result<bool, AllocError> {
+    /// Learns what surely is in order around an event that waits, supposes so much more, and takes
+    /// back what may not be so. Says no where no order may be.
+    pub(crate) fn deduce(&mut self, event: u32, supposed: u32) -> Result<bool, AllocError> {
         let first = event.saturating_sub(BEFORE);
-        let last = event.saturating_add(BEHIND).min(number(self.facts.run.len()).saturating_sub(1));
+        let last = event
+            .saturating_add(BEHIND)
+            .min(number(self.facts.run.len()).saturating_sub(1));
         self.widen_sure(first, last)?;
-        let mut looks: u32 = 0;
-        for _ in 0..MOST_LOOKS {
-            let raised = self.facts.sure.raised;
-            for number in first..last.saturating_add(1) {
-                if !self.deduce_of(number)? {
-                    //LAB eprintln!("contradiction at {} around {} raised {}", number, event, self.facts.sure.raised);
-                    return Ok(false);
-                }
-                looks = looks.saturating_add(1);
-            }
-            if self.facts.sure.raised == raised || looks >= MOST_LOOKS {
-                break;
-            }
+        let surely = self.surely;
+        self.facts.sure.take_back_to(surely);
+        let mut open = Vec::new(self.alloc);
+        if !self.deduce_all((first, last), &mut open)? {
+            //LAB eprintln!("contradiction around {}", event);
+            return Ok(false);
         }
+        self.surely = self.facts.sure.mark();
+        self.suppose_all(event, supposed)?;
         let mut moment = self.made.now();
         for number in first..last.saturating_add(1) {
             moment = moment.min(self.made.place(number));
         }
+        //LAB if std::env::var("TRACE").is_ok() { eprintln!("round around {} sure {} supposed {} now {} back to {} undone {}", event, self.surely, self.facts.sure.mark(), self.made.now(), moment, self.made.undone); }
         self.take_back_to(moment)?;
         Ok(true)
     }

@@ -258,33 +258,45 @@ impl<'a> Facts<'a> {
     }
 
     /// Raises what is known of an event to what is known of one before it.
-    fn raise(&mut self, event: u32, before: u32) -> bool {
+    fn raise(&mut self, event: u32, before: u32) -> Result<bool, AllocError> {
         let mut is_news = false;
         for p in 0..self.processors() {
-            if self.processor(event) != Some(p) {
-                let count = self.count_with(before, p);
-                is_news |= self.sure.raise(event, p, count);
+            if self.processor(event) == Some(p) {
+                continue;
+            }
+            let count = self.count_with(before, p);
+            if self.sure.raise(event, p, count)? {
+                is_news = true;
             }
         }
-        is_news
+        Ok(is_news)
+    }
+
+    /// The same of an event of a processor and those behind it, as far as it is news.
+    fn raise_all(&mut self, p: u16, first: u32, before: u32) -> Result<(), AllocError> {
+        for place in first..self.count(p) {
+            let Some(event) = self.own(p, place) else {
+                break;
+            };
+            if !self.raise(event, before)? {
+                break;
+            }
+        }
+        Ok(())
     }
 
     /// Notes that one event surely comes before another. Says no where it can't.
-    pub(crate) fn note_order(&mut self, before: u32, after: u32) -> bool {
+    pub(crate) fn note_order(&mut self, before: u32, after: u32) -> Result<bool, AllocError> {
         if before == after || self.must_precede(after, before) {
-            return false;
+            return Ok(false);
         }
         if self.must_precede(before, after) {
-            return true;
+            return Ok(true);
         }
         for p in 0..self.processors() {
-            for place in self.after(p, after)..self.count(p) {
-                match self.own(p, place) {
-                    Some(event) if self.raise(event, before) => {}
-                    _ => break,
-                }
-            }
+            let first = self.after(p, after);
+            self.raise_all(p, first, before)?;
         }
-        true
+        Ok(true)
     }
 }

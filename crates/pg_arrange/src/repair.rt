@@ -219,7 +219,8 @@ impl<'a> Maker<'a> {
 
     /// How often it was looked for what is surely in order around an event.
     fn rounds(&self, event: u32) -> u32 {
-        if self.tries.around.abs_diff(event) < APART {
+        let Tries { around, .. } = self.tries;
+        if around.max(event).saturating_sub(around.min(event)) < APART {
             self.tries.rounds
         } else {
             0
@@ -235,7 +236,11 @@ impl<'a> Maker<'a> {
             ..Tries::new(self.alloc)
         };
         self.learned = Learned::new(self.alloc);
-        self.deduce(event)
+        let supposed = match self.tries.rounds {
+            0..=2 => 0,
+            rounds => rounds.min(8) << 2,
+        };
+        self.deduce(event, supposed)
     }
 
     /// Notes that this event was the first that waits, and tells how often it was.

@@ -50,6 +50,8 @@ pub(crate) struct Maker<'a> {
     pub chance: Chance,
     /// For each processor what it waits with.
     waits: Vec<Option<Wait>>,
+    /// How much of what was raised in `facts.sure` is sure, and not supposed.
+    pub surely: usize,
 }
 
 /// The place of an event among those that can come next: answers change nothing; faults and
@@ -109,6 +111,7 @@ impl<'a> Maker<'a> {
             tries: Tries::new(alloc),
             chance: Chance::new(1),
             waits: vec![in alloc; None; processors]?,
+            surely: 0,
         })
     }
 

@@ -9,8 +9,15 @@ pub(crate) struct Sure {
     first: u32,
     processors: usize,
     counts: Vec<u32>,
-    /// How often a count was raised.
-    pub raised: u64,
+    /// What was raised: where it stands, and what it was before.
+    raised: Vec<Raised>,
+}
+
+/// A count that was raised.
+#[derive(Clone, Copy)]
+struct Raised {
+    index: usize,
+    before: u32,
 }
 
 impl Sure {
@@ -20,17 +27,17 @@ impl Sure {
             first: 0,
             processors: 0,
             counts: Vec::new(alloc),
-            raised: 0,
+            raised: Vec::new(alloc),
         }
     }
 
     /// Of events from one on, of which nothing is known yet.
-    pub(crate) fn from(first: u32, processors: usize, counts: Vec<u32>) -> Sure {
+    pub(crate) fn from(alloc: Global, first: u32, processors: usize, counts: Vec<u32>) -> Sure {
         Sure {
             first,
             processors,
             counts,
-            raised: 0,
+            raised: Vec::new(alloc),
         }
     }
 
@@ -56,15 +63,33 @@ impl Sure {
     }
 
     /// Whether this is news: that so many events of a processor are surely before an event.
-    pub(crate) fn raise(&mut self, event: u32, p: u16, count: u32) -> bool {
+    pub(crate) fn raise(&mut self, event: u32, p: u16, count: u32) -> Result<bool, AllocError> {
         let index = self.index(event, p);
-        match self.counts.get_mut(index) {
-            Some(known) if *known < count => {
-                *known = count;
-                self.raised = self.raised.saturating_add(1);
-                true
+        let Some(known) = self.counts.get_mut(index) else {
+            return Ok(false);
+        };
+        let before = *known;
+        if before >= count {
+            return Ok(false);
+        }
+        *known = count;
+        self.raised.push(Raised { index, before })?;
+        Ok(true)
+    }
+
+    /// How much was raised so far.
+    pub(crate) fn mark(&self) -> usize {
+        self.raised.len()
+    }
+
+    /// Forgets what was raised since a mark.
+    pub(crate) fn take_back_to(&mut self, mark: usize) {
+        for _ in mark..self.raised.len() {
+            if let Some(Raised { index, before }) = self.raised.pop() {
+                if let Some(known) = self.counts.get_mut(index) {
+                    *known = before;
+                }
             }
-            _ => false,
         }
     }
 }
