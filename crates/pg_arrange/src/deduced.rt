@@ -319,6 +319,7 @@ impl<'a> Maker<'a> {
         let from = first.saturating_sub(MORE);
         let end = last.saturating_add(MORE).min(number(self.facts.run.len()));
         let processors = self.facts.processors();
+        self.facts.sure = Sure::none(self.alloc);
         let mut counts = Vec::new(self.alloc);
         for event in from..end {
             for p in 0..processors {
@@ -333,6 +334,11 @@ impl<'a> Maker<'a> {
         self.facts.sure = Sure::from(self.alloc, from, processors as usize, counts);
         self.surely = 0;
         Ok(())
+    }
+
+    /// Whether more is supposed than what is sure.
+    pub(crate) fn has_supposed(&self) -> bool {
+        self.facts.sure.mark() > self.surely
     }
 
     /// Learns what surely is in order around an event that waits, supposes so much more, and takes

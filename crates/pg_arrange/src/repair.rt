@@ -318,7 +318,8 @@ impl<'a> Maker<'a> {
             };
             let (hits, is_whole) = self.some_hits(&asked, is_hard)?;
             if asked.is_hopeless || hits.is_empty() && is_whole {
-                return Ok(Some(self.waiting(event)?));
+                //LAB if std::env::var("TRACE").is_ok() { eprintln!("hopeless {} supposed {} hopeless {}", event, self.has_supposed(), asked.is_hopeless); }
+                return self.give_up(event);
             }
             for hit in hits.iter() {
                 for taste in [Taste::AsMade, Taste::Turned, Taste::Random] {
@@ -328,13 +329,26 @@ impl<'a> Maker<'a> {
         }
         let tries = self.note_stuck(first)?;
         if tries > MOST_TRIES << (self.tries.rounds / 3).min(8) {
-            if self.is_spent(first) || !self.begin_again(first)? {
-                return Ok(Some(self.waiting(first)?));
-            }
-            return Ok(None);
+            return self.go_on_or_give_up(first);
         }
         self.go_on(best, held.as_slice(), tries)?;
         Ok(None)
+    }
+
+    /// Begins again around an event, or gives up.
+    fn go_on_or_give_up(&mut self, event: u32) -> Result<Option<Vec<u32>>, AllocError> {
+        if self.is_spent(event) || !self.begin_again(event)? {
+            return Ok(Some(self.waiting(event)?));
+        }
+        Ok(None)
+    }
+
+    /// The same where nothing may witness an event: begins again only where that was supposed.
+    fn give_up(&mut self, event: u32) -> Result<Option<Vec<u32>>, AllocError> {
+        if self.has_supposed() {
+            return self.go_on_or_give_up(event);
+        }
+        Ok(Some(self.waiting(event)?))
     }
 
     /// Takes the best plan, or forgets what holds another event up.
