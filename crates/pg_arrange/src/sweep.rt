@@ -372,10 +372,11 @@ impl<'v> Sweep<'v> {
             return true;
         }
         !facts.sure.is_none()
-            && spell.readings.iter().take(spell.count).any(|above| {
-                is_dead_above(facts, word, writer, above.writer)
-                    || is_dead_above(facts, word, writer, above.assist)
-            })
+            && spell
+                .readings
+                .iter()
+                .take(spell.count)
+                .any(|above| is_dead_above(facts, word, writer, above.writer))
     }
 
     fn read_version(
@@ -560,13 +561,11 @@ impl<'v> Sweep<'v> {
 
     /// Events below it are surely before what was read so far.
     fn bound_of(&self, above: u32, read: &Reading) -> u32 {
-        let mut bound = above;
-        for source in [read.writer, read.assist] {
-            if source != NEVER && !self.view.is_made {
-                bound = bound.max(self.view.facts.since(source));
-            }
+        // (Another assist may have set the same flags.)
+        if read.writer == NEVER || self.view.is_made {
+            return above;
         }
-        bound
+        above.max(self.view.facts.since(read.writer))
     }
 
     /// Whether one is known that leads as far.
