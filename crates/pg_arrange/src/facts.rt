@@ -146,6 +146,14 @@ impl<'a> Facts<'a> {
         if j < self.since(i) {
             return true;
         }
+        if self.sure.is_none() {
+            return j < i && self.processor(j) == self.processor(i);
+        }
+        self.is_surely_before(j, i)
+    }
+
+    /// The same by what is known beyond the spans.
+    fn is_surely_before(&self, j: u32, i: u32) -> bool {
         let Some(p) = self.processor(j) else {
             return false;
         };
@@ -162,6 +170,9 @@ impl<'a> Facts<'a> {
             return self.place(event);
         }
         match self.own.get(p as usize) {
+            Some(own) if self.sure.is_none() => {
+                number(own.partition_point(|i| self.since(*i) <= event))
+            }
             Some(own) => number(own.partition_point(|i| !self.must_precede(event, *i))),
             None => 0,
         }

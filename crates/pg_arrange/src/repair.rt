@@ -7,6 +7,7 @@ use crate::learned::Learned;
 use crate::looked::Looked;
 use crate::numbers::NEVER;
 use crate::search::Maker;
+use crate::sure::Sure;
 use crate::sweep::{Hit, Limits, Sweep, View};
 use std::alloc::{AllocError, Global};
 use std::collections::HashMap;
@@ -297,6 +298,10 @@ impl<'a> Maker<'a> {
     /// Another order of what stands, so that one of the events that wait is witnessed. Where none
     /// is found, the events that wait.
     pub(crate) fn repair(&mut self) -> Result<Option<Vec<u32>>, AllocError> {
+        if self.facts.sure.ends_before(self.made.low()) {
+            self.facts.sure = Sure::none(self.alloc);
+            self.surely = 0;
+        }
         if self.look_far()? {
             return Ok(None);
         }

@@ -7,7 +7,7 @@ use crate::found::Found;
 use crate::learned::Learned;
 use crate::looked::Looked;
 use crate::made::Made;
-use crate::numbers::Chance;
+use crate::numbers::{Chance, number};
 use crate::repair::Tries;
 use crate::witness::Witness;
 use pg_event::{Event, Outcome};
@@ -158,11 +158,19 @@ impl<'a> Maker<'a> {
         }
     }
 
+    /// How an event of a processor waits.
+    fn wait(&self, p: u16, event: u32) -> Option<Wait> {
+        match self.waits.get(p as usize) {
+            Some(Some(wait)) if wait.event == event => Some(*wait),
+            _ => None,
+        }
+    }
+
     /// Whether an event waits that was not looked for in all windows.
     pub(crate) fn may_be_far(&self, p: u16, event: u32) -> bool {
-        match self.waits.get(p as usize) {
-            Some(Some(wait)) => wait.event != event || !wait.is_whole,
-            _ => true,
+        match self.wait(p, event) {
+            Some(wait) => !wait.is_whole,
+            None => true,
         }
     }
 
@@ -177,26 +185,28 @@ impl<'a> Maker<'a> {
         let Some(asked) = asked_of(&self.facts, event) else {
             return Ok(true);
         };
-        if let Some(Some(wait)) = self.waits.get(p as usize) {
-            if wait.event == event && !wait.is_stale {
-                return Ok(false);
-            }
-        }
-        match self.look(&asked, FEW_WINDOWS)? {
-            None => Ok(true),
-            Some((looked, is_whole)) => {
-                self.set_wait(
-                    p,
-                    Some(Wait {
-                        event,
-                        is_stale: false,
-                        looked,
-                        is_whole,
-                    }),
-                );
-                Ok(false)
-            }
-        }
+        let before = self.wait(p, event);
+        let windows = match before {
+            Some(wait) if !wait.is_stale => return Ok(false),
+            // What stood before the last drop is as it was.
+            Some(_) => 1,
+            None => FEW_WINDOWS,
+        };
+        let Some((looked, is_whole)) = self.look(&asked, windows)? else {
+            return Ok(true);
+        };
+        let is_whole = match before {
+            Some(wait) => wait.is_whole,
+            None => is_whole,
+        };
+        let wait = Wait {
+            event,
+            is_stale: false,
+            looked,
+            is_whole,
+        };
+        self.set_wait(p, Some(wait));
+        Ok(false)
     }
 
     fn rank(&self, event: u32) -> u64 {
@@ -279,11 +289,24 @@ impl<'a> Maker<'a> {
     }
 }
 
+/// The order of the events of one processor: they have no other.
+fn only_order(alloc: Global, run: &SpannedRun) -> Result<Vec<u32>, AllocError> {
+    let count = number(run.len());
+    let mut order = Vec::with_capacity(alloc, count as usize)?;
+    for event in 0..count {
+        order.push(event)?;
+    }
+    Ok(order)
+}
+
 /// An order of the events of a run in which each is witnessed, as far as this search sees. It gives
 /// up once an event was the first that waits so often, or so many events were taken back.
 ///
 /// It fails only where memory is refused.
 pub fn find_order(alloc: Global, run: &SpannedRun) -> Result<Sought, AllocError> {
+    if run.header().processors.len() == 1 {
+        return Ok(Sought::Order(only_order(alloc, run)?));
+    }
     let mut maker = Maker::new(alloc, run)?;
     for _ in 0..u64::MAX {
         if maker.is_whole() {

@@ -116,8 +116,10 @@ pub(crate) struct Sweep<'v> {
     limits: Limits,
     pcid: u16,
     /// For each size of page the first slot from which on a translation lasts up to the event, and
-    /// a global one.
-    lows: [(u32, u32); 3],
+    /// a global one, once they were looked up.
+    lows: Option<[(u32, u32); 3]>,
+    /// Whether the window is looked at that lasts up to the event.
+    is_newest: bool,
     /// When structure entries of the PCID are dropped.
     drops: StructureDrops<'v>,
     end: u32,
@@ -149,7 +151,8 @@ impl<'v> Sweep<'v> {
             asked,
             limits,
             pcid: asked.control.pcid,
-            lows: [(NEVER, NEVER); 3],
+            lows: None,
+            is_newest: true,
             drops: view
                 .facts
                 .drops
@@ -182,57 +185,85 @@ impl<'v> Sweep<'v> {
             let from = self.drops.from(Level::Two, slot);
             return self.window(from, slot);
         }
-        let view = self.view;
-        self.lows = view
-            .facts
-            .drops
-            .translations_from(p, control.pcid, la, slot);
-        self.leave_out(!control.pge, false);
-        self.windows()?;
+        let from = self.drops.from(Level::Two, slot);
+        self.window(from, slot)?;
+        self.is_newest = false;
+        if self.is_done() || self.limits.windows < 2 {
+            return Ok(());
+        }
+        if from > 0 {
+            self.windows(from - 1)?;
+        }
         if control.pge {
-            self.leave_out(false, true);
-            for pcid in view.facts.stays.pcids(p) {
-                if *pcid != control.pcid && !self.is_done() {
-                    self.pcid = *pcid;
-                    self.drops = view.facts.drops.structures(p, *pcid, la);
-                    self.windows()?;
-                }
+            self.others()?;
+        }
+        Ok(())
+    }
+
+    /// The windows under other PCIDs, in which global pages may have been found.
+    fn others(&mut self) -> Result<(), AllocError> {
+        let view = self.view;
+        let Asked {
+            p,
+            slot,
+            control,
+            la,
+            ..
+        } = *self.asked;
+        let mut lows = self.all_lows();
+        for low in lows.iter_mut() {
+            low.0 = NEVER;
+        }
+        self.lows = Some(lows);
+        for pcid in view.facts.stays.pcids(p) {
+            if *pcid != control.pcid && !self.is_done() {
+                self.pcid = *pcid;
+                self.drops = view.facts.drops.structures(p, *pcid, la);
+                self.windows(slot)?;
             }
         }
         Ok(())
     }
 
-    /// Leaves global translations out, or those of the PCID alone.
-    fn leave_out(&mut self, globals: bool, others: bool) {
-        for low in self.lows.iter_mut() {
-            if globals {
+    /// For each size of page the first slot from which on a translation lasts up to the event.
+    fn all_lows(&mut self) -> [(u32, u32); 3] {
+        if let Some(lows) = self.lows {
+            return lows;
+        }
+        let Asked {
+            p,
+            slot,
+            control,
+            la,
+            ..
+        } = *self.asked;
+        let drops = &self.view.facts.drops;
+        let mut lows = drops.translations_from(p, control.pcid, la, slot);
+        if !control.pge {
+            for low in lows.iter_mut() {
                 low.1 = NEVER;
             }
-            if others {
-                low.0 = NEVER;
-            }
         }
+        self.lows = Some(lows);
+        lows
     }
 
-    fn low(&self, level: Level, is_global: bool) -> u32 {
+    fn low(&mut self, level: Level, is_global: bool) -> u32 {
+        let lows = self.all_lows();
         let i = match level {
             Level::One => 0,
             Level::Two => 1,
             Level::Three | Level::Four => 2,
         };
-        if is_global {
-            self.lows[i].1
-        } else {
-            self.lows[i].0
-        }
+        if is_global { lows[i].1 } else { lows[i].0 }
     }
 
-    /// The windows between drops under a PCID, the latest first.
-    fn windows(&mut self) -> Result<(), AllocError> {
+    /// The windows between drops under a PCID up to a slot, the latest first.
+    fn windows(&mut self, slot: u32) -> Result<(), AllocError> {
         let pcid = self.pcid;
-        let Asked { p, slot, .. } = *self.asked;
+        let Asked { p, .. } = *self.asked;
         let view = self.view;
-        let lows = self.lows;
+        let lows = self.all_lows();
         let least = lows
             .iter()
             .fold(NEVER, |least, low| least.min(low.0).min(low.1));
@@ -295,7 +326,7 @@ impl<'v> Sweep<'v> {
     fn read(&mut self, level: Level, spell: &Spell) -> Result<(), AllocError> {
         let view = self.view;
         let address = spell.table | ((self.asked.la >> level_shift(level)) % 512) << 3;
-        if view.is_made {
+        if view.is_made && self.is_newest {
             self.looked.note(address);
         }
         self.versions.clear();
