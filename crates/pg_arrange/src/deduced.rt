@@ -153,9 +153,8 @@ fn needs_of(
 
 /// Whether what is needed cannot be.
 fn are_in_vain(facts: &Facts<'_>, needs: &[Edge]) -> bool {
-    needs
-        .iter()
-        .any(|edge| edge.before == edge.after || facts.must_precede(edge.after, edge.before))
+    needs.iter().any(|edge| edge.before == edge.after
+        || facts.must_precede(edge.after, edge.before))
 }
 
 /// Whether an edge follows from others.
@@ -261,7 +260,9 @@ impl<'a> Maker<'a> {
             }
             let count = noted(&counts, *edge).saturating_add(1);
             counts.insert((before as u64) << 32 | after as u64, count)?;
-            let score = count.saturating_mul(4).saturating_add(self.chance.below(16));
+            let score = count
+                .saturating_mul(4)
+                .saturating_add(self.chance.below(16));
             best = match best {
                 Some((most, edge)) if most >= score => Some((most, edge)),
                 _ => Some((score, *edge)),
@@ -353,7 +354,6 @@ impl<'a> Maker<'a> {
         self.facts.sure.take_back_to(surely);
         let mut open = Vec::new(self.alloc);
         if !self.deduce_all((first, last), &mut open)? {
-            //LAB eprintln!("contradiction around {}", event);
             return Ok(false);
         }
         self.surely = self.facts.sure.mark();
@@ -362,7 +362,6 @@ impl<'a> Maker<'a> {
         for number in first..last.saturating_add(1) {
             moment = moment.min(self.made.place(number));
         }
-        //LAB if std::env::var("TRACE").is_ok() { eprintln!("round around {} sure {} supposed {} now {} back to {} undone {}", event, self.surely, self.facts.sure.mark(), self.made.now(), moment, self.made.undone); }
         self.take_back_to(moment)?;
         Ok(true)
     }

@@ -97,7 +97,11 @@ fn key_of(event: u32, edges: &[Edge]) -> u64 {
 
 impl<'a> Maker<'a> {
     /// The walks that may witness an event in some order, and whether all were looked at.
-    pub(crate) fn possible_hits(&self, asked: &Asked, limits: Limits) -> Result<(Vec<Hit>, bool), AllocError> {
+    pub(crate) fn possible_hits(
+        &self,
+        asked: &Asked,
+        limits: Limits,
+    ) -> Result<(Vec<Hit>, bool), AllocError> {
         let view = View {
             facts: &self.facts,
             made: &self.made,
@@ -275,6 +279,14 @@ impl<'a> Maker<'a> {
         self.rounds(event) >= MOST_ROUNDS || self.made.undone > most
     }
 
+    /// Forgets what is sure once all that it tells of has a place.
+    fn forget_what_is_past(&mut self) {
+        if self.facts.sure.ends_before(self.made.low()) {
+            self.facts.sure = Sure::none(self.alloc);
+            self.surely = 0;
+        }
+    }
+
     /// Puts an event next that waits, where it is witnessed by what a short look did not see.
     fn look_far(&mut self) -> Result<bool, AllocError> {
         for p in 0..self.facts.processors() {
@@ -298,10 +310,7 @@ impl<'a> Maker<'a> {
     /// Another order of what stands, so that one of the events that wait is witnessed. Where none
     /// is found, the events that wait.
     pub(crate) fn repair(&mut self) -> Result<Option<Vec<u32>>, AllocError> {
-        if self.facts.sure.ends_before(self.made.low()) {
-            self.facts.sure = Sure::none(self.alloc);
-            self.surely = 0;
-        }
+        self.forget_what_is_past();
         if self.look_far()? {
             return Ok(None);
         }
@@ -323,7 +332,6 @@ impl<'a> Maker<'a> {
             };
             let (hits, is_whole) = self.some_hits(&asked, is_hard)?;
             if asked.is_hopeless || hits.is_empty() && is_whole {
-                //LAB if std::env::var("TRACE").is_ok() { eprintln!("hopeless {} supposed {} hopeless {}", event, self.has_supposed(), asked.is_hopeless); }
                 return self.give_up(event);
             }
             for hit in hits.iter() {

@@ -36,7 +36,7 @@ struct Wait {
 }
 
 /// So many windows between drops are looked at before another event is tried.
-const FEW_WINDOWS: u32 = 8;
+const FEW_WINDOWS: u32 = 4;
 
 /// An order that is being made.
 #[derive(Drop)]

@@ -47,9 +47,7 @@ impl Sure {
 
     /// Whether an event lies behind all of which something is told here.
     pub(crate) fn ends_before(&self, event: u32) -> bool {
-        self.processors > 0
-            && event > self.first
-            && self.index(event, 0) >= self.counts.len()
+        self.processors > 0 && event > self.first && self.index(event, 0) >= self.counts.len()
     }
 
     fn index(&self, event: u32, p: u16) -> usize {

@@ -133,7 +133,8 @@ pub(crate) struct Sweep<'v> {
     pub is_whole: bool,
 }
 
-/// Whether what was written to a word was surely overwritten before a source of what was read above.
+/// Whether what was written to a word was surely overwritten before a source of what was read above
+/// it.
 fn is_dead_above(facts: &Facts<'_>, word: u32, writer: u32, source: u32) -> bool {
     source != NEVER && facts.is_dead_before(word, writer, source)
 }
@@ -516,7 +517,9 @@ impl<'v> Sweep<'v> {
         }
         if !view.is_made
             && !view.facts.sure.is_none()
-            && view.facts.is_dead_before(reading.word, reading.writer, asked.event)
+            && view
+                .facts
+                .is_dead_before(reading.word, reading.writer, asked.event)
         {
             return Ok(());
         }

@@ -75,7 +75,10 @@ impl<'s> Search<'s> {
         let (next, reach) = if self.facts.sure.is_none() || writer == NEVER {
             (next, 0)
         } else {
-            (count_below(writes, self.facts.since(writer)), self.facts.reach)
+            (
+                count_below(writes, self.facts.since(writer)),
+                self.facts.reach,
+            )
         };
         for k in next..number(writes.len()) {
             let other = at(writes, k);
