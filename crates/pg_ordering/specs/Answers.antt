@@ -16,12 +16,12 @@ use Rattle.pg_auditing.specs.Streams.{Streams}
 use Rattle.pg_ordering.specs.declared.reading.Unread.{Unread}
 use Rattle.pg_ordering.specs.declared.reading.Unread.TheVariants.{Refused, Device, Memory}
 use Rattle.pg_ordering.specs.declared.told.Asked.{Asked}
-use Rattle.pg_ordering.specs.declared.told.Asked.TheVariants.{Report, Record, Order}
+use Rattle.pg_ordering.specs.declared.told.Asked.TheVariants.{Report, Picture, Record, Order}
 use Rattle.pg_ordering.specs.declared.told.Told.{Told}
 use Rattle.pg_ordering.specs.declared.told.Told.TheVariants.{Yes, Never, NoneOfAll, Undecided}
 use Rattle.pg_ordering.specs.Readings.{ReadsRun, DeviceTold}
 use Rattle.pg_ordering.specs.Refusals.{spans_line}
-use Rattle.pg_ordering.specs.Texts.{told_text, order_text}
+use Rattle.pg_ordering.specs.Texts.{told_text, drawn_text, order_text}
 
 -- what is told is so: in some order of the events some run of the machine has them, or in none;
 -- where no event overlaps another it is one of both, and what is undecided says nothing else
@@ -61,6 +61,13 @@ GivesReport s told output errors status =
     GivesOut (told_text s told) (told_status told) output errors status
     ⊎ WantsMemory output errors status
 
+-- the picture of the cause that the report would tell, or the report where it tells none of one
+-- event
+abbrev pub GivesPicture : Spanned → Told → Change → Change → ℕ → Type 0
+GivesPicture s told output errors status =
+    GivesOut (drawn_text s told) (told_status told) output errors status
+    ⊎ WantsMemory output errors status
+
 abbrev pub GivesReportAside : Spanned → Told → Change → Change → ℕ → Type 0
 GivesReportAside s told output errors status =
     GivesError (told_text s told) (told_status told) output errors status
@@ -88,6 +95,7 @@ pub record IsNamedInOrder (s : Spanned) (named : Recorded) : Type 0 where
 -- what is written of a yes: its report; or such a record; or such an order
 abbrev pub GivesYes : Asked → Spanned → Change → Change → ℕ → Type 0
 GivesYes Report s output errors status = GivesReport s Yes output errors status
+GivesYes Picture s output errors status = GivesReport s Yes output errors status
 GivesYes Record s output errors status =
     (named : Recorded) × IsNamedInOrder s named
     × GivesOut (record_bytes named) 0 output errors status
@@ -95,10 +103,11 @@ GivesYes Order s output errors status =
     (order : List ℕ) × (found : List Event) × IsCertifiedIn s order found
     × GivesOrder order output errors status
 
--- the report of another answer goes to standard output where the report was asked for, and else to
--- standard error
+-- the report of another answer goes to standard output where the report was asked for, and to
+-- standard error where the record or an order was; where a picture was, it is written
 abbrev pub GivesOther : Asked → Spanned → Told → Change → Change → ℕ → Type 0
 GivesOther Report s told output errors status = GivesReport s told output errors status
+GivesOther Picture s told output errors status = GivesPicture s told output errors status
 GivesOther Record s told output errors status = GivesReportAside s told output errors status
 GivesOther Order s told output errors status = GivesReportAside s told output errors status
 

@@ -5,6 +5,7 @@ use Rattle.std.specs.Int.{div_ceil}
 use Rattle.pg_report.specs.Text.{counts_text}
 use Rattle.pg_spanned.specs.Orders.{Spanned}
 use Rattle.pg_spanned_text.specs.Cause.{cause_text}
+use Rattle.pg_spanned_text.specs.Picture.{picture_text}
 use Rattle.pg_ordering.specs.declared.told.Told.{Told}
 use Rattle.pg_ordering.specs.declared.told.Told.TheVariants.{Yes, Never, NoneOfAll, Undecided}
 
@@ -40,6 +41,13 @@ cause_of s (Undecided n) = []
 -- the report, and after a no its cause
 abbrev pub told_text : Spanned → Told → List ℕ
 told_text s told = head_text told ++ counts_of s ++ cause_of s told
+
+-- the picture of the cause, where that is of one event, and else the report
+abbrev pub drawn_text : Spanned → Told → List ℕ
+drawn_text s Yes = told_text s Yes
+drawn_text s (Never n) = picture_text s n
+drawn_text s (NoneOfAll n) = told_text s (NoneOfAll n)
+drawn_text s (Undecided n) = told_text s (Undecided n)
 
 -- the number of each event of an order, a line each
 abbrev pub order_text : List ℕ → List ℕ

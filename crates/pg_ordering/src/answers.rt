@@ -10,11 +10,12 @@ ghost use Rattle.pg_order.specs.Verdicts.{IsOrderedRun};
 ghost use Rattle.pg_auditing.specs.Streams.{streams};
 ghost use Rattle.pg_ordering.specs.Answers.{GivesOut, GivesError, AnswersRun, OrdersRecord};
 ghost use Rattle.pg_ordering.specs.Answers.{GivesReport, GivesReportAside, IsSo, WantsMemory};
+ghost use Rattle.pg_ordering.specs.Answers.{GivesPicture};
 ghost use Rattle.pg_ordering.specs.Answers.{told_status, GivesOrder, TellsUnread};
 
 use crate::reading::{Unread, read_run};
 use crate::refusals::tell_refusal;
-use crate::texts::{order_text, told_text};
+use crate::texts::{drawn_text, order_text, told_text};
 use crate::told::{Asked, Told};
 use pg_auditing::{MEMORY, NO, REFUSED, YES, tell};
 use pg_codec::{Sink, Source, put_all, write_record};
@@ -92,6 +93,23 @@ fn give_report<O: Sink, E: Sink>(
     }
 }
 
+/// Writes the picture of a cause, or the report of what has none to draw.
+fn give_picture<O: Sink, E: Sink>(
+    alloc: Global,
+    run: &SpannedRun,
+    told: Told,
+    output: &mut O,
+    errors: &mut E,
+) -> u8
+    ensures { GivesPicture run.now told
+        (filled O.Sink output.old output.new) (filled E.Sink errors.old errors.new) result }
+{
+    match drawn_text(alloc, run, told) {
+        Ok(text) => give_out(output, errors, text.as_bytes(), told_status(told)),
+        Err(_) => tell_memory(output, errors),
+    }
+}
+
 /// Writes that report to standard error.
 fn give_report_aside<O: Sink, E: Sink>(
     alloc: Global,
@@ -159,6 +177,7 @@ fn answer_yes<O: Sink, E: Sink>(
     let _events = run.events();
     match asked {
         Asked::Report => give_report(alloc, run, Told::Yes, output, errors),
+        Asked::Picture => give_report(alloc, run, Told::Yes, output, errors),
         Asked::Record => give_record(run.header(), found, output, errors),
         Asked::Order => give_order(alloc, order, output, errors),
     }
@@ -180,6 +199,7 @@ fn answer_other<O: Sink, E: Sink>(
 {
     match asked {
         Asked::Report => give_report(alloc, run, told, output, errors),
+        Asked::Picture => give_picture(alloc, run, told, output, errors),
         Asked::Record => give_report_aside(alloc, run, told, output, errors),
         Asked::Order => give_report_aside(alloc, run, told, output, errors),
     }
@@ -233,9 +253,10 @@ pub(crate) fn tell_unread<O: Sink, E: Sink>(output: &mut O, errors: &mut E, why:
 
 /// Reads the record of version 3 or 4 that `input` has left, and writes whether its events have an
 /// order in which some run of the machine has them (Intel SDM, vol. 3, 4.10): the report, or where
-/// the answer is yes what is asked for in its place; then the report of another answer goes to
-/// `errors`. Nothing is written before it is ready. It gives the exit status: 0 yes, 1 no, 2
-/// refused, 3 memory, 4 undecided.
+/// the answer is yes the record or the order that is asked for in its place; then the report of
+/// another answer goes to `errors`. Where a picture is asked for, that of a no's cause is written in
+/// the place of its report. Nothing is written before it is ready. It gives the exit status: 0 yes, 1
+/// no, 2 refused, 3 memory, 4 undecided.
 ///
 /// The record is held in memory whole.
 pub fn certify_spanned<R: Source, O: Sink, E: Sink>(

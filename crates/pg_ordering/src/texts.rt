@@ -2,11 +2,11 @@
 
 ghost use Rattle.std.specs.Prelude.{◌≡◌, ◌++◌, IfOk, OnOk, codes, decimal, string_bytes};
 ghost use Rattle.pg_ordering.specs.Texts.{told_text, order_text, segments_of, counts_of};
-ghost use Rattle.pg_ordering.specs.Texts.{head_text, cause_of, none_of_all};
+ghost use Rattle.pg_ordering.specs.Texts.{head_text, cause_of, none_of_all, drawn_text};
 
 use crate::told::Told;
 use pg_spanned::SpannedRun;
-use pg_spanned_text::cause_text;
+use pg_spanned_text::{cause_picture, cause_text};
 use std::alloc::{AllocError, Global};
 
 /// What stands behind a no where all orders were tried.
@@ -68,6 +68,16 @@ pub(crate) fn told_text(alloc: Global, run: &SpannedRun, told: Told) -> Result<S
     text.push_str(counts.as_str())?;
     push_cause(alloc, &mut text, run, told)?;
     Ok(text)
+}
+
+/// The picture of the cause, where that is of one event, and else the report.
+pub(crate) fn drawn_text(alloc: Global, run: &SpannedRun, told: Told) -> Result<String, AllocError>
+    ensures { IfOk result (λ t. string_bytes t ≡ drawn_text run.now told) }
+{
+    match told {
+        Told::Never(event) => cause_picture(alloc, run, event),
+        Told::Yes | Told::NoneOfAll(_) | Told::Undecided(_) => told_text(alloc, run, told),
+    }
 }
 
 /// The line of a number.

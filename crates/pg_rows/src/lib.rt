@@ -50,6 +50,8 @@ mod runs;
 #[cfg(test)]
 mod scripts;
 #[cfg(test)]
+mod span_pictures;
+#[cfg(test)]
 mod spans;
 #[cfg(test)]
 mod spliced;

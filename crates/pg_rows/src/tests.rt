@@ -1,7 +1,7 @@
 use crate::row::run_all;
 use crate::{
     all_noes, certificates, explanations, headers, invalidations, lines, many_lines, pictures,
-    refusals, rights, runs, spans, spliced, versions, walks,
+    refusals, rights, runs, span_pictures, spans, spliced, versions, walks,
 };
 use std::test::Fail;
 
@@ -42,7 +42,8 @@ fn records_shown(rt: HostRuntime) -> Result<(), Fail> {
 
 #[test]
 fn records_with_spans(rt: HostRuntime) -> Result<(), Fail> {
-    run_all(&rt, &spans::ROWS)
+    run_all(&rt, &spans::ROWS)?;
+    run_all(&rt, &span_pictures::ROWS)
 }
 
 #[test]

@@ -81,11 +81,14 @@ start_of (Some d) = d + 1
 abbrev pub walk_of : Spanned → Span → ℕ → Option ℕ → Walk
 walk_of s event la d = record { la = la; event = event; drop = span_of_some s d }
 
+-- what the words hold that the walk of the asked event may read behind an event
+abbrev pub seen_behind : Spanned → Span → ℕ → ℕ → Option ℕ → List Seen
+seen_behind s event la pcid d =
+    seen_of s (walk_of s event la d) (roots s event.p pcid (start_of d) event.number)
+
 abbrev pub behind_text : Spanned → Span → ℕ → ℕ → Option ℕ → List ℕ
 behind_text s event la pcid d =
-    after_text s event.p pcid la d
-    ++ seen_text s.head (seen_of s (walk_of s event la d)
-    (roots s event.p pcid (start_of d) event.number))
+    after_text s event.p pcid la d ++ seen_text s.head (seen_behind s event la pcid d)
 
 -- ---- the whole
 

@@ -5,3 +5,6 @@ pub mod Words
 pub mod Seen
 pub mod Text
 pub mod Cause
+pub mod Named
+pub mod Picture
+pub mod Laws

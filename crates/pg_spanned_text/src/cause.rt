@@ -6,6 +6,7 @@ ghost use Rattle.std.specs.Option.{ForSome};
 ghost use Rattle.pg_spanned_text.specs.Cause.{walked_address, numbered_line, after_name};
 ghost use Rattle.pg_spanned_text.specs.Cause.{after_event, after_text, version_text, seen_text};
 ghost use Rattle.pg_spanned_text.specs.Cause.{span_of_some, behind_text, walk_text};
+ghost use Rattle.pg_spanned_text.specs.Cause.{seen_behind};
 ghost use Rattle.pg_spanned_text.specs.Cause.{event_text, cause_text};
 
 use crate::drops::{control_before, keeps_global, last_drop, roots};
@@ -18,7 +19,7 @@ use pg_spanned::SpannedRun;
 use std::alloc::{AllocError, Global};
 
 /// The linear address whose walk an event names.
-fn walked_address(event: &Event) -> Option<u64>
+pub(crate) fn walked_address(event: &Event) -> Option<u64>
     ensures { result ≡ walked_address event.now }
 {
     match *event {
@@ -134,6 +135,32 @@ fn span_of_some(run: &SpannedRun, number: Option<u32>) -> Option<Span>
     }
 }
 
+/// What the words hold that the walk of the asked event may read behind an event.
+pub(crate) fn seen_behind(
+    alloc: Global,
+    run: &SpannedRun,
+    event: Span,
+    la: u64,
+    pcid: u16,
+    drop: Option<u32>,
+) -> Result<Vec<Seen>, AllocError>
+    requires within { event.number < length run.now.events }
+    requires drop { ForSome drop (λ d. d < event.number) }
+    ensures { IfOk result (λ seen. seen.items ≡ seen_behind run.now event la pcid drop) }
+{
+    let start = match drop {
+        None => 0,
+        Some(drop) => drop + 1,
+    };
+    let roots = roots(alloc, run, event.p, pcid, start, event.number)?;
+    let walk = Walk {
+        la,
+        event,
+        drop: span_of_some(run, drop),
+    };
+    seen_of(alloc, run, walk, &roots)
+}
+
 /// Appends behind which event the asked one reads its page, and what it may read there.
 fn push_behind(
     alloc: Global,
@@ -150,17 +177,7 @@ fn push_behind(
         ≡ string_bytes text.old ++ behind_text run.now event la pcid drop) }
 {
     push_after(text, run, event.p, pcid, la, drop)?;
-    let start = match drop {
-        None => 0,
-        Some(drop) => drop + 1,
-    };
-    let roots = roots(alloc, run, event.p, pcid, start, event.number)?;
-    let walk = Walk {
-        la,
-        event,
-        drop: span_of_some(run, drop),
-    };
-    let seen = seen_of(alloc, run, walk, &roots)?;
+    let seen = seen_behind(alloc, run, event, la, pcid, drop)?;
     push_seen(alloc, text, run.header(), &seen)
 }
 

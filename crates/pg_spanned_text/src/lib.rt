@@ -4,11 +4,16 @@
 
 mod cause;
 mod drops;
+mod laws;
 mod lines;
+mod named;
+mod picture;
 mod seen;
 mod seen_lines;
 mod span;
 mod words;
 
 pub use cause::cause_text;
+pub use laws::precedes_by_must;
 pub use lines::{push_began, spanned_lines};
+pub use picture::cause_picture;

@@ -139,7 +139,7 @@ fn push_cannot_lines(text: &mut String, seen: &[Seen]) -> Result<(), AllocError>
 }
 
 /// Those that may be read.
-fn open_ones(alloc: Global, seen: &[Seen]) -> Result<Vec<Seen>, AllocError>
+pub(crate) fn open_ones(alloc: Global, seen: &[Seen]) -> Result<Vec<Seen>, AllocError>
     ensures { IfOk result (λ chosen. chosen.items ≡ open_ones seen.now) }
 {
     seen.iter()
@@ -149,7 +149,7 @@ fn open_ones(alloc: Global, seen: &[Seen]) -> Result<Vec<Seen>, AllocError>
 }
 
 /// Those that can't.
-fn gone_ones(alloc: Global, seen: &[Seen]) -> Result<Vec<Seen>, AllocError>
+pub(crate) fn gone_ones(alloc: Global, seen: &[Seen]) -> Result<Vec<Seen>, AllocError>
     ensures { IfOk result (λ chosen. chosen.items ≡ gone_ones seen.now) }
 {
     seen.iter()

@@ -65,6 +65,13 @@ abbrev pub asked_of : Plan → Asked
 asked_of plan =
     if plan.order then asking.Order else if plan.bytes then asking.Record else asking.Report
 
+-- what `explain` writes of a no: its report, whose cause is that of one event; or the picture of
+-- that cause
+abbrev pub told_of : Telling → Asked
+told_of First = asking.Report
+told_of (All most) = asking.Report
+told_of Picture = asking.Picture
+
 -- its version is refused, and it is told which command judges such records
 abbrev pub RefusesSpans : Change → Change → ℕ → Type 0
 RefusesSpans output errors status =
@@ -75,7 +82,7 @@ DoesSpanned Check plan s status = RefusesSpans s.output s.errors status
 DoesSpanned Certify plan s status = OrdersRecord (asked_of plan) s status
 DoesSpanned Run plan s status = ⊥
 DoesSpanned RunOf plan s status = RefusesSpans s.output s.errors status
-DoesSpanned Explain plan s status = OrdersRecord asking.Report s status
+DoesSpanned Explain plan s status = OrdersRecord (told_of plan.telling) s status
 DoesSpanned Show plan s status = ShowsSpans (filter_of plan) s status
 DoesSpanned Upgrade plan s status = RefusesSpans s.output s.errors status
 DoesSpanned Merge plan s status = ⊥

@@ -7,7 +7,7 @@ ghost use Rattle.pg_report.specs.Changes.{filled};
 ghost use Rattle.pg_auditing.specs.Streams.{streams};
 ghost use Rattle.pg_ordering.specs.Answers.{OrdersRecord};
 ghost use Rattle.pg_tool.specs.Records.{CertifiesBy, ChecksBy, ExplainsBy, DoesPlain};
-ghost use Rattle.pg_tool.specs.Records.{asked_of, RefusesSpans, DoesSpanned};
+ghost use Rattle.pg_tool.specs.Records.{asked_of, told_of, RefusesSpans, DoesSpanned};
 ghost use Rattle.pg_tool.specs.Records.{DoesOfRecord, reads_record};
 
 use crate::pictures::draw;
@@ -131,6 +131,30 @@ fn order_by<R: Source, O: Sink, E: Sink>(
     certify_spanned(alloc, asked_of(plan), input, output, errors)
 }
 
+/// What `explain` writes of a record with spans.
+fn told_of(telling: Telling) -> Asked
+    ensures { result ≡ told_of telling }
+{
+    match telling {
+        Telling::First | Telling::All(_) => Asked::Report,
+        Telling::Picture => Asked::Picture,
+    }
+}
+
+/// Explains the record with spans on `input`: why no order of its events has a run, as text or drawn.
+fn explain_order<R: Source, O: Sink, E: Sink>(
+    alloc: Global,
+    plan: Plan,
+    input: &mut R,
+    output: &mut O,
+    errors: &mut E,
+) -> u8
+    ensures { OrdersRecord (told_of plan.telling) (streams R.Source O.Sink E.Sink
+        (input.old, output.old, errors.old) (input.new, output.new, errors.new)) result }
+{
+    certify_spanned(alloc, told_of(plan.telling), input, output, errors)
+}
+
 /// Refuses a record with spans by its version, and says which command judges it.
 fn refuse_spans<O: Sink, E: Sink>(output: &mut O, errors: &mut E) -> u8
     ensures { RefusesSpans
@@ -154,7 +178,7 @@ fn do_of_spanned<R: Source, O: Sink, E: Sink>(
 {
     match plan.command {
         Command::Certify => order_by(alloc, plan, input, output, errors),
-        Command::Explain => certify_spanned(alloc, Asked::Report, input, output, errors),
+        Command::Explain => explain_order(alloc, plan, input, output, errors),
         Command::Show => show_spanned(alloc, filter_of(plan), input, output, errors),
         Command::Check | Command::RunOf | Command::Upgrade => refuse_spans(output, errors),
         Command::Run | Command::Merge => unreachable!(),

@@ -1,7 +1,7 @@
 use Rattle.std.proofs.Common.{inl, sym, subst}
 use Rattle.pg_report.specs.Changes.{filled}
 use Rattle.pg_ordering.specs.declared.told.Asked.{Asked}
-use Rattle.pg_ordering.specs.declared.told.Asked.TheVariants.{Report, Record, Order}
+use Rattle.pg_ordering.specs.declared.told.Asked.TheVariants.{Report, Picture, Record, Order}
 use Rattle.pg_ordering.specs.Answers.{Gives}
 use Rattle.pg_ordering.proofs.Telling.{gives_other}
 use Rattle.pg_ordering.proofs.answers.answer_other.Goals as goal
@@ -12,6 +12,13 @@ returns-in-Report g c =
     let errors = filled g.E.Sink c.args.errors.now c.give_report.new.errors in
     let P : Asked → Type 0 = λ asked. Gives asked c.args.run.now c.args.told output errors c.give_report.result in
     inl (c.args.told, c.requires.told, subst P (sym c.in-Report.is) (gives_other Report c.args.run.now c.args.told output errors c.give_report.result c.requires.other c.give_report.ensures))
+
+pub returns-in-Picture : goal.returns-in-Picture
+returns-in-Picture g c =
+    let output = filled g.O.Sink c.args.output.now c.give_picture.new.output in
+    let errors = filled g.E.Sink c.args.errors.now c.give_picture.new.errors in
+    let P : Asked → Type 0 = λ asked. Gives asked c.args.run.now c.args.told output errors c.give_picture.result in
+    inl (c.args.told, c.requires.told, subst P (sym c.in-Picture.is) (gives_other Picture c.args.run.now c.args.told output errors c.give_picture.result c.requires.other c.give_picture.ensures))
 
 pub returns-in-Record : goal.returns-in-Record
 returns-in-Record g c =

@@ -1,0 +1,67 @@
+-- Why the tests that stand in a cause say what they are to.
+use Rattle.std.proofs.Common.{◌≡◌, ℕ, ◌<◌, Bool, true, false, ◌&&◌, ◌||◌, eqb, ltb, Option, Some, refl, ap, sym, ◌∙◌, inl, inr, ◌⊎◌}
+use Rattle.std.specs.Prelude.{slice_get}
+use Rattle.std.specs.Option.{option_map}
+use Rattle.std.proofs.lemmas.Bool.{eqb-true, eq-eqb, ltb-true, lt-ltb}
+use Rattle.std.proofs.lemmas.Option.{slice_get_within}
+use Rattle.pg_event.specs.declared.event.Event.{Event}
+use Rattle.pg_event.specs.Form.{processor_of}
+use Rattle.pg_spanned.specs.Orders.{Spanned, MustPrecede, AreOfOneProcessor, ended_before}
+use Rattle.pg_spanned_text.specs.Spans.{precedes, span_of}
+use Rattle.pg_spanned_text.specs.Laws.{PrecedesByMust}
+
+one_of : (a b : Bool) → (a || b) ≡ true → (a ≡ true) ⊎ (b ≡ true)
+one_of true b h = inl refl
+one_of false b h = inr h
+
+left_of : (a b : Bool) → (a && b) ≡ true → a ≡ true
+left_of true b h = refl
+left_of false b h = h
+
+right_of : (a b : Bool) → (a && b) ≡ true → b ≡ true
+right_of true b h = h
+right_of false b h = absurd cc
+
+or_left : (a b : Bool) → a ≡ true → (a || b) ≡ true
+or_left true b h = refl
+or_left false b h = absurd cc
+
+or_right : (a b : Bool) → b ≡ true → (a || b) ≡ true
+or_right true b h = refl
+or_right false b h = h
+
+and_both : (a b : Bool) → a ≡ true → b ≡ true → (a && b) ≡ true
+and_both true b h k = k
+and_both false b h k = absurd cc
+
+of_one : (s : Spanned) (j i : ℕ) (x y : Event) → slice_get s.events j ≡ Some x → slice_get s.events i ≡ Some y → processor_of x ≡ processor_of y → AreOfOneProcessor s.events j i
+of_one s j i x y hx hy same =
+    ap (option_map processor_of) hx ∙ (ap (λ (p : ℕ). Some p) same ∙ sym (ap (option_map processor_of) hy))
+
+one_of_both : (s : Spanned) (j i : ℕ) (x y : Event) → slice_get s.events j ≡ Some x → slice_get s.events i ≡ Some y → AreOfOneProcessor s.events j i → processor_of x ≡ processor_of y
+one_of_both s j i x y hx hy own =
+    let both : Some (processor_of x) ≡ Some (processor_of y) = sym (ap (option_map processor_of) hx) ∙ (own ∙ ap (option_map processor_of) hy) in
+    cc
+
+to_must : (s : Spanned) (j i : ℕ) (x y : Event) → slice_get s.events j ≡ Some x → slice_get s.events i ≡ Some y → precedes (span_of s j x) (span_of s i y) ≡ true → MustPrecede s j i
+to_must s j i x y hx hy is = record {
+  within = slice_get_within s.events i y hy;
+  why = elim (one_of (ltb j (ended_before s i)) (ltb j i && eqb (processor_of x) (processor_of y)) is) [
+    | inl a ↦ inl (ltb-true j (ended_before s i) a)
+    | inr b ↦ inr (
+      ltb-true j i (left_of (ltb j i) (eqb (processor_of x) (processor_of y)) b),
+      of_one s j i x y hx hy (eqb-true (processor_of x) (processor_of y) (right_of (ltb j i) (eqb (processor_of x) (processor_of y)) b)),
+    )
+  ];
+}
+
+from_must : (s : Spanned) (j i : ℕ) (x y : Event) → slice_get s.events j ≡ Some x → slice_get s.events i ≡ Some y → MustPrecede s j i → precedes (span_of s j x) (span_of s i y) ≡ true
+from_must s j i x y hx hy must =
+    elim must.why [
+      | inl a ↦ or_left (ltb j (ended_before s i)) (ltb j i && eqb (processor_of x) (processor_of y)) (lt-ltb j (ended_before s i) a)
+      | inr b ↦ or_right (ltb j (ended_before s i)) (ltb j i && eqb (processor_of x) (processor_of y))
+          (and_both (ltb j i) (eqb (processor_of x) (processor_of y)) (lt-ltb j i b.0) (eq-eqb (processor_of x) (processor_of y) (one_of_both s j i x y hx hy b.1)))
+    ]
+
+pub precedes_by_must : PrecedesByMust
+precedes_by_must s j i x y hx hy = (to_must s j i x y hx hy, from_must s j i x y hx hy)

@@ -1,0 +1,61 @@
+-- The events that a cause names.
+use Rattle.std.specs.Prelude.{ℕ, Bool, not, ◌&&◌, ◌==◌, nat_lt, if◌then◌else◌, fold, reverse}
+use Rattle.std.specs.Prelude.{List, [], ◌∷◌, ◌++◌, Option, Some, None, length, slice_get}
+use Rattle.std.specs.List.{list_any}
+use Rattle.pg_event.specs.declared.event.Event.{Event}
+use Rattle.pg_event.specs.Values.{control_at}
+use Rattle.pg_spanned.specs.Orders.{Spanned}
+use Rattle.pg_spanned_text.specs.declared.seen.Gone.{Gone}
+use Rattle.pg_spanned_text.specs.declared.seen.Seen.{Seen}
+use Rattle.pg_spanned_text.specs.declared.span.Span.{Span}
+use Rattle.pg_spanned_text.specs.Cause.{walked_address, seen_behind}
+use Rattle.pg_spanned_text.specs.Drops.{last_drop}
+use Rattle.pg_spanned_text.specs.Spans.{span_of}
+use Rattle.pg_spanned_text.specs.Text.{open_ones, gone_ones}
+
+-- a number behind others, unless it is there, or they are 40 already
+abbrev pub put_name : List ℕ → ℕ → List ℕ
+put_name names number =
+    if nat_lt (length names) 40 && not (list_any (λ n. n == number) names)
+    then names ++ number ∷ [] else names
+
+abbrev pub put_some : List ℕ → Option ℕ → List ℕ
+put_some names None = names
+put_some names (Some number) = put_name names number
+
+abbrev pub put_gone : List ℕ → Option Gone → List ℕ
+put_gone names None = names
+put_gone names (Some gone) = put_name names gone.by
+
+-- the event that wrote a value, and the one that overwrites it
+abbrev pub put_names : List ℕ → Seen → List ℕ
+put_names names x = put_gone (put_some names x.writer) x.gone
+
+abbrev pub put_all : List ℕ → List Seen → List ℕ
+put_all names xs = fold put_names names xs
+
+-- the asked event, the one behind which it reads, and those of entries, first of those that may be
+-- read
+abbrev pub named_by : ℕ → Option ℕ → List Seen → List ℕ
+named_by number d xs =
+    put_all (put_all (put_some (put_name [] number) d) (open_ones xs)) (reverse (gone_ones xs))
+
+abbrev pub named_behind : Spanned → Span → ℕ → ℕ → Option ℕ → List ℕ
+named_behind s event la pcid d = named_by event.number d (seen_behind s event la pcid d)
+
+abbrev pub named_under : Spanned → Span → ℕ → ℕ → List ℕ
+named_under s event la pcid =
+    named_behind s event la pcid (last_drop s event.p pcid la event.number)
+
+abbrev pub named_walk : Spanned → Span → Option ℕ → List ℕ
+named_walk s event None = named_by event.number None []
+named_walk s event (Some la) =
+    named_under s event la (control_at s.head s.events event.p event.number).pcid
+
+abbrev pub named_of : Spanned → ℕ → Option Event → List ℕ
+named_of s number None = []
+named_of s number (Some e) = named_walk s (span_of s number e) (walked_address e)
+
+-- the events that the cause of the event with this number names, 40 of them at most
+abbrev pub named : Spanned → ℕ → List ℕ
+named s number = named_of s number (slice_get s.events number)

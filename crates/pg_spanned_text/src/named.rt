@@ -1,0 +1,109 @@
+//! The events that a cause names.
+
+ghost use Rattle.std.specs.Prelude.{◌≡◌, ◌<◌, IfOk, OnOk, length, slice_get};
+ghost use Rattle.std.specs.Option.{ForSome};
+ghost use Rattle.pg_spanned_text.specs.Named.{put_name, put_some, put_gone, put_names, put_all};
+ghost use Rattle.pg_spanned_text.specs.Named.{named_by, named_walk, named};
+
+use crate::cause::{seen_behind, walked_address};
+use crate::drops::{control_before, last_drop};
+use crate::seen::{Gone, Seen};
+use crate::seen_lines::{gone_ones, open_ones};
+use crate::span::{Span, event_of, span_of};
+use pg_spanned::SpannedRun;
+use std::alloc::{AllocError, Global};
+
+/// So many events are named.
+const MOST_NAMES: usize = 40;
+
+/// Puts the number of an event behind others, unless it is there, or they are too many already.
+fn put_name(names: &mut Vec<u32>, number: u32) -> Result<(), AllocError>
+    ensures { OnOk result (names.new.items ≡ put_name names.old.items number) }
+{
+    if names.len() < MOST_NAMES && !names.contains(&number) {
+        names.push(number)?;
+    }
+    Ok(())
+}
+
+/// The same, if there is one.
+fn put_some(names: &mut Vec<u32>, number: Option<u32>) -> Result<(), AllocError>
+    ensures { OnOk result (names.new.items ≡ put_some names.old.items number) }
+{
+    match number {
+        None => Ok(()),
+        Some(number) => put_name(names, number),
+    }
+}
+
+/// Puts the event that overwrites a value behind others.
+fn put_gone(names: &mut Vec<u32>, gone: Option<Gone>) -> Result<(), AllocError>
+    ensures { OnOk result (names.new.items ≡ put_gone names.old.items gone) }
+{
+    match gone {
+        None => Ok(()),
+        Some(gone) => put_name(names, gone.by),
+    }
+}
+
+/// Puts the events that an entry names behind others.
+fn put_names(names: &mut Vec<u32>, seen: Seen) -> Result<(), AllocError>
+    ensures { OnOk result (names.new.items ≡ put_names names.old.items seen) }
+{
+    put_some(names, seen.writer)?;
+    put_gone(names, seen.gone)
+}
+
+/// Puts the events that entries name behind others.
+fn put_all(names: &mut Vec<u32>, seen: &[Seen]) -> Result<(), AllocError>
+    ensures { OnOk result (names.new.items ≡ put_all names.old.items seen.now) }
+{
+    for one in seen {
+        put_names(names, *one)?;
+    }
+    Ok(())
+}
+
+/// The events that a walk names: the asked one, the one behind which it is, and those of entries,
+/// first of those that may be read.
+fn named_by(
+    alloc: Global,
+    number: u32,
+    drop: Option<u32>,
+    seen: &[Seen],
+) -> Result<Vec<u32>, AllocError>
+    ensures { IfOk result (λ names. names.items ≡ named_by number drop seen.now) }
+{
+    let open = open_ones(alloc, seen)?;
+    let mut gone = gone_ones(alloc, seen)?;
+    gone.reverse();
+    let mut names = Vec::new(alloc);
+    put_name(&mut names, number)?;
+    put_some(&mut names, drop)?;
+    put_all(&mut names, &open)?;
+    put_all(&mut names, &gone)?;
+    Ok(names)
+}
+
+/// The same of the walk of an event.
+fn named_walk(alloc: Global, run: &SpannedRun, event: Span, la: u64) -> Result<Vec<u32>, AllocError>
+    requires { event.number < length run.now.events }
+    ensures { IfOk result (λ names. names.items ≡ named_walk run.now event (Some la)) }
+{
+    let pcid = control_before(run, event.p, event.number).pcid;
+    let drop = last_drop(run, event.p, pcid, la, event.number);
+    let seen = seen_behind(alloc, run, event, la, pcid, drop)?;
+    named_by(alloc, event.number, drop, &seen)
+}
+
+/// The events that the cause of an event names, 40 of them at most.
+pub(crate) fn named(alloc: Global, run: &SpannedRun, number: u32) -> Result<Vec<u32>, AllocError>
+    requires { number < length run.now.events }
+    ensures { IfOk result (λ names. names.items ≡ named run.now number) }
+{
+    let event = event_of(run, number);
+    match walked_address(event) {
+        None => named_by(alloc, number, None, &[]),
+        Some(la) => named_walk(alloc, run, span_of(run, number, event), la),
+    }
+}
