@@ -51,8 +51,8 @@ class Plan(types.SimpleNamespace):
 
     def look_over(self):
         """Stops at words that don't go together."""
-        if self.at_once and (self.version != 1 or self.system == "nested-bochs"):
-            raise image.Stop("--at-once has records of version 1, and is not of nested-bochs")
+        if self.at_once and self.system == "nested-bochs":
+            raise image.Stop("--at-once is not of nested-bochs")
         if not self.is_nested() and (self.kernel or self.emulator_threads or (
                 self.parameters and self.system != "xen")):
             raise image.Stop("--parameters, --kernel and --emulator-threads are of nested systems, "
