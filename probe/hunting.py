@@ -1,5 +1,6 @@
 """A hunt: seeds, each run by a job of its own, or in one boot with others. All that is known of a
 seed is kept in a folder of its own, so that a hunt can be continued, and jobs can run anywhere."""
+import contextlib
 import fnmatch
 import hashlib
 import json
@@ -51,8 +52,8 @@ class Plan(types.SimpleNamespace):
 
     def look_over(self):
         """Stops at words that don't go together."""
-        if self.at_once and (self.version != 1 or self.system == "nested-bochs"):
-            raise image.Stop("--at-once has records of version 1, and is not of nested-bochs")
+        if self.at_once and self.system == "nested-bochs":
+            raise image.Stop("--at-once is not of nested-bochs")
         if not self.is_nested() and (self.kernel or self.emulator_threads or (
                 self.parameters and self.system != "xen")):
             raise image.Stop("--parameters, --kernel and --emulator-threads are of nested systems, "
@@ -172,16 +173,19 @@ def keep_result(folder, seed, result):
     os.replace(path + ".part", path)
 
 
-def is_first(folder, key):
-    """Whether no job before cut a record of this cause down."""
-    place = os.path.join(folder, "causes")
-    os.makedirs(place, exist_ok=True)
-    try:
-        name = hashlib.sha256(key.encode()).hexdigest()[:16]
-        os.close(os.open(os.path.join(place, name), os.O_CREAT | os.O_EXCL | os.O_WRONLY))
-    except FileExistsError:
-        return False
-    return True
+def is_first(folder, key, seed):
+    """Whether this seed's record of a cause is the one to be cut down: the first that any job met.
+    A job that was ended on the way has it again."""
+    place = os.path.join(folder, "causes", hashlib.sha256(key.encode()).hexdigest()[:16])
+    os.makedirs(os.path.dirname(place), exist_ok=True)
+    own = f"{place}.{seed}"
+    with open(own, "w") as file:
+        file.write(str(seed))
+    with contextlib.suppress(FileExistsError):
+        os.link(own, place)  # whole or not at all
+    os.remove(own)
+    with open(place) as file:
+        return file.read() == str(seed)
 
 
 class Outcome:
@@ -276,7 +280,7 @@ def judge(plan, folder, seed, known, kept, result):
     if not work:
         return
     result.update(key=work.cause.key, event=work.cause.number)
-    if known.name(work.cause.key) or not is_first(folder, work.cause.key):
+    if known.name(work.cause.key) or not is_first(folder, work.cause.key, seed):
         return
     kept.write(whole)
     result["small"] = os.path.relpath(os.path.join(place_of(folder, seed), SMALL), folder)

@@ -91,12 +91,12 @@ def split(output):
 
 def cut_to_least(run):
     """Of a run that did not come to its end what all its processors came to: the events that ended
-    by the least last stamp, and the writes that began before it, which others may have seen. A
-    later one may rest on events that were not logged."""
+    by the least last stamp, and those that began before it and change a word, which others may have
+    seen. A later one may rest on events that were not logged."""
     least = min(max([0, *(end for _, end, _ in log.events)]) for log in run)
     for log in run:
         log.events = [(begin, end, event) for begin, end, event in log.events
-                      if end <= least or (event[0] == records.WRITE and begin < least)]
+                      if end <= least or (event[0] in records.CHANGES and begin < least)]
 
 
 def keep(run, folder):

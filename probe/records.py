@@ -10,6 +10,7 @@ from image import OUT, Stop, TOP, command, need
 MAGIC = b"PGRECORD"
 SIZES = {0x10: 16, 0x12: 8, 0x13: 8, 0x14: 11, 0x15: 1}
 WRITE, ACCESS, LOAD_ROOT, ASSIST = 0x10, 0x11, 0x12, 0x16
+CHANGES = (WRITE, ASSIST)  # of a word
 INVALIDATIONS = (0x12, 0x13, 0x14, 0x15)
 
 

@@ -69,7 +69,7 @@ class Overlapping:
             next((chosen for chosen in choices if not self.is_yes(chosen)), choices[-1])
 
     def is_write(self, number):
-        return self.record.events[number][0] in (records.WRITE, records.ASSIST)
+        return self.record.events[number][0] in records.CHANGES
 
     def is_own(self, number):
         return self.reader.processor(self.record.events[number]) == self.reader.processor(self.bad)

@@ -34,7 +34,7 @@ void begin_log(uint32_t number)
 
     log->used = log->events = 0;
     put_number(log, 0x474F4C5550434750, 8); /* PGCPULOG */
-    put_number(log, 1, 2);
+    put_number(log, settings.version, 2);
     put_number(log, machine.m, 1);
     put_number(log, (uint64_t)(rules.wp | rules.nxe << 1 | rules.smep << 2 | rules.smap << 3), 1);
     put_number(log, count_of_processors, 2);
@@ -59,12 +59,13 @@ void log_field(uint64_t value, unsigned bytes)
     put_number(log_of(own_number()), value, bytes);
 }
 
+/* Version 2 has two bytes for the number of a processor. */
 void log_event(uint8_t tag, uint64_t begin, uint64_t end)
 {
     log_field(begin, 8);
     log_field(end, 8);
     log_field(tag, 1);
-    log_field(own_number(), 1);
+    log_field(own_number(), (unsigned)settings.version);
 }
 
 void log_end(void)

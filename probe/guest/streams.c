@@ -284,7 +284,8 @@ void run_at_once(uint64_t seed)
 {
     uint32_t k;
 
-    if (settings.version != 1 || settings.burst > MOST_PLANNED - 4 || settings.focus > FOCUSES)
+    if (settings.version < 1 || settings.version > 2 || settings.burst > MOST_PLANNED - 4 ||
+        settings.focus > FOCUSES)
         stop("stopped: settings of a run at once", settings.focus);
     seed_random(seed);
     counter_page[0] = 1;
