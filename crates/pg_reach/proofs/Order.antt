@@ -66,9 +66,6 @@ latest_none xs at to h = λ w low high here. none_to xs to h w high here
 pub latest_early : (xs : List (Span Control)) (at to n : ℕ) (d : Span Control) → AreInOrder xs → IsCountTo xs to (n + 1) → min (slice_index_or xs n d).to to < at → IsLatest xs at to None
 latest_early xs at to n d order h early = λ w low high here. omega (arith, last_to xs to n d order h w high here, early, low, high)
 
-pub latest_not_there : (xs : List (Span Control)) (at to n : ℕ) (d : Span Control) → AreInOrder xs → IsCountTo xs to (n + 1) → (at ≤ min (slice_index_or xs n d).to to → ⊥) → IsLatest xs at to None
-latest_not_there xs at to n d order h late = latest_early xs at to n d order h (omega (arith, late))
-
 pub latest_there : (xs : List (Span Control)) (at to n : ℕ) (d : Span Control) → AreInOrder xs → IsCountTo xs to (n + 1) → at ≤ min (slice_index_or xs n d).to to → IsLatest xs at to (Some (min (slice_index_or xs n d).to to))
 latest_there xs at to n d order h low =
     let last : n < length xs = omega (arith, h.within) in (
@@ -95,6 +92,3 @@ count_left xs moment middle d order within begins i e low lt =
       | inl less ↦ omega (arith, order.next middle i e less lt, order.each middle e within, there)
       | inr past ↦ let is : i ≡ middle = omega (arith, past, low) in subst (λ k. moment < (slice_index_or xs k e).from) (sym is) there
     ]
-
-pub count_not_left : (xs : List (Span Control)) (moment middle : ℕ) (d : Span Control) → AreInOrder xs → middle < length xs → ((slice_index_or xs middle d).from ≤ moment → ⊥) → (i : ℕ) (e : Span Control) → middle ≤ i → i < length xs → moment < (slice_index_or xs i e).from
-count_not_left xs moment middle d order within late = count_left xs moment middle d order within (omega (arith, late))

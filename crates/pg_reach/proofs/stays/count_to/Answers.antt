@@ -1,5 +1,5 @@
 use Rattle.std.proofs.Common.{ℕ, ◌<◌, ◌+◌, ◌-◌, ◌/◌, length, arith}
-use Rattle.pg_reach.proofs.Order.{count_right, count_not_left}
+use Rattle.pg_reach.proofs.Order.{count_right, count_left}
 use Rattle.pg_reach.proofs.stays.count_to.Goals as goal
 
 pub loop-low-preserved-then-spans-middle : goal.loop-low-preserved-then-spans-middle
@@ -23,5 +23,5 @@ loop-low-preserved c =
       order = omega (arith, below);
       within = omega (arith, within);
       before = c.loop-low.invariant.before;
-      behind = count_not_left c.args.spans.now c.args.moment middle _ c.requires within c.if-spans-middle.false;
+      behind = count_left c.args.spans.now c.args.moment middle _ c.requires within c.if-spans-middle.false;
     }
