@@ -3,7 +3,6 @@
 #![tactic(auto)]
 
 mod asked;
-mod deduced;
 mod drops;
 mod edges;
 mod facts;
@@ -16,7 +15,6 @@ mod numbers;
 mod repair;
 mod search;
 mod stays;
-mod sure;
 mod sweep;
 mod versions;
 mod witness;
