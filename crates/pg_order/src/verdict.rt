@@ -1,6 +1,6 @@
 //! Whether the events of a run have an order with a run of the machine.
 
-ghost use Rattle.std.specs.Prelude.{◌≡◌, ℕ, ◌<◌, ◌↔◌, length, IfOk, IsTrue, slice_index};
+ghost use Rattle.std.specs.Prelude.{◌≡◌, ℕ, ◌<◌, ◌↔◌, length, IfOk, IfSome, IsTrue, slice_index};
 ghost use Rattle.std.specs.List.{range_with_len};
 ghost use Rattle.pg_spanned.specs.Spanned.{IsSpanned};
 ghost use Rattle.pg_spanned.specs.Laws.{NoneOverlap};
@@ -70,6 +70,17 @@ fn verdict_in_only_order(alloc: Global, run: &SpannedRun) -> Result<Verdict, All
         InOrder::Certified(found) => Ok(Verdict::Yes { order, found }),
         InOrder::Denied(place) => Ok(Verdict::Never(place)),
         InOrder::NoOrder => unreachable!(),
+    }
+}
+
+/// A yes in the order in which the events ended, where moments witness them in it.
+fn yes_in_ends(alloc: Global, run: &SpannedRun) -> Result<Option<Verdict>, AllocError>
+    ensures { IfOk result (λ found. IfSome found (IsVerdict run.now)) }
+{
+    let order = numbers_below(alloc, run.len() as u32)?;
+    match certify_in_order(alloc, run, &order)? {
+        InOrder::Certified(found) => Ok(Some(Verdict::Yes { order, found })),
+        InOrder::Denied(_) | InOrder::NoOrder => Ok(None),
     }
 }
 
@@ -159,9 +170,9 @@ fn verdict_in(alloc: Global, run: &SpannedRun, order: Vec<u32>) -> Result<Verdic
 
 /// Looks for an order of the events of a run in which some run of the machine has them. A yes has
 /// the order, and moments for the events in it. Where no event overlaps another the answer is a yes
-/// or a no. Else it is a no where in no order a run comes to an event that waits when the search
-/// gives up, as far as `refute` of `pg_relaxed` tells, or where a run of at most 64 events has no
-/// order with a run.
+/// or a no. Else the order in which the events ended is tried first, then a search. It is a no where
+/// in no order a run comes to an event that waits when the search gives up, as far as `refute` of
+/// `pg_relaxed` tells, or where a run of at most 64 events has no order with a run.
 ///
 /// It fails only where memory is refused.
 pub fn find_ordered_run(alloc: Global, run: &SpannedRun) -> Result<Verdict, AllocError>
@@ -169,6 +180,9 @@ pub fn find_ordered_run(alloc: Global, run: &SpannedRun) -> Result<Verdict, Allo
 {
     if none_overlap(run.backs()) {
         return verdict_in_only_order(alloc, run);
+    }
+    if let Some(verdict) = yes_in_ends(alloc, run)? {
+        return Ok(verdict);
     }
     match find_order(alloc, run)? {
         Sought::Order(order) => verdict_in(alloc, run, order),
