@@ -13,8 +13,8 @@ use std::alloc::{AllocError, Global};
 #[derive(Clone, Copy)]
 enum Scope {
     All,
-    /// All but global translations.
-    NotGlobal,
+    /// All, or all but global translations.
+    Most,
     /// Structure entries of a PCID.
     Structures(u16),
     /// Translations of a PCID that are not global.
@@ -36,7 +36,7 @@ pub(crate) struct Drops {
 
 const TABLES: [Level; 3] = [Level::Four, Level::Three, Level::Two];
 
-pub(crate) const PAGES: [Level; 3] = [Level::One, Level::Two, Level::Three];
+const PAGES: [Level; 3] = [Level::One, Level::Two, Level::Three];
 
 /// The number of a level, from 1.
 pub(crate) fn rank_of(level: Level) -> u64
@@ -53,7 +53,7 @@ pub(crate) fn rank_of(level: Level) -> u64
 fn key(p: u16, scope: Scope, la: u64) -> u64 {
     let (kind, pcid, level) = match scope {
         Scope::All => (0, 0, None),
-        Scope::NotGlobal => (1, 0, None),
+        Scope::Most => (1, 0, None),
         Scope::Structures(pcid) => (2, pcid, None),
         Scope::Space(pcid) => (3, pcid, None),
         Scope::Prefix(pcid, level) => (3 + rank_of(level), pcid, Some(level)),
@@ -81,6 +81,11 @@ impl Drops {
     fn push_space(&mut self, p: u16, pcid: u16, place: u32) -> Result<(), AllocError> {
         self.push(p, Scope::Structures(pcid), 0, place)?;
         self.push(p, Scope::Space(pcid), 0, place)
+    }
+
+    fn push_all(&mut self, p: u16, place: u32) -> Result<(), AllocError> {
+        self.push(p, Scope::All, 0, place)?;
+        self.push(p, Scope::Most, 0, place)
     }
 
     fn push_prefixes(&mut self, p: u16, pcid: u16, la: u64, place: u32) -> Result<(), AllocError> {
@@ -121,8 +126,8 @@ impl Drops {
                 self.push_pages(p, pcid, la, false, place)
             }
             1 => self.push_space(p, pcid, place),
-            2 => self.push(p, Scope::All, 0, place),
-            _ => self.push(p, Scope::NotGlobal, 0, place),
+            2 => self.push_all(p, place),
+            _ => self.push(p, Scope::Most, 0, place),
         }
     }
 
@@ -159,7 +164,7 @@ impl Drops {
                 if !changes_pge(control, on) {
                     return Ok(());
                 }
-                self.push(p, Scope::All, 0, place)
+                self.push_all(p, place)
             }
             Event::Access {
                 outcome: Outcome::Page(_),
@@ -174,29 +179,15 @@ impl Drops {
         self.lists.of(key(p, scope, la))
     }
 
-    /// The first slot from which on a structure entry lasts up to a slot.
-    pub(crate) fn structure_from(
-        &self,
-        p: u16,
-        pcid: u16,
-        level: Level,
-        la: u64,
-        slot: u32,
-    ) -> u32 {
-        let all = after_last(self.of(p, Scope::All, 0), slot);
-        let most = after_last(self.of(p, Scope::NotGlobal, 0), slot);
-        let space = after_last(self.of(p, Scope::Structures(pcid), 0), slot);
-        let prefix = after_last(self.of(p, Scope::Prefix(pcid, level), la), slot);
-        all.max(most).max(space).max(prefix)
-    }
-
-    /// The last slot up to which a structure entry of a slot lasts.
-    pub(crate) fn structure_to(&self, p: u16, pcid: u16, level: Level, la: u64, slot: u32) -> u32 {
-        let all = first_from(self.of(p, Scope::All, 0), slot);
-        let most = first_from(self.of(p, Scope::NotGlobal, 0), slot);
-        let space = first_from(self.of(p, Scope::Structures(pcid), 0), slot);
-        let prefix = first_from(self.of(p, Scope::Prefix(pcid, level), la), slot);
-        all.min(most).min(space).min(prefix)
+    /// When structure entries of a PCID for an address are dropped.
+    pub(crate) fn structures(&self, p: u16, pcid: u16, la: u64) -> StructureDrops<'_> {
+        StructureDrops {
+            most: self.of(p, Scope::Most, 0),
+            space: self.of(p, Scope::Structures(pcid), 0),
+            four: self.of(p, Scope::Prefix(pcid, Level::Four), la),
+            three: self.of(p, Scope::Prefix(pcid, Level::Three), la),
+            two: self.of(p, Scope::Prefix(pcid, Level::Two), la),
+        }
     }
 
     /// The first slot from which on a translation lasts up to a slot; of global ones the PCID is of
@@ -209,13 +200,74 @@ impl Drops {
         slot: u32,
     ) -> u32 {
         let (pcid, level, is_global) = page;
-        let all = after_last(self.of(p, Scope::All, 0), slot);
         if is_global {
+            let all = after_last(self.of(p, Scope::All, 0), slot);
             return all.max(after_last(self.of(p, Scope::GlobalPage(level), la), slot));
         }
-        let most = after_last(self.of(p, Scope::NotGlobal, 0), slot);
+        let most = after_last(self.of(p, Scope::Most, 0), slot);
         let space = after_last(self.of(p, Scope::Space(pcid), 0), slot);
         let page = after_last(self.of(p, Scope::Page(pcid, level), la), slot);
-        all.max(most).max(space).max(page)
+        most.max(space).max(page)
+    }
+
+    /// The same for each size of page, of translations of the PCID and of global ones.
+    pub(crate) fn translations_from(
+        &self,
+        p: u16,
+        pcid: u16,
+        la: u64,
+        slot: u32,
+    ) -> [(u32, u32); 3] {
+        let all = after_last(self.of(p, Scope::All, 0), slot);
+        let most = after_last(self.of(p, Scope::Most, 0), slot);
+        let space = after_last(self.of(p, Scope::Space(pcid), 0), slot);
+        let own = most.max(space);
+        let mut lows = [(own, all); 3];
+        for (i, level) in PAGES.iter().enumerate() {
+            let page = after_last(self.of(p, Scope::Page(pcid, *level), la), slot);
+            let global = after_last(self.of(p, Scope::GlobalPage(*level), la), slot);
+            if let Some(low) = lows.get_mut(i) {
+                *low = (own.max(page), all.max(global));
+            }
+        }
+        lows
+    }
+}
+
+/// When a processor drops structure entries of a PCID for an address.
+#[derive(Clone, Copy)]
+pub(crate) struct StructureDrops<'d> {
+    most: &'d [u32],
+    space: &'d [u32],
+    four: &'d [u32],
+    three: &'d [u32],
+    two: &'d [u32],
+}
+
+impl<'d> StructureDrops<'d> {
+    /// Of entries of a level.
+    fn prefix(&self, level: Level) -> &'d [u32] {
+        match level {
+            Level::Four => self.four,
+            Level::Three => self.three,
+            Level::Two => self.two,
+            Level::One => &[],
+        }
+    }
+
+    /// The first slot from which on an entry lasts up to a slot.
+    pub(crate) fn from(&self, level: Level, slot: u32) -> u32 {
+        let most = after_last(self.most, slot);
+        let space = after_last(self.space, slot);
+        let prefix = after_last(self.prefix(level), slot);
+        most.max(space).max(prefix)
+    }
+
+    /// The last slot up to which an entry of a slot lasts.
+    pub(crate) fn to(&self, level: Level, slot: u32) -> u32 {
+        let most = first_from(self.most, slot);
+        let space = first_from(self.space, slot);
+        let prefix = first_from(self.prefix(level), slot);
+        most.min(space).min(prefix)
     }
 }

@@ -5,6 +5,7 @@ use crate::drops::Drops;
 use crate::lists::Lists;
 use crate::numbers::{NEVER, at, count_below, number};
 use crate::stays::Stays;
+use crate::sure::Sure;
 use pg_entry::{Cfg, Entry, Kind, Level, classify};
 use pg_event::{Control, Event, Version, controlled, loaded, processor_of};
 use pg_spanned::SpannedRun;
@@ -28,6 +29,8 @@ pub(crate) struct Facts<'a> {
     pub writes: Lists,
     /// No event overlaps one that ended so many before it.
     pub reach: u32,
+    /// What is known beyond the spans.
+    pub sure: Sure,
 }
 
 /// The word that an event writes, if it writes one.
@@ -58,6 +61,7 @@ impl<'a> Facts<'a> {
             stays: Stays::new(alloc),
             writes: Lists::new(alloc),
             reach: 0,
+            sure: Sure::none(alloc),
         };
         for (cr3, pge) in header.processors.iter() {
             facts.own.push(Vec::new(alloc))?;
@@ -139,7 +143,24 @@ impl<'a> Facts<'a> {
 
     /// Whether one event must come before another.
     pub(crate) fn must_precede(&self, j: u32, i: u32) -> bool {
-        j < self.since(i) || j < i && self.processor(j) == self.processor(i)
+        if j < self.since(i) {
+            return true;
+        }
+        if self.sure.is_none() {
+            return j < i && self.processor(j) == self.processor(i);
+        }
+        self.is_surely_before(j, i)
+    }
+
+    /// The same by what is known beyond the spans.
+    fn is_surely_before(&self, j: u32, i: u32) -> bool {
+        let Some(p) = self.processor(j) else {
+            return false;
+        };
+        match self.sure.count(i, p) {
+            Some(count) => self.place(j) < count,
+            None => j < i && self.processor(i) == Some(p),
+        }
     }
 
     /// The place among the events of a processor of the first that is this event or must come after
@@ -149,7 +170,10 @@ impl<'a> Facts<'a> {
             return self.place(event);
         }
         match self.own.get(p as usize) {
-            Some(own) => number(own.partition_point(|i| self.since(*i) <= event)),
+            Some(own) if self.sure.is_none() => {
+                number(own.partition_point(|i| self.since(*i) <= event))
+            }
+            Some(own) => number(own.partition_point(|i| !self.must_precede(event, *i))),
             None => 0,
         }
     }
@@ -158,6 +182,9 @@ impl<'a> Facts<'a> {
     pub(crate) fn first_slot(&self, p: u16, event: u32) -> u32 {
         if self.processor(event) == Some(p) {
             return self.place(event).saturating_add(1);
+        }
+        if let Some(count) = self.sure.count(event, p) {
+            return count;
         }
         match self.own.get(p as usize) {
             Some(own) => count_below(own, self.since(event)),
@@ -208,7 +235,79 @@ impl<'a> Facts<'a> {
         false
     }
 
+    /// Whether what one event wrote to a word was surely overwritten before another event.
+    pub(crate) fn is_dead_before(&self, word: u32, writer: u32, event: u32) -> bool {
+        let writes = self.writes.list(word);
+        let first = match writer {
+            NEVER => 0,
+            _ => count_below(writes, self.since(writer)),
+        };
+        for k in first..number(writes.len()) {
+            let other = at(writes, k);
+            if other > event.saturating_add(self.reach) {
+                return false;
+            }
+            let is_later = writer == NEVER || self.must_precede(writer, other);
+            if is_later && self.marks(other).is_none() && self.must_precede(other, event) {
+                return true;
+            }
+        }
+        false
+    }
+
     pub(crate) fn control(&self, p: u16, slot: u32) -> Control {
         self.stays.control(p, slot)
+    }
+
+    /// How many events of a processor are surely before what comes behind an event.
+    fn count_with(&self, event: u32, p: u16) -> u32 {
+        if self.processor(event) == Some(p) {
+            self.place(event).saturating_add(1)
+        } else {
+            self.first_slot(p, event)
+        }
+    }
+
+    /// Raises what is known of an event to what is known of one before it.
+    fn raise(&mut self, event: u32, before: u32) -> Result<bool, AllocError> {
+        let mut is_news = false;
+        for p in 0..self.processors() {
+            if self.processor(event) == Some(p) {
+                continue;
+            }
+            let count = self.count_with(before, p);
+            if self.sure.raise(event, p, count)? {
+                is_news = true;
+            }
+        }
+        Ok(is_news)
+    }
+
+    /// The same of an event of a processor and those behind it, as far as it is news.
+    fn raise_all(&mut self, p: u16, first: u32, before: u32) -> Result<(), AllocError> {
+        for place in first..self.count(p) {
+            let Some(event) = self.own(p, place) else {
+                break;
+            };
+            if !self.raise(event, before)? {
+                break;
+            }
+        }
+        Ok(())
+    }
+
+    /// Notes that one event surely comes before another. Says no where it can't.
+    pub(crate) fn note_order(&mut self, before: u32, after: u32) -> Result<bool, AllocError> {
+        if before == after || self.must_precede(after, before) {
+            return Ok(false);
+        }
+        if self.must_precede(before, after) {
+            return Ok(true);
+        }
+        for p in 0..self.processors() {
+            let first = self.after(p, after);
+            self.raise_all(p, first, before)?;
+        }
+        Ok(true)
     }
 }

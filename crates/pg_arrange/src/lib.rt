@@ -3,6 +3,7 @@
 #![tactic(auto)]
 
 mod asked;
+mod deduced;
 mod drops;
 mod edges;
 mod facts;
@@ -15,6 +16,7 @@ mod numbers;
 mod repair;
 mod search;
 mod stays;
+mod sure;
 mod sweep;
 mod versions;
 mod witness;

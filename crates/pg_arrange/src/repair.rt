@@ -7,12 +7,20 @@ use crate::learned::Learned;
 use crate::looked::Looked;
 use crate::numbers::NEVER;
 use crate::search::Maker;
+use crate::sure::Sure;
 use crate::sweep::{Hit, Limits, Sweep, View};
 use std::alloc::{AllocError, Global};
 use std::collections::HashMap;
 
-/// How often an event may be found to be the first that waits.
-const MOST_TRIES: u32 = 2000;
+/// How often an event may be found to be the first that waits, before it is looked for what is
+/// surely in order around it; twice as often after each three times that it was.
+const MOST_TRIES: u32 = 30;
+
+/// How often that is looked for around an event.
+const MOST_ROUNDS: u32 = 12;
+
+/// Events that are so many apart are looked at one by one.
+const APART: u32 = 400;
 
 /// After so many of them all that was learned is forgotten, and up to so many events are taken
 /// back.
@@ -23,7 +31,7 @@ const FAR_BACK: u32 = 400;
 /// How many events may be taken back in all, for each of the run and for so many more.
 const MOST_UNDONE: u64 = 64;
 
-const MORE: u64 = 1000;
+const MORE: u64 = 4000;
 
 const ALL_WINDOWS: u32 = NEVER;
 
@@ -34,6 +42,9 @@ pub(crate) struct Tries {
     tried: HashMap<u64, u32>,
     /// How often an event was the first that waits.
     stuck: HashMap<u32, u32>,
+    /// How often it was looked for what is surely in order around an event.
+    rounds: u32,
+    around: u32,
 }
 
 /// Edges to be learned for an event that waits.
@@ -52,6 +63,8 @@ impl Tries {
         Tries {
             tried: HashMap::new(alloc),
             stuck: HashMap::new(alloc),
+            rounds: 0,
+            around: 0,
         }
     }
 
@@ -84,7 +97,11 @@ fn key_of(event: u32, edges: &[Edge]) -> u64 {
 
 impl<'a> Maker<'a> {
     /// The walks that may witness an event in some order, and whether all were looked at.
-    fn possible_hits(&self, asked: &Asked, limits: Limits) -> Result<(Vec<Hit>, bool), AllocError> {
+    pub(crate) fn possible_hits(
+        &self,
+        asked: &Asked,
+        limits: Limits,
+    ) -> Result<(Vec<Hit>, bool), AllocError> {
         let view = View {
             facts: &self.facts,
             made: &self.made,
@@ -205,6 +222,32 @@ impl<'a> Maker<'a> {
         self.take_back_to(now.saturating_sub(back))
     }
 
+    /// How often it was looked for what is surely in order around an event.
+    fn rounds(&self, event: u32) -> u32 {
+        let Tries { around, .. } = self.tries;
+        if around.max(event).saturating_sub(around.min(event)) < APART {
+            self.tries.rounds
+        } else {
+            0
+        }
+    }
+
+    /// Begins again further back with what is surely in order, and with nothing learned or tried.
+    /// Says no where no order may be.
+    fn begin_again(&mut self, event: u32) -> Result<bool, AllocError> {
+        self.tries = Tries {
+            rounds: self.rounds(event).saturating_add(1),
+            around: event,
+            ..Tries::new(self.alloc)
+        };
+        self.learned = Learned::new(self.alloc);
+        let supposed = match self.tries.rounds {
+            0..=2 => 0,
+            rounds => rounds.min(8) << 2,
+        };
+        self.deduce(event, supposed)
+    }
+
     /// Notes that this event was the first that waits, and tells how often it was.
     fn note_stuck(&mut self, event: u32) -> Result<u32, AllocError> {
         let tries = self.tries.stuck(event).saturating_add(1);
@@ -228,16 +271,49 @@ impl<'a> Maker<'a> {
         Ok(waiting)
     }
 
-    fn is_spent(&self, tries: u32) -> bool {
+    /// Whether the search gives up, and does not begin again around this event.
+    fn is_spent(&self, event: u32) -> bool {
         let most = (self.facts.run.len() as u64)
             .saturating_add(MORE)
             .saturating_mul(MOST_UNDONE);
-        tries > MOST_TRIES || self.made.undone > most
+        self.rounds(event) >= MOST_ROUNDS || self.made.undone > most
+    }
+
+    /// Forgets what is sure once all that it tells of has a place.
+    fn forget_what_is_past(&mut self) {
+        if self.facts.sure.ends_before(self.made.low()) {
+            self.facts.sure = Sure::none(self.alloc);
+            self.surely = 0;
+        }
+    }
+
+    /// Puts an event next that waits, where it is witnessed by what a short look did not see.
+    fn look_far(&mut self) -> Result<bool, AllocError> {
+        for p in 0..self.facts.processors() {
+            let Some(event) = self.front(p) else {
+                continue;
+            };
+            if self.learned.holds(&self.made, event) || !self.may_be_far(p, event) {
+                continue;
+            }
+            let Some(asked) = asked_of(&self.facts, event) else {
+                continue;
+            };
+            if self.look(&asked, ALL_WINDOWS)?.is_none() {
+                self.put(event)?;
+                return Ok(true);
+            }
+        }
+        Ok(false)
     }
 
     /// Another order of what stands, so that one of the events that wait is witnessed. Where none
     /// is found, the events that wait.
     pub(crate) fn repair(&mut self) -> Result<Option<Vec<u32>>, AllocError> {
+        self.forget_what_is_past();
+        if self.look_far()? {
+            return Ok(None);
+        }
         let mut held = Vec::new(self.alloc);
         let mut best: Option<Plan> = None;
         let is_hard = self.tries.stuck(self.made.low()) % 16 > 11;
@@ -254,13 +330,9 @@ impl<'a> Maker<'a> {
             let Some(asked) = asked_of(&self.facts, event) else {
                 continue;
             };
-            if self.look(&asked, ALL_WINDOWS)?.is_none() {
-                self.put(event)?;
-                return Ok(None);
-            }
             let (hits, is_whole) = self.some_hits(&asked, is_hard)?;
             if asked.is_hopeless || hits.is_empty() && is_whole {
-                return Ok(Some(self.waiting(event)?));
+                return self.give_up(event);
             }
             for hit in hits.iter() {
                 for taste in [Taste::AsMade, Taste::Turned, Taste::Random] {
@@ -269,11 +341,27 @@ impl<'a> Maker<'a> {
             }
         }
         let tries = self.note_stuck(first)?;
-        if self.is_spent(tries) {
-            return Ok(Some(self.waiting(first)?));
+        if tries > MOST_TRIES << (self.tries.rounds / 3).min(8) {
+            return self.go_on_or_give_up(first);
         }
         self.go_on(best, held.as_slice(), tries)?;
         Ok(None)
+    }
+
+    /// Begins again around an event, or gives up.
+    fn go_on_or_give_up(&mut self, event: u32) -> Result<Option<Vec<u32>>, AllocError> {
+        if self.is_spent(event) || !self.begin_again(event)? {
+            return Ok(Some(self.waiting(event)?));
+        }
+        Ok(None)
+    }
+
+    /// The same where nothing may witness an event: begins again only where that was supposed.
+    fn give_up(&mut self, event: u32) -> Result<Option<Vec<u32>>, AllocError> {
+        if self.has_supposed() {
+            return self.go_on_or_give_up(event);
+        }
+        Ok(Some(self.waiting(event)?))
     }
 
     /// Takes the best plan, or forgets what holds another event up.

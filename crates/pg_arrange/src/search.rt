@@ -7,7 +7,7 @@ use crate::found::Found;
 use crate::learned::Learned;
 use crate::looked::Looked;
 use crate::made::Made;
-use crate::numbers::Chance;
+use crate::numbers::{Chance, number};
 use crate::repair::Tries;
 use crate::witness::Witness;
 use pg_event::{Event, Outcome};
@@ -31,10 +31,12 @@ struct Wait {
     /// Whether it is worth asking again: a word that was looked at was written since.
     is_stale: bool,
     looked: Looked,
+    /// Whether all windows were looked at.
+    is_whole: bool,
 }
 
 /// So many windows between drops are looked at before another event is tried.
-const FEW_WINDOWS: u32 = 8;
+const FEW_WINDOWS: u32 = 4;
 
 /// An order that is being made.
 #[derive(Drop)]
@@ -48,6 +50,8 @@ pub(crate) struct Maker<'a> {
     pub chance: Chance,
     /// For each processor what it waits with.
     waits: Vec<Option<Wait>>,
+    /// How much of what was raised in `facts.sure` is sure, and not supposed.
+    pub surely: usize,
 }
 
 /// The place of an event among those that can come next: answers change nothing; faults and
@@ -107,37 +111,66 @@ impl<'a> Maker<'a> {
             tries: Tries::new(alloc),
             chance: Chance::new(1),
             waits: vec![in alloc; None; processors]?,
+            surely: 0,
         })
     }
 
     /// The next event of a processor, where all that had ended before it began have a place.
     pub(crate) fn front(&self, p: u16) -> Option<u32> {
         let event = self.facts.own(p, self.made.count(p))?;
-        if self.facts.since(event) <= self.made.low() {
+        if self.facts.since(event) <= self.made.low() && !self.is_early(event) {
             Some(event)
         } else {
             None
         }
     }
 
+    /// Whether an event is known to come behind one that has no place yet.
+    fn is_early(&self, event: u32) -> bool {
+        if self.facts.sure.is_none() {
+            return false;
+        }
+        (0..self.facts.processors()).any(|q| match self.facts.sure.count(event, q) {
+            Some(count) => self.made.count(q) < count,
+            None => false,
+        })
+    }
+
     /// Whether an event is witnessed if it comes next, by a search of so many windows; else what it
-    /// looked at.
+    /// looked at, and whether these were all windows.
     pub(crate) fn look(
         &mut self,
         asked: &Asked,
         windows: u32,
-    ) -> Result<Option<Looked>, AllocError> {
+    ) -> Result<Option<(Looked, bool)>, AllocError> {
         let mut witness = Witness {
             alloc: self.alloc,
             facts: &self.facts,
             made: &self.made,
             found: &mut self.found,
             looked: Looked::new(),
+            is_whole: true,
         };
         if witness.is_witnessed(asked, windows)? {
             Ok(None)
         } else {
-            Ok(Some(witness.looked))
+            Ok(Some((witness.looked, witness.is_whole)))
+        }
+    }
+
+    /// How an event of a processor waits.
+    fn wait(&self, p: u16, event: u32) -> Option<Wait> {
+        match self.waits.get(p as usize) {
+            Some(Some(wait)) if wait.event == event => Some(*wait),
+            _ => None,
+        }
+    }
+
+    /// Whether an event waits that was not looked for in all windows.
+    pub(crate) fn may_be_far(&self, p: u16, event: u32) -> bool {
+        match self.wait(p, event) {
+            Some(wait) => !wait.is_whole,
+            None => true,
         }
     }
 
@@ -152,25 +185,28 @@ impl<'a> Maker<'a> {
         let Some(asked) = asked_of(&self.facts, event) else {
             return Ok(true);
         };
-        if let Some(Some(wait)) = self.waits.get(p as usize) {
-            if wait.event == event && !wait.is_stale {
-                return Ok(false);
-            }
-        }
-        match self.look(&asked, FEW_WINDOWS)? {
-            None => Ok(true),
-            Some(looked) => {
-                self.set_wait(
-                    p,
-                    Some(Wait {
-                        event,
-                        is_stale: false,
-                        looked,
-                    }),
-                );
-                Ok(false)
-            }
-        }
+        let before = self.wait(p, event);
+        let windows = match before {
+            Some(wait) if !wait.is_stale => return Ok(false),
+            // What stood before the last drop is as it was.
+            Some(_) => 1,
+            None => FEW_WINDOWS,
+        };
+        let Some((looked, is_whole)) = self.look(&asked, windows)? else {
+            return Ok(true);
+        };
+        let is_whole = match before {
+            Some(wait) => wait.is_whole,
+            None => is_whole,
+        };
+        let wait = Wait {
+            event,
+            is_stale: false,
+            looked,
+            is_whole,
+        };
+        self.set_wait(p, Some(wait));
+        Ok(false)
     }
 
     fn rank(&self, event: u32) -> u64 {
@@ -253,11 +289,24 @@ impl<'a> Maker<'a> {
     }
 }
 
+/// The order of the events of one processor: they have no other.
+fn only_order(alloc: Global, run: &SpannedRun) -> Result<Vec<u32>, AllocError> {
+    let count = number(run.len());
+    let mut order = Vec::with_capacity(alloc, count as usize)?;
+    for event in 0..count {
+        order.push(event)?;
+    }
+    Ok(order)
+}
+
 /// An order of the events of a run in which each is witnessed, as far as this search sees. It gives
 /// up once an event was the first that waits so often, or so many events were taken back.
 ///
 /// It fails only where memory is refused.
 pub fn find_order(alloc: Global, run: &SpannedRun) -> Result<Sought, AllocError> {
+    if run.header().processors.len() == 1 {
+        return Ok(Sought::Order(only_order(alloc, run)?));
+    }
     let mut maker = Maker::new(alloc, run)?;
     for _ in 0..u64::MAX {
         if maker.is_whole() {

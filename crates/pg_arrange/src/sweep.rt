@@ -2,7 +2,7 @@
 //! the slots of its processor.
 
 use crate::asked::Asked;
-use crate::drops::PAGES;
+use crate::drops::StructureDrops;
 use crate::facts::Facts;
 use crate::looked::Looked;
 use crate::made::Made;
@@ -116,8 +116,12 @@ pub(crate) struct Sweep<'v> {
     limits: Limits,
     pcid: u16,
     /// For each size of page the first slot from which on a translation lasts up to the event, and
-    /// a global one.
-    lows: [(u32, u32); 3],
+    /// a global one, once they were looked up.
+    lows: Option<[(u32, u32); 3]>,
+    /// Whether the window is looked at that lasts up to the event.
+    is_newest: bool,
+    /// When structure entries of the PCID are dropped.
+    drops: StructureDrops<'v>,
     end: u32,
     over: Vec<Spell>,
     under: Vec<Spell>,
@@ -127,6 +131,12 @@ pub(crate) struct Sweep<'v> {
     pub looked: Looked,
     /// Whether all was looked at.
     pub is_whole: bool,
+}
+
+/// Whether what was written to a word was surely overwritten before a source of what was read above
+/// it.
+fn is_dead_above(facts: &Facts<'_>, word: u32, writer: u32, source: u32) -> bool {
+    source != NEVER && facts.is_dead_before(word, writer, source)
 }
 
 impl<'v> Sweep<'v> {
@@ -142,7 +152,12 @@ impl<'v> Sweep<'v> {
             asked,
             limits,
             pcid: asked.control.pcid,
-            lows: [(NEVER, NEVER); 3],
+            lows: None,
+            is_newest: true,
+            drops: view
+                .facts
+                .drops
+                .structures(asked.p, asked.control.pcid, asked.la),
             end: 0,
             over: Vec::new(alloc),
             under: Vec::new(alloc),
@@ -168,25 +183,54 @@ impl<'v> Sweep<'v> {
             ..
         } = *self.asked;
         if !self.asked.is_page() {
-            let drops = &self.view.facts.drops;
-            let from = drops.structure_from(p, control.pcid, Level::Two, la, slot);
+            let from = self.drops.from(Level::Two, slot);
             return self.window(from, slot);
         }
-        self.set_lows(true);
-        self.windows(control.pcid)?;
+        let from = self.drops.from(Level::Two, slot);
+        self.window(from, slot)?;
+        self.is_newest = false;
+        if self.is_done() || self.limits.windows < 2 {
+            return Ok(());
+        }
+        if from > 0 {
+            self.windows(from - 1)?;
+        }
         if control.pge {
-            self.set_lows(false);
-            let view = self.view;
-            for pcid in view.facts.stays.pcids(p) {
-                if *pcid != control.pcid && !self.is_done() {
-                    self.windows(*pcid)?;
-                }
+            self.others()?;
+        }
+        Ok(())
+    }
+
+    /// The windows under other PCIDs, in which global pages may have been found.
+    fn others(&mut self) -> Result<(), AllocError> {
+        let view = self.view;
+        let Asked {
+            p,
+            slot,
+            control,
+            la,
+            ..
+        } = *self.asked;
+        let mut lows = self.all_lows();
+        for low in lows.iter_mut() {
+            low.0 = NEVER;
+        }
+        self.lows = Some(lows);
+        for pcid in view.facts.stays.pcids(p) {
+            if *pcid != control.pcid && !self.is_done() {
+                self.pcid = *pcid;
+                self.drops = view.facts.drops.structures(p, *pcid, la);
+                self.windows(slot)?;
             }
         }
         Ok(())
     }
 
-    fn set_lows(&mut self, is_own: bool) {
+    /// For each size of page the first slot from which on a translation lasts up to the event.
+    fn all_lows(&mut self) -> [(u32, u32); 3] {
+        if let Some(lows) = self.lows {
+            return lows;
+        }
         let Asked {
             p,
             slot,
@@ -195,42 +239,32 @@ impl<'v> Sweep<'v> {
             ..
         } = *self.asked;
         let drops = &self.view.facts.drops;
-        for (i, level) in PAGES.iter().enumerate() {
-            let own = if is_own {
-                drops.translation_from(p, (control.pcid, *level, false), la, slot)
-            } else {
-                NEVER
-            };
-            let global = if control.pge {
-                drops.translation_from(p, (control.pcid, *level, true), la, slot)
-            } else {
-                NEVER
-            };
-            if let Some(low) = self.lows.get_mut(i) {
-                *low = (own, global);
+        let mut lows = drops.translations_from(p, control.pcid, la, slot);
+        if !control.pge {
+            for low in lows.iter_mut() {
+                low.1 = NEVER;
             }
         }
+        self.lows = Some(lows);
+        lows
     }
 
-    fn low(&self, level: Level, is_global: bool) -> u32 {
+    fn low(&mut self, level: Level, is_global: bool) -> u32 {
+        let lows = self.all_lows();
         let i = match level {
             Level::One => 0,
             Level::Two => 1,
             Level::Three | Level::Four => 2,
         };
-        if is_global {
-            self.lows[i].1
-        } else {
-            self.lows[i].0
-        }
+        if is_global { lows[i].1 } else { lows[i].0 }
     }
 
-    /// The windows between drops under a PCID, the latest first.
-    fn windows(&mut self, pcid: u16) -> Result<(), AllocError> {
-        self.pcid = pcid;
-        let Asked { p, slot, la, .. } = *self.asked;
+    /// The windows between drops under a PCID up to a slot, the latest first.
+    fn windows(&mut self, slot: u32) -> Result<(), AllocError> {
+        let pcid = self.pcid;
+        let Asked { p, .. } = *self.asked;
         let view = self.view;
-        let lows = self.lows;
+        let lows = self.all_lows();
         let least = lows
             .iter()
             .fold(NEVER, |least, low| least.min(low.0).min(low.1));
@@ -238,10 +272,7 @@ impl<'v> Sweep<'v> {
         for _ in 0..self.limits.windows {
             match view.facts.stays.last(p, pcid, last) {
                 Some(end) if end >= least => {
-                    let from = view
-                        .facts
-                        .drops
-                        .structure_from(p, pcid, Level::Two, la, end);
+                    let from = self.drops.from(Level::Two, end);
                     self.window(from, end)?;
                     if self.is_done() || from == 0 {
                         return Ok(());
@@ -261,9 +292,11 @@ impl<'v> Sweep<'v> {
         let p = self.asked.p;
         self.end = view.end(p, last);
         self.over.clear();
-        for stay in view.facts.stays.of(p, self.pcid) {
-            if stay.last < first || stay.first > last {
-                continue;
+        let stays = view.facts.stays.of(p, self.pcid);
+        let skipped = stays.partition_point(|stay| stay.last < first);
+        for stay in stays.iter().skip(skipped) {
+            if stay.first > last {
+                break;
             }
             self.over.push(Spell {
                 table: stay.root,
@@ -294,7 +327,7 @@ impl<'v> Sweep<'v> {
     fn read(&mut self, level: Level, spell: &Spell) -> Result<(), AllocError> {
         let view = self.view;
         let address = spell.table | ((self.asked.la >> level_shift(level)) % 512) << 3;
-        if view.is_made {
+        if view.is_made && self.is_newest {
             self.looked.note(address);
         }
         self.versions.clear();
@@ -361,6 +394,23 @@ impl<'v> Sweep<'v> {
         hit
     }
 
+    /// Whether what was written was surely overwritten before what was read above it was written.
+    fn is_dead(&self, spell: &Spell, word: u32, writer: u32) -> bool {
+        let View { facts, is_made, .. } = self.view;
+        if is_made {
+            return false;
+        }
+        if facts.is_dead_below(word, writer, spell.bound) {
+            return true;
+        }
+        !facts.sure.is_none()
+            && spell
+                .readings
+                .iter()
+                .take(spell.count)
+                .any(|above| is_dead_above(facts, word, writer, above.writer))
+    }
+
     fn read_version(
         &mut self,
         level: Level,
@@ -372,8 +422,7 @@ impl<'v> Sweep<'v> {
         let view = self.view;
         let from = version.from.max(spell.from);
         let to = version.to.min(spell.to);
-        let is_dead = !view.is_made && view.facts.is_dead_below(word, version.writer, spell.bound);
-        if from > to || is_dead {
+        if from > to || self.is_dead(spell, word, version.writer) {
             return Ok(());
         }
         let hit = self.hit_of(
@@ -466,6 +515,14 @@ impl<'v> Sweep<'v> {
         {
             return Ok(());
         }
+        if !view.is_made
+            && !view.facts.sure.is_none()
+            && view
+                .facts
+                .is_dead_before(reading.word, reading.writer, asked.event)
+        {
+            return Ok(());
+        }
         if let Some(place) = hit.readings.get_mut(i) {
             place.from = now;
         }
@@ -487,15 +544,9 @@ impl<'v> Sweep<'v> {
 
     /// Until when a structure entry of a slot lasts.
     fn lasts_to(&self, level: Level, slot: u32) -> u32 {
-        let Asked { p, la, .. } = *self.asked;
-        match self
-            .view
-            .facts
-            .drops
-            .structure_to(p, self.pcid, level, la, slot)
-        {
+        match self.drops.to(level, slot) {
             drop if drop == NEVER => self.end,
-            drop => self.view.end(p, drop).min(self.end),
+            drop => self.view.end(self.asked.p, drop).min(self.end),
         }
     }
 
@@ -544,13 +595,11 @@ impl<'v> Sweep<'v> {
 
     /// Events below it are surely before what was read so far.
     fn bound_of(&self, above: u32, read: &Reading) -> u32 {
-        let mut bound = above;
-        for source in [read.writer, read.assist] {
-            if source != NEVER && !self.view.is_made {
-                bound = bound.max(self.view.facts.since(source));
-            }
+        // (Another assist may have set the same flags.)
+        if read.writer == NEVER || self.view.is_made {
+            return above;
         }
-        bound
+        above.max(self.view.facts.since(read.writer))
     }
 
     /// Whether one is known that leads as far.

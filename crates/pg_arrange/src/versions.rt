@@ -72,10 +72,18 @@ impl<'s> Search<'s> {
     fn last_slot(&self, writer: u32, next: u32) -> u32 {
         let writes = self.facts.writes.list(self.word);
         let mut to = NEVER - 1;
+        let (next, reach) = if self.facts.sure.is_none() || writer == NEVER {
+            (next, 0)
+        } else {
+            (
+                count_below(writes, self.facts.since(writer)),
+                self.facts.reach,
+            )
+        };
         for k in next..number(writes.len()) {
             let other = at(writes, k);
             if let Some(event) = self.facts.own(self.p, to) {
-                if other > event {
+                if other > event.saturating_add(reach) {
                     break;
                 }
             }

@@ -24,6 +24,8 @@ pub(crate) struct Witness<'w> {
     pub found: &'w mut Found,
     /// The words that were looked at.
     pub looked: Looked,
+    /// Whether all windows were looked at.
+    pub is_whole: bool,
 }
 
 /// What the walk of now comes to.
@@ -128,6 +130,7 @@ impl<'w> Witness<'w> {
         let mut sweep = Sweep::new(self.alloc, view, asked, limits, self.looked);
         sweep.run()?;
         self.looked = sweep.looked;
+        self.is_whole = sweep.is_whole;
         let Some(hit) = sweep.hits.first().copied() else {
             return Ok(false);
         };
