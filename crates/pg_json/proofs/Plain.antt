@@ -1,5 +1,5 @@
 -- A tree has no fraction, so its text is known.
-use Rattle.std.proofs.Common.{◌≡◌, ℕ, List, true, false, ◌||◌, Ordering, Less, Equal, Greater, refl, ap}
+use Rattle.std.proofs.Common.{◌≡◌, ℕ, List, Bool, true, false, ◌||◌, Ordering, Less, Equal, Greater, refl, ap}
 use Rattle.std.specs.Ordering.{nat_cmp, match_ordering}
 use Rattle.std.specs.Cmp.Lexicographic.{slice_cmp}
 use Rattle.serde_json.specs.Data as json

@@ -44,12 +44,12 @@ outcome_json (Page page) = object (field (codes "page") (hex page) no_fields)
 outcome_json (Fault code) = object (code_fields code)
 
 -- what an access asks of the rights, by its flags, and its linear address
-abbrev pub with_access : ℕ → ℕ → Fields → Fields
-with_access flags la others =
+abbrev pub asked_fields : ℕ → ℕ → Fields
+asked_fields flags la =
     field (codes "user") (flag (access_kind flags).user)
     (field (codes "ac") (flag (access_kind flags).ac)
     (field (codes "operation") (text (op_name (access_kind flags).op))
-    (field (codes "address") (hex la) others)))
+    (field (codes "address") (hex la) no_fields)))
 
 abbrev pub write_fields : ℕ → ℕ → Fields
 write_fields addr value =
@@ -59,13 +59,13 @@ write_fields addr value =
 abbrev pub access_fields : ℕ → ℕ → Outcome → Fields
 access_fields flags la outcome =
     field (codes "kind") (text (codes "access"))
-    (with_access flags la (field (codes "outcome") (outcome_json outcome) no_fields))
+    (field (codes "outcome") (outcome_json outcome) (asked_fields flags la))
 
 abbrev pub assist_fields : ℕ → ℕ → ℕ → Fields
 assist_fields flags la word =
     field (codes "kind") (text (codes "assist"))
-    (with_access flags la (field (codes "word") (hex word)
-    (field (codes "dirty") (flag (says_dirty flags)) no_fields)))
+    (field (codes "word") (hex word) (field (codes "dirty") (flag (says_dirty flags))
+    (asked_fields flags la)))
 
 abbrev pub root_fields : ℕ → Fields
 root_fields operand =

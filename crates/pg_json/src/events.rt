@@ -4,7 +4,7 @@ ghost use Rattle.std.specs.Prelude.{◌≡◌, IfOk, OnOk, codes};
 ghost use Rattle.serde_json.specs.Data.{put as with_member};
 ghost use Rattle.serde_json.specs.View.{view, members_view};
 ghost use Rattle.pg_json.specs.Tree.{data_of, members_of, counts, Fields as Told};
-ghost use Rattle.pg_json.specs.Events.{op_name, code_fields, outcome_json, with_access};
+ghost use Rattle.pg_json.specs.Events.{op_name, code_fields, outcome_json, asked_fields};
 ghost use Rattle.pg_json.specs.Events.{write_fields, access_fields, assist_fields, root_fields};
 ghost use Rattle.pg_json.specs.Events.{page_drop_fields, pcid_drop_fields, switch_fields};
 ghost use Rattle.pg_json.specs.Events.{deed_fields, claim_fields, claim_json, with_moments};
@@ -65,16 +65,17 @@ fn write_fields(alloc: Global, addr: u64, value: u64) -> Result<Fields, AllocErr
     Ok(fields)
 }
 
-/// Puts what an access asks of the rights, by its flags, and its linear address.
-fn put_access(fields: &mut Fields, alloc: Global, flags: u8, la: u64) -> Result<(), AllocError>
-    ensures { (others : Told) → members_view fields.old.entries ≡ members_of others →
-        OnOk result (members_view fields.new.entries ≡ members_of (with_access flags la others)) }
+/// What an access asks of the rights, by its flags, and its linear address.
+fn asked_fields(alloc: Global, flags: u8, la: u64) -> Result<Fields, AllocError>
+    ensures { IfOk result (λ m. members_view m.entries ≡ members_of (asked_fields flags la)) }
 {
     let kind = access_kind(flags);
-    put_hex(fields, alloc, "address", la)?;
-    put_text(fields, alloc, "operation", op_name(kind.op))?;
-    put_flag(fields, alloc, "ac", kind.ac)?;
-    put_flag(fields, alloc, "user", kind.user)
+    let mut fields = Map::new(alloc);
+    put_hex(&mut fields, alloc, "address", la)?;
+    put_text(&mut fields, alloc, "operation", op_name(kind.op))?;
+    put_flag(&mut fields, alloc, "ac", kind.ac)?;
+    put_flag(&mut fields, alloc, "user", kind.user)?;
+    Ok(fields)
 }
 
 fn access_fields(
@@ -86,10 +87,9 @@ fn access_fields(
     ensures { IfOk result (λ m. members_view m.entries
         ≡ members_of (access_fields flags la outcome)) }
 {
-    let mut fields = Map::new(alloc);
+    let mut fields = asked_fields(alloc, flags, la)?;
     let got = outcome_json(alloc, outcome)?;
     put(&mut fields, alloc, "outcome", got)?;
-    put_access(&mut fields, alloc, flags, la)?;
     put_text(&mut fields, alloc, "kind", "access")?;
     Ok(fields)
 }
@@ -98,10 +98,9 @@ fn assist_fields(alloc: Global, flags: u8, la: u64, word: u64) -> Result<Fields,
     ensures { IfOk result (λ m. members_view m.entries
         ≡ members_of (assist_fields flags la word)) }
 {
-    let mut fields = Map::new(alloc);
+    let mut fields = asked_fields(alloc, flags, la)?;
     put_flag(&mut fields, alloc, "dirty", says_dirty(flags))?;
     put_hex(&mut fields, alloc, "word", word)?;
-    put_access(&mut fields, alloc, flags, la)?;
     put_text(&mut fields, alloc, "kind", "assist")?;
     Ok(fields)
 }

@@ -91,7 +91,8 @@ fn numbers(alloc: Global, numbers: &[u32]) -> Result<Vec<Value>, AllocError>
 pub fn numbers_json(alloc: Global, told: &[u32]) -> Result<Value, AllocError>
     ensures { IfOk result (λ v. view v ≡ data_of (counts told.now)) }
 {
-    Ok(list_of(numbers(alloc, told)?))
+    let values = numbers(alloc, told)?;
+    Ok(list_of(values))
 }
 
 /// The object of fields.
