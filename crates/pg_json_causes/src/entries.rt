@@ -112,5 +112,6 @@ pub(crate) fn walk_json(alloc: Global, walk: &[WalkEntry]) -> Result<Value, Allo
     ensures { IfOk result (λ v. view v ≡ data_of (walk_json walk.now)) }
 {
     let told = told_entries(alloc, walk)?;
-    Ok(list_of(entries(alloc, &told)?))
+    let values = entries(alloc, &told)?;
+    Ok(list_of(values))
 }

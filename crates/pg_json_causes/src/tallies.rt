@@ -35,13 +35,15 @@ fn addresses(alloc: Global, addresses: &[u64]) -> Result<Vec<Value>, AllocError>
 fn numbers_json(alloc: Global, told: &[u64]) -> Result<Value, AllocError>
     ensures { IfOk result (λ v. view v ≡ data_of (counts told.now)) }
 {
-    Ok(list_of(numbers(alloc, told)?))
+    let values = numbers(alloc, told)?;
+    Ok(list_of(values))
 }
 
 fn addresses_json(alloc: Global, told: &[u64]) -> Result<Value, AllocError>
     ensures { IfOk result (λ v. view v ≡ data_of (hexes told.now)) }
 {
-    Ok(list_of(addresses(alloc, told)?))
+    let values = addresses(alloc, told)?;
+    Ok(list_of(values))
 }
 
 fn tally_json(alloc: Global, tally: &Tally) -> Result<Value, AllocError>
@@ -75,5 +77,6 @@ fn each(alloc: Global, tallies: &[Tally]) -> Result<Vec<Value>, AllocError>
 pub fn tallies_json(alloc: Global, tallies: &[Tally]) -> Result<Value, AllocError>
     ensures { IfOk result (λ v. view v ≡ data_of (tallies_json tallies.now)) }
 {
-    Ok(list_of(each(alloc, tallies)?))
+    let values = each(alloc, tallies)?;
+    Ok(list_of(values))
 }
