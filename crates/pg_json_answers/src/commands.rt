@@ -1,15 +1,17 @@
 //! A record's answer as JSON, over any streams.
 
-ghost use Rattle.std.specs.Prelude.{◌≡◌};
+ghost use Rattle.std.specs.Prelude.{◌≡◌, IfOk, string_bytes};
 ghost use Rattle.pg_pool.specs.Rounds.{AreCheckers};
+ghost use Rattle.pg_report.specs.Audits.{WritesText};
 ghost use Rattle.pg_report.specs.Changes.{drawn, filled};
+ghost use Rattle.pg_report.specs.Intake.{TellsDevice};
 ghost use Rattle.pg_answers.specs.Certificates.{certificate_status};
 ghost use Rattle.pg_answers.specs.Texts.{GivesTextOf, IsTextGivenBy};
 ghost use Rattle.pg_auditing.specs.Streams.{streams};
 ghost use Rattle.pg_json_answers.specs.Answers.{IsJsonOf};
 ghost use Rattle.pg_json_answers.specs.Commands.{AnswersJson};
 
-use crate::answers::answer_of;
+use crate::answers::{Told, answer_of};
 use crate::question::Question;
 use crate::refusals::tell_error_json;
 use pg_auditing::{NO, YES, error_status};
@@ -19,6 +21,19 @@ use pg_report::{AuditError, read_record, write_text};
 use std::alloc::AllocGlobal;
 use std::sync::Wait;
 use std::thread::Threads;
+
+/// Writes an answer, and gives its bad event.
+fn give<O: Sink>(output: &mut O, told: Told) -> Result<Option<u64>, AuditError>
+    ensures text { WritesText (filled O.Sink output.old output.new)
+        (string_bytes told.text) result }
+    ensures device { TellsDevice (filled O.Sink output.old output.new) result }
+    ensures bad { IfOk result (λ bad. bad ≡ told.bad) }
+{
+    match write_text(output, told.text.as_str()) {
+        Ok(()) => Ok(told.bad),
+        Err(error) => Err(error),
+    }
+}
 
 /// Writes the answer of a question of a history. Nothing is written before it is ready.
 fn write_answer<T: AllocGlobal + Threads + Wait + Sync, O: Sink>(
@@ -32,12 +47,8 @@ fn write_answer<T: AllocGlobal + Threads + Wait + Sync, O: Sink>(
     ensures { GivesTextOf (IsJsonOf question) checkers history.now
         (filled O.Sink output.old output.new) result }
 {
-    let told = match answer_of(rt, checkers, question, history) {
-        Ok(told) => told,
-        Err(error) => return Err(error),
-    };
-    match write_text(output, told.text.as_str()) {
-        Ok(()) => Ok(told.bad),
+    match answer_of(rt, checkers, question, history) {
+        Ok(told) => give(output, told),
         Err(error) => Err(error),
     }
 }
