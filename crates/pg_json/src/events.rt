@@ -78,12 +78,7 @@ fn asked_fields(alloc: Global, flags: u8, la: u64) -> Result<Fields, AllocError>
     Ok(fields)
 }
 
-fn access_fields(
-    alloc: Global,
-    flags: u8,
-    la: u64,
-    outcome: Outcome,
-) -> Result<Fields, AllocError>
+fn access_fields(alloc: Global, flags: u8, la: u64, outcome: Outcome) -> Result<Fields, AllocError>
     ensures { IfOk result (λ m. members_view m.entries
         ≡ members_of (access_fields flags la outcome)) }
 {
@@ -151,10 +146,16 @@ fn deed_fields(alloc: Global, event: &Event) -> Result<Fields, AllocError>
     match *event {
         Event::Write { addr, value, .. } => write_fields(alloc, addr, value),
         Event::Access {
-            flags, la, outcome, ..
+            flags,
+            la,
+            outcome,
+            ..
         } => access_fields(alloc, flags, la, outcome),
         Event::Assist {
-            flags, la, word, ..
+            flags,
+            la,
+            word,
+            ..
         } => assist_fields(alloc, flags, la, word),
         Event::MovCr3 { operand, .. } => root_fields(alloc, operand),
         Event::Invlpg { la, .. } => page_drop_fields(alloc, la),

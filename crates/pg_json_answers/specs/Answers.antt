@@ -118,6 +118,6 @@ IsJsonOf (ExplainAll most) r bad text =
     × AreExplanations r.head r.events (take most (bads r.head r.events)) told
     × (ts : List Tally) × AreTallies (bads r.head r.events) ts
     × (text ≡ json_line (told_json r (with_causes r.events told
-        (summary_fields (bads r.head r.events) ts))))
+    (summary_fields (bads r.head r.events) ts))))
 IsJsonOf (Show filter) r bad text =
     (bad ≡ bad_of r) × (text ≡ shown_json filter r.events)

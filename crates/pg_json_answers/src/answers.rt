@@ -21,14 +21,10 @@ ghost use Rattle.pg_json_answers.specs.Commands.{MayFail};
 use crate::causes::{cause_of, causes_of, denial_of};
 use crate::lines::shown_json;
 use crate::question::Question;
-use pg_certify::{
-    CertifyError, certified_events_run, denied_events_have_no_run, first_denied_by,
-};
+use pg_certify::{CertifyError, certified_events_run, denied_events_have_no_run, first_denied_by};
 use pg_check::History;
 use pg_explain::{Bad, Filter, bads, tallies};
-use pg_json::{
-    Fields, line_of, list_of, put_count, put_counts, put_no, put_report, report_json,
-};
+use pg_json::{Fields, line_of, list_of, put_count, put_counts, put_no, put_report, report_json};
 use pg_json_causes::tallies_json;
 use pg_report::{AuditError, Report, Verdict, report_of};
 use serde_json::{Map, Value, put};
@@ -168,11 +164,7 @@ fn denied_line(alloc: Global, history: &History, event: u64) -> Result<String, A
 }
 
 /// What certifying a record came to.
-fn certificate(
-    alloc: Global,
-    history: &History,
-    denied: Option<u64>,
-) -> Result<Told, AllocError>
+fn certificate(alloc: Global, history: &History, denied: Option<u64>) -> Result<Told, AllocError>
     requires denied { IfSome denied (IsDenied history.now.head history.now.events) }
     requires certified { IfNone denied (CanBeCertified history.now.head history.now.events) }
     ensures { IfOk result (λ told. IsCertificateJson history.now told.bad

@@ -33,15 +33,16 @@ fn put_refusal_json<W: Sink>(errors: &mut W, refusal: Refusal) -> Result<(), Fai
         Refusal::SegmentNumber => {
             put_all(errors, b"{\"number\":4,\"text\":\"segment number\"}\n")
         }
-        Refusal::SegmentCount => {
-            put_all(errors, b"{\"number\":5,\"text\":\"segment count\"}\n")
-        }
+        Refusal::SegmentCount => { put_all(errors, b"{\"number\":5,\"text\":\"segment count\"}\n") }
         Refusal::Tag => put_all(errors, b"{\"number\":6,\"text\":\"tag\"}\n"),
         Refusal::Malformed { event, rule } => put_malformed(errors, event, rule_number(rule)),
         Refusal::Truncated => put_all(errors, b"{\"number\":8,\"text\":\"truncated\"}\n"),
         Refusal::Total => put_all(errors, b"{\"number\":9,\"text\":\"total\"}\n"),
         Refusal::Trailing => {
-            put_all(errors, b"{\"number\":10,\"text\":\"bytes after the end\"}\n")
+            put_all(
+                errors,
+                b"{\"number\":10,\"text\":\"bytes after the end\"}\n",
+            )
         }
     }
 }

@@ -14,9 +14,7 @@ use crate::entries::{kind_name, put_held};
 use crate::lasts::event_at;
 use pg_entry::{AccessKind, Kind, Level, Rights};
 use pg_event::{Event, Outcome, Want};
-use pg_explain::{
-    Finding, Limit, Misfit, Prevention, Tagged, Wish, level_number, rights_text,
-};
+use pg_explain::{Finding, Limit, Misfit, Prevention, Tagged, Wish, level_number, rights_text};
 use pg_json::{Fields, op_name, outcome_json, put_count, put_flag, put_hex, put_text};
 use serde_json::{Map, Value, put};
 use std::alloc::{AllocError, Global};
@@ -129,10 +127,7 @@ fn held_fields(
     Ok(fields)
 }
 
-fn prevention_json(
-    alloc: Global,
-    prevention: Option<Prevention>,
-) -> Result<Value, AllocError>
+fn prevention_json(alloc: Global, prevention: Option<Prevention>) -> Result<Value, AllocError>
     ensures { IfOk result (λ v. view v ≡ data_of (prevention_json prevention)) }
 {
     match prevention {
@@ -164,12 +159,7 @@ fn right_fields(
     Ok(fields)
 }
 
-fn flag_fields(
-    alloc: Global,
-    name: &str,
-    address: u64,
-    value: u64,
-) -> Result<Fields, AllocError>
+fn flag_fields(alloc: Global, name: &str, address: u64, value: u64) -> Result<Fields, AllocError>
     ensures { IfOk result (λ m. members_view m.entries
         ≡ members_of (flag_fields name.now address value)) }
 {
@@ -211,11 +201,7 @@ fn expected_fields(alloc: Global, expected: Outcome) -> Result<Fields, AllocErro
     Ok(fields)
 }
 
-fn finding_fields(
-    alloc: Global,
-    events: &[Event],
-    finding: Finding,
-) -> Result<Fields, AllocError>
+fn finding_fields(alloc: Global, events: &[Event], finding: Finding) -> Result<Fields, AllocError>
     ensures { IfOk result (λ m. members_view m.entries
         ≡ members_of (finding_fields events.now finding)) }
 {

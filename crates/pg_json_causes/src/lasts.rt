@@ -13,11 +13,7 @@ use serde_json::{Map, Value, put};
 use std::alloc::{AllocError, Global};
 
 /// The event of a run with a number, where there is one.
-pub(crate) fn event_at(
-    alloc: Global,
-    events: &[Event],
-    number: u32,
-) -> Result<Value, AllocError>
+pub(crate) fn event_at(alloc: Global, events: &[Event], number: u32) -> Result<Value, AllocError>
     ensures { IfOk result (λ v. view v
         ≡ data_of (event_at number (slice_get events.now number))) }
 {

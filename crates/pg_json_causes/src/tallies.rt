@@ -57,7 +57,12 @@ fn tally_json(alloc: Global, tally: &Tally) -> Result<Value, AllocError>
     put_count(&mut fields, alloc, "first", tally.first as u64)?;
     put_count(&mut fields, alloc, "count", tally.count)?;
     put_text(&mut fields, alloc, "reason_name", reason_name(tally.reason))?;
-    put_count(&mut fields, alloc, "reason", reason_number(tally.reason) as u64)?;
+    put_count(
+        &mut fields,
+        alloc,
+        "reason",
+        reason_number(tally.reason) as u64,
+    )?;
     Ok(Value::Object(fields))
 }
 

@@ -19,8 +19,8 @@ ghost use Rattle.pg_plan.specs.declared.request.Selection.{Selection as Selected
 ghost use Rattle.pg_plan.specs.declared.request.Telling.{Telling as Told};
 
 use crate::lines::{
-    ALL, BYTES, CERTIFY, CHECK, CHECKERS, CPU, ERROR, EXPLAIN, FILE, FROM, JSON, LOG, MERGE, MOST, ORDER,
-    PAGE, PROGRESS, RUN, RUN_OF, SHOW, SINGLE, SVG, TO, UPGRADE, WORD, command_line,
+    ALL, BYTES, CERTIFY, CHECK, CHECKERS, CPU, ERROR, EXPLAIN, FILE, FROM, JSON, LOG, MERGE, MOST,
+    ORDER, PAGE, PROGRESS, RUN, RUN_OF, SHOW, SINGLE, SVG, TO, UPGRADE, WORD, command_line,
 };
 use crate::request::{Command, Invocation, Plan, Selection, Telling, Usage};
 use crate::values::{checkers_of, cpu_of, number_of, page_of, telling_of, word_of};

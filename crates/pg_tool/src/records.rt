@@ -20,9 +20,7 @@ use pg_answers::{
 };
 use pg_auditing::{REFUSED, check, tell, tell_spans};
 use pg_codec::{Sink, Source};
-use pg_json_answers::{
-    Question, answer_json, tell_json, tell_spans_json, tell_text_only_json,
-};
+use pg_json_answers::{Question, answer_json, tell_json, tell_spans_json, tell_text_only_json};
 use pg_ordering::{Asked, certify_spanned, show_spanned};
 use pg_plan::{Command, Plan, Telling};
 use pg_report::AuditError;

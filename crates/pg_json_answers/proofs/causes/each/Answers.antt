@@ -22,10 +22,12 @@ loop-bad-preserved c =
     let events : List Event = c.args.history.now.events in
     let f : Explanation → Data = λ x. data_of (explanation_json events x) in
     let was = c.loop-bad.invariant in
-    let said = c.in_ok-cause.ensures in
-    (was.0 ++ said.0 ∷ [], next_explained head events c.args.bads.now was.0 c.loop-bad.bad-index none said.0 c.loop-bad-test.true was.1 said.1,
-    ap (map view) c.in_ok-push.ensures.items ∙ map_push view c.loop-bad.values.items c.in_ok-cause.cause
-    ∙ ap (λ ds. ds ++ view c.in_ok-cause.cause ∷ []) was.2 ∙ ap (λ d. map f was.0 ++ d ∷ []) said.2 ∙ sym (map_push f was.0 said.0))
+    let said = c.in_ok-cause.ensures in (
+      was.0 ++ said.0 ∷ [],
+      next_explained head events c.args.bads.now was.0 c.loop-bad.bad-index none said.0 c.loop-bad-test.true was.1 said.1,
+      ap (map view) c.in_ok-push.ensures.items ∙ map_push view c.loop-bad.values.items c.in_ok-cause.cause
+          ∙ ap (λ ds. ds ++ view c.in_ok-cause.cause ∷ []) was.2 ∙ ap (λ d. map f was.0 ++ d ∷ []) said.2 ∙ sym (map_push f was.0 said.0),
+    )
 
 pub cause_of-requires-clause-within : goal.cause_of-requires-clause-within
 cause_of-requires-clause-within c =
