@@ -1,5 +1,5 @@
 -- Up to which number moments witness an event that read something last.
-use Rattle.std.proofs.Common.{◌≡◌, ℕ, ◌+◌, ◌<◌, ◌≤◌, ◌%◌, ◌^◌, ◌==◌, ◌&&◌, not, cond, Bool, true, false, List, [], ◌∷◌, ◌++◌, length, refl, ap, sym, ◌∙◌, subst, inl, inr, ◌⊎◌, arith, Option, Some, None}
+use Rattle.std.proofs.Common.{◌≡◌, ℕ, ◌+◌, ◌<◌, ◌≤◌, ◌%◌, ◌^◌, ◌==◌, ◌&&◌, min, not, cond, Bool, true, false, List, [], ◌∷◌, ◌++◌, length, refl, ap, sym, ◌∙◌, subst, inl, inr, ◌⊎◌, arith, Option, Some, None}
 use Rattle.std.proofs.lemmas.Bool.{eqb-true, eq-eqb, and_parts}
 use Rattle.pg_entry.specs.declared.Kind.{Kind}
 use Rattle.pg_entry.specs.declared.Kind.TheVariants as kinds
@@ -31,7 +31,10 @@ use Rattle.pg_run_of.proofs.Chains.{next_or, Comes, IsFlagged, reading_at, ends_
 use Rattle.pg_reach.specs.declared.walker.Walker.{Walker}
 use Rattle.pg_reach.specs.Stays.{IsUnder}
 use Rattle.pg_reach.specs.Asking.{want_by}
-use Rattle.pg_reach.specs.Lasting.{MayUse, IsLastUse}
+use Rattle.pg_reach.specs.Reaching.{IsLastRead}
+use Rattle.pg_reach.specs.Lasting.{MayUse, IsLastUse, translation_lasts}
+use Rattle.pg_search.specs.Lasts.{IsEnd}
+use Rattle.pg_search.proofs.Swept.{survives_within}
 
 -- what the last reading of moments that witness an access says
 pub record EndOf (head : Head) (events : List Event) (c : Claim) (pcid : ℕ) (at : Level) (to : Parent) (m : ℕ) : Type 0 where
@@ -102,3 +105,32 @@ end_last r v flags outcome own at to m j n kinds.Reserved low high wanted last h
     let is : j ≡ n = sym now ∙ sym last in
     (omega (arith, is), subst (λ i. failing_end r.head r.events (claim_of i v.p flags v.la outcome) v.pcid (reading_at r.events v.la at to m) kinds.Reserved ≡ None) is h)
 end_last r v flags outcome own at to m j n (kinds.Table addr) low high wanted last h = absurd (cc)
+
+-- the last number at which a translation may be used
+
+use_leaf : (r : Recorded) (v : Walker) (e : Event) (frame shift : ℕ) (bit : Bool) (m n end : ℕ) → uses_last (want_by e) ≡ true → m ≤ n → n ≤ end →
+    IsEnd (λ w. translation_lasts r v shift (bit && (control_at r.head r.events v.p m).pge) m w) m end → IsUnder r v n ⊎ ((bit && (control_at r.head r.events v.p m).pge) ≡ true) →
+    ((j : ℕ) → m ≤ j → j ≤ v.number → j ≤ end → IsUnder r v j ⊎ ((bit && (control_at r.head r.events v.p m).pge) ≡ true) → j ≤ n) → v.number < 2 ^ 32 → IsLastUse r v e (kinds.Leaf frame shift bit) m n
+use_leaf r v e frame shift bit m n end want order low ends may most small =
+    let global : Bool = bit && (control_at r.head r.events v.p m).pge in
+    let test : Control → Event → Bool = λ d e. must_drop_translation d e (translation_key v.pcid shift global v.la) in (
+      λ on. ((survives_within r.head r.events v.p test m n end low ends.lasts, may), λ j from high used. most j from high (ends.most j (omega (arith, high, small)) used.0) used.1),
+      λ off. absurd (apart want off),
+    )
+  where
+    apart : {b : Bool} → b ≡ true → b ≡ false → ⊥
+    apart h k = cc
+
+pub use_global : (r : Recorded) (v : Walker) (e : Event) (frame shift : ℕ) (bit : Bool) (m n end : ℕ) → uses_last (want_by e) ≡ true → m ≤ v.number → n ≡ min end v.number →
+    IsEnd (λ w. translation_lasts r v shift (bit && (control_at r.head r.events v.p m).pge) m w) m end → (bit && (control_at r.head r.events v.p m).pge) ≡ true → v.number < 2 ^ 32 → IsLastUse r v e (kinds.Leaf frame shift bit) m n
+use_global r v e frame shift bit m n end want high is ends global small =
+    use_leaf r v e frame shift bit m n end want (omega (arith, is, ends.order, high)) (omega (arith, is)) ends (inr global) (λ j from to low used. omega (arith, is, to, low)) small
+
+pub use_own : (r : Recorded) (v : Walker) (e : Event) (frame shift : ℕ) (bit : Bool) (m n end : ℕ) → uses_last (want_by e) ≡ true →
+    IsEnd (λ w. translation_lasts r v shift (bit && (control_at r.head r.events v.p m).pge) m w) m end → (bit && (control_at r.head r.events v.p m).pge) ≡ false → IsLastRead r v m (min end v.number) (Some n) → v.number < 2 ^ 32 → IsLastUse r v e (kinds.Leaf frame shift bit) m n
+use_own r v e frame shift bit m n end want ends own read small =
+    use_leaf r v e frame shift bit m n end want read.0 (omega (arith, read.1)) ends (inl read.2)
+    (λ j from to low used. elim used as (λ _. j ≤ n) [ inl a ↦ read.3 j from (omega (arith, to, low)) a | inr b ↦ absurd (apart b own) ]) small
+  where
+    apart : {b : Bool} → b ≡ true → b ≡ false → ⊥
+    apart h k = cc

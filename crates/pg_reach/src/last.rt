@@ -79,6 +79,7 @@ impl View<'_> {
         requires processor { self.now.walker.p < length self.now.run.head.processors }
         requires low { self.now.low ≤ read }
         requires order { read ≤ self.now.walker.number }
+        requires small { self.now.walker.number < 2 ^ 32 }
         requires under { IsUnder self.now.run self.now.walker read }
         ensures order { read ≤ result }
         ensures within { result ≤ self.now.walker.number }
@@ -127,6 +128,7 @@ impl View<'_> {
         requires well { broken_rule self.now.run.head event.now ≡ None }
         requires asks { Asks self.now.walker event.now }
         requires low { self.now.low ≡ 0 }
+        requires small { self.now.walker.number < 2 ^ 32 }
         requires reach { IsReach self.now.run self.now.walker level x.now }
         requires read { IfSome piece.now.read
             (IsReadIn self.now.run self.now.walker level x.now piece.now) }
@@ -171,6 +173,7 @@ impl View<'_> {
         requires well { broken_rule self.now.run.head event.now ≡ None }
         requires asks { Asks self.now.walker event.now }
         requires low { self.now.low ≡ 0 }
+        requires small { self.now.walker.number < 2 ^ 32 }
         requires reach { IsReach self.now.run self.now.walker level x.now }
         requires some { IfSome found
             (HasWitness self.now.run event.now self.now.walker.number) }
@@ -208,6 +211,7 @@ impl View<'_> {
         requires well { broken_rule self.now.run.head event.now ≡ None }
         requires asks { Asks self.now.walker event.now }
         requires low { self.now.low ≡ 0 }
+        requires small { self.now.walker.number < 2 ^ 32 }
         requires each { All (IsReach self.now.run self.now.walker level) reaches.now }
         requires some { IfSome found
             (HasWitness self.now.run event.now self.now.walker.number) }
