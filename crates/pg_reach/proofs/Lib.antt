@@ -9,4 +9,6 @@ mod Refusals
 mod Later
 mod Coming
 mod Whole
+mod Passed
+mod Used
 mod Cases
