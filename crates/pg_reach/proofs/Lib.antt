@@ -11,4 +11,5 @@ mod Coming
 mod Whole
 mod Passed
 mod Used
+mod Passing
 mod Cases

@@ -66,7 +66,7 @@ chain_comes head events v w level from (x ∷ []) at to h =
 chain_comes head events v w level from (x ∷ y ∷ ys) at to h =
     (record { low = h.0.low; alike = h.0.alike; table = h.0.table; cached = h.0.cached; kept = h.0.kept }, chain_comes head events v w (below level) (given head.cfg.m (mem_at events) v.la level from x) (y ∷ ys) at to h.1)
 
-way_comes : (head : Head) (events : List Event) (v : exact.Walker) (w : ℕ) (ws : List ℕ) (at : Level) (to : Parent) → IsWayFromRoot head events v w ws at to →
+pub way_comes : (head : Head) (events : List Event) (v : exact.Walker) (w : ℕ) (ws : List ℕ) (at : Level) (to : Parent) → IsWayFromRoot head events v w ws at to →
     Comes head events v.p v.la v.pcid w Four (root_at head events v.p (next_or w ws)) ws at to
 way_comes head events v w ws at to h =
     subst (λ first. Comes head events v.p v.la v.pcid w Four (root_at head events v.p first) ws at to) (first_is w ws) (chain_comes head events v w Four (root_at head events v.p (first_or w ws)) ws at to h.1)

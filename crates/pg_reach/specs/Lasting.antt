@@ -63,6 +63,15 @@ IsLastUse r v e kinds.Absent m n = n ≡ m
 IsLastUse r v e kinds.Reserved m n = n ≡ m
 IsLastUse r v e (kinds.Table addr) m n = n ≡ m
 
+-- a walk may read the piece in the table of a reach at a moment
+pub record IsReadIn (r : Recorded) (v : Walker) (level : Level) (x : Reach) (piece : Piece)
+    (m : ℕ) : Type 0 where
+  pub from : x.from ≤ m
+  pub to : m ≤ x.to
+  pub before : m ≤ v.number
+  pub under : IsUnder r v m
+  pub entry : entry_of r v level x.table m ≡ piece.entry
+
 -- the same entry can be read at a later moment, or at this one, of which that is so
 pub record IsPassed (r : Recorded) (v : Walker) (e : Event) (level : Level) (x : Reach)
     (last : Option ℕ) (w : ℕ) : Type 0 where

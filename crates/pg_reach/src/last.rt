@@ -9,10 +9,10 @@ ghost use Rattle.pg_chain.specs.Standing.{IsPast};
 ghost use Rattle.pg_search.specs.Law.{names_moments};
 ghost use Rattle.pg_search.specs.Last.{NoneWitness, IsLastOf, IsLast, HasNoLast};
 ghost use Rattle.pg_reach.specs.Stays.{IsUnder};
-ghost use Rattle.pg_reach.specs.Reaching.{IsReach, IsPiece};
+ghost use Rattle.pg_reach.specs.Reaching.{IsReach};
 ghost use Rattle.pg_reach.specs.Asking.{Asks, under};
 ghost use Rattle.pg_reach.specs.Lasting.{IsLastUse, IsPassedBy, ArePassed, HasWitness, AreUpTo};
-ghost use Rattle.pg_reach.specs.Lasting.{IsUpTo};
+ghost use Rattle.pg_reach.specs.Lasting.{IsUpTo, IsReadIn};
 
 use crate::finder::{WALKS, freshest_moments_at, walk_of};
 use crate::reach::{Reach, up_to};
@@ -42,6 +42,7 @@ impl View<'_> {
     /// that moment, or where a page is wanted, the last to which its translation survives and at
     /// which it may be used (Intel SDM, vol. 3, 4.10.2.4).
     fn last_use(&self, event: &Event, kind: Kind, read: u32) -> u32
+        requires low { self.now.low ≤ read }
         requires order { read ≤ self.now.walker.number }
         requires under { IsUnder self.now.run self.now.walker read }
         ensures order { read ≤ result }
@@ -85,6 +86,11 @@ impl View<'_> {
     ) -> Option<u32>
         requires past { IsPast memo.old self.now.run.head self.now.run.events }
         requires well { broken_rule self.now.run.head event.now ≡ None }
+        requires asks { Asks self.now.walker event.now }
+        requires low { self.now.low ≡ 0 }
+        requires reach { IsReach self.now.run self.now.walker level x.now }
+        requires read { IfSome piece.now.read
+            (IsReadIn self.now.run self.now.walker level x.now piece.now) }
         requires some { IfSome found
             (HasWitness self.now.run event.now self.now.walker.number) }
         ensures memo { memo.new ≡ memo.old }
@@ -119,6 +125,7 @@ impl View<'_> {
     ) -> Option<u32>
         requires past { IsPast memo.old self.now.run.head self.now.run.events }
         requires well { broken_rule self.now.run.head event.now ≡ None }
+        requires asks { Asks self.now.walker event.now }
         requires low { self.now.low ≡ 0 }
         requires reach { IsReach self.now.run self.now.walker level x.now }
         requires some { IfSome found
@@ -155,6 +162,7 @@ impl View<'_> {
     ) -> Option<u32>
         requires past { IsPast memo.old self.now.run.head self.now.run.events }
         requires well { broken_rule self.now.run.head event.now ≡ None }
+        requires asks { Asks self.now.walker event.now }
         requires low { self.now.low ≡ 0 }
         requires each { All (IsReach self.now.run self.now.walker level) reaches.now }
         requires some { IfSome found
