@@ -108,6 +108,9 @@ impl View<'_> {
             return found;
         }
         let number = self.last_use(event, kind, read);
+        if found.is_some_and(|last| number <= last) {
+            return found;
+        }
         match failing(memo, number, &with_moments(event, up_to(read, &x.latest))) {
             None => later(found, number),
             Some(_) => found,
