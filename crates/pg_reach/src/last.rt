@@ -1,7 +1,7 @@
 //! When an event would last have been witnessed, had it come earlier.
 
 ghost use Rattle.std.specs.Prelude.{◌≡◌, ◌<◌, ◌≤◌, ◌+◌, ◌^◌, ◌⊎◌, ℕ, length, min, max, true, None};
-ghost use Rattle.std.specs.Prelude.{IfOk, IfSome, IfNone, slice_get};
+ghost use Rattle.std.specs.Prelude.{IsTrue, IfOk, IfSome, IfNone, slice_get};
 ghost use Rattle.std.specs.List.{All};
 ghost use Rattle.pg_event.specs.Form.{broken_rule};
 ghost use Rattle.pg_event.specs.Values.{control_at};
@@ -34,6 +34,16 @@ fn later(last: Option<u32>, number: u32) -> Option<u32>
     match last {
         Some(other) => Some(other.max(number)),
         None => Some(number),
+    }
+}
+
+/// Whether a number is no later than the one that was found.
+fn is_up_to(last: Option<u32>, number: u32) -> bool
+    ensures { IsTrue result → IsUpTo last number }
+{
+    match last {
+        Some(other) => number <= other,
+        None => false,
     }
 }
 
@@ -108,7 +118,7 @@ impl View<'_> {
             return found;
         }
         let number = self.last_use(event, kind, read);
-        if found.is_some_and(|last| number <= last) {
+        if is_up_to(found, number) {
             return found;
         }
         match failing(memo, number, &with_moments(event, up_to(read, &x.latest))) {
