@@ -12,4 +12,7 @@ mod Whole
 mod Passed
 mod Used
 mod Passing
+mod Pieces
 mod Cases
+mod Before
+mod Histories

@@ -24,7 +24,7 @@ use Rattle.pg_reach.proofs.Coming.{AreLevels}
 use Rattle.pg_reach.proofs.Whole.{AreWhole, all_under}
 
 -- the same walker before an event with another number
-abbrev at_number : Walker → ℕ → Walker
+abbrev pub at_number : Walker → ℕ → Walker
 at_number v j = record v { number = j }
 
 reach_at : (r : Recorded) (v : Walker) (j : ℕ) (level : Level) (x : Reach) → IsReach r v level x → IsReach r (at_number v j) level x
@@ -66,7 +66,7 @@ passed_at r v e j level x last small low not h = λ w from lt under wanted.
       none = λ good. absurd (not (up_to_less last (max is.m j) j (omega arith) (is.none (max is.m j) (omega arith) (omega (arith, is.before, low)) good)));
     }
 
-asks_at : (v : Walker) (e : Event) (j : ℕ) → Asks v e → Asks (at_number v j) e
+pub asks_at : (v : Walker) (e : Event) (j : ℕ) → Asks v e → Asks (at_number v j) e
 asks_at v (Access p flags la outcome own) j h = h
 asks_at v (Assist p flags la word own) j h = h
 asks_at v (Write p addr value) j h = absurd h
