@@ -53,9 +53,11 @@ passing_access r v flags outcome own level x m n h = λ j low high good.
     let come : Comes r.head r.events v.p v.la v.pcid m Four (root_at r.head r.events v.p (next_or m by.0)) by.0 level x.table = way_comes r.head r.events (way_of v) m by.0 level x.table by.2 in
     let now : failing_access r.head r.events (claim_of j v.p flags v.la outcome) (by.0 ++ m ∷ []) ≡ None = ap (failing_access r.head r.events (claim_of j v.p flags v.la outcome)) (sym by.1) ∙ good in
     let end = access_end r.head r.events (claim_of j v.p flags v.la outcome) v.pcid m by.0 level x.table come h.under now in
-    let last = end_last r v flags outcome own level x.table m j n (kind_of r.head.cfg level (seen (mem_at r.events) v.la level x.table m)) low high h.wanted h.last end.ends in
-    (last.0, ap (failing_access r.head r.events (claim_of n v.p flags v.la outcome)) by.1
-      ∙ access_none r.head r.events (claim_of n v.p flags v.la outcome) v.pcid m by.0 level x.table come (record { low = h.order; wanted = h.wanted; alike = h.under }) last.1 (record { leaf = end.flags.leaf; write = end.flags.write }))
+    let last = end_last r v flags outcome own level x.table m j n (kind_of r.head.cfg level (seen (mem_at r.events) v.la level x.table m)) low high h.wanted h.last end.ends in (
+      last.0,
+      ap (failing_access r.head r.events (claim_of n v.p flags v.la outcome)) by.1
+          ∙ access_none r.head r.events (claim_of n v.p flags v.la outcome) v.pcid m by.0 level x.table come (record { low = h.order; wanted = h.wanted; alike = h.under }) last.1 (record { leaf = end.flags.leaf; write = end.flags.write }),
+    )
 
 -- an assist reads its word at its own number
 

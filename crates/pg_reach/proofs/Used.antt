@@ -83,7 +83,7 @@ pub end_last : (r : Recorded) (v : Walker) (flags : ℕ) (outcome : Outcome) (ow
 end_last r v flags outcome own at to m j n (kinds.Leaf frame shift g) low high wanted last h =
     let global : Bool = g && (control_at r.head r.events v.p m).pge in
     let test : Control → Event → Bool = λ d e. must_drop_translation d e (translation_key v.pcid shift global v.la) in
-    let use = last.0 (ap uses_last (wants_leaf outcome frame shift g wanted)) in
+    let most = last.0 (ap uses_last (wants_leaf outcome frame shift g wanted)) in
     let kept = guard_none (survives r.head r.events v.p test m j) _ _ h in
     let used = bar_none (not ((control_at r.head r.events v.p j).pcid == v.pcid) && not global) _ _ kept.1 in
     let may : MayUse r v shift global m j = (
@@ -91,8 +91,8 @@ end_last r v flags outcome own at to m j n (kinds.Leaf frame shift g) low high w
       elim (either ((control_at r.head r.events v.p j).pcid == v.pcid) global used.0) as (λ _. IsUnder r v j ⊎ (global ≡ true)) [ inl a ↦ inl (eqb-true _ _ a) | inr b ↦ inr b ],
     ) in
     let now : (((control_at r.head r.events v.p n).pcid == v.pcid) ≡ true) ⊎ (global ≡ true) =
-    elim use.0.1 as (λ _. (((control_at r.head r.events v.p n).pcid == v.pcid) ≡ true) ⊎ (global ≡ true)) [ inl a ↦ inl (eq-eqb _ _ a) | inr b ↦ inr b ] in
-    (use.1 j low high may, pass (survives r.head r.events v.p test m n) _ _ use.0.0 (pass_either ((control_at r.head r.events v.p n).pcid == v.pcid) global _ _ now used.1))
+    elim most.0.1 as (λ _. (((control_at r.head r.events v.p n).pcid == v.pcid) ≡ true) ⊎ (global ≡ true)) [ inl a ↦ inl (eq-eqb _ _ a) | inr b ↦ inr b ] in
+    (most.1 j low high may, pass (survives r.head r.events v.p test m n) _ _ most.0.0 (pass_either ((control_at r.head r.events v.p n).pcid == v.pcid) global _ _ now used.1))
 end_last r v flags outcome own at to m j n kinds.Absent low high wanted last h =
     let now : m ≡ j = fault_at r.head (claim_of j v.p flags v.la outcome) causes.Absent m outcome h in
     let is : j ≡ n = sym now ∙ sym last in

@@ -60,7 +60,9 @@ impl View<'_> {
         ensures last { IsLastUse self.now.run self.now.walker event.now kind read result }
     {
         let Kind::Leaf {
-            shift, global_bit, ..
+            shift,
+            global_bit,
+            ..
         } = kind
         else {
             return read;

@@ -10,5 +10,5 @@ mod stays;
 mod view;
 mod walker;
 
-pub use last::{last_moments, last_moments_at};
 pub use finder::{any_moments, freshest_moments, freshest_moments_at};
+pub use last::{last_moments, last_moments_at};
