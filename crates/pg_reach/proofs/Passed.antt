@@ -48,7 +48,7 @@ levels_at r v j b lists low h = record {
   };
 }
 
-up_to_less : (last : Option ℕ) (more j : ℕ) → j ≤ more → IsUpTo last more → IsUpTo last j
+pub up_to_less : (last : Option ℕ) (more j : ℕ) → j ≤ more → IsUpTo last more → IsUpTo last j
 up_to_less None more j le h = h
 up_to_less (Some n) more j le h = omega (arith, le, h)
 

@@ -1,12 +1,14 @@
 //! When an event would last have been witnessed, had it come earlier.
 
-ghost use Rattle.std.specs.Prelude.{◌≡◌, ◌<◌, ◌≤◌, ◌+◌, ◌^◌, ◌⊎◌, ℕ, length, min, max, true, None};
+ghost use Rattle.std.specs.Prelude.{◌≡◌, ◌<◌, ◌≤◌, ◌+◌, ◌^◌, ◌⊎◌, ℕ, length, min, max, true, false, None};
 ghost use Rattle.std.specs.Prelude.{IsTrue, IfOk, IfSome, IfNone, slice_get};
 ghost use Rattle.std.specs.List.{All};
 ghost use Rattle.pg_event.specs.Form.{broken_rule};
 ghost use Rattle.pg_event.specs.Values.{control_at};
 ghost use Rattle.pg_chain.specs.Standing.{IsPast};
-ghost use Rattle.pg_search.specs.Law.{names_moments};
+ghost use Rattle.pg_entry.specs.Kinds.{kind_of};
+ghost use Rattle.pg_event.specs.Witness.{failing_event};
+ghost use Rattle.pg_search.specs.Law.{names_moments, AreWitness, with_moments};
 ghost use Rattle.pg_search.specs.Last.{NoneWitness, IsLastOf, IsLast, HasNoLast};
 ghost use Rattle.pg_reach.specs.Stays.{IsUnder};
 ghost use Rattle.pg_reach.specs.Reaching.{IsReach};
@@ -21,7 +23,7 @@ use crate::view::{Piece, View};
 use crate::walker::{Walker, want_by};
 use pg_check::{History, Memo, failing};
 use pg_entry::{Entry, Kind, Level, classify};
-use pg_event::{Event, is_wanted, uses_last};
+use pg_event::{Event, Moments, is_wanted, uses_last};
 use pg_search::{Last, Seen, with_moments};
 use std::alloc::{AllocError, Global};
 
@@ -47,18 +49,43 @@ fn is_up_to(last: Option<u32>, number: u32) -> bool
     }
 }
 
+/// Whether moments witness an event as one with a number.
+fn is_witness(
+    seen: &Seen<'_>,
+    memo: &mut Memo<'_>,
+    event: &Event,
+    number: u32,
+    moments: Moments,
+) -> bool
+    requires past { IsPast memo.old seen.now.head seen.now.events }
+    requires well { broken_rule seen.now.head event.now ≡ None }
+    ensures memo { memo.new ≡ memo.old }
+    ensures some { result ≡ true →
+        AreWitness seen.now.head seen.now.events number event.now moments }
+    ensures none { result ≡ false → failing_event seen.now.head seen.now.events number
+        (with_moments moments event.now) ≡ None → ⊥ }
+{
+    match failing(memo, number, &with_moments(event, moments)) {
+        None => true,
+        Some(_) => false,
+    }
+}
+
 impl View<'_> {
-    /// The last number, up to the walker's, at which an event may use what was read at a moment:
-    /// that moment, or where a page is wanted, the last to which its translation survives and at
-    /// which it may be used (Intel SDM, vol. 3, 4.10.2.4).
-    fn last_use(&self, event: &Event, kind: Kind, read: u32) -> u32
+    /// The last number, up to the walker's, at which an event may use an entry of a level that was
+    /// read at a moment: that moment, or where a page is wanted, the last to which its translation
+    /// survives and at which it may be used (Intel SDM, vol. 3, 4.10.2.4).
+    fn last_use(&self, event: &Event, level: Level, entry: Entry, read: u32) -> u32
+        requires processor { self.now.walker.p < length self.now.run.head.processors }
         requires low { self.now.low ≤ read }
         requires order { read ≤ self.now.walker.number }
         requires under { IsUnder self.now.run self.now.walker read }
         ensures order { read ≤ result }
         ensures within { result ≤ self.now.walker.number }
-        ensures last { IsLastUse self.now.run self.now.walker event.now kind read result }
+        ensures last { IsLastUse self.now.run self.now.walker event.now
+            (kind_of self.now.run.head.cfg level entry.0) read result }
     {
+        let kind = classify(self.seen.header().cfg, level, entry);
         let Kind::Leaf {
             shift,
             global_bit,
@@ -119,13 +146,15 @@ impl View<'_> {
         if !is_wanted(want_by(event), kind) {
             return found;
         }
-        let number = self.last_use(event, kind, read);
+        let number = self.last_use(event, level, Entry(piece.entry), read);
         if is_up_to(found, number) {
             return found;
         }
-        match failing(memo, number, &with_moments(event, up_to(read, &x.latest))) {
-            None => later(found, number),
-            Some(_) => found,
+        let moments = up_to(read, &x.latest);
+        if is_witness(self.seen, memo, event, number, moments) {
+            later(found, number)
+        } else {
+            found
         }
     }
 

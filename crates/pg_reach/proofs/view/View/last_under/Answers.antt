@@ -15,7 +15,7 @@ use Rattle.pg_reach.specs.Bounds.{AreBounds, bound_of}
 use Rattle.pg_reach.specs.Lasting.{ArePassed}
 use Rattle.pg_reach.proofs.Passed.{ArePassedAll, up_to_all}
 use Rattle.pg_reach.proofs.Pieces.{IsLater, all_later}
-use Rattle.pg_reach.proofs.last.View.last_under.Goals as goal
+use Rattle.pg_reach.proofs.view.View.last_under.Goals as goal
 
 -- the reaches of each level
 abbrev by_level : List Reach → List Reach → List Reach → List Reach → Level → List Reach

@@ -5,7 +5,7 @@ use Rattle.pg_reach.specs.declared.reach.Reach.{Reach}
 use Rattle.pg_reach.specs.Views.{Viewed}
 use Rattle.pg_reach.specs.Lasting.{ArePassed}
 use Rattle.pg_reach.proofs.Pieces.{read_in, passed_more, passed_less}
-use Rattle.pg_reach.proofs.last.View.last_in.Goals as goal
+use Rattle.pg_reach.proofs.view.View.last_in.Goals as goal
 
 pub last_by-last-requires-clause-read : goal.last_by-last-requires-clause-read
 last_by-last-requires-clause-read c =

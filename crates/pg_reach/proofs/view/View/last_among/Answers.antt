@@ -5,7 +5,7 @@ use Rattle.std.proofs.lemmas.List.Elements.{All-push}
 use Rattle.pg_reach.specs.declared.reach.Reach.{Reach}
 use Rattle.pg_reach.specs.Lasting.{ArePassed}
 use Rattle.pg_reach.proofs.Pieces.{all_later}
-use Rattle.pg_reach.proofs.last.View.last_among.Goals as goal
+use Rattle.pg_reach.proofs.view.View.last_among.Goals as goal
 
 pub loop-x-preserved : goal.loop-x-preserved
 loop-x-preserved c =
