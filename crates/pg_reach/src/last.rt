@@ -1,6 +1,6 @@
 //! When an event would last have been witnessed, had it come earlier.
 
-ghost use Rattle.std.specs.Prelude.{◌≡◌, ◌<◌, ◌≤◌, ◌+◌, ◌^◌, ◌⊎◌, ℕ, length, min, max, true, false, None};
+ghost use Rattle.std.specs.Prelude.{◌≡◌, ◌<◌, ◌≤◌, ◌+◌, ◌^◌, ◌⊎◌, ℕ, length, min, max, true, false, None, Some};
 ghost use Rattle.std.specs.Prelude.{IsTrue, IfOk, IfSome, IfNone, slice_get};
 ghost use Rattle.std.specs.List.{All};
 ghost use Rattle.pg_event.specs.Form.{broken_rule};
@@ -31,7 +31,7 @@ use std::alloc::{AllocError, Global};
 fn later(last: Option<u32>, number: u32) -> Option<u32>
     ensures old { (j : ℕ) → IsUpTo last j → IsUpTo result j }
     ensures new { IsUpTo result number }
-    ensures either { IfSome result (λ n. (n ≡ number) ⊎ IfSome last (λ m. n ≡ m)) }
+    ensures either { IfSome result (λ n. (n ≡ number) ⊎ (last ≡ Some n)) }
 {
     match last {
         Some(other) => Some(other.max(number)),

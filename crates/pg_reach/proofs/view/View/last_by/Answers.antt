@@ -41,12 +41,10 @@ none_later r v e level x piece n found asks use' none = λ m read wanted j low h
     let by = passing r v e level x m n asks (use' m read wanted) j low high good in
     up_to_less found n j by.0 (none m read by.1)
 
-witness_there : (r : Recorded) (e : Event) (most n : ℕ) (found result : Option ℕ) → IfSome found (HasWitness r e most) → HasWitness r e most n → IfSome result (λ k. (k ≡ n) ⊎ IfSome found (λ m. k ≡ m)) → IfSome result (HasWitness r e most)
+witness_there : (r : Recorded) (e : Event) (most n : ℕ) (found result : Option ℕ) → IfSome found (HasWitness r e most) → HasWitness r e most n → IfSome result (λ k. (k ≡ n) ⊎ (found ≡ Some k)) → IfSome result (HasWitness r e most)
 witness_there r e most n found None old new h = tt
-witness_there r e most n None (Some k) old new (inl a) = subst (HasWitness r e most) (sym a) new
-witness_there r e most n None (Some k) old new (inr b) = absurd (nothing b)
-witness_there r e most n (Some m) (Some k) old new (inl a) = subst (HasWitness r e most) (sym a) new
-witness_there r e most n (Some m) (Some k) old new (inr b) = subst (HasWitness r e most) (sym b) old
+witness_there r e most n found (Some k) old new (inl a) = subst (HasWitness r e most) (sym a) new
+witness_there r e most n found (Some k) old new (inr b) = subst (λ o. IfSome o (HasWitness r e most)) b old
 
 pub last_use-number-requires-clause-processor : goal.last_use-number-requires-clause-processor
 last_use-number-requires-clause-processor c = processor_there c.args.self.now.run.head c.args.self.now.walker c.args.event.now c.requires.asks c.requires.well
