@@ -240,3 +240,13 @@ processor_there head v (MovCr3 p operand) asks well = absurd asks
 processor_there head v (Invlpg p la) asks well = absurd asks
 processor_there head v (Invpcid p kind pcid la) asks well = absurd asks
 processor_there head v (MovCr4Pge p on) asks well = absurd asks
+
+-- whoever looks at less asks the same
+pub asks_since : (v : Walker) (e : Event) (s : ℕ) → Asks v e → Asks (record v { since = s }) e
+asks_since v (Access p flags la outcome own) s h = h
+asks_since v (Assist p flags la word own) s h = h
+asks_since v (Write p addr value) s h = absurd h
+asks_since v (MovCr3 p operand) s h = absurd h
+asks_since v (Invlpg p la) s h = absurd h
+asks_since v (Invpcid p kind pcid la) s h = absurd h
+asks_since v (MovCr4Pge p on) s h = absurd h

@@ -80,11 +80,12 @@ under v pcid = record v { pcid = pcid }
 -- the processor and the address of an event that names moments
 abbrev pub IsWalkOf : Event → Option (ℕ × ℕ) → Type 0
 IsWalkOf e None = names_moments e ≡ false
-IsWalkOf e (Some walk) = (pcid number : ℕ) (freshest : Bool) →
+IsWalkOf e (Some walk) = (pcid since number : ℕ) (freshest : Bool) →
     Asks (record {
       p = walk.0;
       la = walk.1;
       pcid = pcid;
+      since = since;
       number = number;
       freshest = freshest;
     }) e

@@ -37,3 +37,9 @@ pub record AreBounds (r : Recorded) (v : Walker) (since : ℕ) (b : Bounds) : Ty
   pub two : IsSince (structure_up_to r v Two b.one) b.one b.two
   pub three : IsSince (structure_up_to r v Three b.two) b.two b.three
   pub four : IsSince (structure_up_to r v Four b.three) b.three b.four
+
+-- the bound of a level is no later than that of the level below
+pub record AreOrdered (b : Bounds) : Type 0 where
+  pub two : b.two ≤ b.one
+  pub three : b.three ≤ b.two
+  pub four : b.four ≤ b.three

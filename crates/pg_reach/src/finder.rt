@@ -8,14 +8,14 @@ ghost use Rattle.pg_search.specs.Law.{AreWitness, WitnessedBy, AreFreshest, CanB
 ghost use Rattle.pg_search.specs.Law.{RunBeginsWith, names_moments};
 ghost use Rattle.pg_search.specs.Thinned.{AreFreshestOf};
 ghost use Rattle.pg_event.specs.Values.{control_at};
-ghost use Rattle.pg_reach.specs.Bounds.{AreBounds};
+ghost use Rattle.pg_reach.specs.Bounds.{AreBounds, AreOrdered};
 ghost use Rattle.pg_event.specs.Wants.{uses_last};
 ghost use Rattle.pg_reach.specs.Reaching.{IsFresher};
 ghost use Rattle.pg_reach.specs.Asking.{Asks, want_by, under, AreUnder, AreLate};
 ghost use Rattle.pg_reach.specs.Asking.{AreGlobal, IsWalkOf};
 
 use crate::reach::is_done;
-use crate::since::{Bounds, bounds_from, page_since};
+use crate::since::{Bounds, bounds_for, page_since};
 use crate::stays::{pcids_of, spans_of};
 use crate::view::View;
 use crate::walker::{Walker, want_by};
@@ -43,7 +43,7 @@ fn search_under(
     requires asks { Asks view.now.walker event.now }
     requires within { view.now.walker.number ≤ length view.now.run.events }
     requires small { view.now.walker.number < 2 ^ 32 }
-    requires bounds { AreBounds view.now.run view.now.walker bounds.one bounds }
+    requires order { AreOrdered bounds }
     requires low { view.now.low ≡ bounds.four }
     requires some { IfSome found (AreWitness view.now.run.head view.now.run.events
         view.now.walker.number event.now) }
@@ -53,7 +53,8 @@ fn search_under(
     ensures fresher { IfOk result (λ r. (ws : List ℕ) →
         IsFresher view.now.walker.freshest found ws →
         IsFresher view.now.walker.freshest r ws) }
-    ensures all { IfOk result (AreUnder view.now.run view.now.walker bounds.one event.now) }
+    ensures all { AreBounds view.now.run view.now.walker bounds.one bounds →
+        IfOk result (AreUnder view.now.run view.now.walker bounds.one event.now) }
 {
     let fours = view.roots(alloc)?;
     let threes = view.tables_below(alloc, Level::Four, bounds.four, fours.as_slice())?;
@@ -88,17 +89,18 @@ fn search_own(
     requires asks { Asks walker event.now }
     requires within { walker.number ≤ length seen.now.events }
     requires small { walker.number < 2 ^ 32 }
+    requires since { walker.since ≤ walker.number }
     ensures memo { memo.new ≡ memo.old }
     ensures some { IfOk result (λ r. IfSome r
         (AreWitness seen.now.head seen.now.events walker.number event.now)) }
-    ensures all { IfOk result (AreLate seen.now walker event.now) }
+    ensures all { walker.since ≡ 0 → IfOk result (AreLate seen.now walker event.now) }
 {
     let since = if wants_page(event) {
         page_since(seen, &walker, false)
     } else {
         walker.number
     };
-    let bounds = bounds_from(seen, &walker, since);
+    let bounds = bounds_for(seen, &walker, since);
     let spans = spans_of(alloc, seen, walker.p, bounds.four, walker.number)?;
     let view = View::new(alloc, seen, walker, bounds.four, &spans)?;
     search_under(alloc, &view, memo, event, bounds, None)
@@ -126,14 +128,15 @@ fn search_globals(
         (AreWitness seen.now.head seen.now.events walker.number event.now)) }
     ensures fresher { IfOk result (λ r. (ws : List ℕ) →
         IsFresher walker.freshest found ws → IsFresher walker.freshest r ws) }
-    ensures all { IfOk result (λ r. (w : ℕ) → w ≤ walker.number → AreGlobal seen.now
-        (under walker (control_at seen.now.head seen.now.events walker.p w).pcid) event.now r) }
+    ensures all { walker.since ≡ 0 → IfOk result (λ r. (w : ℕ) → w ≤ walker.number →
+        AreGlobal seen.now (under walker (control_at seen.now.head seen.now.events walker.p w).pcid)
+        event.now r) }
 {
     if is_done(walker.freshest, found) {
         return Ok(found);
     }
     let mut best = found;
-    let spans = spans_of(alloc, seen, walker.p, 0, walker.number)?;
+    let spans = spans_of(alloc, seen, walker.p, walker.since, walker.number)?;
     for pcid in &pcids_of(alloc, &spans)? {
         if is_done(walker.freshest, best) {
             return Ok(best);
@@ -142,7 +145,7 @@ fn search_globals(
             pcid: *pcid,
             ..walker
         };
-        let bounds = bounds_from(seen, &other, page_since(seen, &other, true));
+        let bounds = bounds_for(seen, &other, page_since(seen, &other, true));
         let view = View::new(alloc, seen, other, bounds.four, &spans)?;
         let fresher = search_under(alloc, &view, memo, event, bounds, best)?;
         best = fresher;
@@ -162,6 +165,74 @@ pub(crate) fn walk_of(event: &Event) -> Option<(u16, u64)>
         | Event::Invpcid { .. }
         | Event::MovCr4Pge { .. } => None,
     }
+}
+
+/// Moments that witness an event, read from the walker's first moment on.
+fn search(
+    alloc: Global,
+    seen: &Seen<'_>,
+    memo: &mut Memo<'_>,
+    event: &Event,
+    walker: Walker,
+) -> Result<Option<Moments>, AllocError>
+    requires past { IsPast memo.old seen.now.head seen.now.events }
+    requires well { broken_rule seen.now.head event.now ≡ None }
+    requires asks { Asks walker event.now }
+    requires own { (control_at seen.now.head seen.now.events walker.p walker.number).pcid
+        ≡ walker.pcid }
+    requires within { walker.number ≤ length seen.now.events }
+    requires small { walker.number < 2 ^ 32 }
+    requires since { walker.since ≤ walker.number }
+    ensures memo { memo.new ≡ memo.old }
+    ensures some { IfOk result (λ found. IfSome found
+        (AreWitness seen.now.head seen.now.events walker.number event.now)) }
+    ensures all { walker.since ≡ 0 → IfOk result (λ found. (ws : List ℕ) →
+        AreWitness seen.now.head seen.now.events walker.number event.now ws →
+        IsFresher walker.freshest found ws) }
+{
+    let own = search_own(alloc, seen, memo, event, walker)?;
+    if wants_page(event) {
+        search_globals(alloc, seen, memo, event, walker, own)
+    } else {
+        Ok(own)
+    }
+}
+
+/// How many events before its own a search goes back first: most moments that guesses miss are not
+/// old.
+const BACK: [u32; 3] = [1 << 8, 1 << 12, 1 << 16];
+
+/// Moments that witness an event, if those of the last moments do.
+fn search_recent(
+    alloc: Global,
+    seen: &Seen<'_>,
+    memo: &mut Memo<'_>,
+    event: &Event,
+    walker: Walker,
+) -> Result<Option<Moments>, AllocError>
+    requires past { IsPast memo.old seen.now.head seen.now.events }
+    requires well { broken_rule seen.now.head event.now ≡ None }
+    requires asks { Asks walker event.now }
+    requires own { (control_at seen.now.head seen.now.events walker.p walker.number).pcid
+        ≡ walker.pcid }
+    requires within { walker.number ≤ length seen.now.events }
+    requires small { walker.number < 2 ^ 32 }
+    ensures memo { memo.new ≡ memo.old }
+    ensures some { IfOk result (λ found. IfSome found
+        (AreWitness seen.now.head seen.now.events walker.number event.now)) }
+{
+    for back in BACK {
+        let since = walker.number.saturating_sub(back);
+        if since == 0 {
+            return Ok(None);
+        }
+        let late = Walker { since, ..walker };
+        let found = search(alloc, seen, memo, event, late)?;
+        if found.is_some() {
+            return Ok(found);
+        }
+    }
+    Ok(None)
 }
 
 /// Moments that witness an event as one with this number, the freshest or any, or `None` where
@@ -193,15 +264,17 @@ fn find(
         p,
         la,
         pcid,
+        since: 0,
         number,
         freshest,
     };
-    let own = search_own(alloc, seen, memo, event, walker)?;
-    if wants_page(event) {
-        search_globals(alloc, seen, memo, event, walker, own)
-    } else {
-        Ok(own)
+    if !freshest {
+        let recent = search_recent(alloc, seen, memo, event, walker)?;
+        if is_done(freshest, recent) {
+            return Ok(recent);
+        }
     }
+    search(alloc, seen, memo, event, walker)
 }
 
 /// Moments that witness an access or an assist as the event with this number, which need not be one

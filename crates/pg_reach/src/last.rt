@@ -321,6 +321,7 @@ pub fn last_moments_at(
         p,
         la,
         pcid: 0,
+        since: 0,
         number: most,
         freshest: false,
     };

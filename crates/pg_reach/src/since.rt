@@ -1,10 +1,11 @@
 //! From which moment on what is cached may matter.
 
-ghost use Rattle.std.specs.Prelude.{◌≡◌, ◌<◌, ◌≤◌, ℕ, false, true};
+ghost use Rattle.std.specs.Prelude.{◌≡◌, ◌<◌, ◌≤◌, ℕ, max, false, true};
 ghost use Rattle.pg_entry.specs.Kinds.{IsPageShift};
 ghost use Rattle.pg_inval.specs.Drops.{IsTableLevel};
 ghost use Rattle.pg_entry.specs.declared.Level.TheVariants.{Four, Three, Two};
 ghost use Rattle.pg_reach.specs.Bounds.{IsSince, structure_up_to, translation_up_to, AreBounds};
+ghost use Rattle.pg_reach.specs.Bounds.{AreOrdered};
 
 use crate::walker::Walker;
 use pg_entry::Level;
@@ -71,7 +72,7 @@ pub(crate) struct Bounds {
 }
 
 /// The bounds of a walk whose last reading comes at this moment or later.
-pub(crate) fn bounds_from(seen: &Seen<'_>, walker: &Walker, since: u32) -> Bounds
+fn bounds_from(seen: &Seen<'_>, walker: &Walker, since: u32) -> Bounds
     ensures { AreBounds seen.now walker.now since result }
 {
     let two = structure_since(seen, walker, Level::Two, since);
@@ -82,5 +83,25 @@ pub(crate) fn bounds_from(seen: &Seen<'_>, walker: &Walker, since: u32) -> Bound
         two,
         three,
         four,
+    }
+}
+
+/// The same, but none of them before the moment from which on the walker looks.
+pub(crate) fn bounds_for(seen: &Seen<'_>, walker: &Walker, one: u32) -> Bounds
+    ensures order { AreOrdered result }
+    ensures low { walker.now.since ≤ result.four }
+    ensures one { result.one ≡ max one walker.now.since }
+    ensures all { walker.now.since ≡ 0 → AreBounds seen.now walker.now one result }
+{
+    let bounds = bounds_from(seen, walker, one);
+    let since = walker.since;
+    if since == 0 {
+        return bounds;
+    }
+    Bounds {
+        one: bounds.one.max(since),
+        two: bounds.two.max(since),
+        three: bounds.three.max(since),
+        four: bounds.four.max(since),
     }
 }

@@ -10,6 +10,7 @@ use Rattle.pg_event.specs.Spelling.{Recorded}
 use Rattle.pg_search.specs.Law.{AreWitness}
 use Rattle.pg_reach.specs.declared.walker.Walker.{Walker}
 use Rattle.pg_reach.specs.declared.since.Bounds.{Bounds}
+use Rattle.pg_reach.specs.Bounds.{AreBounds}
 use Rattle.pg_reach.specs.Views.{Viewed}
 use Rattle.pg_reach.proofs.Refusals.{IsBetter}
 use Rattle.pg_reach.specs.Stays.{IsSteady, AreSpans, ArePcids}
@@ -19,8 +20,8 @@ use Rattle.pg_reach.proofs.finder.search_globals.Goals as goal
 
 pub new-requires : goal.new-requires
 new-requires c =
-    subst (λ (ss : List (Span Control)). AreSpans c.args.seen.now c.args.walker.p c.bounds_from-bounds.result.four c.args.walker.number ss) (sym c.deref-in-loop-pcid.ensures.value)
-    (record { order = c.in_ok-spans.ensures.order; each = c.in_ok-spans.ensures.each; all = λ w from to. c.in_ok-spans.ensures.all w (omega arith) to })
+    subst (λ (ss : List (Span Control)). AreSpans c.args.seen.now c.args.walker.p c.bounds_for-bounds.result.four c.args.walker.number ss) (sym c.deref-in-loop-pcid.ensures.value)
+    (record { order = c.in_ok-spans.ensures.order; each = c.in_ok-spans.ensures.each; all = λ w from to. c.in_ok-spans.ensures.all w (omega (arith, from, c.bounds_for-bounds.ensures.low)) to })
 
 pub loop-pcid-preserved : goal.loop-pcid-preserved
 loop-pcid-preserved c =
@@ -31,26 +32,30 @@ loop-pcid-preserved c =
     let pcid : ℕ = get_or xs i 0 in
     let v : Walker = under c.args.walker pcid in
     let better : Option (List ℕ) = c.in_ok-fresher.fresher in
-    let bounds : Bounds = c.bounds_from-bounds.result in
+    let bounds : Bounds = c.bounds_for-bounds.result in
     let fresher : IsBetter v.freshest c.loop-pcid.best better = subst (λ (w : Viewed). IsBetter w.walker.freshest c.loop-pcid.best better) c.in_ok-view.ensures c.in_ok-fresher.ensures.fresher in
     let some : IfSome better (AreWitness r.head r.events v.number e) = subst (λ (w : Viewed). IfSome better (AreWitness w.run.head w.run.events w.walker.number e)) c.in_ok-view.ensures c.in_ok-fresher.ensures.some in
-    let mine : AreUnder r v bounds.one e better = subst (λ (w : Viewed). AreUnder w.run w.walker bounds.one e better) c.in_ok-view.ensures c.in_ok-fresher.ensures.all in
-    let since : AreUnder r v c.page_since.result e better = subst (λ since. AreUnder r v since e better) c.bounds_from-bounds.ensures.one mine in
+    let mine : AreBounds r v bounds.one bounds → AreUnder r v bounds.one e better =
+    subst (λ (w : Viewed). AreBounds w.run w.walker bounds.one bounds → AreUnder w.run w.walker bounds.one e better) c.in_ok-view.ensures c.in_ok-fresher.ensures.all in
+    let since : c.args.walker.since ≡ 0 → AreUnder r v c.page_since.result e better = λ zero.
+        let of : AreBounds r v c.page_since.result bounds = c.bounds_for-bounds.ensures.all zero in
+        subst (λ since. AreUnder r v since e better) of.one (mine (subst (λ n. AreBounds r v n bounds) (sym of.one) of))
+    in
     let all : Option (List ℕ) → ℕ → Type 0 = λ found pcid. AreGlobal r (under c.args.walker pcid) e found in
     record {
       memo = c.search_under.ensures.memo ∙ c.loop-pcid.invariant.memo;
       some = some;
       fresher = λ ws h. fresher ws (c.loop-pcid.invariant.fresher ws h);
-      all = subst (All (all better)) (sym (take_more xs i 0 c.loop-pcid-test.true)) (All-push (all better) (take i xs) pcid
-          (All-weaker (all c.loop-pcid.best) (all better) (λ q old. λ ws witness alike lasts. fresher ws (old ws witness alike lasts)) (take i xs) c.loop-pcid.invariant.all)
-          (global_since r v c.page_since.result e better since c.page_since.ensures.since));
+      all = λ zero. subst (All (all better)) (sym (take_more xs i 0 c.loop-pcid-test.true)) (All-push (all better) (take i xs) pcid
+          (All-weaker (all c.loop-pcid.best) (all better) (λ q old. λ ws witness alike lasts. fresher ws (old ws witness alike lasts)) (take i xs) (c.loop-pcid.invariant.all zero))
+          (global_since r v c.page_since.result e better (since zero) c.page_since.ensures.since));
     }
 
 pub returns-clause-all : goal.returns-clause-all
-returns-clause-all c = λ w low.
+returns-clause-all c = λ zero w low.
     let all : ℕ → Type 0 = λ pcid. AreGlobal c.args.seen.now (under c.args.walker pcid) c.args.event.now c.loop-pcid.best in
-    let each : All all c.deref-pcid-items.result.now = subst (All all) (take_all c.loop-pcid.pcid-index c.deref-pcid-items.result.now c.loop-pcid-test.false) c.loop-pcid.invariant.all in
-    let s = c.in_ok-spans.ensures.all w (omega arith) low in
+    let each : All all c.deref-pcid-items.result.now = subst (All all) (take_all c.loop-pcid.pcid-index c.deref-pcid-items.result.now c.loop-pcid-test.false) (c.loop-pcid.invariant.all zero) in
+    let s = c.in_ok-spans.ensures.all w (omega (arith, zero)) low in
     let steady : IsSteady c.args.seen.now c.args.walker.p s.0 = All-contains (IsSteady c.args.seen.now c.args.walker.p) c.in_ok-spans.spans.items s.0 c.in_ok-spans.ensures.each s.1 in
     let spans : ArePcids c.in_ok-spans.spans.items c.deref-pcid-items.result.now = subst (ArePcids c.in_ok-spans.spans.items) (sym c.deref-pcid-items.ensures.value)
     (subst (λ (ss : List (Span Control)). ArePcids ss c.in_ok-pcids_of.field-0.items) c.deref.ensures.value c.in_ok-pcids_of.ensures) in

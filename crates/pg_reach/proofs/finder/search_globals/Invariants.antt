@@ -11,5 +11,5 @@ invariant-loop-pcid l = record {
   memo : l.memo ≡ l.fn.memo;
   some : IfSome l.best (AreWitness l.seen.head l.seen.events l.walker.number l.event);
   fresher : (ws : List ℕ) → IsFresher l.walker.freshest l.fn.found ws → IsFresher l.walker.freshest l.best ws;
-  all : All (λ pcid. AreGlobal l.seen (under l.walker pcid) l.event l.best) (take l.pcid-index l.pcid-items);
+  all : l.walker.since ≡ 0 → All (λ pcid. AreGlobal l.seen (under l.walker pcid) l.event l.best) (take l.pcid-index l.pcid-items);
 }

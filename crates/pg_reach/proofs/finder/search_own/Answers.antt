@@ -7,18 +7,22 @@ use Rattle.pg_reach.specs.declared.walker.Walker.{Walker}
 use Rattle.pg_reach.specs.declared.since.Bounds.{Bounds}
 use Rattle.pg_reach.specs.Views.{Viewed}
 use Rattle.pg_reach.specs.Asking.{AreUnder, AreLate}
+use Rattle.pg_reach.specs.Bounds.{AreBounds}
 use Rattle.pg_reach.proofs.Cases.{late_page, late_now}
 use Rattle.pg_reach.proofs.finder.search_own.Goals as goal
 use Rattle.pg_reach.proofs.finder.search_own.Goals.{then-wants_page, else-wants_page}
 
 pub returns-clause-all : goal.returns-clause-all
-returns-clause-all c =
+returns-clause-all c = λ zero.
     let r : Recorded = c.args.seen.now in
     let v : Walker = c.args.walker in
     let e : Event = c.args.event.now in
-    let bounds : Bounds = c.bounds_from-bounds.result in
-    let mine : IfOk c.search_under.result (AreUnder r v bounds.one e) = subst (λ (w : Viewed). IfOk c.search_under.result (AreUnder w.run w.walker bounds.one e)) c.in_ok-view.ensures c.search_under.ensures.all in
-    let under : IfOk c.search_under.result (AreUnder r v c.if-wants_page.since e) = subst (λ since. IfOk c.search_under.result (AreUnder r v since e)) c.bounds_from-bounds.ensures.one mine in
+    let bounds : Bounds = c.bounds_for-bounds.result in
+    let all : AreBounds r v c.if-wants_page.since bounds = c.bounds_for-bounds.ensures.all zero in
+    let own : AreBounds r v bounds.one bounds = subst (λ n. AreBounds r v n bounds) (sym all.one) all in
+    let mine : AreBounds r v bounds.one bounds → IfOk c.search_under.result (AreUnder r v bounds.one e) =
+    subst (λ (w : Viewed). AreBounds w.run w.walker bounds.one bounds → IfOk c.search_under.result (AreUnder w.run w.walker bounds.one e)) c.in_ok-view.ensures c.search_under.ensures.all in
+    let under : IfOk c.search_under.result (AreUnder r v c.if-wants_page.since e) = subst (λ since. IfOk c.search_under.result (AreUnder r v since e)) all.one (mine own) in
     elim c.if-wants_page.branch as (λ _. IfOk c.search_under.result (AreLate r v e)) [
       | then-wants_page b ↦ IfOk-weaker c.search_under.result _ _ (λ found h. late_page r v b.page_since-since.result e found b.page_since-since.ensures.within b.page_since-since.ensures.since h)
           (subst (λ since. IfOk c.search_under.result (AreUnder r v since e)) b.since-is under)

@@ -24,7 +24,7 @@ by_level fours threes twos ones Two = twos
 by_level fours threes twos ones One = ones
 
 pub returns-clause-all : goal.returns-clause-all
-returns-clause-all c =
+returns-clause-all c = λ bounds.
     let view : Viewed = c.args.view.now in
     let r : Recorded = view.run in
     let v : Walker = view.walker in
@@ -45,7 +45,7 @@ returns-clause-all c =
     let by_one : IsBetter v.freshest c.end_among-one.result found = λ ws h. by_two ws (c.end_among-two.ensures.fresher ws h) in
     let lists : Level → List Reach = by_level c.in_ok-fours.fours c.in_ok-threes.threes c.in_ok-twos.twos c.in_ok-ones.ones in
     let whole : AreWhole r v e since c.args.bounds lists found = record {
-      bounds = c.requires.bounds;
+      bounds = bounds;
       levels = record {
         roots = roots;
         below = λ level. elim level as (λ l. IsTableLevel l → AreBelow r v l (bound_of c.args.bounds l) (lists l) (lists (below l))) [ Four ↦ λ deep. threes | Three ↦ λ deep. twos | Two ↦ λ deep. ones | One ↦ λ deep. absurd deep ];
