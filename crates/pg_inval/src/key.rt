@@ -1,6 +1,7 @@
 ghost use Rattle.std.specs.Prelude.{◌≡◌};
 ghost use Rattle.pg_inval.specs.Keys.{structure_at, local_at, global_at, structure_keys};
 ghost use Rattle.pg_inval.specs.Keys.{translation_keys};
+ghost use Rattle.pg_inval.specs.Lasts.{place_of};
 ghost use Rattle.pg_inval.specs.Hashed.{numbered, owner_of, number_of, hashed, hashed-alike};
 
 use arrayvec::ArrayVec;
@@ -87,6 +88,15 @@ impl DropKey {
             DropKey::Structure { prefix, .. } => prefix,
             DropKey::Local { number, .. } | DropKey::Global { number, .. } => number,
         }
+    }
+
+    /// The place of its last moment. Keys that follow each other are spread evenly.
+    pub(crate) fn place(&self) -> usize
+        ensures { result ≡ place_of self.now }
+    {
+        let number = self.number().wrapping_mul(0x9e37_79b9_7f4a_7c15);
+        let owner = self.owner().wrapping_mul(0xc2b2_ae3d_27d4_eb4f);
+        (number.wrapping_add(owner) / 0x2_0000_0000_0000) as usize
     }
 }
 
