@@ -19,8 +19,9 @@ use pg_codec::{RecordReader, Source};
 use pg_event::{Event, Version};
 use std::alloc::{AllocError, Global};
 
-/// Events are judged once so many wait, and then let go; the last segment may bring more.
-const WINDOW: usize = 1 << 16;
+/// Events are judged once so many wait, and then let go; the last segment may bring more. So few
+/// stay in a cache of the processor until they are judged.
+const WINDOW: usize = 1 << 11;
 
 /// Puts a segment into a window, and judges the window and lets it go once its events are many.
 fn take_in(
@@ -30,7 +31,7 @@ fn take_in(
 ) -> Result<(), AllocError>
     requires next { MayFollow judged.old (window.old.items ++ segment.now) }
     requires whole { BeginsSegment judged.old (window.old.items ++ segment.now) }
-    ensures few { OnOk result (length window.new.items < 2 ^ 16) }
+    ensures few { OnOk result (length window.new.items < 2 ^ 11) }
     ensures whole { OnOk result (BeginsSegment judged.new window.new.items) }
     ensures moved { (head : Head) (before : List Event) → IsJudged judged.old head before →
         AreWellFormed head (window.old.items ++ segment.now) → OnOk result
