@@ -53,7 +53,8 @@ fn tell_usage<E: Sink>(errors: &mut E, usage: Usage) -> u8 {
     }
 }
 
-/// Checks the record on a source. The events of one with spans stand in no order, and it is refused.
+/// Checks the record on a source. The events of one with spans have no one order, and it is
+/// refused.
 fn check_on<T: AllocGlobal + Threads + Wait + Sync, R: Source + Drop, O: Sink, E: Sink>(
     rt: &T,
     checkers: u16,

@@ -46,10 +46,22 @@ pub(crate) fn word_of(event: &Event) -> Option<u64> {
     }
 }
 
+/// How many events each processor has.
+fn counts_of(alloc: Global, run: &SpannedRun) -> Result<Vec<u32>, AllocError> {
+    let mut counts = vec![in alloc; 0u32; run.header().processors.len()]?;
+    for event in run.events() {
+        if let Some(count) = counts.get_mut(processor_of(event) as usize) {
+            *count = count.saturating_add(1);
+        }
+    }
+    Ok(counts)
+}
+
 impl<'a> Facts<'a> {
     pub(crate) fn of(alloc: Global, run: &'a SpannedRun) -> Result<Facts<'a>, AllocError> {
         let header = run.header();
         let processors = header.processors.len();
+        let counts = counts_of(alloc, run)?;
         let mut facts = Facts {
             run,
             cfg: header.cfg,
@@ -63,8 +75,9 @@ impl<'a> Facts<'a> {
             reach: 0,
             sure: Sure::none(alloc),
         };
-        for (cr3, pge) in header.processors.iter() {
-            facts.own.push(Vec::new(alloc))?;
+        for (p, (cr3, pge)) in header.processors.iter().enumerate() {
+            let count = at(counts.as_slice(), number(p));
+            facts.own.push(Vec::with_capacity(alloc, count as usize)?)?;
             facts.stays.push(loaded(header.cfg.m, *cr3, *pge))?;
         }
         for number in 0..number(run.len()) {
@@ -169,13 +182,15 @@ impl<'a> Facts<'a> {
         if self.processor(event) == Some(p) {
             return self.place(event);
         }
-        match self.own.get(p as usize) {
-            Some(own) if self.sure.is_none() => {
-                number(own.partition_point(|i| self.since(*i) <= event))
-            }
-            Some(own) => number(own.partition_point(|i| !self.must_precede(event, *i))),
-            None => 0,
-        }
+        let Some(own) = self.own.get(p as usize) else {
+            return 0;
+        };
+        // All that ended before the event began come before it, and all that ended too far behind
+        // it to overlap it come behind it.
+        let first = count_below(own, self.since(event)) as usize;
+        let last = count_below(own, event.saturating_add(self.reach).saturating_add(1)) as usize;
+        let near = own.get(first..last).unwrap_or(&[]);
+        number(first.saturating_add(near.partition_point(|i| !self.must_precede(event, *i))))
     }
 
     /// The first slot of a processor that may come behind an event.

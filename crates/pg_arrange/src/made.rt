@@ -38,11 +38,14 @@ impl Made {
             low: 0,
             undone: 0,
         };
-        for _ in 0..processors {
-            made.own.push(Vec::new(alloc))?;
+        // A list that grew by and by would leave holes in memory.
+        for p in 0..processors {
+            made.own
+                .push(Vec::with_capacity(alloc, facts.count(p) as usize)?)?;
         }
-        for _ in 0..facts.writes.len() {
-            made.values.push(Vec::new(alloc))?;
+        for word in 0..number(facts.writes.len()) {
+            let count = facts.writes.list(word).len();
+            made.values.push(Vec::with_capacity(alloc, count)?)?;
         }
         Ok(made)
     }

@@ -6,7 +6,7 @@ use crate::edges::{Edge, Taste, edges_of};
 use crate::learned::Learned;
 use crate::looked::Looked;
 use crate::numbers::NEVER;
-use crate::search::Maker;
+use crate::search::{ALL_WINDOWS, Maker};
 use crate::sure::Sure;
 use crate::sweep::{Hit, Limits, Sweep, View};
 use std::alloc::{AllocError, Global};
@@ -32,8 +32,6 @@ const FAR_BACK: u32 = 400;
 const MOST_UNDONE: u64 = 64;
 
 const MORE: u64 = 4000;
-
-const ALL_WINDOWS: u32 = NEVER;
 
 /// What was tried.
 #[derive(Drop)]
@@ -299,7 +297,7 @@ impl<'a> Maker<'a> {
             let Some(asked) = asked_of(&self.facts, event) else {
                 continue;
             };
-            if self.look(&asked, ALL_WINDOWS)?.is_none() {
+            if self.is_witnessed(&asked)? {
                 self.put(event)?;
                 return Ok(true);
             }

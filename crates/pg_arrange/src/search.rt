@@ -7,7 +7,7 @@ use crate::found::Found;
 use crate::learned::Learned;
 use crate::looked::Looked;
 use crate::made::Made;
-use crate::numbers::{Chance, number};
+use crate::numbers::{Chance, NEVER, number};
 use crate::repair::Tries;
 use crate::witness::Witness;
 use pg_event::{Event, Outcome};
@@ -24,10 +24,12 @@ pub enum Sought {
     Stuck(Vec<u32>),
 }
 
-/// An event that was asked in vain whether it can come next.
+/// An event that was asked whether it can come next.
 #[derive(Clone, Copy)]
 struct Wait {
     event: u32,
+    /// Whether it can, as it was asked last.
+    can_come: bool,
     /// Whether it is worth asking again: a word that was looked at was written since.
     is_stale: bool,
     looked: Looked,
@@ -37,6 +39,8 @@ struct Wait {
 
 /// So many windows between drops are looked at before another event is tried.
 const FEW_WINDOWS: u32 = 4;
+
+pub(crate) const ALL_WINDOWS: u32 = NEVER;
 
 /// An order that is being made.
 #[derive(Drop)]
@@ -89,10 +93,10 @@ fn better(best: Option<Choice>, other: Choice) -> Choice {
     }
 }
 
-/// Whether what waits looked at a word.
+/// Whether what waits in vain looked at a word.
 fn may_wake(wait: &Option<Wait>, word: u64) -> bool {
     match wait {
-        Some(wait) => wait.looked.may_have(word),
+        Some(wait) => !wait.can_come && wait.looked.may_have(word),
         None => false,
     }
 }
@@ -136,13 +140,9 @@ impl<'a> Maker<'a> {
         })
     }
 
-    /// Whether an event is witnessed if it comes next, by a search of so many windows; else what it
+    /// Whether an event is witnessed if it comes next, by a search of so many windows; what it
     /// looked at, and whether these were all windows.
-    pub(crate) fn look(
-        &mut self,
-        asked: &Asked,
-        windows: u32,
-    ) -> Result<Option<(Looked, bool)>, AllocError> {
+    fn look(&mut self, asked: &Asked, windows: u32) -> Result<Wait, AllocError> {
         let mut witness = Witness {
             alloc: self.alloc,
             facts: &self.facts,
@@ -151,17 +151,25 @@ impl<'a> Maker<'a> {
             looked: Looked::new(),
             is_whole: true,
         };
-        if witness.is_witnessed(asked, windows)? {
-            Ok(None)
-        } else {
-            Ok(Some((witness.looked, witness.is_whole)))
-        }
+        let can_come = witness.is_witnessed(asked, windows)?;
+        Ok(Wait {
+            event: asked.event,
+            can_come,
+            is_stale: false,
+            looked: witness.looked,
+            is_whole: witness.is_whole,
+        })
+    }
+
+    /// Whether an event is witnessed if it comes next, by all windows.
+    pub(crate) fn is_witnessed(&mut self, asked: &Asked) -> Result<bool, AllocError> {
+        Ok(self.look(asked, ALL_WINDOWS)?.can_come)
     }
 
     /// How an event of a processor waits.
-    fn wait(&self, p: u16, event: u32) -> Option<Wait> {
+    fn wait(&self, p: u16, event: u32) -> Option<&Wait> {
         match self.waits.get(p as usize) {
-            Some(Some(wait)) if wait.event == event => Some(*wait),
+            Some(Some(wait)) if wait.event == event => Some(wait),
             _ => None,
         }
     }
@@ -185,28 +193,16 @@ impl<'a> Maker<'a> {
         let Some(asked) = asked_of(&self.facts, event) else {
             return Ok(true);
         };
-        let before = self.wait(p, event);
-        let windows = match before {
-            Some(wait) if !wait.is_stale => return Ok(false),
+        let (windows, was_whole) = match self.wait(p, event) {
+            Some(wait) if !wait.is_stale => return Ok(wait.can_come),
             // What stood before the last drop is as it was.
-            Some(_) => 1,
-            None => FEW_WINDOWS,
+            Some(wait) if !wait.can_come => (1, Some(wait.is_whole)),
+            _ => (FEW_WINDOWS, None),
         };
-        let Some((looked, is_whole)) = self.look(&asked, windows)? else {
-            return Ok(true);
-        };
-        let is_whole = match before {
-            Some(wait) => wait.is_whole,
-            None => is_whole,
-        };
-        let wait = Wait {
-            event,
-            is_stale: false,
-            looked,
-            is_whole,
-        };
+        let mut wait = self.look(&asked, windows)?;
+        wait.is_whole = was_whole.unwrap_or(wait.is_whole);
         self.set_wait(p, Some(wait));
-        Ok(false)
+        Ok(wait.can_come)
     }
 
     fn rank(&self, event: u32) -> u64 {

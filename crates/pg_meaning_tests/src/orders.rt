@@ -1,7 +1,7 @@
 use crate::certificates::MAPPED;
 use crate::written::{INVLPG, READ, Written, event_of, header_of};
 use pg_event::{Outcome, Version, well_formed};
-use pg_order::{InOrder, Verdict, certify_in_order, find_ordered_run};
+use pg_order::{InOrder, Verdict, certify_in_order, find_ordered_run, moments_in_order};
 use pg_spanned::{SpannedRun, is_order};
 use std::alloc::{AllocGlobal, Global};
 use std::test::Fail;
@@ -47,7 +47,16 @@ const WRONG_CODE: Written = Written::Access {
     at: &[0],
 };
 
-const CASES: [Case; 6] = [
+/// The same of processor 0, whose events have one order.
+const OWN_WRONG_CODE: Written = Written::Access {
+    p: 0,
+    flags: READ,
+    la: 0x6123,
+    outcome: Outcome::Fault(0),
+    at: &[0],
+};
+
+const CASES: [Case; 7] = [
     Case {
         name: "one order alone, which has a run",
         events: &[(REMAP, 0), (OLD_READ, 0), (INVLPG, 0)],
@@ -84,6 +93,12 @@ const CASES: [Case; 6] = [
         told: Told::NoneOfAll(5),
         order: &[],
     },
+    Case {
+        name: "a wrong error code, and spans of one processor alone that overlap",
+        events: &[(OWN_WRONG_CODE, 1)],
+        told: Told::Never(5),
+        order: &[],
+    },
 ];
 
 pub(crate) fn push(run: &mut SpannedRun, written: &Written, back: u32) -> Result<(), Fail> {
@@ -116,7 +131,8 @@ pub(crate) fn run_of(alloc: Global, events: &[Spanned]) -> Result<SpannedRun, Fa
 /// Whether the verdict is what the case says.
 fn is_told(alloc: Global, run: &SpannedRun, told: &Told) -> Result<bool, Fail> {
     Ok(match (find_ordered_run(alloc, run)?, told) {
-        (Verdict::Yes { order, found }, Told::Yes) => {
+        (Verdict::Yes(order), Told::Yes) => {
+            let found = moments_in_order(alloc, run, &order)?;
             is_order(alloc, run, &order)? && found.len() == run.len()
         }
         (Verdict::Never(event), Told::Never(at)) => event == *at,
@@ -128,7 +144,7 @@ fn is_told(alloc: Global, run: &SpannedRun, told: &Told) -> Result<bool, Fail> {
 
 /// Whether the events are certified in this order.
 fn is_certified_in(alloc: Global, run: &SpannedRun, order: &[u32]) -> Result<bool, Fail> {
-    Ok(matches!(certify_in_order(alloc, run, order)?, InOrder::Certified(_)))
+    Ok(matches!(certify_in_order(alloc, run, order)?, InOrder::Certified))
 }
 
 fn is_so(alloc: Global, case: &Case) -> Result<bool, Fail> {

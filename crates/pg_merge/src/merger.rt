@@ -61,9 +61,9 @@ fn spanned(
 
 /// The run with spans of which these are the logs, in any order: all their events as they ended,
 /// each once and no others, and for each how many of those before it had not ended when it began.
-/// Each span is longer than its stamps say by `error` ticks on both sides, for clocks that differ by
-/// so much. Where end stamps are the same, the event of the processor with the least number comes
-/// first.
+/// Each span is longer than its stamps say by `error` ticks on both sides, for clocks that differ
+/// by so much. Where end stamps are the same, the event of the processor with the least number
+/// comes first.
 ///
 /// Fails where the logs are not those of one run, where there are 2 to the power of 32 events or
 /// more, and where memory is refused.

@@ -16,7 +16,7 @@ use Rattle.pg_search.specs.Law.{RunBeginsWith}
 use Rattle.pg_certify.specs.Certified.{IsDenied, HasRunButMoments, CertifiedEventsRun, CertifiedExactlyWhereARunExists, DeniedEventsHaveNoRun}
 use Rattle.pg_spanned.specs.Orders.{Spanned}
 use Rattle.pg_spanned.specs.Spanned.{IsSpanned}
-use Rattle.pg_spanned.specs.Laws.{ends, NoneOverlap, NoOverlapNoOtherOrder}
+use Rattle.pg_spanned.specs.Laws.{ends, EachPrecedesNext, NoOtherOrder}
 use Rattle.pg_spanned.proofs.Places.{AllByRecursion-at, some_same}
 use Rattle.pg_spanned.specs.Orders.{ordered}
 use Rattle.pg_relaxed.specs.Orders.{RunComesTo, NeverComes}
@@ -61,7 +61,7 @@ pub begins : (head : Head) (events : List Event) (n : ℕ) → HasRunButMoments 
 begins head events n run = (run.0, run.1, map_take (n + 1) events ∙ (ap (take (n + 1)) run.2 ∙ sym (map_take (n + 1) (visible run.0))))
 
 -- in the only order no run comes to what is denied there
-pub denied_never_comes : DeniedEventsHaveNoRun → NoOverlapNoOtherOrder → (s : Spanned) (i : ℕ) → IsSpanned s → NoneOverlap s → IsDenied s.head (ordered s.events (ends s)) i → NeverComes s i
+pub denied_never_comes : DeniedEventsHaveNoRun → NoOtherOrder → (s : Spanned) (i : ℕ) → IsSpanned s → EachPrecedesNext s → IsDenied s.head (ordered s.events (ends s)) i → NeverComes s i
 denied_never_comes law only s i spanned none denied order place is at run =
     let same : order ≡ ends s = only s order none is in
     let low : place < length (ends s) = slice_get_within (ends s) place i (ap (λ (o : List ℕ). slice_get o place) (sym same) ∙ at) in

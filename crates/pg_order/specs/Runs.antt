@@ -20,14 +20,13 @@ CanBeOrdered s =
 
 -- what is told of the events in an order
 abbrev pub IsToldOf : Spanned → List ℕ → InOrder → Type 0
-IsToldOf s order (Certified found) =
-    IsOrder s order × IsCertified s.head (ordered s.events order) found.items
+IsToldOf s order Certified = IsOrder s order × CanBeCertified s.head (ordered s.events order)
 IsToldOf s order (Denied place) = IsOrder s order × IsDenied s.head (ordered s.events order) place
 IsToldOf s order NoOrder = IsOrder s order → ⊥
 
 -- where they are certified, they have a run
 abbrev pub HasRunIfCertified : Spanned → InOrder → Type 0
-HasRunIfCertified s (Certified found) = HasOrderedRun s
+HasRunIfCertified s Certified = HasOrderedRun s
 HasRunIfCertified s (Denied place) = Unit {0}
 HasRunIfCertified s NoOrder = Unit {0}
 

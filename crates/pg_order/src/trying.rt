@@ -7,8 +7,8 @@ ghost use Rattle.pg_order.specs.Runs.{HasOrderedRun};
 ghost use Rattle.pg_order.specs.Trying.{AreNumbers, Lacks, LacksEarlier, NoneBegins};
 ghost use Rattle.pg_order.specs.Trying.{NoneBelow, IsTrying, IsTried};
 
-use crate::in_order::history_of;
-use pg_certify::{denied_events_have_no_run, first_denied};
+use crate::in_order::first_denied_in;
+use pg_certify::denied_events_have_no_run;
 use pg_event::{Event, processor_of};
 use pg_spanned::SpannedRun;
 use std::alloc::{AllocError, Global};
@@ -86,8 +86,8 @@ fn are_denied(alloc: Global, run: &SpannedRun, numbers: &[u32]) -> Result<bool, 
     ensures { IfOk result (λ denied. IsTrue denied → NoneBegins run.now numbers.now) }
 {
     denied_events_have_no_run();
-    let history = history_of(alloc, run, numbers)?;
-    match first_denied(alloc, &history)? {
+    let _events = run.events();
+    match first_denied_in(alloc, run, numbers)? {
         Some(_) => Ok(true),
         None => Ok(false),
     }

@@ -1,29 +1,23 @@
 //! Whether the events of a run have an order with a run of the machine.
 
-ghost use Rattle.std.specs.Prelude.{◌≡◌, ℕ, ◌<◌, ◌↔◌, length, IfOk, IfSome, IsTrue, slice_index};
+ghost use Rattle.std.specs.Prelude.{◌≡◌, ◌<◌, length, IfOk, IfSome};
 ghost use Rattle.std.specs.List.{range_with_len};
-ghost use Rattle.pg_spanned.specs.Spanned.{IsSpanned};
-ghost use Rattle.pg_spanned.specs.Laws.{NoneOverlap};
+ghost use Rattle.pg_spanned.specs.Laws.{EachPrecedesNext};
 ghost use Rattle.pg_order.specs.Verdicts.{IsVerdict};
 
 use crate::in_order::{InOrder, certify_in_order};
 use crate::trying::{Tried, try_orders};
 use pg_arrange::{Sought, find_order};
 use pg_certify::denied_events_have_no_run;
-use pg_event::Event;
 use pg_relaxed::refute;
-use pg_spanned::{SpannedRun, ends_are_an_order, no_overlap_no_other_order};
+use pg_spanned::{SpannedRun, ends_are_an_order, has_one_order, no_other_order};
 use std::alloc::{AllocError, Global};
 
 /// Whether the events of a run have an order in which some run of the machine has them.
 #[derive(Drop)]
 pub enum Verdict {
-    /// They have.
-    Yes {
-        order: Vec<u32>,
-        /// The events in this order, each with moments that witness it.
-        found: Vec<Event>,
-    },
+    /// They have: the order, by the events' numbers.
+    Yes(Vec<u32>),
     /// They have none, since in no order a run of the machine comes to this event, by its number.
     Never(u64),
     /// They have none: all their orders were tried. The event, by its number, is the first that the
@@ -38,13 +32,6 @@ pub enum Verdict {
 /// All orders are tried of a run of so many events.
 const MOST_TRIED: usize = 64;
 
-/// Whether each event began after those before it had ended.
-fn none_overlap(backs: &[u32]) -> bool
-    ensures { IsTrue result ↔ ((i : ℕ) → i < length backs.now → slice_index backs.now i ≡ 0) }
-{
-    backs.iter().all(|back| *back == 0)
-}
-
 /// The numbers below one, in their order.
 fn numbers_below(alloc: Global, count: u32) -> Result<Vec<u32>, AllocError>
     ensures { IfOk result (λ numbers. numbers.items ≡ range_with_len 0 count) }
@@ -56,18 +43,18 @@ fn numbers_below(alloc: Global, count: u32) -> Result<Vec<u32>, AllocError>
     Ok(numbers)
 }
 
-/// The verdict where no event overlaps another.
+/// The verdict where the events have one order alone.
 fn verdict_in_only_order(alloc: Global, run: &SpannedRun) -> Result<Verdict, AllocError>
-    requires spanned { IsSpanned run.now }
-    requires none { NoneOverlap run.now }
+    requires { EachPrecedesNext run.now }
     ensures { IfOk result (IsVerdict run.now) }
 {
     ends_are_an_order();
-    no_overlap_no_other_order();
+    no_other_order();
     denied_events_have_no_run();
+    let _events = run.events();
     let order = numbers_below(alloc, run.len() as u32)?;
     match certify_in_order(alloc, run, &order)? {
-        InOrder::Certified(found) => Ok(Verdict::Yes { order, found }),
+        InOrder::Certified => Ok(Verdict::Yes(order)),
         InOrder::Denied(place) => Ok(Verdict::Never(place)),
         InOrder::NoOrder => unreachable!(),
     }
@@ -79,14 +66,14 @@ fn yes_in_ends(alloc: Global, run: &SpannedRun) -> Result<Option<Verdict>, Alloc
 {
     let order = numbers_below(alloc, run.len() as u32)?;
     match certify_in_order(alloc, run, &order)? {
-        InOrder::Certified(found) => Ok(Some(Verdict::Yes { order, found })),
+        InOrder::Certified => Ok(Some(Verdict::Yes(order))),
         InOrder::Denied(_) | InOrder::NoOrder => Ok(None),
     }
 }
 
 /// The number that stands at a place of a list, or 0 where none of an event does.
 fn number_at(run: &SpannedRun, numbers: &[u32], place: u64) -> u32
-    requires { NoneOverlap run.now → ⊥ }
+    requires { EachPrecedesNext run.now → ⊥ }
     ensures { result < length run.now.events }
 {
     match numbers.get(place as usize) {
@@ -109,19 +96,19 @@ fn verdict_in_whole(
     order: Vec<u32>,
     number: u32,
 ) -> Result<Verdict, AllocError>
-    requires overlap { NoneOverlap run.now → ⊥ }
+    requires several { EachPrecedesNext run.now → ⊥ }
     requires within { number < length run.now.events }
     ensures { IfOk result (IsVerdict run.now) }
 {
     match certify_in_order(alloc, run, &order)? {
-        InOrder::Certified(found) => Ok(Verdict::Yes { order, found }),
+        InOrder::Certified => Ok(Verdict::Yes(order)),
         InOrder::Denied(_) | InOrder::NoOrder => Ok(Verdict::Undecided(number as u64)),
     }
 }
 
 /// The verdict by all orders, where the events are few. The event is told of a no.
 fn verdict_of_all(alloc: Global, run: &SpannedRun, number: u32) -> Result<Verdict, AllocError>
-    requires overlap { NoneOverlap run.now → ⊥ }
+    requires several { EachPrecedesNext run.now → ⊥ }
     requires within { number < length run.now.events }
     ensures { IfOk result (IsVerdict run.now) }
 {
@@ -142,7 +129,7 @@ fn verdict_of_waiting(
     run: &SpannedRun,
     waiting: &[u32],
 ) -> Result<Verdict, AllocError>
-    requires { NoneOverlap run.now → ⊥ }
+    requires { EachPrecedesNext run.now → ⊥ }
     ensures { IfOk result (IsVerdict run.now) }
 {
     for number in waiting {
@@ -155,11 +142,11 @@ fn verdict_of_waiting(
 
 /// The verdict in an order that a search came to.
 fn verdict_in(alloc: Global, run: &SpannedRun, order: Vec<u32>) -> Result<Verdict, AllocError>
-    requires { NoneOverlap run.now → ⊥ }
+    requires { EachPrecedesNext run.now → ⊥ }
     ensures { IfOk result (IsVerdict run.now) }
 {
     match certify_in_order(alloc, run, &order)? {
-        InOrder::Certified(found) => Ok(Verdict::Yes { order, found }),
+        InOrder::Certified => Ok(Verdict::Yes(order)),
         InOrder::Denied(place) => {
             let number = number_at(run, &order, place);
             verdict_of_waiting(alloc, run, &[number])
@@ -169,16 +156,17 @@ fn verdict_in(alloc: Global, run: &SpannedRun, order: Vec<u32>) -> Result<Verdic
 }
 
 /// Looks for an order of the events of a run in which some run of the machine has them. A yes has
-/// the order, and moments for the events in it. Where no event overlaps another the answer is a yes
-/// or a no. Else the order in which the events ended is tried first, then a search. It is a no where
-/// in no order a run comes to an event that waits when the search gives up, as far as `refute` of
-/// `pg_relaxed` tells, or where a run of at most 64 events has no order with a run.
+/// the order, in which `moments_in_order` names the moments. Where the events have one order alone
+/// the answer is a yes or a no. Else the order in which the events ended is tried first, then a
+/// search. It is a no where in no order a run comes to an event that waits when the search gives
+/// up, as far as `refute` of `pg_relaxed` tells, or where a run of at most 64 events has no order
+/// with a run.
 ///
 /// It fails only where memory is refused.
 pub fn find_ordered_run(alloc: Global, run: &SpannedRun) -> Result<Verdict, AllocError>
     ensures { IfOk result (IsVerdict run.now) }
 {
-    if none_overlap(run.backs()) {
+    if has_one_order(run) {
         return verdict_in_only_order(alloc, run);
     }
     if let Some(verdict) = yes_in_ends(alloc, run)? {

@@ -13,14 +13,13 @@ use Rattle.pg_spanned.specs.Orders.{Spanned, IsOrder, ordered}
 use Rattle.pg_spanned.specs.Spanned.{IsSpanned}
 use Rattle.pg_spanned.proofs.Places.{AllByRecursion-at}
 use Rattle.pg_span_codec.specs.Spelling.{IsSpelled}
-use Rattle.pg_order.specs.Verdicts.{IsOrderedRun}
 use Rattle.pg_order.proofs.Meaning.{length-ordered, ordered-well}
-use Rattle.pg_ordering.specs.Answers.{IsNamedInOrder}
+use Rattle.pg_ordering.specs.Answers.{IsCertifiedIn, IsNamedInOrder}
 
-pub found_few : (s : Spanned) (order : List ℕ) (found : List Event) → IsSpanned s → IsOrderedRun s order found → length found < 2 ^ 32
+pub found_few : (s : Spanned) (order : List ℕ) (found : List Event) → IsSpanned s → IsCertifiedIn s order found → length found < 2 ^ 32
 found_few s order found spanned h = omega (arith, same_count found (ordered s.events order) h.certified.same, length-ordered s.events order, h.order_of.count, spanned.count)
 
-pub found_well : (s : Spanned) (order : List ℕ) (found : List Event) → IsSpanned s → IsOrderedRun s order found → AreWellFormed s.head found
+pub found_well : (s : Spanned) (order : List ℕ) (found : List Event) → IsSpanned s → IsCertifiedIn s order found → AreWellFormed s.head found
 found_well s order found spanned h = well_alike s.head found (ordered s.events order) h.certified.same (ordered-well s.head s.events order spanned.well)
 
 fits_one : (events : List Event) (i : ℕ) (o : Option Event) → slice_get events i ≡ o → AllByRecursion FitsEvent events → AllByRecursion FitsEvent (option_to_list o)
@@ -44,7 +43,7 @@ ordered_record s order is spelled = record {
 }
 
 -- the record that is written of a yes
-pub named_in_order : (s : Spanned) (order : List ℕ) (found : List Event) → IsSpanned s → IsOrderedRun s order found → IsNamedInOrder s (record { head = s.head; events = found })
+pub named_in_order : (s : Spanned) (order : List ℕ) (found : List Event) → IsSpanned s → IsCertifiedIn s order found → IsNamedInOrder s (record { head = s.head; events = found })
 named_in_order s order found spanned h =
     let named : Recorded = record { head = s.head; events = found } in
     let in_order : Recorded = record { head = s.head; events = ordered s.events order } in

@@ -92,13 +92,17 @@ pub record IsNamedInOrder (s : Spanned) (named : Recorded) : Type 0 where
   pub run : HasRun s.head named.events
   pub one : IsSpelled s → SpellsOne (record_bytes named) named
 
+abbrev pub GivesRecord : Spanned → Change → Change → ℕ → Type 0
+GivesRecord s output errors status =
+    ((named : Recorded) × IsNamedInOrder s named
+    × GivesOut (record_bytes named) 0 output errors status)
+    ⊎ WantsMemory output errors status
+
 -- what is written of a yes: its report; or such a record; or such an order
 abbrev pub GivesYes : Asked → Spanned → Change → Change → ℕ → Type 0
 GivesYes Report s output errors status = GivesReport s Yes output errors status
 GivesYes Picture s output errors status = GivesReport s Yes output errors status
-GivesYes Record s output errors status =
-    (named : Recorded) × IsNamedInOrder s named
-    × GivesOut (record_bytes named) 0 output errors status
+GivesYes Record s output errors status = GivesRecord s output errors status
 GivesYes Order s output errors status =
     (order : List ℕ) × (found : List Event) × IsCertifiedIn s order found
     × GivesOrder order output errors status

@@ -10,7 +10,7 @@ ghost use Rattle.pg_order.specs.Verdicts.{IsOrderedRun};
 ghost use Rattle.pg_auditing.specs.Streams.{streams};
 ghost use Rattle.pg_ordering.specs.Answers.{GivesOut, GivesError, AnswersRun, OrdersRecord};
 ghost use Rattle.pg_ordering.specs.Answers.{GivesReport, GivesReportAside, IsSo, WantsMemory};
-ghost use Rattle.pg_ordering.specs.Answers.{GivesPicture};
+ghost use Rattle.pg_ordering.specs.Answers.{GivesPicture, GivesRecord};
 ghost use Rattle.pg_ordering.specs.Answers.{told_status, GivesOrder, TellsUnread};
 
 use crate::reading::{Unread, read_run};
@@ -20,7 +20,7 @@ use crate::told::{Asked, Told};
 use pg_auditing::{MEMORY, NO, REFUSED, YES, tell};
 use pg_codec::{Sink, Source, put_all, write_record};
 use pg_event::{Event, Header};
-use pg_order::{Verdict, find_ordered_run};
+use pg_order::{Verdict, find_ordered_run, moments_in_order};
 use pg_report::AuditError;
 use pg_spanned::SpannedRun;
 use std::alloc::Global;
@@ -160,25 +160,42 @@ fn give_order<O: Sink, E: Sink>(alloc: Global, order: &[u32], output: &mut O, er
     }
 }
 
+/// Writes the record of a run's events in an order that has a run, with moments that witness them.
+fn give_named<O: Sink, E: Sink>(
+    alloc: Global,
+    run: &SpannedRun,
+    order: &[u32],
+    output: &mut O,
+    errors: &mut E,
+) -> u8
+    requires { IsOrderedRun run.now order.now }
+    ensures { GivesRecord run.now
+        (filled O.Sink output.old output.new) (filled E.Sink errors.old errors.new) result }
+{
+    let _events = run.events();
+    match moments_in_order(alloc, run, order) {
+        Ok(found) => give_record(run.header(), &found, output, errors),
+        Err(_) => tell_memory(output, errors),
+    }
+}
+
 /// Writes what is asked for of events that have an order with a run.
 fn answer_yes<O: Sink, E: Sink>(
     alloc: Global,
     asked: Asked,
     run: &SpannedRun,
     order: &[u32],
-    found: &[Event],
     output: &mut O,
     errors: &mut E,
 ) -> u8
-    requires { IsOrderedRun run.now order.now found.now }
+    requires { IsOrderedRun run.now order.now }
     ensures { AnswersRun asked run.now
         (filled O.Sink output.old output.new) (filled E.Sink errors.old errors.new) result }
 {
-    let _events = run.events();
     match asked {
         Asked::Report => give_report(alloc, run, Told::Yes, output, errors),
         Asked::Picture => give_report(alloc, run, Told::Yes, output, errors),
-        Asked::Record => give_record(run.header(), found, output, errors),
+        Asked::Record => give_named(alloc, run, order, output, errors),
         Asked::Order => give_order(alloc, order, output, errors),
     }
 }
@@ -217,9 +234,7 @@ fn answer_run<O: Sink, E: Sink>(
         (filled O.Sink output.old output.new) (filled E.Sink errors.old errors.new) result }
 {
     match find_ordered_run(alloc, run) {
-        Ok(Verdict::Yes { order, found }) => {
-            answer_yes(alloc, asked, run, &order, &found, output, errors)
-        }
+        Ok(Verdict::Yes(order)) => answer_yes(alloc, asked, run, &order, output, errors),
         Ok(Verdict::Never(event)) => {
             answer_other(alloc, asked, run, Told::Never(event), output, errors)
         }
@@ -254,9 +269,9 @@ pub(crate) fn tell_unread<O: Sink, E: Sink>(output: &mut O, errors: &mut E, why:
 /// Reads the record of version 3 or 4 that `input` has left, and writes whether its events have an
 /// order in which some run of the machine has them (Intel SDM, vol. 3, 4.10): the report, or where
 /// the answer is yes the record or the order that is asked for in its place; then the report of
-/// another answer goes to `errors`. Where a picture is asked for, that of a no's cause is written in
-/// the place of its report. Nothing is written before it is ready. It gives the exit status: 0 yes, 1
-/// no, 2 refused, 3 memory, 4 undecided.
+/// another answer goes to `errors`. Where a picture is asked for, that of a no's cause is written
+/// in the place of its report. Nothing is written before it is ready. It gives the exit status: 0
+/// yes, 1 no, 2 refused, 3 memory, 4 undecided.
 ///
 /// The record is held in memory whole.
 pub fn certify_spanned<R: Source, O: Sink, E: Sink>(

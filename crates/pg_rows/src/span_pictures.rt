@@ -5,8 +5,8 @@ use crate::spans::WALK;
 
 const DRAWING: &[&str] = &["explain", "--svg"];
 
-/// The entry is replaced by a write that began before the one of the entry ended, and had ended when
-/// processor 1 invalidates its page and reads it by the old one.
+/// The entry is replaced by a write that began before the one of the entry ended, and had ended
+/// when processor 1 invalidates its page and reads it by the old one.
 const STALE: &[&str] = &[
     "50475245434f5244030028030210000000011000000000000000011000000000000000",
     "010000000007000000",
@@ -20,7 +20,8 @@ const STALE: &[&str] = &[
     "0207000000",
 ];
 
-/// What takes part has a row each and a bar, a yes has its report, and what is no record is refused.
+/// What takes part has a row and a bar each, a yes has its report, and what is no record is
+/// refused.
 pub const ROWS: [Row; 3] = [
     Row {
         name: "picture_of_a_stale_leaf_in_no_order",

@@ -39,8 +39,8 @@ const STALE: &[&str] = &[
     "0207000000",
 ];
 
-/// Processor 1 reads the new page, invalidates it and reads the old one, while processor 0 replaces the
-/// entry. Each read may come in some order: the first behind the write, the second before it.
+/// Processor 1 reads the new page, invalidates it and reads the old one, while processor 0 replaces
+/// the entry. Each read may come in some order: the first behind the write, the second before it.
 const NEW_THEN_OLD: &[&str] = &[
     "50475245434f5244030028030210000000011000000000000000011000000000000000",
     "010000000008000000",

@@ -1,7 +1,7 @@
 -- Laws of orders.
-use Rattle.std.specs.Prelude.{◌≡◌, ℕ, ◌<◌, List, length, slice_index}
+use Rattle.std.specs.Prelude.{◌≡◌, ℕ, ◌+◌, ◌<◌, List, length}
 use Rattle.std.specs.List.{range_with_len}
-use Rattle.pg_spanned.specs.Orders.{Spanned, IsOrder}
+use Rattle.pg_spanned.specs.Orders.{Spanned, MustPrecede, IsOrder}
 
 -- the numbers of the events as they ended
 abbrev pub ends : Spanned → List ℕ
@@ -11,11 +11,12 @@ ends s = range_with_len 0 (length s.events)
 abbrev pub EndsAreAnOrder : Type 0
 EndsAreAnOrder = (s : Spanned) → IsOrder s (ends s)
 
--- each event began after those before it had ended
-abbrev pub NoneOverlap : Spanned → Type 0
-NoneOverlap s = (i : ℕ) → i < length s.events → slice_index s.backs i ≡ 0
+-- each event comes before the next in every order: it had ended when the next began, or both are of
+-- one processor
+abbrev pub EachPrecedesNext : Spanned → Type 0
+EachPrecedesNext s = (i : ℕ) → i + 1 < length s.events → MustPrecede s i (i + 1)
 
 -- then they have had no other
-abbrev pub NoOverlapNoOtherOrder : Type 0
-NoOverlapNoOtherOrder =
-    (s : Spanned) (order : List ℕ) → NoneOverlap s → IsOrder s order → order ≡ ends s
+abbrev pub NoOtherOrder : Type 0
+NoOtherOrder =
+    (s : Spanned) (order : List ℕ) → EachPrecedesNext s → IsOrder s order → order ≡ ends s

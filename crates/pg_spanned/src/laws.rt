@@ -1,13 +1,14 @@
 //! Laws of orders. Each function does nothing: its contract is the law.
 
-ghost use Rattle.pg_spanned.specs.Laws.{EndsAreAnOrder, NoOverlapNoOtherOrder};
+ghost use Rattle.pg_spanned.specs.Laws.{EndsAreAnOrder, NoOtherOrder};
 
 /// The order in which events ended is one of their orders, so that each run has one.
 pub fn ends_are_an_order()
     ensures { EndsAreAnOrder }
 {}
 
-/// Where no event overlaps another, the order in which they ended is their only one.
-pub fn no_overlap_no_other_order()
-    ensures { NoOverlapNoOtherOrder }
+/// Where each event comes before the next in every order, the order in which they ended is their
+/// only one.
+pub fn no_other_order()
+    ensures { NoOtherOrder }
 {}

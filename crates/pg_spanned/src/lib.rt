@@ -3,9 +3,11 @@
 #![tactic(auto)]
 
 mod laws;
+mod only;
 mod order;
 mod spanned;
 
-pub use laws::{ends_are_an_order, no_overlap_no_other_order};
+pub use laws::{ends_are_an_order, no_other_order};
+pub use only::has_one_order;
 pub use order::is_order;
 pub use spanned::SpannedRun;

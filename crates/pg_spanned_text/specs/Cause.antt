@@ -3,7 +3,7 @@
 --     event: LINE                            the event, as it is shown with its span
 --     read after: LINE                       the last event of its processor that drops each
 --                                            translation of its page under its PCID: what it uses
---                                            was read behind that. Where there is none, no such line
+--                                            was read behind that. Without one, no such line
 --     read after, if not global: LINE        the same, where global ones may stay
 --     may read: ..                           which entries a walk under its PCID may read since
 --                                            (`Text`), whatever the order

@@ -2,7 +2,8 @@
 
 ghost use Rattle.std.specs.Prelude.{◌≡◌, ◌++◌, ◌<◌, ◌≤◌, ◌==◌, min, IfOk, OnOk, length};
 ghost use Rattle.std.specs.Prelude.{string_bytes, slice_get};
-ghost use Rattle.pg_spanned_text.specs.Picture.{put_lane, lane_with, lanes_of, place_below, fill_of};
+ghost use Rattle.pg_spanned_text.specs.Picture.{put_lane, lane_with, lanes_of, place_below};
+ghost use Rattle.pg_spanned_text.specs.Picture.{fill_of};
 ghost use Rattle.pg_spanned_text.specs.Picture.{frame_text, title_text, paper_text, open_text};
 ghost use Rattle.pg_spanned_text.specs.Picture.{lane_at, lane_name, lane_line, lanes_text};
 ghost use Rattle.pg_spanned_text.specs.Picture.{bar_at, bar_line, label_at, label_line, row_lines};
@@ -358,9 +359,9 @@ fn push_drawn(
 }
 
 /// The cause of an event (`cause_text`) as one SVG: the events that it names, 40 at most, and below
-/// them its lines. Time runs downwards; each event has a row, by its number, and a bar in the lane of
-/// its processor, from the row where it may have begun to its own. The asked event is red. Nothing
-/// for a number that no event has. `Err` is for want of memory alone.
+/// them its lines. Time runs downwards; each event has a row, by its number, and a bar in the lane
+/// of its processor, from the row where it may have begun to its own. The asked event is red.
+/// Nothing for a number that no event has. It fails only where memory is refused.
 pub fn cause_picture(alloc: Global, run: &SpannedRun, number: u64) -> Result<String, AllocError>
     ensures { IfOk result (λ t. string_bytes t ≡ picture_text run.now number) }
 {

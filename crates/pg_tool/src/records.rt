@@ -141,7 +141,8 @@ fn told_of(telling: Telling) -> Asked
     }
 }
 
-/// Explains the record with spans on `input`: why no order of its events has a run, as text or drawn.
+/// Explains the record with spans on `input`: why no order of its events has a run, as text or as
+/// a picture.
 fn explain_order<R: Source, O: Sink, E: Sink>(
     alloc: Global,
     plan: Plan,

@@ -5,5 +5,5 @@ use Rattle.pg_order.proofs.in_order.history_of.Given as goal
 abbrev pub invariant-loop-number : goal.invariant-loop-number
 invariant-loop-number l = record {
   head : l.history.head ≡ l.run.head;
-  events : l.history.events ≡ ordered l.fn.run.events (take l.number-index l.numbers);
+  events : l.history.events ≡ ordered l.fn.run.events (take l.number-index l.order);
 }

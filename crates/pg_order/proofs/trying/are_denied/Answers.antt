@@ -1,8 +1,7 @@
 use Rattle.std.proofs.Common.{ℕ, List, subst, Option}
 use Rattle.std.specs.Prelude.{IfSome}
-use Rattle.pg_event.specs.Spelling.{Recorded}
 use Rattle.pg_certify.specs.Certified.{IsDenied}
-use Rattle.pg_spanned.specs.Orders.{Spanned}
+use Rattle.pg_spanned.specs.Orders.{Spanned, ordered}
 use Rattle.pg_order.proofs.Fronts.{none_begins_denied}
 use Rattle.pg_order.proofs.trying.are_denied.Goals as goal
 
@@ -10,8 +9,6 @@ pub returns-in-Some : goal.returns-in-Some
 returns-in-Some c =
     let s : Spanned = c.args.run.now in
     let front : List ℕ = c.args.numbers.now in
-    let history : Recorded = c.in_ok-history.history in
     let n : ℕ = c.in-Some.field-0 in
-    let denied : IsDenied history.head history.events n = subst (λ (o : Option ℕ). IfSome o (IsDenied history.head history.events)) c.in-Some.is c.in_ok-first_denied.ensures.denied in
-    λ yes. none_begins_denied c.denied_events_have_no_run.ensures s front n c.in_ok-history.ensures.spanned c.requires
-    (subst (λ (r : Recorded). IsDenied r.head r.events n) c.in_ok-history.ensures.events denied)
+    let denied : IsDenied s.head (ordered s.events front) n = subst (λ (o : Option ℕ). IfSome o (IsDenied s.head (ordered s.events front))) c.in-Some.is c.in_ok-first_denied_in.ensures.denied in
+    λ yes. none_begins_denied c.denied_events_have_no_run.ensures s front n c.events-events.ensures.spanned c.requires denied

@@ -12,12 +12,12 @@ pub returns-in-Denied : goal.returns-in-Denied
 returns-in-Denied c =
     let s : Spanned = c.args.run.now in
     let place : ℕ = c.in-Denied.place in
-    let told : IsToldOf s c.deref.result.now (Denied place) = subst (IsToldOf s c.deref.result.now) c.in-Denied.is c.in_ok-found.ensures.told in
+    let told : IsToldOf s c.deref.result.now (Denied place) = subst (IsToldOf s c.deref.result.now) c.in-Denied.is c.in_ok-certify_in_order.ensures.told in
     let denied : IsDenied s.head (ordered s.events (ends s)) place =
-    subst (λ (order : List ℕ). IsDenied s.head (ordered s.events order) place) (c.no_overlap_no_other_order.ensures s c.deref.result.now c.requires.none told.0) told.1 in
+    subst (λ (order : List ℕ). IsDenied s.head (ordered s.events order) place) (c.no_other_order.ensures s c.deref.result.now c.requires told.0) told.1 in
     let same : length (ordered s.events (ends s)) ≤ length s.events = ordered_within s in
     let within : place < length s.events = omega (arith, denied.within, same) in
-    let never : NeverComes s place = denied_never_comes c.denied_events_have_no_run.ensures c.no_overlap_no_other_order.ensures s place c.requires.spanned c.requires.none denied in
+    let never : NeverComes s place = denied_never_comes c.denied_events_have_no_run.ensures c.no_other_order.ensures s place c.events-events.ensures.spanned c.requires denied in
     record {
       within = within;
       never = never;
