@@ -29,8 +29,8 @@ IsNoEnd r v e level x piece found = (m : ℕ) → piece.read ≡ Some m →
     is_wanted (want_by e) (kind_of r.head.cfg level piece.entry) ≡ true →
     IsNoWitness r v e v.number x m found
 
--- the same entry can be read at a later moment, or at this one, and witnesses the event then, at its
--- number or where that comes earlier at the moment, only where such moments are found
+-- the same entry can be read at a later moment, or at this one, and witnesses the event then, at
+-- its number or where that comes earlier at the moment, only where such moments are found
 pub record IsRefused (r : Recorded) (v : Walker) (e : Event) (level : Level) (x : Reach)
     (found : Option (List ℕ)) (w : ℕ) : Type 0 where
   pub m : ℕ

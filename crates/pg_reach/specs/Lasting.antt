@@ -51,8 +51,8 @@ abbrev pub MayUse : Recorded → Walker → ℕ → Bool → ℕ → ℕ → Typ
 MayUse r v shift global m j = (translation_lasts r v shift global m j ≡ true)
     × (IsUnder r v j ⊎ (global ≡ true))
 
--- what was read at a moment may last be used at a number: a translation, where a page is wanted, and
--- all else at the moment alone
+-- what was read at a moment may last be used at a number: a translation, where a page is wanted,
+-- and all else at the moment alone
 abbrev pub IsLastUse : Recorded → Walker → Event → Kind → ℕ → ℕ → Type 0
 IsLastUse r v e (kinds.Leaf frame shift bit) m n =
     let global = bit && (control_at r.head r.events v.p m).pge in

@@ -1,6 +1,7 @@
 //! When an event would last have been witnessed, had it come earlier.
 
-ghost use Rattle.std.specs.Prelude.{◌≡◌, ◌<◌, ◌≤◌, ◌+◌, ◌^◌, ◌⊎◌, ℕ, length, min, max, true, false, None, Some};
+ghost use Rattle.std.specs.Prelude.{◌≡◌, ◌<◌, ◌≤◌, ◌+◌, ◌^◌, ◌⊎◌, ◌&&◌, ℕ, length, min, max};
+ghost use Rattle.std.specs.Prelude.{true, false, None, Some};
 ghost use Rattle.std.specs.Prelude.{IsTrue, IfOk, IfSome, IfNone, slice_get};
 ghost use Rattle.std.specs.List.{All};
 ghost use Rattle.pg_event.specs.Form.{broken_rule};
@@ -72,6 +73,16 @@ fn is_witness(
 }
 
 impl View<'_> {
+    /// Whether a translation is global that was read at a moment in an entry whose bit 8 is this
+    /// (Intel SDM, vol. 3, 4.10.2.4).
+    fn is_global(&self, bit: bool, read: u32) -> bool
+        requires { self.now.walker.p < length self.now.run.head.processors }
+        ensures { result ≡ (bit
+            && (control_at self.now.run.head self.now.run.events self.now.walker.p read).pge) }
+    {
+        bit && self.seen.control_at(self.walker.p, read).pge
+    }
+
     /// The last number, up to the walker's, at which an event may use an entry of a level that was
     /// read at a moment: that moment, or where a page is wanted, the last to which its translation
     /// survives and at which it may be used (Intel SDM, vol. 3, 4.10.2.4).
@@ -99,7 +110,7 @@ impl View<'_> {
             return read;
         }
         let Walker { p, pcid, la, .. } = self.walker;
-        let global = global_bit && self.seen.control_at(p, read).pge;
+        let global = self.is_global(global_bit, read);
         let end = self
             .seen
             .translation_end(p, pcid, shift, la, global, read)
