@@ -1,10 +1,9 @@
 -- The last number at which some moments witness an event.
-use Rattle.std.proofs.Common.{◌≡◌, ℕ, ◌+◌, ◌<◌, ◌≤◌, List, Option, Some, None, refl, arith}
+use Rattle.std.proofs.Common.{◌≡◌, ℕ, ◌+◌, ◌≤◌, List, Option, Some, None, refl, arith}
 use Rattle.pg_event.specs.declared.event.Event.{Event}
 use Rattle.pg_event.specs.Spelling.{Recorded}
 use Rattle.pg_event.specs.Values.{control_at}
 use Rattle.pg_search.specs.Exact.{first_or}
-use Rattle.pg_search.specs.Freshness.{is_as_fresh}
 use Rattle.pg_search.specs.Last.{NoneWitness, IsLastOf}
 use Rattle.pg_search.specs.Law.{AreWitness}
 use Rattle.pg_search.specs.Thinned.{AreFreshestOf}

@@ -1,6 +1,6 @@
 -- Where no reading of a reach witnesses an event after a number, no moments do.
-use Rattle.std.proofs.Common.{◌≡◌, ℕ, ◌+◌, ◌<◌, ◌≤◌, ◌^◌, min, max, true, false, List, [], ◌∷◌, ◌++◌, length, refl, inl, inr, subst, arith, Option, Some, None}
-use Rattle.std.specs.List.{All, Contains}
+use Rattle.std.proofs.Common.{◌≡◌, ℕ, ◌+◌, ◌<◌, ◌≤◌, ◌^◌, min, max, List, length, inl, inr, arith, Option, Some, None}
+use Rattle.std.specs.List.{All}
 use Rattle.std.proofs.lemmas.Bool.{cases_lt}
 use Rattle.std.proofs.lemmas.List.Elements.{All-weaker}
 use Rattle.pg_entry.specs.declared.Level.{Level}
@@ -10,15 +10,14 @@ use Rattle.pg_event.specs.declared.event.Event.TheVariants.{Write, Access, Assis
 use Rattle.pg_event.specs.Form.{broken_rule}
 use Rattle.pg_event.specs.Spelling.{Recorded}
 use Rattle.pg_event.specs.Walk.{below}
-use Rattle.pg_inval.specs.Drops.{IsTableLevel}
 use Rattle.pg_search.specs.Law.{AreWitness}
 use Rattle.pg_reach.specs.declared.walker.Walker.{Walker}
 use Rattle.pg_reach.specs.declared.reach.Reach.{Reach}
 use Rattle.pg_reach.specs.declared.since.Bounds.{Bounds}
-use Rattle.pg_reach.specs.Reaching.{IsReach, LeadsOn, AreBelow, AreRoots}
+use Rattle.pg_reach.specs.Reaching.{IsReach, LeadsOn}
 use Rattle.pg_reach.specs.Asking.{Asks, pcid_of}
-use Rattle.pg_reach.specs.Bounds.{bound_of, AreBounds}
-use Rattle.pg_reach.specs.Ends.{IsRefused, AreRefused}
+use Rattle.pg_reach.specs.Bounds.{AreBounds}
+use Rattle.pg_reach.specs.Ends.{AreRefused}
 use Rattle.pg_reach.specs.Lasting.{IsUpTo, IsPassed, ArePassed, AreUpTo}
 use Rattle.pg_reach.proofs.Coming.{AreLevels}
 use Rattle.pg_reach.proofs.Whole.{AreWhole, all_under}

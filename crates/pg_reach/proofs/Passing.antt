@@ -1,12 +1,11 @@
 -- Moments that witness an event at a number do so at the last at which it may use what they read.
-use Rattle.std.proofs.Common.{◌≡◌, ℕ, ◌<◌, ◌≤◌, ◌==◌, true, List, [], ◌∷◌, ◌++◌, refl, ap, sym, ◌∙◌, subst, arith, None}
+use Rattle.std.proofs.Common.{◌≡◌, ℕ, ◌≤◌, true, List, [], ◌∷◌, ◌++◌, refl, ap, sym, ◌∙◌, subst, arith, None}
 use Rattle.std.proofs.lemmas.Bool.{and_parts, eqb-true}
 use Rattle.pg_entry.specs.declared.Kind.{Kind}
 use Rattle.pg_entry.specs.declared.Kind.TheVariants as kinds
 use Rattle.pg_entry.specs.declared.Level.{Level}
 use Rattle.pg_entry.specs.declared.Level.TheVariants.{Four, Three}
 use Rattle.pg_entry.specs.Kinds.{kind_of}
-use Rattle.pg_event.specs.declared.claim.Claim.{Claim}
 use Rattle.pg_event.specs.declared.claim.Update.{Update}
 use Rattle.pg_event.specs.declared.event.Event.{Event}
 use Rattle.pg_event.specs.declared.event.Event.TheVariants.{Write, Access, Assist, MovCr3, Invlpg, Invpcid, MovCr4Pge}
@@ -16,7 +15,7 @@ use Rattle.pg_event.specs.Heads.{Head}
 use Rattle.pg_event.specs.Spelling.{Recorded}
 use Rattle.pg_event.specs.Values.{mem_at, control_at}
 use Rattle.pg_event.specs.Walk.{Reading, readings}
-use Rattle.pg_event.specs.Wants.{want_of, is_wanted}
+use Rattle.pg_event.specs.Wants.{is_wanted}
 use Rattle.pg_event.specs.Witness.{last_or, is_updated, failing_event, failing_access, failing_assist, claim_of, update_of}
 use Rattle.pg_run_of.specs.Plan.{root_at}
 use Rattle.pg_run_of.proofs.Standing.{seen, given}

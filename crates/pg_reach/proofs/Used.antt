@@ -1,6 +1,6 @@
 -- Up to which number moments witness an event that read something last.
-use Rattle.std.proofs.Common.{◌≡◌, ℕ, ◌+◌, ◌<◌, ◌≤◌, ◌%◌, ◌^◌, ◌==◌, ◌&&◌, min, not, cond, Bool, true, false, List, [], ◌∷◌, ◌++◌, length, refl, ap, sym, ◌∙◌, subst, inl, inr, ◌⊎◌, arith, Option, Some, None}
-use Rattle.std.proofs.lemmas.Bool.{eqb-true, eq-eqb, and_parts}
+use Rattle.std.proofs.Common.{◌≡◌, ℕ, ◌<◌, ◌≤◌, ◌^◌, ◌==◌, ◌&&◌, min, not, cond, Bool, true, false, List, [], ◌∷◌, ◌++◌, refl, ap, sym, ◌∙◌, subst, inl, inr, ◌⊎◌, arith, Option, Some, None}
+use Rattle.std.proofs.lemmas.Bool.{eqb-true, eq-eqb}
 use Rattle.pg_entry.specs.declared.Kind.{Kind}
 use Rattle.pg_entry.specs.declared.Kind.TheVariants as kinds
 use Rattle.pg_entry.specs.declared.Cause.{Cause}
@@ -8,14 +8,12 @@ use Rattle.pg_entry.specs.declared.Cause.TheVariants as causes
 use Rattle.pg_entry.specs.declared.Level.{Level}
 use Rattle.pg_entry.specs.declared.Level.TheVariants.{Four, Three}
 use Rattle.pg_entry.specs.Kinds.{kind_of}
-use Rattle.pg_entry.specs.Permission.{joined}
 use Rattle.pg_event.specs.declared.claim.Claim.{Claim}
 use Rattle.pg_event.specs.declared.control.Control.{Control}
 use Rattle.pg_event.specs.declared.event.Event.{Event}
 use Rattle.pg_event.specs.declared.event.Event.TheVariants.{Access}
 use Rattle.pg_event.specs.declared.event.Outcome.{Outcome}
 use Rattle.pg_event.specs.declared.event.Outcome.TheVariants.{Page, Fault}
-use Rattle.pg_event.specs.declared.event.Reason.{Reason}
 use Rattle.pg_event.specs.declared.walk.Parent.{Parent}
 use Rattle.pg_event.specs.Heads.{Head}
 use Rattle.pg_event.specs.Spelling.{Recorded}
@@ -23,7 +21,7 @@ use Rattle.pg_event.specs.Values.{mem_at, control_at}
 use Rattle.pg_event.specs.Invalidation.{translation_key, must_drop_translation}
 use Rattle.pg_event.specs.Walk.{Reading, readings}
 use Rattle.pg_event.specs.Wants.{want_of, is_wanted, uses_last}
-use Rattle.pg_event.specs.Witness.{last_or, survives, failing_leaf, failing_fault, failing_end, failing_access, claim_of}
+use Rattle.pg_event.specs.Witness.{last_or, survives, failing_fault, failing_end, failing_access, claim_of}
 use Rattle.pg_run_of.specs.Plan.{root_at}
 use Rattle.pg_run_of.proofs.Standing.{seen, given}
 use Rattle.pg_run_of.proofs.Accesses.{guard_none, bar_none, wants_leaf, claim_holds}

@@ -1,4 +1,4 @@
-use Rattle.std.proofs.Common.{◌≡◌, ℕ, ◌<◌, ◌≤◌, ◌⊎◌, List, Option, Some, None, length, true, false, inl, inr, ap, sym, ◌∙◌, subst, arith}
+use Rattle.std.proofs.Common.{◌≡◌, ℕ, ◌≤◌, ◌⊎◌, List, Option, Some, None, true, inl, inr, ap, sym, ◌∙◌, subst, arith}
 use Rattle.std.specs.Prelude.{IfSome}
 use Rattle.pg_entry.specs.Kinds.{kind_of}
 use Rattle.pg_event.specs.declared.event.Event.{Event}
@@ -10,7 +10,7 @@ use Rattle.pg_reach.specs.declared.walker.Walker.{Walker}
 use Rattle.pg_reach.specs.declared.view.Piece.{Piece}
 use Rattle.pg_reach.specs.declared.reach.Reach.{Reach}
 use Rattle.pg_entry.specs.declared.Level.{Level}
-use Rattle.pg_reach.specs.Reaching.{entry_of, up_to, IsReach}
+use Rattle.pg_reach.specs.Reaching.{up_to, IsReach}
 use Rattle.pg_reach.specs.Views.{Viewed}
 use Rattle.pg_reach.specs.Asking.{Asks, want_by}
 use Rattle.pg_reach.specs.Lasting.{IsLastUse, IsUpTo, HasWitness, IsReadIn, IsPassedBy}
