@@ -2,6 +2,7 @@
 //! it is taken, so that a wrong one costs time alone.
 
 use crate::mapped::{Events, Mapped};
+use crate::pages::Pages;
 use crate::walk::and_then;
 use pg_event::{Moments, bits_from};
 use std::alloc::Global;
@@ -22,7 +23,7 @@ pub(crate) enum Scope {
 /// PCID may serve. Where memory is refused, some are not kept.
 #[derive(Drop)]
 pub(crate) struct Guesses {
-    pages: HashMap<u64, [u32; 4]>,
+    pages: Pages,
     tables: HashMap<u64, Moments>,
     /// The moments of assists, by the table that their word lies in.
     assists: HashMap<u64, Moments>,
@@ -96,7 +97,7 @@ fn page_by(count: usize) -> Part {
 impl Guesses {
     pub(crate) fn new(alloc: Global) -> Guesses {
         Guesses {
-            pages: HashMap::new(alloc),
+            pages: Pages::new(alloc),
             tables: HashMap::new(alloc),
             assists: HashMap::new(alloc),
             flushes: HashMap::new(alloc),
@@ -107,8 +108,8 @@ impl Guesses {
     }
 
     /// The moments that were found last for a page of this size.
-    pub(crate) fn page(&self, key: u64, part: Part) -> Option<Moments> {
-        let [first, second, third, fourth] = *self.pages.get(&key)?;
+    pub(crate) fn page(&mut self, key: u64, part: Part) -> Option<Moments> {
+        let [first, second, third, fourth] = self.pages.get(key)?;
         let one = Moments::first(first);
         Some(match part {
             Part::Of512G => one,
@@ -219,7 +220,7 @@ impl Guesses {
 
     /// Forgets the moments that were found for a page.
     pub(crate) fn forget(&mut self, key: u64) {
-        let _ = self.pages.remove(&key);
+        self.pages.forget(key);
     }
 
     /// Keeps moments that were found for a page, whose size tells how many there are.
@@ -228,7 +229,7 @@ impl Guesses {
         for (place, moment) in all.iter_mut().zip(moments.as_slice()) {
             *place = *moment;
         }
-        let _refused = self.pages.insert(key, all).is_err();
+        self.pages.keep(key, all);
     }
 
     /// Keeps moments that witness an event under a PCID for the tables that they come by.

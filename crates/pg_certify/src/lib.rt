@@ -14,6 +14,7 @@ mod keeping;
 mod laws;
 mod mapped;
 mod numbering;
+mod pages;
 mod pcids;
 mod share;
 mod walk;

@@ -11,7 +11,8 @@ use crate::entry::{WalkEntry, read_steps, tell};
 use crate::given::given_by;
 use pg_check::History;
 use pg_event::{Event, Outcome, access_kind};
-use pg_search::{Last, last_moments};
+use pg_reach::last_moments;
+use pg_search::Last;
 use std::alloc::{AllocError, Global};
 
 /// What stands behind an event that no moments witness.
@@ -83,8 +84,7 @@ fn walk_now(alloc: Global, history: &History, number: u32, event: &Event) -> Res
 /// what its processor would read at the event, what that would give, and when the event would last
 /// have been witnessed.
 ///
-/// It takes as many passes over the events before as `find_moments` of `pg_search` does. It fails
-/// only where memory is refused.
+/// It asks the past, as `last_moments` of `pg_reach` does. It fails only where memory is refused.
 pub fn deny(alloc: Global, history: &History, number: u64) -> Result<Denial, AllocError>
     requires within { number < length history.now.events }
     requires names { IfSome (slice_get history.now.events number) (λ e. names_moments e ≡ true) }

@@ -21,8 +21,8 @@ use crate::walk_finding::{Asked, tagged, walk_finding};
 use pg_chain::EntryRead;
 use pg_check::History;
 use pg_event::{Claim, Event, Moments, Update, Want, claim_of, update_of, want_of};
-use pg_reach::freshest_moments;
-use pg_search::{Last, last_moments};
+use pg_reach::{freshest_moments, last_moments};
+use pg_search::Last;
 use std::alloc::{AllocError, Global};
 
 /// What stands behind a "no".

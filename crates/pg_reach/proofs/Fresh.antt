@@ -7,7 +7,7 @@ use Rattle.pg_event.specs.declared.walk.Parent.{Parent}
 use Rattle.pg_search.specs.Freshness.{is_as_fresh, is_as_fresh_back}
 use Rattle.pg_search.proofs.Freshness.{fresh_trans, fresh_by_last}
 use Rattle.pg_reach.specs.declared.reach.Reach.{Reach}
-use Rattle.pg_reach.specs.Reaching.{up_to, AreOpen, AreWithin, AreFresh, Has, Stands, IsFresher}
+use Rattle.pg_reach.specs.Reaching.{up_to, AreOpen, AreWithin, Has, Stands, IsFresher}
 
 within_push : (ws us : List ℕ) (w u : ℕ) → AreWithin ws us → w ≤ u → AreWithin (ws ++ w ∷ []) (us ++ u ∷ [])
 within_push [] [] w u h le = (le, tt)

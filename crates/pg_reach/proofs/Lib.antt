@@ -9,4 +9,10 @@ mod Refusals
 mod Later
 mod Coming
 mod Whole
+mod Passed
+mod Used
+mod Passing
+mod Pieces
 mod Cases
+mod Before
+mod Histories

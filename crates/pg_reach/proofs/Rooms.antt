@@ -1,7 +1,7 @@
 -- Reaches with one more, of which another may be cut.
-use Rattle.std.proofs.Common.{◌≡◌, ℕ, zero, suc, ◌+◌, ◌<◌, ◌≤◌, Bool, List, [], ◌∷◌, ◌++◌, ◌⊎◌, inl, inr, Some, length, slice_set, slice_index_or, refl, ap, sym, ◌∙◌, subst, arith}
+use Rattle.std.proofs.Common.{◌≡◌, ℕ, zero, suc, ◌<◌, ◌≤◌, Bool, List, [], ◌∷◌, ◌++◌, ◌⊎◌, inl, inr, Some, length, slice_set, slice_index_or, sym, ◌∙◌, subst, arith}
 use Rattle.std.specs.Prelude.{slice_get}
-use Rattle.std.specs.List.{All, Contains}
+use Rattle.std.specs.List.{Contains}
 use Rattle.std.proofs.lemmas.Bool.{cases_lt}
 use Rattle.std.proofs.lemmas.List.{get_or-set_other, get_or-set_same, length-set}
 use Rattle.std.proofs.lemmas.List.Elements.{All-push, All-set, All-contains, Contains-append_left, Contains-push}
@@ -11,7 +11,7 @@ use Rattle.pg_event.specs.declared.walk.Parent.{Parent}
 use Rattle.pg_event.specs.Spelling.{Recorded}
 use Rattle.pg_reach.specs.declared.walker.Walker.{Walker}
 use Rattle.pg_reach.specs.declared.reach.Reach.{Reach}
-use Rattle.pg_reach.specs.Reaching.{IsReach, Has, AreAt, AreKept, IsCovered, IsCut, HasRoom, IsAdded}
+use Rattle.pg_reach.specs.Reaching.{IsReach, Has, AreAt, IsCovered, IsCut, HasRoom, IsAdded}
 use Rattle.pg_reach.proofs.Fresh.{stands_at}
 
 -- an element of a list that is changed at a place is there, or stood at the place

@@ -1,7 +1,7 @@
 -- Where no reading of a reach witnesses an event, no moments do.
-use Rattle.std.proofs.Common.{◌≡◌, ℕ, ◌+◌, ◌<◌, ◌≤◌, ◌^◌, ◌==◌, min, max, true, List, [], ◌∷◌, ◌++◌, length, refl, ap, sym, ◌∙◌, subst, arith, Bool, Option, None}
+use Rattle.std.proofs.Common.{◌≡◌, ℕ, ◌+◌, ◌<◌, ◌≤◌, ◌%◌, ◌^◌, ◌==◌, ◌&&◌, ◌||◌, not, cond, inl, inr, min, max, true, false, List, [], ◌∷◌, ◌++◌, length, refl, ap, sym, ◌∙◌, subst, arith, Bool, Option, Some, None}
 use Rattle.std.specs.List.{All}
-use Rattle.std.proofs.lemmas.Bool.{and_parts, eqb-true}
+use Rattle.std.proofs.lemmas.Bool.{cases_lt, and_parts, and_from, eqb-true, eq-eqb}
 use Rattle.std.proofs.lemmas.List.Elements.{All-contains}
 use Rattle.pg_entry.specs.declared.Cause.{Cause}
 use Rattle.pg_entry.specs.declared.Cause.TheVariants as causes
@@ -25,12 +25,17 @@ use Rattle.pg_event.specs.Heads.{Head, judges_accessed}
 use Rattle.pg_event.specs.Spelling.{Recorded}
 use Rattle.pg_event.specs.Values.{mem_at, control_at}
 use Rattle.pg_event.specs.Walk.{Reading, readings, below}
-use Rattle.pg_event.specs.Wants.{want_of, is_wanted}
-use Rattle.pg_event.specs.Witness.{last_or, failing_fault, failing_end, is_updated, failing_event, failing_access, failing_assist, claim_of, update_of}
+use Rattle.pg_event.specs.Wants.{want_of, is_wanted, may_dirty}
+use Rattle.pg_event.specs.Invalidation.{translation_key, must_drop_translation}
+use Rattle.pg_event.specs.declared.keys.TranslationKey.{TranslationKey}
+use Rattle.pg_event.specs.declared.event.Reason.{Reason}
+use Rattle.pg_entry.specs.Permission.{joined}
+use Rattle.pg_event.specs.Witness.{last_or, survives, failing_leaf, failing_fault, failing_end, is_updated, failing_event, failing_access, failing_assist, claim_of, update_of}
 use Rattle.pg_run_of.specs.Plan.{root_at}
 use Rattle.pg_run_of.proofs.Standing.{seen, given}
-use Rattle.pg_run_of.proofs.Accesses.{guard_none, claim_holds, update_holds}
-use Rattle.pg_run_of.proofs.Chains.{next_or, Comes, Holds, Ends, IsFlagged, reading_at, access_none, assist_none}
+use Rattle.pg_run_of.proofs.Accesses.{guard_none, bar_none, claim_holds, update_holds}
+use Rattle.pg_run_of.proofs.Kept.{survives_none}
+use Rattle.pg_run_of.proofs.Chains.{next_or, Comes, Holds, Ends, IsFlagged, reading_at, pass, access_none, assist_none}
 use Rattle.pg_run_of.proofs.Certified.{assist_judged}
 use Rattle.pg_search.specs.Exact as exact
 use Rattle.pg_search.specs.Exact.{first_or, IsChain, IsWayFromRoot}
@@ -61,7 +66,7 @@ chain_comes head events v w level from (x ∷ []) at to h =
 chain_comes head events v w level from (x ∷ y ∷ ys) at to h =
     (record { low = h.0.low; alike = h.0.alike; table = h.0.table; cached = h.0.cached; kept = h.0.kept }, chain_comes head events v w (below level) (given head.cfg.m (mem_at events) v.la level from x) (y ∷ ys) at to h.1)
 
-way_comes : (head : Head) (events : List Event) (v : exact.Walker) (w : ℕ) (ws : List ℕ) (at : Level) (to : Parent) → IsWayFromRoot head events v w ws at to →
+pub way_comes : (head : Head) (events : List Event) (v : exact.Walker) (w : ℕ) (ws : List ℕ) (at : Level) (to : Parent) → IsWayFromRoot head events v w ws at to →
     Comes head events v.p v.la v.pcid w Four (root_at head events v.p (next_or w ws)) ws at to
 way_comes head events v w ws at to h =
     subst (λ first. Comes head events v.p v.la v.pcid w Four (root_at head events v.p first) ws at to) (first_is w ws) (chain_comes head events v w Four (root_at head events v.p (first_or w ws)) ws at to h.1)
@@ -80,11 +85,10 @@ record Latest (r : Recorded) (v : Walker) (e : Event) (want : Want) (at : Level)
   m : ℕ
   ws : List ℕ
   later : w ≤ m
-  before : m ≤ v.number
   comes : Comes r.head r.events v.p v.la v.pcid m Four (root_at r.head r.events v.p (next_or m ws)) ws at to
-  ends : Ends r.head r.events v.p v.la v.pcid want v.number at to m
+  ends : Ends r.head r.events v.p v.la v.pcid want (max m v.number) at to m
   same : seen (mem_at r.events) v.la at to m ≡ seen (mem_at r.events) v.la at to w
-  none : failing_event r.head r.events v.number (with_moments (ws ++ m ∷ []) e) ≡ None → IsFresher v.freshest found all
+  none : failing_event r.head r.events (max m v.number) (with_moments (ws ++ m ∷ []) e) ≡ None → IsFresher v.freshest found all
 
 latest_of : (r : Recorded) (v : Walker) (e : Event) (since : ℕ) (b : Bounds) (lists : Level → List Reach) (found : Option (List ℕ)) (last : Reading) (all : List ℕ) → AreWhole r v e since b lists found → (h : EndsIn r v (want_by e) since lists last all) →
     Latest r v e (want_by e) h.at h.to h.w found all
@@ -98,37 +102,58 @@ latest_of r v e since b lists found last all whole h =
     let is : IsRefused r v e h.at x found h.w = refused h.w (omega (arith, h.there.2.from, h.late)) (omega (arith, h.there.2.to, h.low)) h.under wanted in
     let by = reach.way is.m (omega (arith, h.there.2.from, is.later)) is.within is.under in
     let value : seen_in h.to is.m ≡ seen_in h.to h.w = subst (λ t. seen_in t is.m ≡ seen_in t h.w) table is.same in
-    let small : is.m < 2 ^ 32 = omega (arith, is.before, whole.small) in
-    let fresh : v.freshest ≡ true → is_as_fresh (up_to is.m x.latest) all ≡ true = λ f. ap (is_as_fresh (up_to is.m x.latest)) (sym h.is) ∙ later_fresh x h.w is.m h.before reach.next small is.later (h.there.2.fresh f) in
+    let fresh : v.freshest ≡ true → is_as_fresh (up_to is.m x.latest) all ≡ true = λ f. ap (is_as_fresh (up_to is.m x.latest)) (sym h.is) ∙ later_fresh x h.w is.m h.before reach.next is.small is.later (h.there.2.fresh f) in
     record {
       m = is.m;
       ws = by.0;
       later = is.later;
-      before = is.before;
       comes = way_comes r.head r.events (way_of v) is.m by.0 h.at h.to (subst (λ (t : Parent). IsWayFromRoot r.head r.events (way_of v) is.m by.0 h.at t) table by.2);
-      ends = record { low = is.before; wanted = ap (λ n. is_wanted (want_by e) (kind_of r.head.cfg h.at n)) value ∙ h.wanted; alike = is.under };
+      ends = record { low = omega arith; wanted = ap (λ n. is_wanted (want_by e) (kind_of r.head.cfg h.at n)) value ∙ h.wanted; alike = is.under };
       same = value;
-      none = λ good. fresher_on v.freshest found (up_to is.m x.latest) all (is.none (ap (λ (ms : List ℕ). failing_event r.head r.events v.number (with_moments ms e)) by.1 ∙ good)) fresh;
+      none = λ good. fresher_on v.freshest found (up_to is.m x.latest) all (is.none (ap (λ (ms : List ℕ). failing_event r.head r.events (max is.m v.number) (with_moments ms e)) by.1 ∙ good)) fresh;
     }
 
 -- an access
 
-fault_now : (head : Head) (c : Claim) (cause : Cause) (w : ℕ) (outcome : Outcome) → failing_fault head.cfg c cause w outcome ≡ None → w ≡ c.number
-fault_now head c cause w (Page page) h = absurd (cc)
-fault_now head c cause w (Fault code) h = eqb-true _ _ (guard_none (w == c.number) _ _ h).0
+-- the claim of an event that comes at a moment, or at its own number where that is later
+abbrev pub moved : Claim → ℕ → Claim
+moved c m = record c { number = max m c.number }
 
-end_later : (head : Head) (events : List Event) (c : Claim) (pcid : ℕ) (at : Level) (to : Parent) (w m : ℕ) → w ≤ m → m ≤ c.number → c.number ≤ length events → seen (mem_at events) c.la at to m ≡ seen (mem_at events) c.la at to w →
-    (k : Kind) → failing_end head events c pcid (reading_at events c.la at to w) k ≡ None → failing_end head events c pcid (reading_at events c.la at to m) k ≡ None
-end_later head events c pcid at to w m low high within same (kinds.Leaf frame shift g) h = leaf_later head events c pcid at to w m frame shift g low high within same h
-end_later head events c pcid at to w m low high within same kinds.Absent h =
-    let now : w ≡ c.number = fault_now head c causes.Absent w c.outcome h in
-    let is : w ≡ m = omega (arith, now, low, high) in
-    ap (λ k. failing_fault head.cfg c causes.Absent k c.outcome) (sym is) ∙ h
-end_later head events c pcid at to w m low high within same kinds.Reserved h =
-    let now : w ≡ c.number = fault_now head c causes.Reserved w c.outcome h in
-    let is : w ≡ m = omega (arith, now, low, high) in
-    ap (λ k. failing_fault head.cfg c causes.Reserved k c.outcome) (sym is) ∙ h
-end_later head events c pcid at to w m low high within same (kinds.Table addr) h = absurd (cc)
+fault_later : (head : Head) (c : Claim) (cause : Cause) (w m : ℕ) (outcome : Outcome) → w ≤ m → failing_fault head.cfg c cause w outcome ≡ None → failing_fault head.cfg (moved c m) cause m outcome ≡ None
+fault_later head c cause w m (Page page) low h = absurd (cc)
+fault_later head c cause w m (Fault code) low h =
+    let both = guard_none (w == c.number) _ _ h in
+    let now : w ≡ c.number = eqb-true _ _ both.0 in
+    let is : m ≡ max m c.number = omega (arith, now, low) in
+    pass (m == max m c.number) _ _ (eq-eqb m (max m c.number) is) both.1
+
+pass_own : {X : Type 0} (own global : Bool) (x : X) (o : Option X) → own ≡ true → o ≡ None → cond (not own && not global) (Some x) o ≡ None
+pass_own true global x o is h = h
+pass_own false global x o is h = absurd (cc)
+
+end_later : (head : Head) (events : List Event) (c : Claim) (pcid : ℕ) (at : Level) (to : Parent) (w m : ℕ) → w ≤ m → c.number ≤ length events → (control_at head events c.p m).pcid ≡ pcid → seen (mem_at events) c.la at to m ≡ seen (mem_at events) c.la at to w →
+    (k : Kind) → failing_end head events c pcid (reading_at events c.la at to w) k ≡ None → failing_end head events (moved c m) pcid (reading_at events c.la at to m) k ≡ None
+end_later head events c pcid at to w m low within under same (kinds.Leaf frame shift g) h =
+    elim (cases_lt c.number m) as (λ _. failing_end head events (moved c m) pcid (reading_at events c.la at to m) (kinds.Leaf frame shift g) ≡ None) [
+      | inl lt ↦
+          let is : m ≡ max m c.number = omega (arith, lt) in
+          let global : ℕ → Bool = λ k. g && (control_at head events c.p k).pge in
+          let key : ℕ → TranslationKey = λ k. translation_key pcid shift (global k) c.la in
+          let kept = guard_none (survives head events c.p (λ d e. must_drop_translation d e (key w)) w c.number) _ _ h in
+          let used = bar_none (not ((control_at head events c.p c.number).pcid == pcid) && not (global w)) _ _ kept.1 in
+          let leaf : ℕ → Option Reason = λ value. failing_leaf head.cfg c.kind (joined to.rights value) (frame + c.la % 2 ^ shift) c.outcome in
+          let answer : leaf (seen (mem_at events) c.la at to m) ≡ None = ap leaf same ∙ used.1 in
+          let now : failing_end head events (record c { number = m }) pcid (reading_at events c.la at to m) (kinds.Leaf frame shift g) ≡ None =
+          pass (survives head events c.p (λ d e. must_drop_translation d e (key m)) m m) _ _ (survives_none head events c.p (λ d e. must_drop_translation d e (key m)) m)
+          (pass_own ((control_at head events c.p m).pcid == pcid) (global m) _ _ (eq-eqb _ _ under) answer) in
+          subst (λ k. failing_end head events (record c { number = k }) pcid (reading_at events c.la at to m) (kinds.Leaf frame shift g) ≡ None) is now
+      | inr le ↦
+          let is : c.number ≡ max m c.number = omega (arith, le) in
+          subst (λ k. failing_end head events (record c { number = k }) pcid (reading_at events c.la at to m) (kinds.Leaf frame shift g) ≡ None) is (leaf_later head events c pcid at to w m frame shift g low le within same h)
+    ]
+end_later head events c pcid at to w m low within under same kinds.Absent h = fault_later head c causes.Absent w m c.outcome low h
+end_later head events c pcid at to w m low within under same kinds.Reserved h = fault_later head c causes.Reserved w m c.outcome low h
+end_later head events c pcid at to w m low within under same (kinds.Table addr) h = absurd (cc)
 
 access_refused : (r : Recorded) (v : Walker) (flags : ℕ) (outcome : Outcome) (own : List ℕ) (since : ℕ) (b : Bounds) (lists : Level → List Reach) (found : Option (List ℕ)) → AreWhole r v (Access v.p flags v.la outcome own) since b lists found →
     (ws : List ℕ) → failing_access r.head r.events (claim_of v.number v.p flags v.la outcome) ws ≡ None → pcid_of r v ws ≡ v.pcid → since ≤ last_moment ws → IsFresher v.freshest found ws
@@ -136,8 +161,8 @@ access_refused r v flags outcome own since b lists found whole [] good alike lat
 access_refused r v flags outcome own since b lists found whole (w ∷ ws) good alike late =
     let head : Head = r.head in
     let events : List Event = r.events in
-    let e : Event = Access v.p flags v.la outcome own in
     let c : Claim = claim_of v.number v.p flags v.la outcome in
+    let e : Event = Access v.p flags v.la outcome own in
     let start : Control = control_at head events v.p w in
     let root : Parent = root_at head events v.p w in
     let gave : Parent = given head.cfg.m (mem_at events) v.la Four root w in
@@ -152,11 +177,12 @@ access_refused r v flags outcome own since b lists found whole (w ∷ ws) good a
     let ends : failing_end head events c v.pcid (reading_at events v.la end.at end.to end.w) (kind_of head.cfg end.at (seen (mem_at events) v.la end.at end.to end.w)) ≡ None =
     ap (λ pcid. failing_end head events c pcid (reading_at events v.la end.at end.to end.w) (kind_of head.cfg end.at (seen (mem_at events) v.la end.at end.to end.w))) (sym alike)
     ∙ ap (λ (q : Reading). failing_end head events c start.pcid q (kind_of head.cfg q.level q.value)) (sym end.same) ∙ h.ends in
-    let last : failing_end head events c v.pcid (reading_at events v.la end.at end.to latest.m) (kind_of head.cfg end.at (seen (mem_at events) v.la end.at end.to latest.m)) ≡ None =
-    ap (λ n. failing_end head events c v.pcid (reading_at events v.la end.at end.to latest.m) (kind_of head.cfg end.at n)) latest.same
-    ∙ end_later head events c v.pcid end.at end.to end.w latest.m latest.later latest.before whole.within latest.same (kind_of head.cfg end.at (seen (mem_at events) v.la end.at end.to end.w)) ends in
-    let flags : IsFlagged head.version c (seen (mem_at events) v.la end.at end.to latest.m) = subst (IsFlagged head.version c) (value ∙ sym latest.same) (record { leaf = h.flags.leaf; write = h.flags.write }) in
-    latest.none (access_none head events c v.pcid latest.m latest.ws end.at end.to latest.comes latest.ends last flags)
+    let later : Claim = claim_of (max latest.m v.number) v.p flags v.la outcome in
+    let last : failing_end head events later v.pcid (reading_at events v.la end.at end.to latest.m) (kind_of head.cfg end.at (seen (mem_at events) v.la end.at end.to latest.m)) ≡ None =
+    ap (λ n. failing_end head events later v.pcid (reading_at events v.la end.at end.to latest.m) (kind_of head.cfg end.at n)) latest.same
+    ∙ end_later head events c v.pcid end.at end.to end.w latest.m latest.later whole.within latest.ends.alike latest.same (kind_of head.cfg end.at (seen (mem_at events) v.la end.at end.to end.w)) ends in
+    let flags : IsFlagged head.version later (seen (mem_at events) v.la end.at end.to latest.m) = subst (IsFlagged head.version later) (value ∙ sym latest.same) (record { leaf = h.flags.leaf; write = h.flags.write }) in
+    latest.none (access_none head events later v.pcid latest.m latest.ws end.at end.to latest.comes latest.ends last flags)
 
 -- an assist
 
@@ -180,8 +206,13 @@ assist_refused r v flags word own since b lists found judged whole (w ∷ ws) go
     let latest = latest_of r v e since b lists found (last_or read rest) (w ∷ ws) whole end in
     let updated : is_updated head.cfg u (reading_at events v.la end.at end.to end.w) ≡ true = ap (is_updated head.cfg u) (sym end.same) ∙ h.updated in
     let now : end.w ≡ v.number = eqb-true _ _ (and_parts _ _ (and_parts _ _ updated).0).0 in
-    let is : latest.m ≡ end.w = omega (arith, now, latest.later, latest.before) in
-    latest.none (assist_none head events u v.pcid latest.m latest.ws end.at end.to judged latest.comes latest.ends (ap (λ k. is_updated head.cfg u (reading_at events v.la end.at end.to k)) is ∙ updated))
+    let is : latest.m ≡ max latest.m v.number = omega (arith, now, latest.later) in
+    let later : Update = update_of (max latest.m v.number) v.p flags v.la word in
+    let parts = and_parts _ _ updated in
+    let rest : ℕ → Bool = λ value. not u.dirty || may_dirty head.cfg u.kind (joined end.to.rights value) (kind_of head.cfg end.at value) in
+    let marks : rest (seen (mem_at events) v.la end.at end.to latest.m) ≡ true = ap rest latest.same ∙ parts.1 in
+    let again : is_updated head.cfg later (reading_at events v.la end.at end.to latest.m) ≡ true = and_from _ _ (and_from _ _ (eq-eqb latest.m (max latest.m v.number) is) (and_parts _ _ parts.0).1) marks in
+    latest.none (assist_none head events later v.pcid latest.m latest.ws end.at end.to judged latest.comes latest.ends again)
 
 -- any event
 

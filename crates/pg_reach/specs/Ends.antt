@@ -1,5 +1,5 @@
 -- Which last readings of a walk witness an event.
-use Rattle.std.specs.Prelude.{◌≡◌, ℕ, ◌<◌, ◌≤◌, true, List, Option, Some, None}
+use Rattle.std.specs.Prelude.{◌≡◌, ℕ, ◌<◌, ◌≤◌, ◌^◌, max, true, List, Option, Some, None}
 use Rattle.pg_entry.specs.declared.Level.{Level}
 use Rattle.pg_entry.specs.Kinds.{kind_of}
 use Rattle.pg_event.specs.declared.event.Event.{Event}
@@ -14,10 +14,12 @@ use Rattle.pg_reach.specs.Stays.{IsUnder}
 use Rattle.pg_reach.specs.Reaching.{entry_of, up_to, IsFresher}
 use Rattle.pg_reach.specs.Asking.{want_by}
 
--- the moments that lead to a reach, and a last one, witness the event only where such are found
-abbrev pub IsNoWitness : Recorded → Walker → Event → Reach → ℕ → Option (List ℕ) → Type 0
-IsNoWitness r v e x m found =
-    failing_event r.head r.events v.number (with_moments (up_to m x.latest) e) ≡ None →
+-- the moments that lead to a reach, and a last one, witness the event at a number only where such
+-- are found
+abbrev pub IsNoWitness :
+    Recorded → Walker → Event → ℕ → Reach → ℕ → Option (List ℕ) → Type 0
+IsNoWitness r v e n x m found =
+    failing_event r.head r.events n (with_moments (up_to m x.latest) e) ≡ None →
     IsFresher v.freshest found (up_to m x.latest)
 
 -- that is so if a piece may be read and is what the event wants, of reading it last
@@ -25,19 +27,19 @@ abbrev pub IsNoEnd :
     Recorded → Walker → Event → Level → Reach → Piece → Option (List ℕ) → Type 0
 IsNoEnd r v e level x piece found = (m : ℕ) → piece.read ≡ Some m →
     is_wanted (want_by e) (kind_of r.head.cfg level piece.entry) ≡ true →
-    IsNoWitness r v e x m found
+    IsNoWitness r v e v.number x m found
 
--- the same entry can be read at a later moment, or at this one, and witnesses the event then only
--- where such moments are found
+-- the same entry can be read at a later moment, or at this one, and witnesses the event then, at
+-- its number or where that comes earlier at the moment, only where such moments are found
 pub record IsRefused (r : Recorded) (v : Walker) (e : Event) (level : Level) (x : Reach)
     (found : Option (List ℕ)) (w : ℕ) : Type 0 where
   pub m : ℕ
   pub later : w ≤ m
   pub within : m ≤ x.to
-  pub before : m ≤ v.number
+  pub small : m < 2 ^ 32
   pub under : IsUnder r v m
   pub same : entry_of r v level x.table m ≡ entry_of r v level x.table w
-  pub none : IsNoWitness r v e x m found
+  pub none : IsNoWitness r v e (max m v.number) x m found
 
 -- that is so of each entry that the event wants, from one moment up to, not with, another
 abbrev pub AreRefused :

@@ -3,4 +3,5 @@ pub mod Views
 pub mod Reaching
 pub mod Asking
 pub mod Ends
+pub mod Lasting
 pub mod Bounds

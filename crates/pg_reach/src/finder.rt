@@ -26,7 +26,7 @@ use pg_search::{Seen, unwitnessed_events_have_no_run};
 use std::alloc::{AllocError, Global};
 
 /// How many walks the memo of a search in a history has room for.
-const WALKS: usize = 64;
+pub(crate) const WALKS: usize = 64;
 
 /// Moments under the walker's PCID that witness an event, of which the last is not before the bound
 /// of level 1, or those that were found before, where these are enough.
@@ -151,7 +151,7 @@ fn search_globals(
 }
 
 /// The processor and the address of an event that names moments.
-fn walk_of(event: &Event) -> Option<(u16, u64)>
+pub(crate) fn walk_of(event: &Event) -> Option<(u16, u64)>
     ensures { IsWalkOf event.now result }
 {
     match *event {

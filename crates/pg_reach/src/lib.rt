@@ -2,6 +2,7 @@
 #![tactic(auto)]
 
 mod finder;
+mod last;
 mod reach;
 mod reaches;
 mod since;
@@ -10,3 +11,4 @@ mod view;
 mod walker;
 
 pub use finder::{any_moments, freshest_moments, freshest_moments_at};
+pub use last::{last_moments, last_moments_at};

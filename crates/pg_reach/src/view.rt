@@ -44,10 +44,10 @@ pub(crate) struct Piece {
 /// A run, who walks in it, and when its processor has the PCID from a moment on.
 #[derive(Drop)]
 pub(crate) struct View<'a> {
-    seen: &'a Seen<'a>,
-    walker: Walker,
+    pub seen: &'a Seen<'a>,
+    pub walker: Walker,
     low: u32,
-    stays: Vec<Span<Control>>,
+    pub stays: Vec<Span<Control>>,
 }
 
 impl<'a> Model for View<'a> {
@@ -286,6 +286,7 @@ impl<'a> View<'a> {
         requires well { broken_rule self.now.run.head event.now ≡ None }
         requires low { self.now.low ≤ since }
         requires within { x.now.table.table < 2 ^ 52 }
+        requires small { self.now.walker.number < 2 ^ 32 }
         requires some { IfSome found (AreWitness self.now.run.head self.now.run.events
             self.now.walker.number event.now) }
         ensures memo { memo.new ≡ memo.old }
@@ -329,6 +330,7 @@ impl<'a> View<'a> {
         requires well { broken_rule self.now.run.head event.now ≡ None }
         requires low { self.now.low ≤ since }
         requires each { All (IsReach self.now.run self.now.walker level) reaches.now }
+        requires small { self.now.walker.number < 2 ^ 32 }
         requires some { IfSome found (AreWitness self.now.run.head self.now.run.events
             self.now.walker.number event.now) }
         ensures memo { memo.new ≡ memo.old }

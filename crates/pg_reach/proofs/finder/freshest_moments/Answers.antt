@@ -1,6 +1,5 @@
-use Rattle.std.proofs.Common.{◌≡◌, ◌<◌, ◌^◌, ℕ, zero, suc, List, [], ◌∷◌, Option, Some, None, length, true, ap, sym, ◌∙◌, subst, arith}
+use Rattle.std.proofs.Common.{◌≡◌, ◌<◌, ◌^◌, ℕ, List, Option, Some, None, length, true, ap, sym, ◌∙◌, subst, arith}
 use Rattle.std.specs.Prelude.{slice_get, IfOk, IfSome, IfNone}
-use Rattle.std.specs.List.{AllByRecursion}
 use Rattle.std.proofs.lemmas.Option.{slice_get-get_or}
 use Rattle.std.proofs.lemmas.Result.{IfOk-weaker}
 use Rattle.pg_event.specs.declared.event.Event.{Event}
@@ -9,15 +8,8 @@ use Rattle.pg_event.specs.Form.{broken_rule}
 use Rattle.pg_event.specs.Spelling.{Recorded}
 use Rattle.pg_search.specs.Law.{names_moments, AreWitness, WitnessedBy, AreFreshest, CanBeWitnessed, RunBeginsWith, UnwitnessedEventsHaveNoRun}
 use Rattle.pg_search.specs.Thinned.{AreFreshestOf}
+use Rattle.pg_reach.proofs.Histories.{some_same, all_at}
 use Rattle.pg_reach.proofs.finder.freshest_moments.Goals as goal
-
-some_same : (x y : Event) → Some x ≡ Some y → x ≡ y
-some_same x y h = cc
-
-all_at : (P : Event → Type 0) (xs : List Event) (i : ℕ) (x : Event) → AllByRecursion P xs → slice_get xs i ≡ Some x → P x
-all_at P [] i x h e = absurd (cc)
-all_at P (y ∷ ys) zero x h e = subst P (some_same y x e) h.0
-all_at P (y ∷ ys) (suc i) x h e = all_at P ys i x h.1 e
 
 no_run : (head : Head) (events : List Event) (i : ℕ) (found : Option (List ℕ)) → UnwitnessedEventsHaveNoRun → i < length events → length events < 2 ^ 32 → IfNone found (CanBeWitnessed head events i → ⊥) →
     IfNone found (RunBeginsWith head events i → ⊥)

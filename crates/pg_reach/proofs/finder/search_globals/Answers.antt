@@ -1,4 +1,4 @@
-use Rattle.std.proofs.Common.{◌≡◌, ◌<◌, ℕ, List, Option, take, get_or, ap, ◌∙◌, sym, subst, arith, false, true, inl, inr}
+use Rattle.std.proofs.Common.{ℕ, List, Option, take, get_or, ap, ◌∙◌, sym, subst, arith}
 use Rattle.std.specs.List.{All}
 use Rattle.std.proofs.lemmas.List.{take_more, take_all}
 use Rattle.std.proofs.lemmas.List.Elements.{All-push, All-weaker, All-contains}

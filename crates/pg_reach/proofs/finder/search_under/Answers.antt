@@ -1,4 +1,4 @@
-use Rattle.std.proofs.Common.{◌≡◌, ℕ, ◌+◌, min, max, List, Option, subst}
+use Rattle.std.proofs.Common.{ℕ, ◌+◌, min, max, List, Option, subst}
 use Rattle.std.specs.List.{All}
 use Rattle.pg_entry.specs.declared.Level.{Level}
 use Rattle.pg_entry.specs.declared.Level.TheVariants.{Four, Three, Two, One}

@@ -1,12 +1,8 @@
-use Rattle.std.proofs.Common.{◌≡◌, ℕ, List, Option, Some, None, Bool, true, false, ap, sym, ◌∙◌, subst}
-use Rattle.pg_event.specs.declared.event.Event.{Event}
-use Rattle.pg_event.specs.Spelling.{Recorded}
-use Rattle.pg_event.specs.Witness.{failing_event}
-use Rattle.pg_search.specs.Law.{with_moments}
+use Rattle.std.proofs.Common.{◌≡◌, true, ap, ◌∙◌, subst}
 use Rattle.pg_search.specs.Freshness.{is_as_fresh}
 use Rattle.pg_search.proofs.Freshness.{fresh_refl}
 use Rattle.pg_reach.specs.Views.{Viewed}
-use Rattle.pg_reach.specs.Reaching.{up_to, IsFresher}
+use Rattle.pg_reach.specs.Reaching.{up_to}
 use Rattle.pg_reach.proofs.Fresh.{newer_fresher}
 use Rattle.pg_reach.proofs.view.View.end_by.Goals as goal
 

@@ -1,0 +1,73 @@
+use Rattle.std.proofs.Common.{ℕ, ◌+◌, min, max, List, Option, refl, subst, arith}
+use Rattle.std.specs.List.{All}
+use Rattle.pg_entry.specs.declared.Level.{Level}
+use Rattle.pg_entry.specs.declared.Level.TheVariants.{Four, Three, Two, One}
+use Rattle.pg_event.specs.declared.event.Event.{Event}
+use Rattle.pg_event.specs.Spelling.{Recorded}
+use Rattle.pg_event.specs.Walk.{below}
+use Rattle.pg_inval.specs.Drops.{IsTableLevel}
+use Rattle.pg_reach.specs.declared.walker.Walker.{Walker}
+use Rattle.pg_reach.specs.declared.reach.Reach.{Reach}
+use Rattle.pg_reach.specs.declared.since.Bounds.{Bounds}
+use Rattle.pg_reach.specs.Views.{Viewed}
+use Rattle.pg_reach.specs.Reaching.{IsReach, AreRoots, AreBelow}
+use Rattle.pg_reach.specs.Bounds.{AreBounds, bound_of}
+use Rattle.pg_reach.specs.Lasting.{ArePassed}
+use Rattle.pg_reach.proofs.Passed.{ArePassedAll, up_to_all}
+use Rattle.pg_reach.proofs.Pieces.{IsLater, all_later}
+use Rattle.pg_reach.proofs.view.View.last_under.Goals as goal
+
+-- the reaches of each level
+abbrev by_level : List Reach → List Reach → List Reach → List Reach → Level → List Reach
+by_level fours threes twos ones Four = fours
+by_level fours threes twos ones Three = threes
+by_level fours threes twos ones Two = twos
+by_level fours threes twos ones One = ones
+
+-- no bound at all
+abbrev begin : Bounds
+begin = record { one = 0; two = 0; three = 0; four = 0 }
+
+pub returns-clause-all : goal.returns-clause-all
+returns-clause-all c =
+    let view : Viewed = c.args.self.now in
+    let r : Recorded = view.run in
+    let v : Walker = view.walker in
+    let e : Event = c.args.event.now in
+    let last : Option ℕ = c.last_among-four.result in
+    let passed : Level → List Reach → Option ℕ → Type 0 = λ level xs found. All (λ x. ArePassed r v e level (max x.from 0) (min x.to v.number + 1) x found) xs in
+    let roots : AreRoots r v 0 c.in_ok-fours.fours = subst (λ low. AreRoots r v low c.in_ok-fours.fours) c.requires.low c.in_ok-fours.ensures in
+    let threes : AreBelow r v Four 0 c.in_ok-fours.fours c.in_ok-threes.threes = subst (λ (xs : List Reach). AreBelow r v Four 0 xs c.in_ok-threes.threes) c.as_slice.ensures c.in_ok-threes.ensures in
+    let twos : AreBelow r v Three 0 c.in_ok-threes.threes c.in_ok-twos.twos = subst (λ (xs : List Reach). AreBelow r v Three 0 xs c.in_ok-twos.twos) c.as_slice-2.ensures c.in_ok-twos.ensures in
+    let ones : AreBelow r v Two 0 c.in_ok-twos.twos c.in_ok-ones.ones = subst (λ (xs : List Reach). AreBelow r v Two 0 xs c.in_ok-ones.ones) c.as_slice-3.ensures c.in_ok-ones.ensures in
+    let one : passed One c.in_ok-ones.ones c.last_among-one.result = subst (λ (xs : List Reach). passed One xs c.last_among-one.result) c.as_slice-4.ensures c.last_among-one.ensures.passed in
+    let two : passed Two c.in_ok-twos.twos c.last_among-two.result = subst (λ (xs : List Reach). passed Two xs c.last_among-two.result) c.as_slice-5.ensures c.last_among-two.ensures.passed in
+    let three : passed Three c.in_ok-threes.threes c.last_among-three.result = subst (λ (xs : List Reach). passed Three xs c.last_among-three.result) c.as_slice-6.ensures c.last_among-three.ensures.passed in
+    let four : passed Four c.in_ok-fours.fours last = subst (λ (xs : List Reach). passed Four xs last) c.as_slice-7.ensures c.last_among-four.ensures.passed in
+    let by_three : IsLater c.last_among-three.result last = c.last_among-four.ensures.later in
+    let by_two : IsLater c.last_among-two.result last = λ j h. by_three j (c.last_among-three.ensures.later j h) in
+    let by_one : IsLater c.last_among-one.result last = λ j h. by_two j (c.last_among-two.ensures.later j h) in
+    let lists : Level → List Reach = by_level c.in_ok-fours.fours c.in_ok-threes.threes c.in_ok-twos.twos c.in_ok-ones.ones in
+    let bounds : AreBounds r v 0 begin = record {
+      one = refl;
+      two = record { within = omega arith; none = λ w lt. absurd (omega (arith, lt)) };
+      three = record { within = omega arith; none = λ w lt. absurd (omega (arith, lt)) };
+      four = record { within = omega arith; none = λ w lt. absurd (omega (arith, lt)) };
+    } in
+    let whole : ArePassedAll r v e begin lists last = record {
+      bounds = bounds;
+      levels = record {
+        roots = roots;
+        below = λ level. elim level as (λ l. IsTableLevel l → AreBelow r v l (bound_of begin l) (lists l) (lists (below l))) [ Four ↦ λ deep. threes | Three ↦ λ deep. twos | Two ↦ λ deep. ones | One ↦ λ deep. absurd deep ];
+      };
+      each = λ level. elim level as (λ l. All (IsReach r v l) (lists l)) [ Four ↦ roots.each | Three ↦ threes.each | Two ↦ twos.each | One ↦ ones.each ];
+      passed = λ level. elim level as (λ l. passed l (lists l) last) [
+        | Four ↦ four
+        | Three ↦ all_later r v e Three c.in_ok-threes.threes c.last_among-three.result last by_three three
+        | Two ↦ all_later r v e Two c.in_ok-twos.twos c.last_among-two.result last by_two two
+        | One ↦ all_later r v e One c.in_ok-ones.ones c.last_among-one.result last by_one one
+      ];
+      small = c.requires.small;
+      within = c.requires.within;
+    } in
+    up_to_all r v e begin lists last c.requires.well c.requires.asks whole
