@@ -74,6 +74,11 @@ impl Drops {
         }
     }
 
+    /// Gives back the memory that is not used, once all is noted.
+    pub(crate) fn fit(&mut self) {
+        self.lists.fit();
+    }
+
     fn push(&mut self, p: u16, scope: Scope, la: u64, place: u32) -> Result<(), AllocError> {
         self.lists.push(key(p, scope, la), place)
     }

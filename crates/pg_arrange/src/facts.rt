@@ -86,6 +86,8 @@ impl<'a> Facts<'a> {
             }
         }
         facts.stays.list_all()?;
+        facts.drops.fit();
+        facts.writes.fit();
         Ok(facts)
     }
 

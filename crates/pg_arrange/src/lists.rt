@@ -45,6 +45,13 @@ impl Lists {
         }
     }
 
+    /// Gives back the memory that the lists do not use.
+    pub(crate) fn fit(&mut self) {
+        for list in self.lists.iter_mut() {
+            list.shrink_to_fit();
+        }
+    }
+
     /// Adds a number to a key's list.
     pub(crate) fn push(&mut self, key: u64, number: u32) -> Result<(), AllocError> {
         let id = match self.ids.get(&key) {

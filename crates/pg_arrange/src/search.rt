@@ -58,9 +58,12 @@ pub(crate) struct Maker<'a> {
     pub surely: usize,
 }
 
+/// The rank of writes, behind all others.
+const WRITES: u64 = 5;
+
 /// The place of an event among those that can come next: answers change nothing; faults and
 /// invalidations only take from what a processor knows; a write takes a value from all others.
-fn rank_of(event: &Event, is_awaited: bool) -> u64 {
+fn rank_of(event: &Event) -> u64 {
     match event {
         Event::Access {
             outcome: Outcome::Page(_),
@@ -73,7 +76,7 @@ fn rank_of(event: &Event, is_awaited: bool) -> u64 {
         Event::Invlpg { .. } | Event::Invpcid { .. } => 2,
         Event::MovCr3 { .. } | Event::MovCr4Pge { .. } => 3,
         Event::Assist { .. } => 4,
-        Event::Write { .. } => if is_awaited { 5 } else { 6 },
+        Event::Write { .. } => WRITES,
     }
 }
 
@@ -190,14 +193,14 @@ impl<'a> Maker<'a> {
 
     /// Whether the next event of a processor can come next.
     fn may_come(&mut self, p: u16, event: u32) -> Result<bool, AllocError> {
-        let Some(asked) = asked_of(&self.facts, event) else {
-            return Ok(true);
-        };
         let (windows, was_whole) = match self.wait(p, event) {
             Some(wait) if !wait.is_stale => return Ok(wait.can_come),
             // What stood before the last drop is as it was.
             Some(wait) if !wait.can_come => (1, Some(wait.is_whole)),
             _ => (FEW_WINDOWS, None),
+        };
+        let Some(asked) = asked_of(&self.facts, event) else {
+            return Ok(true);
         };
         let mut wait = self.look(&asked, windows)?;
         wait.is_whole = was_whole.unwrap_or(wait.is_whole);
@@ -205,43 +208,72 @@ impl<'a> Maker<'a> {
         Ok(wait.can_come)
     }
 
-    fn rank(&self, event: u32) -> u64 {
-        let Some(it) = self.facts.run.event_at(event) else {
-            return 0;
-        };
-        let is_awaited = match word_of(it) {
-            Some(word) => self.waits.iter().any(|wait| may_wake(wait, word)),
-            None => false,
-        };
-        rank_of(it, is_awaited)
+    /// The next event of a processor, if it can come next but for what it asks.
+    fn free(&self, p: u16) -> Option<(u32, u64)> {
+        let event = self.front(p)?;
+        let rank = rank_of(self.facts.run.event_at(event)?);
+        if self.learned.holds(&self.made, event) {
+            None
+        } else {
+            Some((event, rank))
+        }
     }
 
     /// The event that is best put next, of those that can come next.
     fn choose(&mut self) -> Result<Option<u32>, AllocError> {
         let mut best: Option<Choice> = None;
         for p in 0..self.facts.processors() {
-            let Some(event) = self.front(p) else {
+            let Some((event, rank)) = self.free(p) else {
                 continue;
             };
-            if self.learned.holds(&self.made, event) || !self.may_come(p, event)? {
+            if rank == WRITES || !self.may_come(p, event)? {
                 continue;
             }
-            let rank = self.rank(event);
             best = Some(better(best, Choice { rank, event }));
             if rank == 0 {
                 break;
             }
         }
-        Ok(best.map(|choice| choice.event))
+        match best {
+            Some(choice) => Ok(Some(choice.event)),
+            None => Ok(self.choose_write()),
+        }
+    }
+
+    /// The write that is best put next: one that an event waits for, before others.
+    fn choose_write(&self) -> Option<u32> {
+        let mut best: Option<Choice> = None;
+        for p in 0..self.facts.processors() {
+            let Some((event, rank)) = self.free(p) else {
+                continue;
+            };
+            if rank == WRITES {
+                let rank = if self.is_awaited(event) { 0 } else { 1 };
+                best = Some(better(best, Choice { rank, event }));
+            }
+        }
+        best.map(|choice| choice.event)
+    }
+
+    /// The word that an event writes, if it writes one.
+    fn word(&self, event: u32) -> Option<u64> {
+        match self.facts.run.event_at(event) {
+            Some(it) => word_of(it),
+            None => None,
+        }
+    }
+
+    /// Whether an event waits for a write.
+    fn is_awaited(&self, event: u32) -> bool {
+        match self.word(event) {
+            Some(word) => self.waits.iter().any(|wait| may_wake(wait, word)),
+            None => false,
+        }
     }
 
     /// Puts an event next.
     pub(crate) fn put(&mut self, event: u32) -> Result<(), AllocError> {
-        let word = match self.facts.run.event_at(event) {
-            Some(it) => word_of(it),
-            None => None,
-        };
-        if let Some(word) = word {
+        if let Some(word) = self.word(event) {
             for wait in self.waits.iter_mut() {
                 if let Some(wait) = wait {
                     if wait.looked.may_have(word) {

@@ -68,6 +68,14 @@ impl<'s> Search<'s> {
         (first, end.saturating_add(1))
     }
 
+    /// Whether another write surely ends before a slot what may stand up to it.
+    fn may_end(&self, other: u32, slot: u32) -> bool {
+        match self.facts.own(self.p, slot.wrapping_sub(1)) {
+            Some(event) => event == other || self.facts.must_precede(other, event),
+            None => true,
+        }
+    }
+
     /// The last slot in which what was written may still stand.
     fn last_slot(&self, writer: u32, next: u32) -> u32 {
         let writes = self.facts.writes.list(self.word);
@@ -88,7 +96,7 @@ impl<'s> Search<'s> {
                 }
             }
             let is_later = writer == NEVER || self.facts.must_precede(writer, other);
-            if is_later && self.facts.marks(other).is_none() {
+            if is_later && self.facts.marks(other).is_none() && self.may_end(other, to) {
                 to = to.min(self.facts.after(self.p, other));
             }
         }
