@@ -1,5 +1,6 @@
 mod Order
 mod Spans
+mod Parted
 mod Lasts
 pub mod Fresh
 pub mod Rooms

@@ -1,5 +1,5 @@
 -- Spans that have a moment, one span more.
-use Rattle.std.proofs.Common.{◌≡◌, ℕ, ◌<◌, ◌≤◌, nat_eq, Bool, true, ◌||◌, List, [], ◌∷◌, ◌++◌, length, get_or, take, ◌⊎◌, inl, inr, sym, ◌∙◌, subst, ap, false, arith, Option, Some, None}
+use Rattle.std.proofs.Common.{◌≡◌, ℕ, ◌%◌, ◌<◌, ◌≤◌, nat_eq, Bool, true, ◌||◌, List, [], ◌∷◌, ◌++◌, length, get_or, take, ◌⊎◌, inl, inr, sym, ◌∙◌, subst, ap, false, arith, Option, Some, None}
 use Rattle.std.specs.List.{All, Contains, list_any}
 use Rattle.std.proofs.lemmas.Bool.{cases_lt, cases_Bool, eqb-true}
 use Rattle.std.proofs.lemmas.List.Elements.{All-push, All-weaker, All-contains, Contains-append_left, Contains-append_right, Contains-push, Contains-push_cases}
@@ -7,7 +7,8 @@ use Rattle.pg_event.specs.declared.control.Control.{Control}
 use Rattle.pg_timeline.specs.declared.timeline.Span.{Span}
 use Rattle.pg_event.specs.Spelling.{Recorded}
 use Rattle.pg_reach.specs.declared.walker.Walker.{Walker}
-use Rattle.pg_reach.specs.Stays.{IsSteady, IsStay, IsWithin, AreSpans, AreStays, IsLatest, AreInOrder, AreOwn, ArePcids}
+use Rattle.pg_reach.specs.Stays.{IsSteady, IsStay, IsWithin, AreSpans, AreSpansUnder, AreStays, IsLatest, AreInOrder, AreThose, AreOwn, ArePcids}
+use Rattle.pg_reach.specs.Parts.{ArePart}
 use Rattle.pg_reach.specs.Reaching.{IsLastRead}
 use Rattle.pg_reach.proofs.Order.{order_push, before_next}
 
@@ -36,40 +37,40 @@ within_next xs s low at h from w above below =
       | inr le ↦ within_new xs s w (omega (arith, from, le)) below
     ]
 
--- the spans that have the PCID, one span more
-abbrev HasIn : ℕ → List (Span Control) → Span Control → Type 0
-HasIn pcid xs s = Contains xs s × (s.value.pcid ≡ pcid)
+-- the spans that have a number, one span more
+abbrev HasIn : (ℕ → ℕ) → ℕ → List (Span Control) → Span Control → Type 0
+HasIn of k xs s = Contains xs s × (of s.value.pcid ≡ k)
 
-in_more : (pcid : ℕ) (xs : List (Span Control)) (s x : Span Control) → HasIn pcid xs x → HasIn pcid (xs ++ s ∷ []) x
-in_more pcid xs s x h = (Contains-append_left xs (s ∷ []) x h.0, h.1)
+in_more : (of : ℕ → ℕ) (k : ℕ) (xs : List (Span Control)) (s x : Span Control) → HasIn of k xs x → HasIn of k (xs ++ s ∷ []) x
+in_more of k xs s x h = (Contains-append_left xs (s ∷ []) x h.0, h.1)
 
-own_before : (pcid : ℕ) (xs : List (Span Control)) (i : ℕ) (ys : List (Span Control)) → AreInOrder xs → i < length xs → AreOwn pcid (take i xs) ys → All (λ x. x.to < (get_or xs i no_span).from) ys
-own_before pcid xs i ys order lt h = All-weaker (HasIn pcid (take i xs)) (λ x. x.to < (get_or xs i no_span).from) (λ x here. before_next xs i no_span order lt x here.0) ys h.each
+those_before : (of : ℕ → ℕ) (k : ℕ) (xs : List (Span Control)) (i : ℕ) (ys : List (Span Control)) → AreInOrder xs → i < length xs → AreThose of k (take i xs) ys → All (λ x. x.to < (get_or xs i no_span).from) ys
+those_before of k xs i ys order lt h = All-weaker (HasIn of k (take i xs)) (λ x. x.to < (get_or xs i no_span).from) (λ x here. before_next xs i no_span order lt x here.0) ys h.each
 
-own_order : (pcid : ℕ) (xs : List (Span Control)) (i : ℕ) (ys : List (Span Control)) → AreInOrder xs → i < length xs → AreOwn pcid (take i xs) ys → AreInOrder (ys ++ get_or xs i no_span ∷ [])
-own_order pcid xs i ys order lt h = order_push ys (get_or xs i no_span) h.order (own_before pcid xs i ys order lt h) (order.each i no_span lt)
+those_order : (of : ℕ → ℕ) (k : ℕ) (xs : List (Span Control)) (i : ℕ) (ys : List (Span Control)) → AreInOrder xs → i < length xs → AreThose of k (take i xs) ys → AreInOrder (ys ++ get_or xs i no_span ∷ [])
+those_order of k xs i ys order lt h = order_push ys (get_or xs i no_span) h.order (those_before of k xs i ys order lt h) (order.each i no_span lt)
 
-own_with : (pcid : ℕ) (xs ys : List (Span Control)) (s' : Span Control) → AreInOrder (ys ++ s' ∷ []) → AreOwn pcid xs ys → s'.value.pcid ≡ pcid → AreOwn pcid (xs ++ s' ∷ []) (ys ++ s' ∷ [])
-own_with pcid xs ys s' order h own = record {
+those_with : (of : ℕ → ℕ) (k : ℕ) (xs ys : List (Span Control)) (s' : Span Control) → AreInOrder (ys ++ s' ∷ []) → AreThose of k xs ys → of s'.value.pcid ≡ k → AreThose of k (xs ++ s' ∷ []) (ys ++ s' ∷ [])
+those_with of k xs ys s' order h own = record {
   order = order;
-  each = All-push (HasIn pcid (xs ++ s' ∷ [])) ys s' (All-weaker (HasIn pcid xs) (HasIn pcid (xs ++ s' ∷ [])) (in_more pcid xs s') ys h.each) (Contains-push xs s', own);
+  each = All-push (HasIn of k (xs ++ s' ∷ [])) ys s' (All-weaker (HasIn of k xs) (HasIn of k (xs ++ s' ∷ [])) (in_more of k xs s') ys h.each) (Contains-push xs s', own);
   all = λ x here is. elim (Contains-push_cases xs s' x here) as (λ _. Contains (ys ++ s' ∷ []) x) [
     | inl a ↦ Contains-append_left ys (s' ∷ []) x (h.all x a is)
     | inr e ↦ subst (Contains (ys ++ s' ∷ [])) e (Contains-push ys s')
   ];
 }
 
-pub own_more : (pcid : ℕ) (xs : List (Span Control)) (i : ℕ) (ys : List (Span Control)) → AreInOrder xs → i < length xs → AreOwn pcid (take i xs) ys → (get_or xs i no_span).value.pcid ≡ pcid →
-    AreOwn pcid (take i xs ++ get_or xs i no_span ∷ []) (ys ++ get_or xs i no_span ∷ [])
-own_more pcid xs i ys order lt h own = own_with pcid (take i xs) ys (get_or xs i no_span) (own_order pcid xs i ys order lt h) h own
+pub those_more : (of : ℕ → ℕ) (k : ℕ) (xs : List (Span Control)) (i : ℕ) (ys : List (Span Control)) → AreInOrder xs → i < length xs → AreThose of k (take i xs) ys → of (get_or xs i no_span).value.pcid ≡ k →
+    AreThose of k (take i xs ++ get_or xs i no_span ∷ []) (ys ++ get_or xs i no_span ∷ [])
+those_more of k xs i ys order lt h own = those_with of k (take i xs) ys (get_or xs i no_span) (those_order of k xs i ys order lt h) h own
 
-pub own_other : (pcid : ℕ) (xs ys : List (Span Control)) (s : Span Control) → AreOwn pcid xs ys → (s.value.pcid ≡ pcid → ⊥) → AreOwn pcid (xs ++ s ∷ []) ys
-own_other pcid xs ys s h other = record {
+pub those_other : (of : ℕ → ℕ) (k : ℕ) (xs ys : List (Span Control)) (s : Span Control) → AreThose of k xs ys → (of s.value.pcid ≡ k → ⊥) → AreThose of k (xs ++ s ∷ []) ys
+those_other of k xs ys s h other = record {
   order = h.order;
-  each = All-weaker (HasIn pcid xs) (HasIn pcid (xs ++ s ∷ [])) (in_more pcid xs s) ys h.each;
+  each = All-weaker (HasIn of k xs) (HasIn of k (xs ++ s ∷ [])) (in_more of k xs s) ys h.each;
   all = λ x here is. elim (Contains-push_cases xs s x here) as (λ _. Contains ys x) [
     | inl a ↦ h.all x a is
-    | inr e ↦ absurd (other (ap (λ (z : Span Control). z.value.pcid) e ∙ is))
+    | inr e ↦ absurd (other (ap (λ (z : Span Control). of z.value.pcid) e ∙ is))
   ];
 }
 
@@ -82,14 +83,33 @@ last_read r v low stays at to (Some m) h above under latest =
     (latest.0, latest.1, ap (λ (c : Control). c.pcid) (stay.steady.same m s.2 s.3) ∙ stay.pcid, λ w from till here. latest.3 w from till (h.all w (omega (arith, above, from)) (omega (arith, till, under)) here))
 
 -- the spans of a processor that have the PCID are its stays
-pub stays_by : (r : Recorded) (v : Walker) (low : ℕ) (spans stays : List (Span Control)) → AreSpans r v.p low v.number spans → AreOwn v.pcid spans stays → AreStays r v low stays
+pub stays_by : (r : Recorded) (v : Walker) (low : ℕ) (spans stays : List (Span Control)) → AreSpansUnder r v low spans → AreOwn v.pcid spans stays → AreStays r v low stays
 stays_by r v low spans stays h own = record {
   order = own.order;
-  each = All-weaker (HasIn v.pcid spans) (IsStay r v) (λ s here. record { steady = All-contains (IsSteady r v.p) spans s h.each here.0; pcid = here.1 }) stays own.each;
+  each = All-weaker (HasIn (λ q. q) v.pcid spans) (IsStay r v) (λ s here. record { steady = All-contains (IsSteady r v.p) spans s h.each here.0; pcid = here.1 }) stays own.each;
   all = λ w from till here.
-      let s = h.all w from till in
+      let s = h.all w from till here in
       let steady : IsSteady r v.p s.0 = All-contains (IsSteady r v.p) spans s.0 h.each s.1 in
       (s.0, own.all s.0 s.1 (ap (λ (c : Control). c.pcid) (sym (steady.same w s.2 s.3)) ∙ here), s.2, s.3);
+}
+
+-- all spans of a processor have its moments under the PCID, and so has the part of the PCID
+pub spans_under : (r : Recorded) (v : Walker) (p low number : ℕ) (spans : List (Span Control)) → p ≡ v.p → number ≡ v.number → AreSpans r p low number spans → AreSpansUnder r v low spans
+spans_under r v p low number spans same last h = record {
+  order = h.order;
+  each = subst (λ q. All (IsSteady r q) spans) same h.each;
+  all = λ w from till here. h.all w from (omega (arith, till, last));
+}
+
+pub part_under : (r : Recorded) (v : Walker) (low more : ℕ) (spans part : List (Span Control)) → low ≤ more → AreSpans r v.p low v.number spans → ArePart (v.pcid % 64) spans part → AreSpansUnder r v more part
+part_under r v low more spans part le h own = record {
+  order = own.order;
+  each = All-weaker (HasIn (λ q. q % 64) (v.pcid % 64) spans) (IsSteady r v.p) (λ s here. All-contains (IsSteady r v.p) spans s h.each here.0) part own.each;
+  all = λ w from till here.
+      let s = h.all w (omega (arith, le, from)) till in
+      let steady : IsSteady r v.p s.0 = All-contains (IsSteady r v.p) spans s.0 h.each s.1 in
+      let pcid : s.0.value.pcid ≡ v.pcid = ap (λ (c : Control). c.pcid) (sym (steady.same w s.2 s.3)) ∙ here in
+      (s.0, own.all s.0 s.1 (ap (λ q. q % 64) pcid), s.2, s.3);
 }
 
 -- the PCIDs of spans, one span more

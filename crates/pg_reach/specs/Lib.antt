@@ -1,4 +1,5 @@
 pub mod Stays
+pub mod Parts
 pub mod Views
 pub mod Reaching
 pub mod Asking

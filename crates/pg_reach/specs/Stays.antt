@@ -1,5 +1,5 @@
 -- When a processor has a PCID.
-use Rattle.std.specs.Prelude.{◌≡◌, ℕ, ◌<◌, ◌≤◌, ◌^◌, List, Option, MatchOption}
+use Rattle.std.specs.Prelude.{◌≡◌, ℕ, ◌%◌, ◌<◌, ◌≤◌, ◌^◌, List, Option, MatchOption}
 use Rattle.std.specs.Prelude.{length, slice_index_or}
 use Rattle.std.specs.List.{All, Contains}
 use Rattle.pg_event.specs.declared.control.Control.{Control}
@@ -54,11 +54,23 @@ pub record AreStays (r : Recorded) (v : Walker) (low : ℕ) (stays : List (Span 
     pub each : All (IsStay r v) stays
     pub all : (w : ℕ) → low ≤ w → w ≤ v.number → IsUnder r v w → IsWithin stays w
 
+-- those of some spans, in their order, of whose PCID this gives a number
+pub record AreThose (of : ℕ → ℕ) (k : ℕ) (spans those : List (Span Control)) : Type 0 where
+  pub order : AreInOrder those
+  pub each : All (λ s. Contains spans s × (of s.value.pcid ≡ k)) those
+  pub all : (s : Span Control) → Contains spans s → of s.value.pcid ≡ k → Contains those s
+
 -- the stays are those of some spans that have the PCID
-pub record AreOwn (pcid : ℕ) (spans stays : List (Span Control)) : Type 0 where
-  pub order : AreInOrder stays
-  pub each : All (λ s. Contains spans s × (s.value.pcid ≡ pcid)) stays
-  pub all : (s : Span Control) → Contains spans s → s.value.pcid ≡ pcid → Contains stays s
+abbrev pub AreOwn : ℕ → List (Span Control) → List (Span Control) → Type 0
+AreOwn pcid spans stays = AreThose (λ q. q) pcid spans stays
+
+-- spans that have each moment, from one up to the walker's number, at which the processor has the
+-- PCID
+pub record AreSpansUnder (r : Recorded) (v : Walker) (low : ℕ) (spans : List (Span Control)) :
+    Type 0 where
+  pub order : AreInOrder spans
+  pub each : All (IsSteady r v.p) spans
+  pub all : (w : ℕ) → low ≤ w → w ≤ v.number → IsUnder r v w → IsWithin spans w
 
 -- the PCIDs of some spans are among these
 abbrev pub ArePcids : List (Span Control) → List ℕ → Type 0

@@ -14,6 +14,7 @@ ghost use Rattle.pg_reach.specs.Reaching.{IsFresher};
 ghost use Rattle.pg_reach.specs.Asking.{Asks, want_by, under, AreUnder, AreLate};
 ghost use Rattle.pg_reach.specs.Asking.{AreGlobal, IsWalkOf};
 
+use crate::parts::{part_of, parts_of};
 use crate::reach::is_done;
 use crate::since::{Bounds, bounds_from, page_since};
 use crate::stays::{pcids_of, spans_of};
@@ -134,6 +135,7 @@ fn search_globals(
     }
     let mut best = found;
     let spans = spans_of(alloc, seen, walker.p, 0, walker.number)?;
+    let parts = parts_of(alloc, &spans)?;
     for pcid in &pcids_of(alloc, &spans)? {
         if is_done(walker.freshest, best) {
             return Ok(best);
@@ -143,7 +145,7 @@ fn search_globals(
             ..walker
         };
         let bounds = bounds_from(seen, &other, page_since(seen, &other, true));
-        let view = View::new(alloc, seen, other, bounds.four, &spans)?;
+        let view = View::new(alloc, seen, other, bounds.four, part_of(&parts, *pcid))?;
         let fresher = search_under(alloc, &view, memo, event, bounds, best)?;
         best = fresher;
     }

@@ -18,6 +18,7 @@ ghost use Rattle.pg_reach.specs.Lasting.{IsLastUse, IsPassedBy, ArePassed, HasWi
 ghost use Rattle.pg_reach.specs.Lasting.{IsUpTo, IsReadIn};
 
 use crate::finder::{WALKS, freshest_moments_at, walk_of};
+use crate::parts::{part_of, parts_of};
 use crate::reach::{Reach, up_to};
 use crate::stays::{latest_of, pcids_of, spans_of};
 use crate::view::{Piece, View};
@@ -294,12 +295,13 @@ fn last_number(
     let mut memo = seen.memo(WALKS);
     let mut last = None;
     let spans = spans_of(alloc, seen, walker.p, 0, walker.number)?;
+    let parts = parts_of(alloc, &spans)?;
     for pcid in &pcids_of(alloc, &spans)? {
         let other = Walker {
             pcid: *pcid,
             ..walker
         };
-        let view = View::new(alloc, seen, other, 0, &spans)?;
+        let view = View::new(alloc, seen, other, 0, part_of(&parts, *pcid))?;
         let later = view.last_under(alloc, &mut memo, event, last)?;
         last = later;
     }

@@ -3,6 +3,7 @@
 
 mod finder;
 mod last;
+mod parts;
 mod reach;
 mod reaches;
 mod since;

@@ -11,7 +11,7 @@ ghost use Rattle.pg_chain.specs.Standing.{IsPast};
 ghost use Rattle.pg_search.specs.Law.{AreWitness};
 ghost use Rattle.pg_machine.specs.Machine.{may_cache};
 ghost use Rattle.pg_inval.specs.Drops.{IsTableLevel};
-ghost use Rattle.pg_reach.specs.Stays.{AreSpans};
+ghost use Rattle.pg_reach.specs.Stays.{AreSpansUnder};
 ghost use Rattle.pg_reach.specs.Reaching.{IsPiece, IsReach, IsNextReach, IsFilled, AreBelow};
 ghost use Rattle.pg_reach.specs.Reaching.{AreRoots};
 ghost use Rattle.pg_reach.specs.Reaching.{IsFresher};
@@ -73,7 +73,8 @@ fn leads_on(header: &Header, level: Level, entry: Entry) -> bool
 }
 
 impl<'a> View<'a> {
-    /// That of a walker, by the control registers of its processor at the moments from one on.
+    /// That of a walker, by the control registers of its processor at the moments from one on, or
+    /// at those of them at which it has the PCID.
     pub(crate) fn new(
         alloc: Global,
         seen: &'a Seen<'a>,
@@ -81,7 +82,7 @@ impl<'a> View<'a> {
         low: u32,
         spans: &[Span<Control>],
     ) -> Result<View<'a>, AllocError>
-        requires { AreSpans seen.now walker.p low walker.number spans.now }
+        requires { AreSpansUnder seen.now walker low spans.now }
         ensures { IfOk result (λ v. v ≡ record { run = seen.now; walker = walker; low = low }) }
     {
         let stays = stays_of(alloc, spans, walker.pcid)?;

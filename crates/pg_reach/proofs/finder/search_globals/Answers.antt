@@ -1,4 +1,4 @@
-use Rattle.std.proofs.Common.{ℕ, List, Option, take, get_or, ap, ◌∙◌, sym, subst, arith}
+use Rattle.std.proofs.Common.{ℕ, ◌%◌, Vec, Global, List, Option, take, get_or, ap, ◌∙◌, sym, subst, arith}
 use Rattle.std.specs.List.{All}
 use Rattle.std.proofs.lemmas.List.{take_more, take_all}
 use Rattle.std.proofs.lemmas.List.Elements.{All-push, All-weaker, All-contains}
@@ -14,13 +14,18 @@ use Rattle.pg_reach.specs.Views.{Viewed}
 use Rattle.pg_reach.proofs.Refusals.{IsBetter}
 use Rattle.pg_reach.specs.Stays.{IsSteady, AreSpans, ArePcids}
 use Rattle.pg_reach.specs.Asking.{under, AreUnder, AreGlobal}
+use Rattle.pg_reach.specs.Parts.{ArePart, AreParts}
+use Rattle.pg_reach.proofs.Spans.{part_under}
 use Rattle.pg_reach.proofs.Cases.{global_since}
 use Rattle.pg_reach.proofs.finder.search_globals.Goals as goal
 
 pub new-requires : goal.new-requires
 new-requires c =
-    subst (λ (ss : List (Span Control)). AreSpans c.args.seen.now c.args.walker.p c.bounds_from-bounds.result.four c.args.walker.number ss) (sym c.deref-in-loop-pcid.ensures.value)
-    (record { order = c.in_ok-spans.ensures.order; each = c.in_ok-spans.ensures.each; all = λ w from to. c.in_ok-spans.ensures.all w (omega arith) to })
+    let pcid : ℕ = get_or c.deref-pcid-items.result.now c.loop-pcid.pcid-index 0 in
+    let of : AreParts c.in_ok-spans.spans.items c.in_ok-parts.parts.items = subst (λ (ss : List (Span Control)). AreParts ss c.in_ok-parts.parts.items) c.deref.ensures.value c.in_ok-parts.ensures in
+    let parts : AreParts c.in_ok-spans.spans.items c.deref-in-loop-pcid.result.now = subst (λ (ps : List (Vec (Span Control) Global)). AreParts c.in_ok-spans.spans.items ps) (sym c.deref-in-loop-pcid.ensures.value) of in
+    let part : ArePart (pcid % 64) c.in_ok-spans.spans.items c.part_of.result.now = subst (ArePart (pcid % 64) c.in_ok-spans.spans.items) (sym c.part_of.ensures) (parts (pcid % 64)) in
+    part_under c.args.seen.now (under c.args.walker pcid) 0 c.bounds_from-bounds.result.four c.in_ok-spans.spans.items c.part_of.result.now (omega arith) c.in_ok-spans.ensures part
 
 pub loop-pcid-preserved : goal.loop-pcid-preserved
 loop-pcid-preserved c =
@@ -53,5 +58,5 @@ returns-clause-all c = λ w low.
     let s = c.in_ok-spans.ensures.all w (omega arith) low in
     let steady : IsSteady c.args.seen.now c.args.walker.p s.0 = All-contains (IsSteady c.args.seen.now c.args.walker.p) c.in_ok-spans.spans.items s.0 c.in_ok-spans.ensures.each s.1 in
     let spans : ArePcids c.in_ok-spans.spans.items c.deref-pcid-items.result.now = subst (ArePcids c.in_ok-spans.spans.items) (sym c.deref-pcid-items.ensures.value)
-    (subst (λ (ss : List (Span Control)). ArePcids ss c.in_ok-pcids_of.field-0.items) c.deref.ensures.value c.in_ok-pcids_of.ensures) in
+    (subst (λ (ss : List (Span Control)). ArePcids ss c.in_ok-pcids_of.field-0.items) c.deref-2.ensures.value c.in_ok-pcids_of.ensures) in
     subst all (ap (λ (d : Control). d.pcid) (sym (steady.same w s.2 s.3))) (All-contains all c.deref-pcid-items.result.now s.0.value.pcid each (spans s.0 s.1))

@@ -1,4 +1,4 @@
-use Rattle.std.proofs.Common.{◌∙◌, sym, subst}
+use Rattle.std.proofs.Common.{List, ◌∙◌, refl, sym, subst}
 use Rattle.std.specs.Prelude.{IfOk}
 use Rattle.std.proofs.lemmas.Result.{IfOk-weaker}
 use Rattle.pg_event.specs.declared.event.Event.{Event}
@@ -7,9 +7,18 @@ use Rattle.pg_reach.specs.declared.walker.Walker.{Walker}
 use Rattle.pg_reach.specs.declared.since.Bounds.{Bounds}
 use Rattle.pg_reach.specs.Views.{Viewed}
 use Rattle.pg_reach.specs.Asking.{AreUnder, AreLate}
+use Rattle.pg_event.specs.declared.control.Control.{Control}
+use Rattle.pg_timeline.specs.declared.timeline.Span.{Span}
+use Rattle.pg_reach.specs.Stays.{AreSpans}
+use Rattle.pg_reach.proofs.Spans.{spans_under}
 use Rattle.pg_reach.proofs.Cases.{late_page, late_now}
 use Rattle.pg_reach.proofs.finder.search_own.Goals as goal
 use Rattle.pg_reach.proofs.finder.search_own.Goals.{then-wants_page, else-wants_page}
+
+pub new-requires : goal.new-requires
+new-requires c =
+    spans_under c.args.seen.now c.args.walker c.args.walker.p c.bounds_from-bounds.result.four c.args.walker.number c.deref.result.now refl refl
+    (subst (λ (ss : List (Span Control)). AreSpans c.args.seen.now c.args.walker.p c.bounds_from-bounds.result.four c.args.walker.number ss) (sym c.deref.ensures.value) c.in_ok-spans.ensures)
 
 pub returns-clause-all : goal.returns-clause-all
 returns-clause-all c =
