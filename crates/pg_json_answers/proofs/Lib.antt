@@ -1,0 +1,3 @@
+mod Lines
+mod Explained
+mod Given
