@@ -45,10 +45,6 @@ error_json Checkers = refusal_json 15 (codes "checkers")
 abbrev pub spans_json : Json
 spans_json = refusal_json 2 (codes "version: certify judges records with spans")
 
--- and where what is asked of it is not written as JSON
-abbrev pub text_only_json : Json
-text_only_json = refusal_json 2 (codes "version: records with spans are answered as text only")
-
 -- an error is told by its object, and nothing is said where there is none
 abbrev pub TellsJson : {A : Type 0} → Change → Result A AuditError → Type 0
 TellsJson errors (Ok x) = StaysSame errors

@@ -10,4 +10,4 @@ mod refusals;
 
 pub use commands::answer_json;
 pub use question::Question;
-pub use refusals::{tell_error_json, tell_json, tell_spans_json, tell_text_only_json};
+pub use refusals::{tell_error_json, tell_json, tell_malformed_json, tell_spans_json};

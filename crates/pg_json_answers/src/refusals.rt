@@ -6,7 +6,7 @@ ghost use Rattle.pg_report.specs.Changes.{filled};
 ghost use Rattle.pg_auditing.specs.Refusals.{Tells};
 ghost use Rattle.pg_json.specs.Tree.{json_line};
 ghost use Rattle.pg_json_answers.specs.Refusals.{error_json, malformed_json, TellsJson};
-ghost use Rattle.pg_json_answers.specs.Refusals.{spans_json, text_only_json};
+ghost use Rattle.pg_json_answers.specs.Refusals.{spans_json};
 
 use pg_auditing::put_number;
 use pg_codec::{Failed, Sink, put_all};
@@ -78,15 +78,11 @@ pub fn tell_spans_json<W: Sink>(errors: &mut W)
     );
 }
 
-/// Says that what is asked of a record with spans is not written as JSON.
-#[tactic(auto, unfolding(serde_json::proofs::OnLiterals::serde_json_on_literals))]
-pub fn tell_text_only_json<W: Sink>(errors: &mut W)
-    ensures { Tells (filled W.Sink errors.old errors.new) (json_line text_only_json) }
+/// Writes the object of a malformed event: its number, and the number of the rule that it breaks.
+pub fn tell_malformed_json<W: Sink>(errors: &mut W, event: u64, rule: u8)
+    ensures { Tells (filled W.Sink errors.old errors.new) (json_line (malformed_json event rule)) }
 {
-    let _ = put_all(
-        errors,
-        b"{\"number\":2,\"text\":\"version: records with spans are answered as text only\"}\n",
-    );
+    let _ = put_malformed(errors, event, rule);
 }
 
 /// Writes that object where there is an error, and else nothing.

@@ -6,4 +6,6 @@ mod row;
 #[cfg(test)]
 mod rows;
 #[cfg(test)]
+mod spans;
+#[cfg(test)]
 mod tests;

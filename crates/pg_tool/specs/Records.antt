@@ -21,11 +21,12 @@ use Rattle.pg_answers.specs.Upgrades.{Upgrades}
 use Rattle.pg_auditing.specs.Refusals.{StaysSame, Tells, refusal_line, spans_line}
 use Rattle.pg_auditing.specs.Status.{Checks}
 use Rattle.pg_auditing.specs.Streams.{Streams}
-use Rattle.pg_json.specs.Tree.{Json, json_line}
+use Rattle.pg_json.specs.Tree.{json_line}
 use Rattle.pg_json_answers.specs.declared.question.Question.{Question}
 use Rattle.pg_json_answers.specs.declared.question.Question.TheVariants as questions
 use Rattle.pg_json_answers.specs.Commands.{AnswersJson}
-use Rattle.pg_json_answers.specs.Refusals.{error_json, spans_json, text_only_json}
+use Rattle.pg_json_answers.specs.Refusals.{error_json}
+use Rattle.pg_json_spans.specs.Answers.{AnswersSpans}
 use Rattle.pg_ordering.specs.Answers.{OrdersRecord}
 use Rattle.pg_ordering.specs.Shown.{ShowsSpans}
 use Rattle.pg_ordering.specs.declared.told.Asked.{Asked}
@@ -98,21 +99,6 @@ abbrev pub DoesOrdered : Option Question → Plan → Streams → ℕ → Type 0
 DoesOrdered None plan s status = DoesPlain plan.command plan s status
 DoesOrdered (Some question) plan s status = AnswersJson question plan.checkers s status
 
--- a record is not answered: nothing is written but an object on standard error
-abbrev pub RefusesBy : Json → Change → Change → ℕ → Type 0
-RefusesBy refusal output errors status =
-    StaysSame output × Tells errors (json_line refusal) × (status ≡ 2)
-
-abbrev pub spans_refusal : Command → Json
-spans_refusal Check = spans_json
-spans_refusal Certify = text_only_json
-spans_refusal Run = text_only_json
-spans_refusal RunOf = text_only_json
-spans_refusal Explain = text_only_json
-spans_refusal Show = text_only_json
-spans_refusal Upgrade = text_only_json
-spans_refusal Merge = text_only_json
-
 -- ---- a record with spans
 
 -- what `certify` writes of a yes: an order, or the record in that order, where it is asked for
@@ -142,11 +128,10 @@ DoesSpanned Show plan s status = ShowsSpans (filter_of plan) s status
 DoesSpanned Upgrade plan s status = RefusesSpans s.output s.errors status
 DoesSpanned Merge plan s status = ⊥
 
--- the same, or where JSON is asked for its refusal
+-- the same as JSON, where that is asked for
 abbrev pub DoesUnordered : Option Question → Plan → Streams → ℕ → Type 0
 DoesUnordered None plan s status = DoesSpanned plan.command plan s status
-DoesUnordered (Some question) plan s status =
-    RefusesBy (spans_refusal plan.command) s.output s.errors status
+DoesUnordered (Some question) plan s status = AnswersSpans question s status
 
 -- ---- by the version
 

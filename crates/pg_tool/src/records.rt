@@ -11,7 +11,7 @@ ghost use Rattle.pg_tool.specs.Records.{asked_of, told_of, RefusesSpans, DoesSpa
 ghost use Rattle.pg_tool.specs.Records.{DoesOfRecord, reads_record};
 ghost use Rattle.pg_tool.specs.Records.{check_question, explain_question, question_of};
 ghost use Rattle.pg_tool.specs.Records.{command_question, DoesOrdered, DoesUnordered};
-ghost use Rattle.pg_tool.specs.Records.{RefusesBy, spans_refusal, device_line};
+ghost use Rattle.pg_tool.specs.Records.{device_line};
 ghost use Rattle.pg_auditing.specs.Refusals.{Tells};
 
 use crate::pictures::draw;
@@ -20,7 +20,8 @@ use pg_answers::{
 };
 use pg_auditing::{REFUSED, check, tell, tell_spans};
 use pg_codec::{Sink, Source};
-use pg_json_answers::{Question, answer_json, tell_json, tell_spans_json, tell_text_only_json};
+use pg_json_answers::{Question, answer_json, tell_json};
+use pg_json_spans::answer_spans_json;
 use pg_ordering::{Asked, certify_spanned, show_spanned};
 use pg_plan::{Command, Plan, Telling};
 use pg_report::AuditError;
@@ -172,24 +173,6 @@ fn do_of_ordered<T: AllocGlobal + Threads + Wait + Sync, R: Source, O: Sink, E: 
     }
 }
 
-/// Refuses to answer of a record with spans as JSON.
-fn refuse_by<O: Sink, E: Sink>(command: Command, output: &mut O, errors: &mut E) -> u8
-    ensures { RefusesBy (spans_refusal command)
-        (filled O.Sink output.old output.new) (filled E.Sink errors.old errors.new) result }
-{
-    match command {
-        Command::Check => tell_spans_json(errors),
-        Command::Certify
-        | Command::Run
-        | Command::RunOf
-        | Command::Explain
-        | Command::Show
-        | Command::Upgrade
-        | Command::Merge => tell_text_only_json(errors),
-    }
-    REFUSED
-}
-
 /// What `certify` writes of a record with spans whose answer is yes.
 fn asked_of(plan: Plan) -> Asked
     ensures { result ≡ asked_of plan }
@@ -271,7 +254,7 @@ fn do_of_spanned<R: Source, O: Sink, E: Sink>(
     }
 }
 
-/// The same, or where JSON is asked for its refusal.
+/// Does what a plan says of the record with spans on `input`, as JSON where that is asked for.
 fn do_of_unordered<R: Source, O: Sink, E: Sink>(
     alloc: Global,
     plan: Plan,
@@ -285,7 +268,7 @@ fn do_of_unordered<R: Source, O: Sink, E: Sink>(
 {
     match question_of(plan) {
         None => do_of_spanned(alloc, plan, input, output, errors),
-        Some(_) => refuse_by(plan.command, output, errors),
+        Some(question) => answer_spans_json(alloc, question, input, output, errors),
     }
 }
 
