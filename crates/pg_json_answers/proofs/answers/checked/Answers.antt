@@ -6,6 +6,7 @@ use Rattle.pg_json_answers.specs.Answers.{event_of}
 use Rattle.pg_json_answers.proofs.answers.checked.Goals as goal
 
 pub returns : goal.returns
-returns c =
-    (c.event_of.ensures ∙ ap (λ (x : Report). event_of x.verdict) c.report_of-report.ensures,
-    c.in_ok-text.ensures ∙ ap (λ x. json_line (report_json x)) c.report_of-report.ensures)
+returns c = (
+  c.event_of.ensures ∙ ap (λ (x : Report). event_of x.verdict) c.report_of-report.ensures,
+  c.in_ok-text.ensures ∙ ap (λ x. json_line (report_json x)) c.report_of-report.ensures,
+)
