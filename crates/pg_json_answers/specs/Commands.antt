@@ -19,8 +19,8 @@ MayFail checkers (Refused e) = ⊥
 MayFail checkers Device = ⊥
 MayFail checkers Checkers = ⊥
 
--- By so many checkers: the status is that of such an answer, and the object on standard error is its
--- object.
+-- By so many checkers: the status is that of such an answer, and the object on standard error is
+-- its object.
 abbrev pub AnswersJson : Question → ℕ → Streams → ℕ → Type 0
 AnswersJson question checkers s status =
     (answer : Result (Option ℕ) AuditError) × (status ≡ certificate_status answer)

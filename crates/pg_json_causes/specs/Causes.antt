@@ -11,7 +11,7 @@
 --
 --     event                the event, without its moments
 --     now                  the entries that its processor would read at the event
---     given                what it would get by these, by the rights; null where it would get nothing
+--     given                what it would get by these, by the rights; null if nothing
 --     last                 when it would last have been witnessed
 use Rattle.std.specs.Prelude.{ℕ, true, false, List, Option, Some, None, codes, slice_get}
 use Rattle.pg_event.specs.declared.event.Event.{Event}

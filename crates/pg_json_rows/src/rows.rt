@@ -1,5 +1,5 @@
-//! Answers as JSON by the whole program, over memory. Expected objects were written by hand from the
-//! texts of docs/COMMANDS.md.
+//! Answers as JSON by the whole program, over memory. Expected objects were written by hand from
+//! the texts of docs/COMMANDS.md.
 
 use crate::row::Row;
 
@@ -33,8 +33,8 @@ pub const ROWS: [Row; 10] = [
         name: "a_no",
         words: &["check", "--json"],
         input: STALE_LEAF,
-        output: "{\"event\":6,\"events\":7,\"reason\":5,\"reason_name\":\"translation dropped\",\"seg\
-        ments\":1,\"verdict\":\"no\"}\n",
+        output: "{\"event\":6,\"events\":7,\"reason\":5,\"reason_name\":\"translation dropped\",\
+        \"segments\":1,\"verdict\":\"no\"}\n",
         line: "",
         status: 1,
     },
@@ -42,8 +42,8 @@ pub const ROWS: [Row; 10] = [
         name: "all_noes",
         words: &["check", "--all", "--json"],
         input: STALE_LEAF,
-        output: "{\"bad_events\":1,\"event\":6,\"events\":7,\"reason\":5,\"reason_name\":\"translatio\
-        n dropped\",\"segments\":1,\"tallies\":[{\"count\":1,\"cpus\":[0],\"first\":6,\"page\
+        output: "{\"bad_events\":1,\"event\":6,\"events\":7,\"reason\":5,\"reason_name\":\"transl\
+        ation dropped\",\"segments\":1,\"tallies\":[{\"count\":1,\"cpus\":[0],\"first\":6,\"page\
         s\":[\"0x5000\"],\"reason\":5,\"reason_name\":\"translation dropped\"}],\"verdict\":\
         \"no\"}\n",
         line: "",
@@ -53,8 +53,8 @@ pub const ROWS: [Row; 10] = [
         name: "explained",
         words: &["explain", "--json"],
         input: STALE_LEAF,
-        output: "{\"cause\":{\"event\":{\"ac\":false,\"address\":\"0x5123\",\"cpu\":0,\"event\":6,\"k\
-        ind\":\"access\",\"moments\":[4,4,4,4],\"operation\":\"read\",\"outcome\":{\"page\":\
+        output: "{\"cause\":{\"event\":{\"ac\":false,\"address\":\"0x5123\",\"cpu\":0,\"event\":6\
+        ,\"kind\":\"access\",\"moments\":[4,4,4,4],\"operation\":\"read\",\"outcome\":{\"page\":\
         \"0x9123\"},\"user\":true},\"final\":true,\"finding\":{\"by\":{\"address\":\"0x5000\
         \",\"cpu\":0,\"event\":5,\"kind\":\"invlpg\"},\"entry\":\"translation\",\"finding\":\
         \"dropped\",\"level\":1},\"last\":{\"by\":[4,4,4,4],\"moment\":5,\"taken_by\":{\"add\
@@ -73,8 +73,8 @@ pub const ROWS: [Row; 10] = [
         name: "all_explained",
         words: &["explain", "--all", "--json"],
         input: STALE_LEAF,
-        output: "{\"bad_events\":1,\"causes\":[{\"event\":{\"ac\":false,\"address\":\"0x5123\",\"cpu\
-        \":0,\"event\":6,\"kind\":\"access\",\"moments\":[4,4,4,4],\"operation\":\"read\",\"\
+        output: "{\"bad_events\":1,\"causes\":[{\"event\":{\"ac\":false,\"address\":\"0x5123\",\"\
+        cpu\":0,\"event\":6,\"kind\":\"access\",\"moments\":[4,4,4,4],\"operation\":\"read\",\"\
         outcome\":{\"page\":\"0x9123\"},\"user\":true},\"final\":true,\"finding\":{\"by\":{\
         \"address\":\"0x5000\",\"cpu\":0,\"event\":5,\"kind\":\"invlpg\"},\"entry\":\"transl\
         ation\",\"finding\":\"dropped\",\"level\":1},\"last\":{\"by\":[4,4,4,4],\"moment\":5\
@@ -103,8 +103,8 @@ pub const ROWS: [Row; 10] = [
         name: "denied",
         words: &["certify", "--json"],
         input: STALE_LEAF,
-        output: "{\"cause\":{\"event\":{\"ac\":false,\"address\":\"0x5123\",\"cpu\":0,\"event\":6,\"k\
-        ind\":\"access\",\"operation\":\"read\",\"outcome\":{\"page\":\"0x9123\"},\"user\":t\
+        output: "{\"cause\":{\"event\":{\"ac\":false,\"address\":\"0x5123\",\"cpu\":0,\"event\":6\
+        ,\"kind\":\"access\",\"operation\":\"read\",\"outcome\":{\"page\":\"0x9123\"},\"user\":t\
         rue},\"given\":{\"fault\":\"0x4\",\"fetch\":false,\"present\":false,\"reserved\":fal\
         se,\"user\":true,\"write\":false},\"last\":{\"by\":[4,4,4,4],\"moment\":5,\"taken_by\
         \":{\"address\":\"0x5000\",\"cpu\":0,\"event\":5,\"kind\":\"invlpg\"}},\"now\":[{\"i\
@@ -122,8 +122,8 @@ pub const ROWS: [Row; 10] = [
         name: "shown",
         words: &["show", "--json", "--from", "5"],
         input: STALE_LEAF,
-        output: "{\"address\":\"0x5000\",\"cpu\":0,\"event\":5,\"kind\":\"invlpg\"}\n{\"ac\":false,\"\
-        address\":\"0x5123\",\"cpu\":0,\"event\":6,\"kind\":\"access\",\"moments\":[4,4,4,4]\
+        output: "{\"address\":\"0x5000\",\"cpu\":0,\"event\":5,\"kind\":\"invlpg\"}\n{\"ac\":fals\
+        e,\"address\":\"0x5123\",\"cpu\":0,\"event\":6,\"kind\":\"access\",\"moments\":[4,4,4,4]\
         ,\"operation\":\"read\",\"outcome\":{\"page\":\"0x9123\"},\"user\":true}\n",
         line: "",
         status: 1,

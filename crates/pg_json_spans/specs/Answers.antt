@@ -1,5 +1,5 @@
--- What the commands with `--json` answer of a record with no one order (versions 3 and 4): what they
--- answer as text, by the words of `pg_ordering`, as objects.
+-- What the commands with `--json` answer of a record with no one order (versions 3 and 4): what
+-- they answer as text, by the words of `pg_ordering`, as objects.
 use Rattle.std.specs.Prelude.{◌≡◌, ◌⊎◌, ℕ, List, Result, Ok, Err}
 use Rattle.pg_explain.specs.declared.filter.Filter.{Filter}
 use Rattle.pg_report.specs.declared.error.AuditError.TheVariants.{Device}

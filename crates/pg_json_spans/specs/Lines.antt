@@ -1,7 +1,7 @@
--- The events of a record with no one order, an object a line: as in a record with one order, without
--- moments, and with the field
+-- The events of a record with no one order, an object a line: as in a record with one order, but
+-- without moments, and with the field
 --
---     began                how many events had ended before it began
+--     began                how many events had ended when it began
 use Rattle.std.specs.Prelude.{ℕ, ◌+◌, Bool, if◌then◌else◌, List, [], ◌∷◌, ◌++◌}
 use Rattle.pg_event.specs.declared.event.Event.{Event}
 use Rattle.pg_explain.specs.declared.filter.Filter.{Filter}

@@ -88,7 +88,8 @@ command_question Show plan = Some (questions.Show (filter_of plan))
 command_question Upgrade plan = None
 command_question Merge plan = None
 
--- what a plan asks to be answered as JSON: nothing where it asks for a record, an order or a picture
+-- what a plan asks to be answered as JSON: nothing where it asks for a record, an order or a
+-- picture
 abbrev pub question_of : Plan → Option Question
 question_of plan =
     if not plan.json || plan.bytes || plan.order then None
