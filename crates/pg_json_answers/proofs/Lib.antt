@@ -1,3 +1,3 @@
-mod Lines
+mod Pieces
 mod Explained
 mod Given

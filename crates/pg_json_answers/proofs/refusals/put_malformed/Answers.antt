@@ -2,7 +2,7 @@ use Rattle.std.proofs.Common.{◌++◌, sym}
 use Rattle.std.proofs.lemmas.Result.{err_from_is_err_and}
 use Rattle.pg_codec.proofs.Written.{puts_same}
 use Rattle.pg_codec.proofs.Segments.{puts_then, puts_fails}
-use Rattle.pg_json_answers.proofs.Lines.{event_piece, rule_piece, last_piece, malformed_line}
+use Rattle.pg_json_answers.proofs.Pieces.{event_piece, rule_piece, last_piece, malformed_line}
 use Rattle.pg_json_answers.proofs.refusals.put_malformed.Goals as goal
 
 pub returns-in_err-put_number : goal.returns-in_err-put_number
