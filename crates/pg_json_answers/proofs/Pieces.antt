@@ -1,8 +1,8 @@
 -- The object of a malformed event, in the pieces that are written.
 use Rattle.std.proofs.Common.{◌≡◌, ℕ, List, ◌++◌, codes, decimal, append_assoc, ap, sym, ◌∙◌}
-use Rattle.serde_json.proofs.OnLiterals.{serde_json_on_literals}
 use Rattle.pg_json.specs.Tree.{json_line}
 use Rattle.pg_json_answers.specs.Refusals.{malformed_json}
+use Rattle.pg_json_answers.proofs.OnLiterals.{objects_on_literals}
 
 joined : (a m b n c z : List ℕ) → (a ++ (m ++ (b ++ (n ++ c)))) ++ z ≡ (a ++ m) ++ ((b ++ n) ++ (c ++ z))
 joined a m b n c z =
@@ -22,6 +22,6 @@ abbrev pub last_piece : List ℕ
 last_piece = codes ",\"text\":\"malformed\"}\n"
 
 pub malformed_line : (event rule : ℕ) → json_line (malformed_json event rule) ≡ event_piece event ++ (rule_piece rule ++ last_piece)
-unfolding serde_json_on_literals
+unfolding objects_on_literals
 malformed_line event rule =
     joined (codes "{\"event\":") (decimal event) (codes ",\"number\":7,\"rule\":") (decimal rule) (codes ",\"text\":\"malformed\"}") (codes "\n")

@@ -21,7 +21,6 @@ fn put_malformed<W: Sink>(errors: &mut W, event: u64, rule: u8) -> Result<(), Fa
     put_all(errors, b",\"text\":\"malformed\"}\n")
 }
 
-#[tactic(auto, unfolding(serde_json::proofs::OnLiterals::serde_json_on_literals))]
 fn put_refusal_json<W: Sink>(errors: &mut W, refusal: Refusal) -> Result<(), Failed>
     ensures { Puts W.Sink (json_line (error_json (AuditError.Refused refusal)))
         errors.old errors.new result }
@@ -47,7 +46,6 @@ fn put_refusal_json<W: Sink>(errors: &mut W, refusal: Refusal) -> Result<(), Fai
     }
 }
 
-#[tactic(auto, unfolding(serde_json::proofs::OnLiterals::serde_json_on_literals))]
 fn put_error_json<W: Sink>(errors: &mut W, error: AuditError) -> Result<(), Failed>
     ensures { Puts W.Sink (json_line (error_json error)) errors.old errors.new result }
 {
@@ -68,7 +66,7 @@ pub fn tell_json<W: Sink>(errors: &mut W, error: AuditError)
 }
 
 /// Says that a record has spans where its events have to stand in one order.
-#[tactic(auto, unfolding(serde_json::proofs::OnLiterals::serde_json_on_literals))]
+#[tactic(auto, unfolding(crate::proofs::OnLiterals::objects_on_literals))]
 pub fn tell_spans_json<W: Sink>(errors: &mut W)
     ensures { Tells (filled W.Sink errors.old errors.new) (json_line spans_json) }
 {
