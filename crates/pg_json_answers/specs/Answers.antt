@@ -1,6 +1,6 @@
 -- What is answered of a record as JSON: of each command that which its text says.
 use Rattle.std.specs.Prelude.{◌≡◌, ℕ, ◌+◌, Bool, if◌then◌else◌, List, [], ◌∷◌, ◌++◌, length}
-use Rattle.std.specs.Prelude.{map, take, Option, Some, None, codes, ⊥}
+use Rattle.std.specs.Prelude.{map, take, Option, Some, None, codes}
 use Rattle.pg_event.specs.declared.event.Event.{Event}
 use Rattle.pg_event.specs.declared.event.Reason.{Reason}
 use Rattle.pg_event.specs.Heads.{Head}

@@ -1,5 +1,5 @@
 -- What the commands with `--json` promise of their streams and their status.
-use Rattle.std.specs.Prelude.{◌≡◌, ◌≢◌, ℕ, ⊥, Option, Result}
+use Rattle.std.specs.Prelude.{◌≡◌, ◌≢◌, ℕ, Option, Result}
 use Rattle.pg_report.specs.declared.error.AuditError.{AuditError}
 use Rattle.pg_report.specs.declared.error.AuditError.TheVariants.{Refused, Device, Memory}
 use Rattle.pg_report.specs.declared.error.AuditError.TheVariants.{Thread, Checkers}

@@ -10,4 +10,5 @@ returns-in_ok-text-in-Some c =
     let denied : IsDenied head events n = rw c.in-Some.is at c.requires.denied in
     let count : length events < 2 ^ 32 = c.events-events.ensures.count in
     let runs = c.denied_events_have_no_run.ensures head events n c.events-events.ensures.well (omega (arith, count)) denied in
-    (record { denied = denied; none = runs.0; before = runs.1 }, c.in_ok-text-in-Some.ensures)
+    let line = c.in_ok-text-in-Some.ensures in
+    (record { denied = denied; none = runs.0; before = runs.1 }, line.0, line.1, line.2)
