@@ -33,8 +33,9 @@ fn is_own(plan: Plan) -> bool {
         selection: _,
         telling,
         progress,
+        json,
     } = plan;
-    command == Command::Check && telling == Telling::First && !progress
+    command == Command::Check && telling == Telling::First && !progress && !json
 }
 
 /// What is told, and the exit status, where there is no plan. The texts that are asked for are the

@@ -12,7 +12,7 @@ use std::alloc::Global;
 
 /// Why a run was not read.
 #[derive(Clone, Copy, Debug, PartialEq, Eq)]
-pub(crate) enum Unread {
+pub enum Unread {
     /// The bytes spell no record of version 3 or 4: the first refusal.
     Refused(SpannedRefusal),
     /// A read failed.
@@ -36,8 +36,9 @@ fn read_bytes(alloc: Global, bytes: &[u8]) -> Result<SpannedRun, Unread>
     }
 }
 
-/// Takes in all bytes that a source has left, and reads the run that they spell.
-pub(crate) fn read_run<R: Source>(alloc: Global, input: &mut R) -> Result<SpannedRun, Unread>
+/// Takes in all bytes that a source has left, and reads the run that they spell. The run is held in
+/// memory whole.
+pub fn read_run<R: Source>(alloc: Global, input: &mut R) -> Result<SpannedRun, Unread>
     ensures reads { ReadsRun (R.left input.old) result }
     ensures failures { FailsWithDevice is_device (R.failed input.old) (R.failed input.new) result }
 {

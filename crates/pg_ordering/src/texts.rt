@@ -13,7 +13,7 @@ use std::alloc::{AllocError, Global};
 const NONE_OF_ALL: &str = "all orders: each was tried, and none has a run\n";
 
 /// How many segments hold all events of a run.
-fn segments_of(run: &SpannedRun) -> u64
+pub fn segments_of(run: &SpannedRun) -> u64
     ensures { result ≡ segments_of run.now }
 {
     (run.len() as u64).div_ceil(run.header().segment as u64)
@@ -40,8 +40,9 @@ fn counts_of(alloc: Global, run: &SpannedRun) -> Result<String, AllocError>
     format!(in alloc; "events: {events}\nsegments: {segments}\n")
 }
 
-/// Appends why no order of a run's events has a run of the machine, where that is told.
-fn push_cause(
+/// Appends why no order of a run's events has a run of the machine, where that is told. `Err` is for
+/// want of memory alone, and may leave a part of it.
+pub fn push_cause(
     alloc: Global,
     text: &mut String,
     run: &SpannedRun,

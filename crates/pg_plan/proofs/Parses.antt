@@ -182,20 +182,21 @@ not_read P none x p = let e : None ≡ Some x = (none x).1 p in absurd cc
 pub no_selection : (rows : List Row) → ((asked : Selection) → IsSelectionOf rows asked → ⊥) → Reads None (IsSelectionOf rows)
 no_selection rows none asked = (λ e. absurd cc, λ h. absurd (none asked h))
 
-abbrev made : Command → ℕ → Bool → Bool → Bool → ℕ → Selection → Telling → Bool → Plan
-made command checkers single bytes order error selection telling progress = record { command = command; checkers = checkers; single = single; bytes = bytes; order = order; error = error; selection = selection; telling = telling; progress = progress }
+abbrev made : Command → ℕ → Bool → Bool → Bool → ℕ → Selection → Telling → Bool → Bool → Plan
+made command checkers single bytes order error selection telling progress json = record { command = command; checkers = checkers; single = single; bytes = bytes; order = order; error = error; selection = selection; telling = telling; progress = progress; json = json }
 
-same_plan : (plan other : Plan) → plan.command ≡ other.command → plan.checkers ≡ other.checkers → plan.single ≡ other.single → plan.bytes ≡ other.bytes → plan.order ≡ other.order → plan.error ≡ other.error → plan.selection ≡ other.selection → plan.telling ≡ other.telling → plan.progress ≡ other.progress → plan ≡ other
-same_plan plan other a b c d h i e f g =
-    ap (λ v. made v plan.checkers plan.single plan.bytes plan.order plan.error plan.selection plan.telling plan.progress) a
-    ∙ ap (λ v. made other.command v plan.single plan.bytes plan.order plan.error plan.selection plan.telling plan.progress) b
-    ∙ ap (λ v. made other.command other.checkers v plan.bytes plan.order plan.error plan.selection plan.telling plan.progress) c
-    ∙ ap (λ v. made other.command other.checkers other.single v plan.order plan.error plan.selection plan.telling plan.progress) d
-    ∙ ap (λ v. made other.command other.checkers other.single other.bytes v plan.error plan.selection plan.telling plan.progress) h
-    ∙ ap (λ v. made other.command other.checkers other.single other.bytes other.order v plan.selection plan.telling plan.progress) i
-    ∙ ap (λ v. made other.command other.checkers other.single other.bytes other.order other.error v plan.telling plan.progress) e
-    ∙ ap (λ v. made other.command other.checkers other.single other.bytes other.order other.error other.selection v plan.progress) f
-    ∙ ap (λ v. made other.command other.checkers other.single other.bytes other.order other.error other.selection other.telling v) g
+same_plan : (plan other : Plan) → plan.command ≡ other.command → plan.checkers ≡ other.checkers → plan.single ≡ other.single → plan.bytes ≡ other.bytes → plan.order ≡ other.order → plan.error ≡ other.error → plan.selection ≡ other.selection → plan.telling ≡ other.telling → plan.progress ≡ other.progress → plan.json ≡ other.json → plan ≡ other
+same_plan plan other a b c d h i e f g k =
+    ap (λ v. made v plan.checkers plan.single plan.bytes plan.order plan.error plan.selection plan.telling plan.progress plan.json) a
+    ∙ ap (λ v. made other.command v plan.single plan.bytes plan.order plan.error plan.selection plan.telling plan.progress plan.json) b
+    ∙ ap (λ v. made other.command other.checkers v plan.bytes plan.order plan.error plan.selection plan.telling plan.progress plan.json) c
+    ∙ ap (λ v. made other.command other.checkers other.single v plan.order plan.error plan.selection plan.telling plan.progress plan.json) d
+    ∙ ap (λ v. made other.command other.checkers other.single other.bytes v plan.error plan.selection plan.telling plan.progress plan.json) h
+    ∙ ap (λ v. made other.command other.checkers other.single other.bytes other.order v plan.selection plan.telling plan.progress plan.json) i
+    ∙ ap (λ v. made other.command other.checkers other.single other.bytes other.order other.error v plan.telling plan.progress plan.json) e
+    ∙ ap (λ v. made other.command other.checkers other.single other.bytes other.order other.error other.selection v plan.progress plan.json) f
+    ∙ ap (λ v. made other.command other.checkers other.single other.bytes other.order other.error other.selection other.telling v plan.json) g
+    ∙ ap (λ v. made other.command other.checkers other.single other.bytes other.order other.error other.selection other.telling other.progress v) k
 
 -- a plan that was made of what the rows say is theirs, and no other is
 pub plan_is : (found : Option (Text × List Row)) (name : Text) (rows : List Row) (plan : Plan) → found ≡ Some (name, rows)
@@ -206,9 +207,9 @@ pub plan_is : (found : Option (Text × List Row)) (name : Text) (rows : List Row
     → plan.single ≡ is_on (first_of (codes "single") rows) → plan.bytes ≡ is_on (first_of (codes "bytes") rows)
     → plan.order ≡ is_on (first_of (codes "order") rows)
     → Reads (Some plan.error) (IsAsked 0 (first_of (codes "error") rows))
-    → plan.progress ≡ is_on (first_of (codes "progress") rows)
+    → plan.progress ≡ is_on (first_of (codes "progress") rows) → plan.json ≡ is_on (first_of (codes "json") rows)
     → (other : Plan) → (Some plan ≡ Some other) ↔ IsPlanOf found other
-plan_is found name rows plan found_is commands counts events tellings single_is bytes_is order_is errors progress_is other = (there, back)
+plan_is found name rows plan found_is commands counts events tellings single_is bytes_is order_is errors progress_is json_is other = (there, back)
   where
     there : Some plan ≡ Some other → IsPlanOf found other
     there e =
@@ -223,6 +224,7 @@ plan_is found name rows plan found_is commands counts events tellings single_is 
           selection = (events plan.selection).0 refl;
           telling = (tellings plan.telling).0 refl;
           progress = progress_is;
+          json = json_is;
         })
 
     back : IsPlanOf found other → Some plan ≡ Some other
@@ -237,7 +239,8 @@ plan_is found name rows plan found_is commands counts events tellings single_is 
         let error_is = some_is plan.error other.error ((errors other.error).1 (subst (λ r. IsAsked 0 (first_of (codes "error") r) other.error) (sym both.1) h.error)) in
         let telling_is = some_is plan.telling other.telling ((tellings other.telling).1 (subst (λ r. IsTellingOf r other.telling) (sym both.1) h.telling)) in
         let meanwhile : plan.progress ≡ other.progress = progress_is ∙ ap (λ r. is_on (first_of (codes "progress") r)) both.1 ∙ sym h.progress in
-        ap (λ x. Some x) (same_plan plan other command_is checkers_is alone written ordered error_is selection_is telling_is meanwhile)
+        let formed : plan.json ≡ other.json = json_is ∙ ap (λ r. is_on (first_of (codes "json") r)) both.1 ∙ sym h.json in
+        ap (λ x. Some x) (same_plan plan other command_is checkers_is alone written ordered error_is selection_is telling_is meanwhile formed)
 
 -- rows of which a number is refused have no plan
 pub no_plan : (found : Option (Text × List Row)) (name : Text) (rows : List Row) → found ≡ Some (name, rows)

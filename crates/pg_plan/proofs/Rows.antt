@@ -26,7 +26,7 @@ every = record { from = 0; to = 4294967295; cpu = None; page = None; word = None
 
 -- the plan of `check`
 abbrev bare : Plan
-bare = record { command = Check; checkers = 1; single = false; bytes = false; order = false; error = 0; selection = every; telling = First; progress = false }
+bare = record { command = Check; checkers = 1; single = false; bytes = false; order = false; error = 0; selection = every; telling = First; progress = false; json = false }
 
 check : Gives (codes "check" ∷ []) []
 unfolding clap_on_literals
@@ -42,7 +42,7 @@ certify_bytes = refl
 
 asks_certify : Asks (codes "certify" ∷ codes "--bytes" ∷ []) (record bare { command = Certify; bytes = true }) None
 unfolding clap_on_literals
-asks_certify = (refl, record { rows = options (subcommand_of command_line (codes "certify" ∷ codes "--bytes" ∷ [])); command = refl; checkers = refl; single = refl; bytes = refl; order = refl; error = refl; selection = record { from = refl; to = refl; cpu = tt; page = tt; word = tt }; telling = (refl, refl, refl); progress = refl }, refl)
+asks_certify = (refl, record { rows = options (subcommand_of command_line (codes "certify" ∷ codes "--bytes" ∷ [])); command = refl; checkers = refl; single = refl; bytes = refl; order = refl; error = refl; selection = record { from = refl; to = refl; cpu = tt; page = tt; word = tt }; telling = (refl, refl, refl); progress = refl; json = refl }, refl)
 
 certify_single : Gives (codes "certify" ∷ codes "--single" ∷ []) (UnknownArgument ∷ [])
 unfolding clap_on_literals
@@ -145,7 +145,7 @@ checkers_of_run_of = refl
 
 asks_one : Asks (codes "check" ∷ []) bare None
 unfolding clap_on_literals
-asks_one = (refl, record { rows = options (subcommand_of command_line (codes "check" ∷ [])); command = refl; checkers = refl; single = refl; bytes = refl; order = refl; error = refl; selection = record { from = refl; to = refl; cpu = tt; page = tt; word = tt }; telling = (refl, refl, refl); progress = refl }, refl)
+asks_one = (refl, record { rows = options (subcommand_of command_line (codes "check" ∷ [])); command = refl; checkers = refl; single = refl; bytes = refl; order = refl; error = refl; selection = record { from = refl; to = refl; cpu = tt; page = tt; word = tt }; telling = (refl, refl, refl); progress = refl; json = refl }, refl)
 
 -- ---- the switches of `run`
 
@@ -169,7 +169,7 @@ two = refl
 
 asks_run : Asks run_words (record bare { command = Run; checkers = 2; single = true; bytes = true }) None
 unfolding clap_on_literals
-asks_run = (refl, record { rows = run_options; command = refl; checkers = subst (λ o. AreAsked o 2) (sym two) (((omega arith, (omega arith, tt)), refl, omega arith), (omega arith, omega arith)); single = refl; bytes = refl; order = refl; error = refl; selection = record { from = refl; to = refl; cpu = tt; page = tt; word = tt }; telling = (refl, refl, refl); progress = refl }, refl)
+asks_run = (refl, record { rows = run_options; command = refl; checkers = subst (λ o. AreAsked o 2) (sym two) (((omega arith, (omega arith, tt)), refl, omega arith), (omega arith, omega arith)); single = refl; bytes = refl; order = refl; error = refl; selection = record { from = refl; to = refl; cpu = tt; page = tt; word = tt }; telling = (refl, refl, refl); progress = refl; json = refl }, refl)
 
 -- ---- the event numbers of `show`
 
@@ -201,7 +201,7 @@ seven = refl
 
 asks_show : Asks show_words (record bare { command = Show; selection = record every { from = 5; to = 7 } }) None
 unfolding clap_on_literals
-asks_show = (refl, record { rows = show_options; command = refl; checkers = refl; single = refl; bytes = refl; order = refl; error = refl; selection = record { from = subst (λ o. IsAsked 0 o 5) (sym five) ((omega arith, (omega arith, tt)), refl, omega arith); to = subst (λ o. IsAsked 4294967295 o 7) (sym seven) ((omega arith, (omega arith, tt)), refl, omega arith); cpu = tt; page = tt; word = tt }; telling = (refl, refl, refl); progress = refl }, refl)
+asks_show = (refl, record { rows = show_options; command = refl; checkers = refl; single = refl; bytes = refl; order = refl; error = refl; selection = record { from = subst (λ o. IsAsked 0 o 5) (sym five) ((omega arith, (omega arith, tt)), refl, omega arith); to = subst (λ o. IsAsked 4294967295 o 7) (sym seven) ((omega arith, (omega arith, tt)), refl, omega arith); cpu = tt; page = tt; word = tt }; telling = (refl, refl, refl); progress = refl; json = refl }, refl)
 
 -- ---- what is asked of the events themselves
 
@@ -240,7 +240,7 @@ is_5f0 = ((codes "5F0", refl, (omega arith, (omega arith, (omega arith, (omega a
 
 asks_filter : Asks filter_words (record bare { command = Show; selection = record every { cpu = Some 3; page = Some 1520 } }) None
 unfolding clap_on_literals
-asks_filter = (refl, record { rows = filter_options; command = refl; checkers = refl; single = refl; bytes = refl; order = refl; error = refl; selection = record { from = refl; to = refl; cpu = subst (λ o. IsOptional IsCpuIn o (Some 3)) (sym third) is_3; page = subst (λ o. IsOptional IsPageIn o (Some 1520)) (sym paged) is_5f0; word = tt }; telling = (refl, refl, refl); progress = refl }, refl)
+asks_filter = (refl, record { rows = filter_options; command = refl; checkers = refl; single = refl; bytes = refl; order = refl; error = refl; selection = record { from = refl; to = refl; cpu = subst (λ o. IsOptional IsCpuIn o (Some 3)) (sym third) is_3; page = subst (λ o. IsOptional IsPageIn o (Some 1520)) (sym paged) is_5f0; word = tt }; telling = (refl, refl, refl); progress = refl; json = refl }, refl)
 
 -- ---- what is told of bad events
 
@@ -254,11 +254,11 @@ none_at_most = refl
 
 asks_all : Asks (codes "explain" ∷ codes "--all" ∷ []) (record bare { command = Explain; telling = All 100 }) None
 unfolding clap_on_literals
-asks_all = (refl, record { rows = options (subcommand_of command_line (codes "explain" ∷ codes "--all" ∷ [])); command = refl; checkers = refl; single = refl; bytes = refl; order = refl; error = refl; selection = record { from = refl; to = refl; cpu = tt; page = tt; word = tt }; telling = (refl, refl, refl); progress = refl }, refl)
+asks_all = (refl, record { rows = options (subcommand_of command_line (codes "explain" ∷ codes "--all" ∷ [])); command = refl; checkers = refl; single = refl; bytes = refl; order = refl; error = refl; selection = record { from = refl; to = refl; cpu = tt; page = tt; word = tt }; telling = (refl, refl, refl); progress = refl; json = refl }, refl)
 
 asks_picture : Asks (codes "explain" ∷ codes "--svg" ∷ []) (record bare { command = Explain; telling = Picture }) None
 unfolding clap_on_literals
-asks_picture = (refl, record { rows = options (subcommand_of command_line (codes "explain" ∷ codes "--svg" ∷ [])); command = refl; checkers = refl; single = refl; bytes = refl; order = refl; error = refl; selection = record { from = refl; to = refl; cpu = tt; page = tt; word = tt }; telling = (refl, refl, refl); progress = refl }, refl)
+asks_picture = (refl, record { rows = options (subcommand_of command_line (codes "explain" ∷ codes "--svg" ∷ [])); command = refl; checkers = refl; single = refl; bytes = refl; order = refl; error = refl; selection = record { from = refl; to = refl; cpu = tt; page = tt; word = tt }; telling = (refl, refl, refl); progress = refl; json = refl }, refl)
 
 picture_of_certify : Gives (codes "certify" ∷ codes "--svg" ∷ []) (UnknownArgument ∷ [])
 unfolding clap_on_literals
@@ -284,11 +284,19 @@ all_drawn = refl
 
 asks_progress : Asks (codes "check" ∷ codes "--progress" ∷ []) (record bare { progress = true }) None
 unfolding clap_on_literals
-asks_progress = (refl, record { rows = options (subcommand_of command_line (codes "check" ∷ codes "--progress" ∷ [])); command = refl; checkers = refl; single = refl; bytes = refl; order = refl; error = refl; selection = record { from = refl; to = refl; cpu = tt; page = tt; word = tt }; telling = (refl, refl, refl); progress = refl }, refl)
+asks_progress = (refl, record { rows = options (subcommand_of command_line (codes "check" ∷ codes "--progress" ∷ [])); command = refl; checkers = refl; single = refl; bytes = refl; order = refl; error = refl; selection = record { from = refl; to = refl; cpu = tt; page = tt; word = tt }; telling = (refl, refl, refl); progress = refl; json = refl }, refl)
 
 asks_progress_of_run : Asks (codes "run" ∷ codes "--progress" ∷ []) (record bare { command = Run; progress = true }) None
 unfolding clap_on_literals
-asks_progress_of_run = (refl, record { rows = options (subcommand_of command_line (codes "run" ∷ codes "--progress" ∷ [])); command = refl; checkers = refl; single = refl; bytes = refl; order = refl; error = refl; selection = record { from = refl; to = refl; cpu = tt; page = tt; word = tt }; telling = (refl, refl, refl); progress = refl }, refl)
+asks_progress_of_run = (refl, record { rows = options (subcommand_of command_line (codes "run" ∷ codes "--progress" ∷ [])); command = refl; checkers = refl; single = refl; bytes = refl; order = refl; error = refl; selection = record { from = refl; to = refl; cpu = tt; page = tt; word = tt }; telling = (refl, refl, refl); progress = refl; json = refl }, refl)
+
+asks_json : Asks (codes "show" ∷ codes "--json" ∷ []) (record bare { command = Show; json = true }) None
+unfolding clap_on_literals
+asks_json = (refl, record { rows = options (subcommand_of command_line (codes "show" ∷ codes "--json" ∷ [])); command = refl; checkers = refl; single = refl; bytes = refl; order = refl; error = refl; selection = record { from = refl; to = refl; cpu = tt; page = tt; word = tt }; telling = (refl, refl, refl); progress = refl; json = refl }, refl)
+
+json_of_run : Gives (codes "run" ∷ codes "--json" ∷ []) (UnknownArgument ∷ [])
+unfolding clap_on_literals
+json_of_run = refl
 
 progress_of_show : Gives (codes "show" ∷ codes "--progress" ∷ []) (UnknownArgument ∷ [])
 unfolding clap_on_literals
@@ -298,16 +306,16 @@ progress_of_show = refl
 
 file : Asks (codes "check" ∷ codes "a.record" ∷ []) bare (Some (codes "a.record"))
 unfolding clap_on_literals
-file = (refl, record { rows = options (subcommand_of command_line (codes "check" ∷ codes "a.record" ∷ [])); command = refl; checkers = refl; single = refl; bytes = refl; order = refl; error = refl; selection = record { from = refl; to = refl; cpu = tt; page = tt; word = tt }; telling = (refl, refl, refl); progress = refl }, refl)
+file = (refl, record { rows = options (subcommand_of command_line (codes "check" ∷ codes "a.record" ∷ [])); command = refl; checkers = refl; single = refl; bytes = refl; order = refl; error = refl; selection = record { from = refl; to = refl; cpu = tt; page = tt; word = tt }; telling = (refl, refl, refl); progress = refl; json = refl }, refl)
 
 dash : Asks (codes "check" ∷ codes "-" ∷ []) bare None
 unfolding clap_on_literals
-dash = (refl, record { rows = options (subcommand_of command_line (codes "check" ∷ codes "-" ∷ [])); command = refl; checkers = refl; single = refl; bytes = refl; order = refl; error = refl; selection = record { from = refl; to = refl; cpu = tt; page = tt; word = tt }; telling = (refl, refl, refl); progress = refl }, refl)
+dash = (refl, record { rows = options (subcommand_of command_line (codes "check" ∷ codes "-" ∷ [])); command = refl; checkers = refl; single = refl; bytes = refl; order = refl; error = refl; selection = record { from = refl; to = refl; cpu = tt; page = tt; word = tt }; telling = (refl, refl, refl); progress = refl; json = refl }, refl)
 
 -- behind `--` each word is a name
 dashes : Asks (codes "check" ∷ codes "--" ∷ codes "--help" ∷ []) bare (Some (codes "--help"))
 unfolding clap_on_literals
-dashes = (refl, record { rows = options (subcommand_of command_line (codes "check" ∷ codes "--" ∷ codes "--help" ∷ [])); command = refl; checkers = refl; single = refl; bytes = refl; order = refl; error = refl; selection = record { from = refl; to = refl; cpu = tt; page = tt; word = tt }; telling = (refl, refl, refl); progress = refl }, refl)
+dashes = (refl, record { rows = options (subcommand_of command_line (codes "check" ∷ codes "--" ∷ codes "--help" ∷ [])); command = refl; checkers = refl; single = refl; bytes = refl; order = refl; error = refl; selection = record { from = refl; to = refl; cpu = tt; page = tt; word = tt }; telling = (refl, refl, refl); progress = refl; json = refl }, refl)
 
 file_of_upgrade : Gives (codes "upgrade" ∷ codes "a.record" ∷ []) []
 unfolding clap_on_literals

@@ -67,6 +67,9 @@ with_file line = with_rule line file_rule
 abbrev pub switch_rule : Text → Rule
 switch_rule name = record (new_rule name) { long = Some name; action = Some SetTrue }
 
+abbrev pub with_json : App → App
+with_json line = with_rule line (switch_rule (codes "json"))
+
 -- `--progress`, and a file's name behind it
 abbrev pub with_progress : App → App
 with_progress line = with_file (with_rule line (switch_rule (codes "progress")))
@@ -78,13 +81,15 @@ plain_line name = with_progress (new_app name)
 abbrev pub check_line : App
 check_line =
     let line = with_rule (new_app (command_word Check)) checkers_rule in
-    with_progress (with_rule line (switch_rule (codes "all")))
+    let all = with_rule line (switch_rule (codes "all")) in
+    with_progress (with_json all)
 
 abbrev pub certify_line : App
 certify_line =
     let line = with_rule (new_app (command_word Certify)) checkers_rule in
     let bytes = with_rule line (switch_rule (codes "bytes")) in
-    with_progress (with_rule bytes (switch_rule (codes "order")))
+    let order = with_rule bytes (switch_rule (codes "order")) in
+    with_progress (with_json order)
 
 abbrev pub run_line : App
 run_line =
@@ -114,7 +119,8 @@ filter_line =
 abbrev pub show_line : App
 show_line =
     let line = with_rule filter_line (number_rule (codes "from")) in
-    with_file (with_rule line (number_rule (codes "to")))
+    let to = with_rule line (number_rule (codes "to")) in
+    with_file (with_json to)
 
 -- a number from 1 to 1,000,000 behind `--most`
 abbrev pub most_rule : Rule
@@ -126,7 +132,8 @@ abbrev pub explain_line : App
 explain_line =
     let all = with_rule (new_app (command_word Explain)) (switch_rule (codes "all")) in
     let most = with_rule all most_rule in
-    with_progress (with_rule most (switch_rule (codes "svg")))
+    let svg = with_rule most (switch_rule (codes "svg")) in
+    with_progress (with_json svg)
 
 -- a number of 32 bits behind `--error`
 abbrev pub error_rule : Rule
@@ -206,6 +213,7 @@ pub record IsPlanOf (found : Option (Text × List Row)) (plan : Plan) : Type 0 w
   pub selection : IsSelectionOf rows plan.selection
   pub telling : IsTellingOf rows plan.telling
   pub progress : plan.progress ≡ is_on (first_of (codes "progress") rows)
+  pub json : plan.json ≡ is_on (first_of (codes "json") rows)
 
 -- the file of a name: none for `-`, which is standard input
 abbrev pub named_file : Option Text → Option Text

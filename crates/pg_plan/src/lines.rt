@@ -109,6 +109,12 @@ const PROGRESS_ABOUT: &str = "Report each million events read, on standard error
 const RECORDED_ABOUT: &str =
     "Report each million events recorded, on standard error; not with --single";
 
+pub(crate) const JSON: &str = "json";
+
+const JSON_ABOUT: &str = "Write JSON instead of text";
+
+const JSON_LINES_ABOUT: &str = "Write JSON instead of text, an object a line";
+
 pub(crate) const FROM: &str = "from";
 
 const FROM_ABOUT: &str = "Number of the first event to write (default 0)";
@@ -269,6 +275,7 @@ fn check_line<'a>(alloc: Global) -> Result<CommandLine<'a>, AllocError>
     let line = new_line(alloc, CHECK, CHECK_ABOUT);
     let line = with_option(line, checkers_option(alloc));
     let line = with_option(line, switch(alloc, ALL, SUMMARY_ABOUT));
+    let line = with_option(line, switch(alloc, JSON, JSON_ABOUT));
     with_progress(alloc, line, PROGRESS_ABOUT)
 }
 
@@ -279,6 +286,7 @@ fn certify_line<'a>(alloc: Global) -> Result<CommandLine<'a>, AllocError>
     let line = with_option(line, checkers_option(alloc));
     let line = with_option(line, switch(alloc, BYTES, FOUND_ABOUT));
     let line = with_option(line, switch(alloc, ORDER, ORDER_ABOUT));
+    let line = with_option(line, switch(alloc, JSON, JSON_ABOUT));
     with_progress(alloc, line, PROGRESS_ABOUT)
 }
 
@@ -301,6 +309,7 @@ fn show_line<'a>(alloc: Global) -> Result<CommandLine<'a>, AllocError>
     let line = with_option(line, value_option(alloc, WORD, "HEX", WORD_ABOUT));
     let line = with_option(line, number_option(alloc, FROM, "A", FROM_ABOUT));
     let line = with_option(line, number_option(alloc, TO, "B", TO_ABOUT));
+    let line = with_option(line, switch(alloc, JSON, JSON_LINES_ABOUT));
     with_option(line, file_option(alloc))
 }
 
@@ -311,6 +320,7 @@ fn explain_line<'a>(alloc: Global) -> Result<CommandLine<'a>, AllocError>
     let line = with_option(line, switch(alloc, ALL, ALL_ABOUT));
     let line = with_option(line, most_option(alloc));
     let line = with_option(line, switch(alloc, SVG, SVG_ABOUT));
+    let line = with_option(line, switch(alloc, JSON, JSON_ABOUT));
     with_progress(alloc, line, PROGRESS_ABOUT)
 }
 

@@ -19,8 +19,8 @@ ghost use Rattle.pg_plan.specs.declared.request.Selection.{Selection as Selected
 ghost use Rattle.pg_plan.specs.declared.request.Telling.{Telling as Told};
 
 use crate::lines::{
-    ALL, BYTES, CERTIFY, CHECK, CHECKERS, CPU, ERROR, EXPLAIN, FILE, FROM, LOG, MERGE, MOST, ORDER,
-    PAGE, PROGRESS, RUN, RUN_OF, SHOW, SINGLE, SVG, TO, UPGRADE, WORD, command_line,
+    ALL, BYTES, CERTIFY, CHECK, CHECKERS, CPU, ERROR, EXPLAIN, FILE, FROM, JSON, LOG, MERGE, MOST,
+    ORDER, PAGE, PROGRESS, RUN, RUN_OF, SHOW, SINGLE, SVG, TO, UPGRADE, WORD, command_line,
 };
 use crate::request::{Command, Invocation, Plan, Selection, Telling, Usage};
 use crate::values::{checkers_of, cpu_of, number_of, page_of, telling_of, word_of};
@@ -151,6 +151,7 @@ fn plan_of(matches: &ArgMatches<'_>) -> Option<Plan>
         selection,
         telling,
         progress: is_on(own.get_str(PROGRESS)),
+        json: is_on(own.get_str(JSON)),
     })
 }
 

@@ -75,6 +75,8 @@ pub struct Plan {
     /// Whether all commands but `show` tell meanwhile how many events they have read, or `run` has
     /// recorded, where it does not keep to one thread.
     pub progress: bool,
+    /// Whether `check`, `certify`, `explain` and `show` write JSON in the place of text.
+    pub json: bool,
 }
 
 /// What the words of a command line ask for, and of which files.

@@ -22,6 +22,7 @@ const BARE: Plan = Plan {
     selection: EVERY,
     telling: Telling::First,
     progress: false,
+    json: false,
 };
 
 /// Command lines and their plans.

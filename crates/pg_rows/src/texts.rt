@@ -39,6 +39,7 @@ const CHECK_HELP: &str = "Check whether the moments of a record justify its even
     Options:\n\
     \x20     --checkers <N>  Number of checkers that judge the record, 1 to 64 (default 1)\n\
     \x20     --all           Judge every event, and write a summary after the report\n\
+    \x20     --json          Write JSON instead of text\n\
     \x20     --progress      Report each million events read, on standard error\n\
     \x20 -h, --help          Print help\n";
 
@@ -88,6 +89,7 @@ pub const TEXTS: [Told; 12] = [
         \x20     --bytes         Write the record with the moments found, instead of the report\n\
         \x20     --order         For a record with spans, write the order found, one event number \
         a line\n\
+        \x20     --json          Write JSON instead of text\n\
         \x20     --progress      Report each million events read, on standard error\n\
         \x20 -h, --help          Print help\n",
     },
@@ -149,6 +151,7 @@ pub const TEXTS: [Told; 12] = [
         \x20     --most <N>  With --all, explain at most this many bad events, 1 to \
         1000000 (default 100)\n\
         \x20     --svg       Draw the first bad event as an SVG, instead of writing text\n\
+        \x20     --json      Write JSON instead of text\n\
         \x20     --progress  Report each million events read, on standard error\n\
         \x20 -h, --help      Print help\n",
     },
@@ -168,6 +171,7 @@ pub const TEXTS: [Told; 12] = [
         \x20     --word <HEX>  Write only writes and assists of the word at this physical address\n\
         \x20     --from <A>    Number of the first event to write (default 0)\n\
         \x20     --to <B>      Number of the last event to write (default: the last event)\n\
+        \x20     --json        Write JSON instead of text, an object a line\n\
         \x20 -h, --help        Print help\n",
     },
     Told {

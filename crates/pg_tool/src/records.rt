@@ -9,6 +9,10 @@ ghost use Rattle.pg_ordering.specs.Answers.{OrdersRecord};
 ghost use Rattle.pg_tool.specs.Records.{CertifiesBy, ChecksBy, ExplainsBy, DoesPlain};
 ghost use Rattle.pg_tool.specs.Records.{asked_of, told_of, RefusesSpans, DoesSpanned};
 ghost use Rattle.pg_tool.specs.Records.{DoesOfRecord, reads_record};
+ghost use Rattle.pg_tool.specs.Records.{check_question, explain_question, question_of};
+ghost use Rattle.pg_tool.specs.Records.{command_question, DoesOrdered, DoesUnordered};
+ghost use Rattle.pg_tool.specs.Records.{device_line};
+ghost use Rattle.pg_auditing.specs.Refusals.{Tells};
 
 use crate::pictures::draw;
 use pg_answers::{
@@ -16,6 +20,8 @@ use pg_answers::{
 };
 use pg_auditing::{REFUSED, check, tell, tell_spans};
 use pg_codec::{Sink, Source};
+use pg_json_answers::{Question, answer_json, tell_json};
+use pg_json_spans::answer_spans_json;
 use pg_ordering::{Asked, certify_spanned, show_spanned};
 use pg_plan::{Command, Plan, Telling};
 use pg_report::AuditError;
@@ -104,6 +110,69 @@ fn do_of_plain<T: AllocGlobal + Threads + Wait + Sync, R: Source, O: Sink, E: Si
     }
 }
 
+/// What `check` is asked of bad events.
+fn check_question(telling: Telling) -> Option<Question>
+    ensures { result ≡ check_question telling }
+{
+    match telling {
+        Telling::First | Telling::Picture => Some(Question::Check),
+        Telling::All(_) => Some(Question::CheckAll),
+    }
+}
+
+/// What `explain` is asked of them.
+fn explain_question(telling: Telling) -> Option<Question>
+    ensures { result ≡ explain_question telling }
+{
+    match telling {
+        Telling::First => Some(Question::Explain),
+        Telling::All(most) => Some(Question::ExplainAll(most)),
+        Telling::Picture => None,
+    }
+}
+
+fn command_question(plan: Plan) -> Option<Question>
+    ensures { result ≡ command_question plan.command plan }
+{
+    match plan.command {
+        Command::Check => check_question(plan.telling),
+        Command::Certify => Some(Question::Certify),
+        Command::Explain => explain_question(plan.telling),
+        Command::Show => Some(Question::Show(filter_of(plan))),
+        Command::Run | Command::RunOf | Command::Upgrade | Command::Merge => None,
+    }
+}
+
+/// What a plan asks to be answered as JSON.
+fn question_of(plan: Plan) -> Option<Question>
+    ensures { result ≡ question_of plan }
+{
+    if !plan.json || plan.bytes || plan.order {
+        None
+    } else {
+        command_question(plan)
+    }
+}
+
+/// Does what a plan says of the record with one order on `input`, as JSON where that is asked for.
+fn do_of_ordered<T: AllocGlobal + Threads + Wait + Sync, R: Source, O: Sink, E: Sink>(
+    rt: &T,
+    plan: Plan,
+    input: &mut R,
+    output: &mut O,
+    errors: &mut E,
+) -> u8
+    requires checkers { AreFrom1To64 plan.checkers }
+    requires reads { reads_record plan.command ≡ true }
+    ensures { DoesOrdered (question_of plan) plan (streams R.Source O.Sink E.Sink
+        (input.old, output.old, errors.old) (input.new, output.new, errors.new)) result }
+{
+    match question_of(plan) {
+        None => do_of_plain(rt, plan, input, output, errors),
+        Some(question) => answer_json(rt, plan.checkers, question, input, output, errors),
+    }
+}
+
 /// What `certify` writes of a record with spans whose answer is yes.
 fn asked_of(plan: Plan) -> Asked
     ensures { result ≡ asked_of plan }
@@ -186,6 +255,34 @@ fn do_of_spanned<R: Source, O: Sink, E: Sink>(
     }
 }
 
+/// Does what a plan says of the record with spans on `input`, as JSON where that is asked for.
+fn do_of_unordered<R: Source, O: Sink, E: Sink>(
+    alloc: Global,
+    plan: Plan,
+    input: &mut R,
+    output: &mut O,
+    errors: &mut E,
+) -> u8
+    requires { reads_record plan.command ≡ true }
+    ensures { DoesUnordered (question_of plan) plan (streams R.Source O.Sink E.Sink
+        (input.old, output.old, errors.old) (input.new, output.new, errors.new)) result }
+{
+    match question_of(plan) {
+        None => do_of_spanned(alloc, plan, input, output, errors),
+        Some(question) => answer_spans_json(alloc, question, input, output, errors),
+    }
+}
+
+/// Tells that the input failed.
+fn tell_device<E: Sink>(plan: Plan, errors: &mut E)
+    ensures { Tells (filled E.Sink errors.old errors.new) (device_line (question_of plan)) }
+{
+    match question_of(plan) {
+        None => tell(errors, AuditError::Device),
+        Some(_) => tell_json(errors, AuditError::Device),
+    }
+}
+
 /// Does what a plan says of the record on `input`, by its version.
 pub(crate) fn do_of_record<T: AllocGlobal + Threads + Wait + Sync, R: Source, O: Sink, E: Sink>(
     rt: &T,
@@ -200,10 +297,10 @@ pub(crate) fn do_of_record<T: AllocGlobal + Threads + Wait + Sync, R: Source, O:
         (input.old, output.old, errors.old) (input.new, output.new, errors.new)) result }
 {
     match input.says_spans() {
-        Ok(true) => do_of_spanned(rt.alloc(), plan, input, output, errors),
-        Ok(false) => do_of_plain(rt, plan, input, output, errors),
+        Ok(true) => do_of_unordered(rt.alloc(), plan, input, output, errors),
+        Ok(false) => do_of_ordered(rt, plan, input, output, errors),
         Err(_) => {
-            tell(errors, AuditError::Device);
+            tell_device(plan, errors);
             REFUSED
         }
     }

@@ -5,4 +5,5 @@ returns c =
     let all = c.with_option-line.ensures _ _ c.new_line-line.ensures c.switch.ensures in
     let most = c.with_option-line-2.ensures _ _ all c.most_option.ensures in
     let svg = c.with_option-line-3.ensures _ _ most c.switch-2.ensures in
-    c.with_progress.ensures _ svg
+    let json = c.with_option-line-4.ensures _ _ svg c.switch-3.ensures in
+    c.with_progress.ensures _ json

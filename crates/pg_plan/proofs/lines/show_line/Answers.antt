@@ -7,4 +7,5 @@ returns c =
     let word = c.with_option-line-3.ensures _ _ page c.value_option-2.ensures in
     let from = c.with_option-line-4.ensures _ _ word c.number_option.ensures in
     let to = c.with_option-line-5.ensures _ _ from c.number_option-2.ensures in
-    c.with_option.ensures _ _ to c.file_option.ensures
+    let json = c.with_option-line-6.ensures _ _ to c.switch.ensures in
+    c.with_option.ensures _ _ json c.file_option.ensures

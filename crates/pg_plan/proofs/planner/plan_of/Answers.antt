@@ -65,4 +65,5 @@ returns c = λ plan.
     let bytes = c.is_on-2.ensures ∙ ap is_on (c.get_str-4.ensures ∙ first_value-rows found (codes "bytes")) in
     let order = c.is_on-3.ensures ∙ ap is_on (c.get_str-5.ensures ∙ first_value-rows found (codes "order")) in
     let progress = c.is_on-4.ensures ∙ ap is_on (c.get_str-6.ensures ∙ first_value-rows found (codes "progress")) in
-    plan_is (subcommand_rows_of c.args.matches.now) c.in_ok-name.name.now rows _ found_is c.in_ok-command.ensures counts c.in_ok-selection.ensures c.in_ok-telling.ensures single bytes order errors progress plan
+    let json = c.is_on-5.ensures ∙ ap is_on (c.get_str-7.ensures ∙ first_value-rows found (codes "json")) in
+    plan_is (subcommand_rows_of c.args.matches.now) c.in_ok-name.name.now rows _ found_is c.in_ok-command.ensures counts c.in_ok-selection.ensures c.in_ok-telling.ensures single bytes order errors progress json plan

@@ -9,4 +9,4 @@ returns-in-Ok-true g c =
     let input = c.args.input.now in
     let looked = c.says_spans.new.self in
     let found = finds_ok g.R.Source says_spans (input.unread, input.inner) (looked.unread, looked.inner) c.says_spans.result true is c.says_spans.ensures in
-    inl (found.0, _, record { bytes = found.1; failures = found.2; new = refl }, c.do_of_spanned.ensures)
+    inl (found.0, _, record { bytes = found.1; failures = found.2; new = refl }, c.do_of_unordered.ensures)

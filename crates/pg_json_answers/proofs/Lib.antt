@@ -1,0 +1,4 @@
+pub mod OnLiterals
+mod Pieces
+mod Explained
+mod Given

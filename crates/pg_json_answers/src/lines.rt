@@ -1,0 +1,47 @@
+//! A record's events, an object a line.
+
+ghost use Rattle.std.specs.Prelude.{◌≡◌, ◌++◌, IfOk, OnOk, string_bytes};
+ghost use Rattle.pg_json_answers.specs.Answers.{shown_line, shown_json};
+
+use pg_event::{Event, processor_of};
+use pg_explain::{Filter, fits, is_marked, marks_of};
+use pg_json::{event_json, line_of};
+use std::alloc::{AllocError, Global};
+
+/// Appends the line of an event, if it is shown.
+fn push_shown(
+    alloc: Global,
+    text: &mut String,
+    is_shown: bool,
+    number: u64,
+    event: &Event,
+) -> Result<(), AllocError>
+    ensures { OnOk result
+        (string_bytes text.new ≡ string_bytes text.old ++ shown_line is_shown number event.now) }
+{
+    if is_shown {
+        let value = event_json(alloc, number, event)?;
+        let line = line_of(alloc, &value)?;
+        text.push_str(line.as_str())?;
+    }
+    Ok(())
+}
+
+/// The lines of the events that a filter lets through, in their order, where these are all events
+/// of a run.
+pub(crate) fn shown_json(
+    alloc: Global,
+    filter: Filter,
+    events: &[Event],
+) -> Result<String, AllocError>
+    ensures { IfOk result (λ t. string_bytes t ≡ shown_json filter events.now) }
+{
+    let marks = marks_of(alloc, filter.page, events)?;
+    let mut text = String::new(alloc);
+    for (i, event) in events.iter().enumerate() {
+        let is_its = is_marked(&marks, processor_of(event));
+        let is_shown = fits(filter, is_its, i as u64, event);
+        push_shown(alloc, &mut text, is_shown, i as u64, event)?;
+    }
+    Ok(text)
+}

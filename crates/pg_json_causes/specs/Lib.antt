@@ -1,0 +1,5 @@
+pub mod Entries
+pub mod Findings
+pub mod Lasts
+pub mod Causes
+pub mod Tallies

@@ -1,0 +1,51 @@
+//! When an event would last have been witnessed, as JSON.
+
+ghost use Rattle.std.specs.Prelude.{◌≡◌, IfOk, Some, slice_get};
+ghost use Rattle.serde_json.specs.View.{view};
+ghost use Rattle.pg_explain.specs.Lasts.{taken_in};
+ghost use Rattle.pg_json.specs.Tree.{data_of};
+ghost use Rattle.pg_json_causes.specs.Lasts.{event_at, last_json};
+
+use pg_event::Event;
+use pg_json::{event_json, numbers_json, put_count};
+use pg_search::Last;
+use serde_json::{Map, Value, put};
+use std::alloc::{AllocError, Global};
+
+/// The event of a run with a number, where there is one.
+pub(crate) fn event_at(alloc: Global, events: &[Event], number: u32) -> Result<Value, AllocError>
+    ensures { IfOk result (λ v. view v
+        ≡ data_of (event_at number (slice_get events.now number))) }
+{
+    match events.get(number as usize) {
+        None => Ok(Value::Null),
+        Some(event) => event_json(alloc, number as u64, event),
+    }
+}
+
+fn some_last(alloc: Global, events: &[Event], last: &Last) -> Result<Value, AllocError>
+    ensures { IfOk result (λ v. view v
+        ≡ data_of (last_json (slice_get events.now last.now.number) (Some last.now))) }
+{
+    let mut fields = Map::new(alloc);
+    let taken = event_at(alloc, events, last.number)?;
+    put(&mut fields, alloc, "taken_by", taken)?;
+    let moments = numbers_json(alloc, last.moments.as_slice())?;
+    put(&mut fields, alloc, "by", moments)?;
+    put_count(&mut fields, alloc, "moment", last.number as u64)?;
+    Ok(Value::Object(fields))
+}
+
+/// When an event of a run would last have been witnessed, and which event took that away.
+pub(crate) fn last_json(
+    alloc: Global,
+    events: &[Event],
+    last: Option<Last>,
+) -> Result<Value, AllocError>
+    ensures { IfOk result (λ v. view v ≡ data_of (last_json (taken_in events.now last) last)) }
+{
+    match last {
+        None => Ok(Value::Null),
+        Some(last) => some_last(alloc, events, &last),
+    }
+}

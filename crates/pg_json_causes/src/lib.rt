@@ -1,0 +1,11 @@
+//! The causes of rejections, and what bad events have in common, as JSON.
+#![tactic(auto)]
+
+mod causes;
+mod entries;
+mod findings;
+mod lasts;
+mod tallies;
+
+pub use causes::{denial_json, explanation_json};
+pub use tallies::tallies_json;

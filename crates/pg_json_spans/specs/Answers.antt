@@ -1,0 +1,79 @@
+-- What the commands with `--json` answer of a record with no one order (versions 3 and 4): what
+-- they answer as text, by the words of `pg_ordering`, as objects.
+use Rattle.std.specs.Prelude.{◌≡◌, ◌⊎◌, ℕ, List, Result, Ok, Err}
+use Rattle.pg_explain.specs.declared.filter.Filter.{Filter}
+use Rattle.pg_report.specs.declared.error.AuditError.TheVariants.{Device}
+use Rattle.pg_report.specs.Changes.{Change, Fails, Works, Adds, AddsSome}
+use Rattle.pg_auditing.specs.Refusals.{StaysSame, Tells}
+use Rattle.pg_auditing.specs.Streams.{Streams}
+use Rattle.pg_spanned.specs.Orders.{Spanned}
+use Rattle.pg_ordering.specs.declared.reading.Unread.{Unread}
+use Rattle.pg_ordering.specs.declared.told.Told.{Told}
+use Rattle.pg_ordering.specs.Answers.{IsSo, told_status}
+use Rattle.pg_ordering.specs.Readings.{ReadsRun, DeviceTold}
+use Rattle.pg_json.specs.Tree.{json_line}
+use Rattle.pg_json_answers.specs.declared.question.Question.{Question}
+use Rattle.pg_json_answers.specs.declared.question.Question.TheVariants.{Check, CheckAll, Certify}
+use Rattle.pg_json_answers.specs.declared.question.Question.TheVariants.{Explain, ExplainAll, Show}
+use Rattle.pg_json_answers.specs.Refusals.{error_json, spans_json}
+use Rattle.pg_json_spans.specs.Refusals.{Refuses, WantsMemory, TellsUnread}
+use Rattle.pg_json_spans.specs.Told.{told_json}
+use Rattle.pg_json_spans.specs.Lines.{spanned_json_lines}
+
+-- a text was written to standard output, and the status is this one; or the output failed, and it
+-- is 2
+abbrev pub GivesLine : List ℕ → ℕ → Change → Change → ℕ → Type 0
+GivesLine text good output errors status =
+    (Adds output text × Works output × StaysSame errors × (status ≡ good))
+    ⊎ (AddsSome output text × Fails output × Tells errors (json_line (error_json Device))
+    × (status ≡ 2))
+
+-- ---- whether some order has a run
+
+abbrev pub GivesTold : Spanned → Told → Change → Change → ℕ → Type 0
+GivesTold s told output errors status =
+    GivesLine (json_line (told_json s told)) (told_status told) output errors status
+    ⊎ WantsMemory output errors status
+
+-- of a run an answer that is so is given, or memory ran out
+abbrev pub AnswersRun : Spanned → Change → Change → ℕ → Type 0
+AnswersRun s output errors status =
+    ((told : Told) × IsSo s told × GivesTold s told output errors status)
+    ⊎ WantsMemory output errors status
+
+abbrev pub OrderFollows : Result Spanned Unread → Change → Change → ℕ → Type 0
+OrderFollows (Ok s) output errors status = AnswersRun s output errors status
+OrderFollows (Err why) output errors status = TellsUnread why output errors status
+
+-- where the bytes of the input are known, they spell the run that is answered, or this is their
+-- first refusal; and it is told of the device exactly where the input failed
+abbrev pub OrdersJson : Streams → ℕ → Type 0
+OrdersJson st status =
+    (read : Result Spanned Unread) × ReadsRun st.input.old.bytes read
+    × DeviceTold st.input read × OrderFollows read st.output st.errors status
+
+-- ---- the events
+
+abbrev pub GivesShown : Filter → Spanned → Change → Change → ℕ → Type 0
+GivesShown filter s output errors status =
+    GivesLine (spanned_json_lines filter s) 0 output errors status
+    ⊎ WantsMemory output errors status
+
+abbrev pub ShownFollows : Filter → Result Spanned Unread → Change → Change → ℕ → Type 0
+ShownFollows filter (Ok s) output errors status = GivesShown filter s output errors status
+ShownFollows filter (Err why) output errors status = TellsUnread why output errors status
+
+abbrev pub ShowsJson : Filter → Streams → ℕ → Type 0
+ShowsJson filter st status =
+    (read : Result Spanned Unread) × ReadsRun st.input.old.bytes read
+    × DeviceTold st.input read × ShownFollows filter read st.output st.errors status
+
+-- ---- the answer of a question: `explain` answers what `certify` does, and `check` refuses
+
+abbrev pub AnswersSpans : Question → Streams → ℕ → Type 0
+AnswersSpans Check st status = Refuses spans_json st.output st.errors status
+AnswersSpans CheckAll st status = Refuses spans_json st.output st.errors status
+AnswersSpans Certify st status = OrdersJson st status
+AnswersSpans Explain st status = OrdersJson st status
+AnswersSpans (ExplainAll most) st status = OrdersJson st status
+AnswersSpans (Show filter) st status = ShowsJson filter st status

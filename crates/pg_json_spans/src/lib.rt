@@ -1,0 +1,9 @@
+//! What commands answer of a record with spans as JSON, over any streams.
+#![tactic(auto)]
+
+mod answers;
+mod lines;
+mod refusals;
+mod told;
+
+pub use answers::answer_spans_json;

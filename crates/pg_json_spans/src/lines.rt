@@ -1,0 +1,61 @@
+//! The events of a record with no one order, an object a line.
+
+ghost use Rattle.std.specs.Prelude.{◌≡◌, ◌++◌, ◌<◌, IfOk, OnOk, length, string_bytes};
+ghost use Rattle.pg_spanned.specs.Orders.{ended_before};
+ghost use Rattle.pg_json_spans.specs.Lines.{spanned_line, spanned_json_lines};
+
+use pg_event::{Event, processor_of};
+use pg_explain::{Filter, fits, is_marked, marks_of};
+use pg_json::{began_json, line_of};
+use pg_spanned::SpannedRun;
+use std::alloc::{AllocError, Global};
+
+/// How many events had ended in every order when an event began.
+fn ended_before(run: &SpannedRun, number: u32) -> u32
+    requires { number < length run.now.events }
+    ensures { result ≡ ended_before run.now number }
+{
+    let backs = run.backs();
+    number - backs[number as usize]
+}
+
+/// Appends the line of an event, if it is shown.
+fn push_shown(
+    alloc: Global,
+    text: &mut String,
+    run: &SpannedRun,
+    is_shown: bool,
+    number: u32,
+    event: &Event,
+) -> Result<(), AllocError>
+    requires { number < length run.now.events }
+    ensures { OnOk result (string_bytes text.new
+        ≡ string_bytes text.old ++ spanned_line is_shown run.now number event.now) }
+{
+    if is_shown {
+        let began = ended_before(run, number);
+        let value = began_json(alloc, began as u64, number as u64, event)?;
+        let line = line_of(alloc, &value)?;
+        text.push_str(line.as_str())?;
+    }
+    Ok(())
+}
+
+/// The lines of the events that a filter lets through, as they ended.
+pub(crate) fn spanned_json_lines(
+    alloc: Global,
+    filter: Filter,
+    run: &SpannedRun,
+) -> Result<String, AllocError>
+    ensures { IfOk result (λ t. string_bytes t ≡ spanned_json_lines filter run.now) }
+{
+    let events = run.events();
+    let marks = marks_of(alloc, filter.page, events)?;
+    let mut text = String::new(alloc);
+    for (i, event) in events.iter().enumerate() {
+        let is_its = is_marked(&marks, processor_of(event));
+        let is_shown = fits(filter, is_its, i as u64, event);
+        push_shown(alloc, &mut text, run, is_shown, i as u32, event)?;
+    }
+    Ok(text)
+}

@@ -1,0 +1,90 @@
+//! What is told of a record with no one order, as JSON.
+
+ghost use Rattle.std.specs.Prelude.{◌≡◌, IfOk, OnOk, string_bytes};
+ghost use Rattle.serde_json.specs.View.{members_view};
+ghost use Rattle.pg_ordering.specs.Answers.{IsSo};
+ghost use Rattle.pg_ordering.specs.Texts.{cause_of};
+ghost use Rattle.pg_json.specs.Tree.{members_of, Fields as ToldFields, json_line};
+ghost use Rattle.pg_json_spans.specs.Told.{why_fields, cause_fields, with_undecided, with_told};
+ghost use Rattle.pg_json_spans.specs.Told.{told_json};
+
+use pg_json::{Fields, line_of, put_count, put_counts, put_flag, put_no, put_text, put_yes};
+use pg_order::{Verdict, find_ordered_run};
+use pg_ordering::{Told, push_cause, segments_of};
+use pg_spanned::SpannedRun;
+use serde_json::{Map, Value, put};
+use std::alloc::{AllocError, Global};
+
+/// What a search for an order of a run's events comes to.
+pub(crate) fn told_of(alloc: Global, run: &SpannedRun) -> Result<Told, AllocError>
+    ensures { IfOk result (IsSo run.now) }
+{
+    match find_ordered_run(alloc, run) {
+        Ok(Verdict::Yes { .. }) => Ok(Told::Yes),
+        Ok(Verdict::Never(event)) => Ok(Told::Never(event)),
+        Ok(Verdict::NoneOfAll(event)) => Ok(Told::NoneOfAll(event)),
+        Ok(Verdict::Undecided(event)) => Ok(Told::Undecided(event)),
+        Err(error) => Err(error),
+    }
+}
+
+/// What stands behind a no, and whether it is that all orders were tried.
+fn why_fields(
+    alloc: Global,
+    run: &SpannedRun,
+    told: Told,
+    is_of_all: bool,
+) -> Result<Fields, AllocError>
+    ensures { IfOk result (λ m. members_view m.entries
+        ≡ members_of (why_fields (cause_of run.now told) is_of_all)) }
+{
+    let mut cause = String::new(alloc);
+    push_cause(alloc, &mut cause, run, told)?;
+    let mut fields = Map::new(alloc);
+    put(&mut fields, alloc, "cause_text", Value::String(cause))?;
+    put_flag(&mut fields, alloc, "all_orders", is_of_all)?;
+    Ok(fields)
+}
+
+fn cause_fields(alloc: Global, run: &SpannedRun, told: Told) -> Result<Fields, AllocError>
+    ensures { IfOk result (λ m. members_view m.entries ≡ members_of (cause_fields run.now told)) }
+{
+    match told {
+        Told::Yes => Ok(Map::new(alloc)),
+        Told::Never(_) => why_fields(alloc, run, told, false),
+        Told::NoneOfAll(_) => why_fields(alloc, run, told, true),
+        Told::Undecided(_) => Ok(Map::new(alloc)),
+    }
+}
+
+/// Puts that no order was found, and at which event the search gave up.
+fn put_undecided(fields: &mut Fields, alloc: Global, event: u64) -> Result<(), AllocError>
+    ensures { (others : ToldFields) → members_view fields.old.entries ≡ members_of others →
+        OnOk result (members_view fields.new.entries
+        ≡ members_of (with_undecided event others)) }
+{
+    put_count(fields, alloc, "event", event)?;
+    put_text(fields, alloc, "verdict", "undecided")
+}
+
+fn put_told(fields: &mut Fields, alloc: Global, told: Told) -> Result<(), AllocError>
+    ensures { (others : ToldFields) → members_view fields.old.entries ≡ members_of others →
+        OnOk result (members_view fields.new.entries ≡ members_of (with_told told others)) }
+{
+    match told {
+        Told::Yes => put_yes(fields, alloc),
+        Told::Never(event) => put_no(fields, alloc, event, 15, "no order"),
+        Told::NoneOfAll(event) => put_no(fields, alloc, event, 15, "no order"),
+        Told::Undecided(event) => put_undecided(fields, alloc, event),
+    }
+}
+
+/// The line of what is told of a run.
+pub(crate) fn told_line(alloc: Global, run: &SpannedRun, told: Told) -> Result<String, AllocError>
+    ensures { IfOk result (λ t. string_bytes t ≡ json_line (told_json run.now told)) }
+{
+    let mut fields = cause_fields(alloc, run, told)?;
+    put_counts(&mut fields, alloc, run.len() as u64, segments_of(run))?;
+    put_told(&mut fields, alloc, told)?;
+    line_of(alloc, &Value::Object(fields))
+}
