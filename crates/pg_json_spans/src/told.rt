@@ -20,7 +20,7 @@ pub(crate) fn told_of(alloc: Global, run: &SpannedRun) -> Result<Told, AllocErro
     ensures { IfOk result (IsSo run.now) }
 {
     match find_ordered_run(alloc, run) {
-        Ok(Verdict::Yes { .. }) => Ok(Told::Yes),
+        Ok(Verdict::Yes(_)) => Ok(Told::Yes),
         Ok(Verdict::Never(event)) => Ok(Told::Never(event)),
         Ok(Verdict::NoneOfAll(event)) => Ok(Told::NoneOfAll(event)),
         Ok(Verdict::Undecided(event)) => Ok(Told::Undecided(event)),
