@@ -1,6 +1,7 @@
 """Records whose events overlap (versions 3 and 4): why one is a no, and what is left of it when
 events are left out. An event stands behind those that had ended when it began; which these were
 stays true of what is left, so that `back` is counted anew."""
+import itertools
 import struct
 from bisect import bisect_left
 
@@ -11,6 +12,7 @@ import records
 
 NEVER, MANY = "never had moments", "taken by several events"
 MOST_TAKERS = 40  # events that are tried for the one that took the last moments away
+MOST_ACCESSES = 24  # that are tried where the event shows nothing at which certify gave up
 CONTEXT = (records.LOAD_ROOT, 0x15)  # loads of CR3 and CR4
 BACK = struct.Struct("<I")
 
@@ -38,17 +40,35 @@ class Overlapping:
         self.ended_before = [number - BACK.unpack_from(event, place)[0]
                              for number, event in enumerate(record.events)]
         report = causes.answer_of(record.bytes())
-        self.number = causes.undecided_event(record.bytes()) if report is None else \
+        number = causes.undecided_event(record.bytes()) if report is None else \
             causes.bad_event(report)
-        if self.number is None:
+        if number is None:
             raise image.Stop("certify says yes: there is nothing to shrink")
         self.is_decided = report is not None
-        self.bad = record.events[self.number]
+        self.look_at(number)
+        if not self.is_decided and self.taker is None:
+            self.look_behind(number)
+        self.cause = causes.Cause(self.number, self.taken(), self.taker, self.key())
+
+    def look_at(self, number):
+        """Takes this event for the bad one."""
+        self.number, self.bad, self.taker = number, self.record.events[number], None
         self.walked = self.reader.walked(self.bad) if self.reader.is_access(self.bad) else set()
-        self.taker = None
         self.all = self.least_no([*self.beginnings()])
         self.taker = self.find_taker()
-        self.cause = causes.Cause(self.number, self.taken(), self.taker, self.key())
+
+    def look_behind(self, number):
+        """Takes an access behind the event at which certify gave up for the bad one, the first
+        that is a no by few events; where none is, that event again. What certify can't place may
+        be right by itself and wait for another processor's, or be a no by what others saw: the
+        same fault then mostly shows again."""
+        behind = range(number + 1, len(self.record.events))
+        accesses = (it for it in behind if self.record.events[it][0] == records.ACCESS)
+        for other in itertools.islice(accesses, MOST_ACCESSES):
+            self.look_at(other)
+            if self.taker is not None:
+                return
+        self.look_at(number)
 
     def beginnings(self):
         """Numbers of events with which the no may begin, the fewest first. Events that ended behind
