@@ -1,6 +1,6 @@
 //! Translations that were found to stand in the order so far.
 
-use crate::numbers::NEVER;
+use crate::numbers::{NEVER, at, number};
 use pg_entry::{Level, Rights};
 use pg_event::bits_from;
 use std::alloc::{AllocError, Global};
@@ -20,7 +20,8 @@ pub(crate) struct Known {
 #[derive(Clone, Copy)]
 struct Noted {
     known: Known,
-    key: u64,
+    /// The number of its address.
+    id: u32,
     /// The one before it for the same address.
     before: u32,
     /// The moment when it was found.
@@ -29,7 +30,9 @@ struct Noted {
 
 #[derive(Drop)]
 pub(crate) struct Found {
-    last: HashMap<u64, u32>,
+    ids: HashMap<u64, u32>,
+    /// For each address the place of the last that was found, or `NEVER`.
+    last: Vec<u32>,
     noted: Vec<Noted>,
 }
 
@@ -40,16 +43,36 @@ fn key(p: u16, la: u64) -> u64 {
 impl Found {
     pub(crate) fn new(alloc: Global) -> Found {
         Found {
-            last: HashMap::new(alloc),
+            ids: HashMap::new(alloc),
+            last: Vec::new(alloc),
             noted: Vec::new(alloc),
         }
     }
 
     /// The place of the last for an address, or `NEVER`.
     pub(crate) fn last(&self, p: u16, la: u64) -> u32 {
-        match self.last.get(&key(p, la)) {
-            Some(last) => *last,
+        match self.ids.get(&key(p, la)) {
+            Some(id) => at(&self.last, *id),
             None => NEVER,
+        }
+    }
+
+    /// The number of an address, which it gets once something is found for it.
+    fn id(&mut self, key: u64) -> Result<u32, AllocError> {
+        match self.ids.get(&key) {
+            Some(id) => Ok(*id),
+            None => {
+                let id = number(self.last.len());
+                self.last.push(NEVER)?;
+                self.ids.insert(key, id)?;
+                Ok(id)
+            }
+        }
+    }
+
+    fn set_last(&mut self, id: u32, place: u32) {
+        if let Some(last) = self.last.get_mut(id as usize) {
+            *last = place;
         }
     }
 
@@ -68,13 +91,12 @@ impl Found {
         known: Known,
         moment: u32,
     ) -> Result<(), AllocError> {
-        let before = self.last(p, la);
-        let key = key(p, la);
-        self.last
-            .insert(key, crate::numbers::number(self.noted.len()))?;
+        let id = self.id(key(p, la))?;
+        let before = at(&self.last, id);
+        self.set_last(id, number(self.noted.len()));
         self.noted.push(Noted {
             known,
-            key,
+            id,
             before,
             moment,
         })?;
@@ -82,7 +104,7 @@ impl Found {
     }
 
     /// Forgets what was found behind a moment.
-    pub(crate) fn take_back_to(&mut self, moment: u32) -> Result<(), AllocError> {
+    pub(crate) fn take_back_to(&mut self, moment: u32) {
         for _ in 0..self.noted.len() {
             let Some(noted) = self.noted.last().copied() else {
                 break;
@@ -91,8 +113,7 @@ impl Found {
                 break;
             }
             self.noted.pop();
-            self.last.insert(noted.key, noted.before)?;
+            self.set_last(noted.id, noted.before);
         }
-        Ok(())
     }
 }

@@ -292,7 +292,7 @@ impl<'a> Maker<'a> {
     /// Takes back all that came from a moment on.
     pub(crate) fn take_back_to(&mut self, moment: u32) -> Result<(), AllocError> {
         self.made.take_back_to(&self.facts, moment);
-        self.found.take_back_to(moment)?;
+        self.found.take_back_to(moment);
         for wait in self.waits.iter_mut() {
             *wait = None;
         }

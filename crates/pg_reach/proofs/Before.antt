@@ -3,7 +3,7 @@ use Rattle.std.proofs.Common.{◌≡◌, ℕ, ◌+◌, ◌≤◌, List, Option, 
 use Rattle.pg_event.specs.declared.event.Event.{Event}
 use Rattle.pg_event.specs.Spelling.{Recorded}
 use Rattle.pg_event.specs.Values.{control_at}
-use Rattle.pg_search.specs.Exact.{first_or}
+use Rattle.pg_search.specs.Ways.{first_or}
 use Rattle.pg_search.specs.Last.{NoneWitness, IsLastOf}
 use Rattle.pg_search.specs.Law.{AreWitness}
 use Rattle.pg_search.specs.Thinned.{AreFreshestOf}

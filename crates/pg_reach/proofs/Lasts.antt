@@ -9,8 +9,8 @@ use Rattle.pg_event.specs.Spelling.{Recorded}
 use Rattle.pg_event.specs.Witness.{survives}
 use Rattle.pg_entry.specs.declared.Level.{Level}
 use Rattle.pg_run_of.proofs.Kept.{survives_none}
-use Rattle.pg_search.specs.Sweep.{stays}
-use Rattle.pg_search.proofs.Swept.{survives_within, more_survives, each_stays}
+use Rattle.pg_search.specs.Lasts.{stays}
+use Rattle.pg_search.proofs.Survival.{survives_within, more_survives, each_stays}
 use Rattle.pg_reach.specs.declared.walker.Walker.{Walker}
 use Rattle.pg_reach.specs.Reaching.{structure_lasts}
 

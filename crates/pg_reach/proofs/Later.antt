@@ -22,8 +22,8 @@ use Rattle.pg_run_of.proofs.Standing.{seen}
 use Rattle.pg_run_of.proofs.Accesses.{guard_none}
 use Rattle.pg_run_of.proofs.Chains.{reading_at, pass}
 use Rattle.pg_search.proofs.Stepping.{next_control}
-use Rattle.pg_search.proofs.Swept.{each_stays}
-use Rattle.pg_search.specs.Sweep.{stays}
+use Rattle.pg_search.proofs.Survival.{each_stays}
+use Rattle.pg_search.specs.Lasts.{stays}
 use Rattle.pg_reach.proofs.Lasts.{survives_later}
 
 -- an event that drops no translation of the processor leaves PGE

@@ -14,9 +14,8 @@ use Rattle.pg_event.specs.Walk.{below, root_of}
 use Rattle.pg_event.specs.Wants.{is_table}
 use Rattle.pg_machine.specs.Machine.{may_cache}
 use Rattle.pg_inval.specs.Drops.{IsTableLevel}
-use Rattle.pg_search.specs.Exact as exact
-use Rattle.pg_search.specs.Exact.{first_or, IsLink, IsChain, IsWayFromRoot}
-use Rattle.pg_search.specs.Sweep.{entry_at, table_by}
+use Rattle.pg_search.specs.Ways as ways
+use Rattle.pg_search.specs.Ways.{entry_at, table_by, first_or, IsLink, IsChain, IsWayFromRoot}
 use Rattle.pg_search.specs.Freshness.{is_as_fresh}
 use Rattle.pg_search.proofs.Freshness.{fresh_more}
 use Rattle.pg_reach.proofs.Fresh.{up_to-push, later_fresh}
@@ -29,7 +28,7 @@ use Rattle.pg_search.specs.Lasts.{IsEnd}
 use Rattle.pg_reach.specs.Reaching.{entry_of, structure_lasts, IsLastRead, IsPiece, up_to, way_of, steps_to, IsReach, AreFresh, Has, AreAt, LeadsOn, next_at, IsFilled, IsAdded, IsNextOf}
 
 -- one more link behind a chain
-chain_push : (head : Head) (events : List Event) (v : exact.Walker) (w y : ℕ) (level : Level) (from : Parent) (ws : List ℕ) (at : Level) (to : Parent) →
+chain_push : (head : Head) (events : List Event) (v : ways.Walker) (w y : ℕ) (level : Level) (from : Parent) (ws : List ℕ) (at : Level) (to : Parent) →
     IsChain head events v w level from ws at to → IsLink head events v y at to w →
     IsChain head events v y level from (ws ++ w ∷ []) (below at) (table_by head.cfg.m to (entry_at events v.la w at to))
 chain_push head events v w y level from [] at to h link =
@@ -44,7 +43,7 @@ first-push : (y w : ℕ) (ws : List ℕ) → first_or y (ws ++ w ∷ []) ≡ fir
 first-push y w [] = refl
 first-push y w (x ∷ xs) = refl
 
-way_push : (r : Recorded) (v : exact.Walker) (w y : ℕ) (ws : List ℕ) (at : Level) (to : Parent) → IsWayFromRoot r.head r.events v w ws at to → IsLink r.head r.events v y at to w →
+way_push : (r : Recorded) (v : ways.Walker) (w y : ℕ) (ws : List ℕ) (at : Level) (to : Parent) → IsWayFromRoot r.head r.events v w ws at to → IsLink r.head r.events v y at to w →
     IsWayFromRoot r.head r.events v y (ws ++ w ∷ []) (below at) (table_by r.head.cfg.m to (entry_at r.events v.la w at to))
 way_push r v w y ws at to h link =
     subst (λ first. ((control_at r.head r.events v.p first).pcid ≡ v.pcid)

@@ -32,7 +32,7 @@ use Rattle.pg_reach.specs.Asking.{want_by}
 use Rattle.pg_reach.specs.Reaching.{IsLastRead}
 use Rattle.pg_reach.specs.Lasting.{MayUse, IsLastUse, translation_lasts}
 use Rattle.pg_search.specs.Lasts.{IsEnd}
-use Rattle.pg_search.proofs.Swept.{survives_within}
+use Rattle.pg_search.proofs.Survival.{survives_within}
 
 -- what the last reading of moments that witness an access says
 pub record EndOf (head : Head) (events : List Event) (c : Claim) (pcid : ℕ) (at : Level) (to : Parent) (m : ℕ) : Type 0 where

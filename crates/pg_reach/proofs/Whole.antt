@@ -37,8 +37,8 @@ use Rattle.pg_run_of.proofs.Accesses.{guard_none, bar_none, claim_holds, update_
 use Rattle.pg_run_of.proofs.Kept.{survives_none}
 use Rattle.pg_run_of.proofs.Chains.{next_or, Comes, Holds, Ends, IsFlagged, reading_at, pass, access_none, assist_none}
 use Rattle.pg_run_of.proofs.Certified.{assist_judged}
-use Rattle.pg_search.specs.Exact as exact
-use Rattle.pg_search.specs.Exact.{first_or, IsChain, IsWayFromRoot}
+use Rattle.pg_search.specs.Ways as ways
+use Rattle.pg_search.specs.Ways.{first_or, IsChain, IsWayFromRoot}
 use Rattle.pg_search.specs.Law.{with_moments}
 use Rattle.pg_reach.specs.declared.walker.Walker.{Walker}
 use Rattle.pg_reach.specs.declared.reach.Reach.{Reach}
@@ -58,7 +58,7 @@ first_is : (w : ℕ) (ws : List ℕ) → first_or w ws ≡ next_or w ws
 first_is w [] = refl
 first_is w (x ∷ xs) = refl
 
-chain_comes : (head : Head) (events : List Event) (v : exact.Walker) (w : ℕ) (level : Level) (from : Parent) (ws : List ℕ) (at : Level) (to : Parent) → IsChain head events v w level from ws at to →
+chain_comes : (head : Head) (events : List Event) (v : ways.Walker) (w : ℕ) (level : Level) (from : Parent) (ws : List ℕ) (at : Level) (to : Parent) → IsChain head events v w level from ws at to →
     Comes head events v.p v.la v.pcid w level from ws at to
 chain_comes head events v w level from [] at to h = h
 chain_comes head events v w level from (x ∷ []) at to h =
@@ -66,7 +66,7 @@ chain_comes head events v w level from (x ∷ []) at to h =
 chain_comes head events v w level from (x ∷ y ∷ ys) at to h =
     (record { low = h.0.low; alike = h.0.alike; table = h.0.table; cached = h.0.cached; kept = h.0.kept }, chain_comes head events v w (below level) (given head.cfg.m (mem_at events) v.la level from x) (y ∷ ys) at to h.1)
 
-pub way_comes : (head : Head) (events : List Event) (v : exact.Walker) (w : ℕ) (ws : List ℕ) (at : Level) (to : Parent) → IsWayFromRoot head events v w ws at to →
+pub way_comes : (head : Head) (events : List Event) (v : ways.Walker) (w : ℕ) (ws : List ℕ) (at : Level) (to : Parent) → IsWayFromRoot head events v w ws at to →
     Comes head events v.p v.la v.pcid w Four (root_at head events v.p (next_or w ws)) ws at to
 way_comes head events v w ws at to h =
     subst (λ first. Comes head events v.p v.la v.pcid w Four (root_at head events v.p first) ws at to) (first_is w ws) (chain_comes head events v w Four (root_at head events v.p (first_or w ws)) ws at to h.1)

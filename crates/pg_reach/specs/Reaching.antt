@@ -16,10 +16,9 @@ use Rattle.pg_event.specs.Witness.{survives}
 use Rattle.pg_machine.specs.Machine.{may_cache}
 use Rattle.pg_timeline.specs.declared.timeline.Span.{Span}
 use Rattle.pg_search.specs.Freshness.{is_as_fresh}
-use Rattle.pg_search.specs.Exact as exact
-use Rattle.pg_search.specs.Exact.{IsWayFromRoot}
+use Rattle.pg_search.specs.Ways as ways
+use Rattle.pg_search.specs.Ways.{entry_at, table_by, IsWayFromRoot}
 use Rattle.pg_search.specs.Lasts.{IsEnd}
-use Rattle.pg_search.specs.Sweep.{entry_at, table_by}
 use Rattle.pg_reach.specs.declared.walker.Walker.{Walker}
 use Rattle.pg_reach.specs.declared.view.Piece.{Piece}
 use Rattle.pg_reach.specs.declared.reach.Reach.{Reach}
@@ -54,7 +53,7 @@ abbrev pub up_to : ℕ → List ℕ → List ℕ
 up_to w ws = map (min w) ws
 
 -- the processor and address of a walk, under its PCID
-abbrev pub way_of : Walker → exact.Walker
+abbrev pub way_of : Walker → ways.Walker
 way_of v = record { p = v.p; la = v.la; pcid = v.pcid }
 
 -- how many readings lead to a table of a level

@@ -1,8 +1,8 @@
 -- Of two lists of moments one is as fresh as the other, and so on along three.
-use Rattle.std.proofs.Common.{◌≡◌, ℕ, ◌<◌, ◌++◌, ◌∙◌, Bool, true, false, ◌&&◌, ◌||◌, ◌==◌, nat_lt, List, [], ◌∷◌, reverse, refl, ap, sym, inl, inr, ◌⊎◌, ⊎_elim, arith, Option, Some, None, IfSome}
+use Rattle.std.proofs.Common.{◌≡◌, ℕ, ◌<◌, ◌++◌, ◌∙◌, Bool, true, false, ◌&&◌, ◌||◌, ◌==◌, nat_lt, List, [], ◌∷◌, reverse, refl, ap, sym, inl, inr, ◌⊎◌, ⊎_elim, arith}
 use Rattle.std.proofs.lemmas.Bool.{cases_Bool, eqb-true, eq-eqb, ltb-true, lt-ltb}
-use Rattle.std.proofs.lemmas.List.{reverse-append, reverse-reverse}
-use Rattle.pg_search.specs.Freshness.{is_as_fresh, is_as_fresh_back, IsAsFresh}
+use Rattle.std.proofs.lemmas.List.{reverse-append}
+use Rattle.pg_search.specs.Freshness.{is_as_fresh, is_as_fresh_back}
 
 -- the same, as a relation
 abbrev IsFreshBack : List ℕ → List ℕ → Type 0
@@ -75,30 +75,11 @@ back_total (w ∷ ws) (u ∷ us) h =
 pub fresh_refl : (ws : List ℕ) → is_as_fresh ws ws ≡ true
 fresh_refl ws = back_of (reverse ws) (reverse ws) (back_refl (reverse ws))
 
-pub fresh_self : (o : Option (List ℕ)) → IfSome o (λ ws. IsAsFresh ws o)
-fresh_self None = tt
-fresh_self (Some ws) = fresh_refl ws
-
 pub fresh_trans : (ws us vs : List ℕ) → is_as_fresh ws us ≡ true → is_as_fresh us vs ≡ true → is_as_fresh ws vs ≡ true
 fresh_trans ws us vs h k = back_of (reverse ws) (reverse vs) (back_trans (reverse ws) (reverse us) (reverse vs) (back_is (reverse ws) (reverse us) h) (back_is (reverse us) (reverse vs) k))
 
 pub fresh_total : (ws us : List ℕ) → is_as_fresh ws us ≡ false → is_as_fresh us ws ≡ true
 fresh_total ws us h = back_of (reverse us) (reverse ws) (back_total (reverse ws) (reverse us) h)
-
-back_same : (ws us : List ℕ) → IsFreshBack ws us → IsFreshBack us ws → ws ≡ us
-back_same [] [] h k = refl
-back_same [] (u ∷ us) h k = absurd k
-back_same (w ∷ ws) [] h k = absurd h
-back_same (w ∷ ws) (u ∷ us) (inl a) (inl b) = absurd (omega (arith, a, b))
-back_same (w ∷ ws) (u ∷ us) (inl a) (inr b) = absurd (omega (arith, a, b.0))
-back_same (w ∷ ws) (u ∷ us) (inr a) (inl b) = absurd (omega (arith, a.0, b))
-back_same (w ∷ ws) (u ∷ us) (inr a) (inr b) = ap (λ x. x ∷ ws) a.0 ∙ ap (λ xs. u ∷ xs) (back_same ws us a.1 b.1)
-
--- two lists of which each is as fresh as the other are one
-pub fresh_same : (ws us : List ℕ) → is_as_fresh ws us ≡ true → is_as_fresh us ws ≡ true → ws ≡ us
-fresh_same ws us h k =
-    let back : reverse ws ≡ reverse us = back_same (reverse ws) (reverse us) (back_is (reverse ws) (reverse us) h) (back_is (reverse us) (reverse ws) k) in
-    sym (reverse-reverse ws) ∙ ap (λ (xs : List ℕ). reverse xs) back ∙ reverse-reverse us
 
 -- with the same moment more
 pub fresh_more : (ws us : List ℕ) (w : ℕ) → is_as_fresh ws us ≡ true → is_as_fresh (ws ++ w ∷ []) (us ++ w ∷ []) ≡ true
@@ -110,6 +91,3 @@ fresh_more ws us w h =
 -- by their last moments
 pub fresh_by_last : (ws us : List ℕ) (w u : ℕ) → is_as_fresh (ws ++ w ∷ []) (us ++ u ∷ []) ≡ (nat_lt u w || (w == u && is_as_fresh ws us))
 fresh_by_last ws us w u = ap (λ xs. is_as_fresh_back xs (reverse (us ++ u ∷ []))) (reverse-append ws (w ∷ [])) ∙ ap (is_as_fresh_back (w ∷ reverse ws)) (reverse-append us (u ∷ []))
-
-pub fresh_ended : (ws : List ℕ) (w : ℕ) → is_as_fresh (ws ++ w ∷ []) [] ≡ false
-fresh_ended ws w = ap (λ xs. is_as_fresh_back xs []) (reverse-append ws (w ∷ []))

@@ -18,7 +18,6 @@ use Rattle.pg_run_of.specs.Converse.{without_moments, HasMoments}
 use Rattle.pg_run_of.proofs.Converse.{runs_are_accepted}
 use Rattle.pg_run_of.proofs.Moments.{event_same}
 use Rattle.pg_search.specs.Law.{with_moments, AreWitness, UnwitnessedEventsHaveNoRun}
-use Rattle.pg_search.proofs.Lists.{option_given}
 
 -- the steps up to so many events
 abbrev up_to : ℕ → List Step → List Step
@@ -62,7 +61,7 @@ got (x ∷ xs) j zero lt = absurd (omega arith)
 got (x ∷ xs) zero (suc n) lt = refl
 got (x ∷ xs) (suc j) (suc n) lt = got xs j n (omega arith)
 
-pub all_at : (P : Event → Type 0) (xs : List Event) (i : ℕ) (x : Event) → AllByRecursion P xs → slice_get xs i ≡ Some x → P x
+all_at : (P : Event → Type 0) (xs : List Event) (i : ℕ) (x : Event) → AllByRecursion P xs → slice_get xs i ≡ Some x → P x
 all_at P [] i x h e = absurd (cc)
 all_at P (y ∷ ys) zero x h e = let same : y ≡ x = cc in subst P same h.0
 all_at P (y ∷ ys) (suc i) x h e = all_at P ys i x h.1 e
@@ -119,6 +118,10 @@ replaced ws (MovCr3 p operand) = refl
 replaced ws (Invlpg p la) = refl
 replaced ws (Invpcid p kind pcid la) = refl
 replaced ws (MovCr4Pge p on) = refl
+
+option_given : {X Y : Type 0} (f : X → Y) (o : Option X) (y : Y) → option_map f o ≡ Some y → (x : X) × (o ≡ Some x) × (f x ≡ y)
+option_given f None y h = absurd (cc)
+option_given f (Some x) y h = (x, refl, cc)
 
 there : (xs : List Event) (i : ℕ) → i < length xs → (e : Event) × (slice_get xs i ≡ Some e)
 there [] i lt = absurd (omega arith)

@@ -1,6 +1,6 @@
 -- Which of two lists of moments is the fresher.
-use Rattle.std.specs.Prelude.{◌≡◌, ℕ, Bool, true, false, ◌&&◌, ◌||◌, ◌==◌, nat_lt}
-use Rattle.std.specs.Prelude.{List, [], ◌∷◌, reverse, Option, Some, None}
+use Rattle.std.specs.Prelude.{ℕ, Bool, true, false, ◌&&◌, ◌||◌, ◌==◌, nat_lt}
+use Rattle.std.specs.Prelude.{List, [], ◌∷◌, reverse}
 
 -- of moments that are given from the last back: the first that differ tell, and where one list
 -- ends it is the fresher, since its walk is shorter
@@ -13,8 +13,3 @@ is_as_fresh_back (w ∷ ws) (u ∷ us) = nat_lt u w || (w == u && is_as_fresh_ba
 -- its last but one is, and so on
 abbrev pub is_as_fresh : List ℕ → List ℕ → Bool
 is_as_fresh ws us = is_as_fresh_back (reverse ws) (reverse us)
-
--- as fresh as those that were found, or none were
-abbrev pub IsAsFresh : List ℕ → Option (List ℕ) → Type 0
-IsAsFresh ws None = Unit {0}
-IsAsFresh ws (Some us) = is_as_fresh ws us ≡ true

@@ -1,5 +1,15 @@
--- Up to which moment an entry lasts.
-use Rattle.std.specs.Prelude.{◌≡◌, ℕ, ◌<◌, ◌≤◌, ◌^◌, Bool, true}
+-- What an event leaves, and up to which moment an entry lasts.
+use Rattle.std.specs.Prelude.{◌≡◌, ℕ, ◌<◌, ◌≤◌, ◌^◌, Bool, true, not, List, slice_get}
+use Rattle.pg_event.specs.declared.control.Control.{Control}
+use Rattle.pg_event.specs.declared.event.Event.{Event}
+use Rattle.pg_event.specs.Heads.{Head}
+use Rattle.pg_event.specs.Values.{control_at}
+use Rattle.pg_event.specs.Witness.{takes_out}
+
+-- event w does not take out what the test says
+abbrev pub stays : Head → List Event → ℕ → (Control → Event → Bool) → ℕ → Bool
+stays head events p test w =
+    not (takes_out p test (control_at head events p w) (slice_get events w))
 
 -- something stands from one moment up to this one, and up to no later one that a moment may be
 pub record IsEnd (stands : ℕ → Bool) (from end : ℕ) : Type 0 where

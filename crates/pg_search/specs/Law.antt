@@ -1,16 +1,14 @@
 -- What it says of runs that no moments witness an event.
-use Rattle.std.specs.Prelude.{◌≡◌, ℕ, ◌+◌, ◌^◌, ◌<◌, ◌≤◌, Bool, true, false, List, [], length, take}
+use Rattle.std.specs.Prelude.{◌≡◌, ℕ, ◌+◌, ◌^◌, ◌<◌, ◌≤◌, Bool, true, false, List, length, take}
 use Rattle.std.specs.Prelude.{Some, None, slice_get}
 use Rattle.pg_event.specs.declared.event.Event.{Event}
 use Rattle.pg_event.specs.declared.event.Event.TheVariants.{Write, Access, Assist, MovCr3, Invlpg}
 use Rattle.pg_event.specs.declared.event.Event.TheVariants.{Invpcid, MovCr4Pge}
 use Rattle.pg_event.specs.Heads.{Head}
-use Rattle.pg_event.specs.Form.{broken_rule}
 use Rattle.pg_event.specs.Witness.{failing_event}
 use Rattle.pg_machine.specs.declared.step.Step.{Step}
-use Rattle.pg_machine.specs.Machine.{IsIn, IsRun, visible}
+use Rattle.pg_machine.specs.Machine.{IsRun, visible}
 use Rattle.pg_run_of.specs.Converse.{AreSameButMoments}
-use Rattle.pg_search.specs.Found.{found}
 use Rattle.pg_search.specs.Freshness.{is_as_fresh}
 
 -- the event names moments: it is an access or an assist
@@ -65,15 +63,3 @@ abbrev pub UnwitnessedEventsHaveNoRun : Type 0
 UnwitnessedEventsHaveNoRun =
     (head : Head) (events : List Event) (i : ℕ) → i < length events → i + 1 < 2 ^ 32 →
     (CanBeWitnessed head events i → ⊥) → RunBeginsWith head events i → ⊥
-
--- the moments that the sweep has for a well-formed event witness it
-abbrev pub FoundMomentsWitness : Type 0
-FoundMomentsWitness =
-    (head : Head) (events : List Event) (i : ℕ) (e : Event) (ws : List ℕ) →
-    broken_rule head e ≡ None → IsIn ws (found head events i e) → AreWitness head events i e ws
-
--- where it has none for an access or an assist, none witness it
-abbrev pub NoneFoundNoneWitness : Type 0
-NoneFoundNoneWitness =
-    (head : Head) (events : List Event) (i : ℕ) (e : Event) (ws : List ℕ) →
-    names_moments e ≡ true → found head events i e ≡ [] → AreWitness head events i e ws → ⊥

@@ -1,11 +1,25 @@
 //! Events in little room: without their moments, and without the values of writes.
 
 ghost use Rattle.std.specs.Prelude.{◌≡◌, ℕ};
-ghost use Rattle.pg_search.specs.Law.{with_moments};
+ghost use Rattle.pg_search.specs.Law.{names_moments, with_moments};
 ghost use Rattle.pg_search.specs.Bare.{bare};
 ghost use Rattle.pg_search.specs.Briefs.{event_by, IsLeft};
 
 use pg_event::{Event, Moments, Outcome};
+
+/// Whether an event names moments: accesses and assists do.
+pub fn names_moments(event: &Event) -> bool
+    ensures { result ≡ names_moments event.now }
+{
+    match event {
+        Event::Access { .. } | Event::Assist { .. } => true,
+        Event::Write { .. }
+        | Event::MovCr3 { .. }
+        | Event::Invlpg { .. }
+        | Event::Invpcid { .. }
+        | Event::MovCr4Pge { .. } => false,
+    }
+}
 
 /// The event with these moments in place of its own, if it names some.
 pub fn with_moments(event: &Event, chosen: Moments) -> Event

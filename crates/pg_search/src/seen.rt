@@ -1,6 +1,6 @@
 //! What a search sees of a run.
 
-ghost use Rattle.std.specs.Prelude.{◌≡◌, ◌<◌, ◌≤◌, ◌^◌, false, length, Some, slice_get};
+ghost use Rattle.std.specs.Prelude.{◌≡◌, ◌<◌, ◌≤◌, ◌^◌, false, length};
 ghost use Rattle.pg_entry.specs.Kinds.{IsPageShift};
 ghost use Rattle.pg_event.specs.Spelling.{IsHead};
 ghost use Rattle.pg_event.specs.Values.{mem_at, control_at};
@@ -78,23 +78,12 @@ impl<'a> Seen<'a> {
         self.header
     }
 
-    /// The event with this number.
-    pub(crate) fn event_at(&self, number: u32) -> Event
-        requires { number < length self.now.events }
-        ensures event { slice_get self.now.events number ≡ Some result }
-        ensures count { length self.now.events < 2 ^ 32 }
+    /// The value at a physical address just before the event with this number, with the moments
+    /// around this one at which it is the same.
+    pub fn value_span(&self, moment: u32, addr: u64) -> Span<u64>
+        ensures { IsSpan (λ w. mem_at self.now.events w addr) moment result }
     {
-        match self.events {
-            Events::Whole(events) => events[number as usize],
-            Events::Kept(kept) => kept.event_at(number),
-        }
-    }
-
-    /// The value at a physical address just before the event with this number.
-    pub fn value_at(&self, moment: u32, addr: u64) -> u64
-        ensures { result ≡ mem_at self.now.events moment addr }
-    {
-        self.past.value_at(moment, addr)
+        self.past.value_span(moment, addr, &mut Probes::new())
     }
 
     /// The control registers of a processor just before the event with this number.
@@ -106,14 +95,7 @@ impl<'a> Seen<'a> {
         self.past.control_at(p, moment)
     }
 
-    /// The same value, with the moments around this one at which it is the same.
-    pub fn value_span(&self, moment: u32, addr: u64) -> Span<u64>
-        ensures { IsSpan (λ w. mem_at self.now.events w addr) moment result }
-    {
-        self.past.value_span(moment, addr, &mut Probes::new())
-    }
-
-    /// The control registers, with the moments around this one at which they are the same.
+    /// The same, with the moments around this one at which they are the same.
     pub fn control_span(&self, p: u16, moment: u32) -> Span<Control>
         requires { p < length self.now.head.processors }
         ensures span { IsSpan (λ w. control_at self.now.head self.now.events p w) moment result }

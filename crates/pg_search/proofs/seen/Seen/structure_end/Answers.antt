@@ -6,7 +6,7 @@ use Rattle.pg_event.specs.declared.control.Control.{Control}
 use Rattle.pg_event.specs.declared.event.Event.{Event}
 use Rattle.pg_event.specs.Invalidation.{structure_key, must_drop_structure}
 use Rattle.pg_chain.specs.Standing.{IsPast}
-use Rattle.pg_search.proofs.Swept.{dropped_at}
+use Rattle.pg_search.proofs.Survival.{dropped_at}
 use Rattle.pg_search.proofs.seen.Seen.structure_end.Goals as goal
 
 not_false : (b : Bool) → not b ≡ false → b ≡ true

@@ -7,7 +7,7 @@ use Rattle.pg_event.specs.declared.event.Event.{Event}
 use Rattle.pg_event.specs.Invalidation.{translation_key, must_drop_translation}
 use Rattle.pg_event.specs.Witness.{survives}
 use Rattle.pg_chain.specs.Standing.{IsPast}
-use Rattle.pg_search.proofs.Swept.{survives_within, dropped_at}
+use Rattle.pg_search.proofs.Survival.{survives_within, dropped_at}
 use Rattle.pg_search.proofs.seen.Seen.translation_survives.Goals as goal
 
 not_false : (b : Bool) → not b ≡ false → b ≡ true
