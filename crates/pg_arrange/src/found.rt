@@ -52,7 +52,7 @@ impl Found {
     /// The place of the last for an address, or `NEVER`.
     pub(crate) fn last(&self, p: u16, la: u64) -> u32 {
         match self.ids.get(&key(p, la)) {
-            Some(id) => at(&self.last, *id),
+            Some(id) => self.last_of(*id),
             None => NEVER,
         }
     }
@@ -68,6 +68,10 @@ impl Found {
                 Ok(id)
             }
         }
+    }
+
+    fn last_of(&self, id: u32) -> u32 {
+        at(&self.last, id)
     }
 
     fn set_last(&mut self, id: u32, place: u32) {
@@ -92,8 +96,9 @@ impl Found {
         moment: u32,
     ) -> Result<(), AllocError> {
         let id = self.id(key(p, la))?;
-        let before = at(&self.last, id);
-        self.set_last(id, number(self.noted.len()));
+        let before = self.last_of(id);
+        let place = number(self.noted.len());
+        self.set_last(id, place);
         self.noted.push(Noted {
             known,
             id,

@@ -9,7 +9,7 @@ use crate::in_order::{InOrder, certify_in_order};
 use crate::trying::{Tried, try_orders};
 use pg_arrange::{Sought, find_order};
 use pg_certify::denied_events_have_no_run;
-use pg_relaxed::refute;
+use pg_relaxed::{Edge, Refuted, refute, refute_near};
 use pg_spanned::{SpannedRun, ends_are_an_order, has_one_order, no_other_order};
 use std::alloc::{AllocError, Global};
 
@@ -19,7 +19,8 @@ pub enum Verdict {
     /// They have: the order, by the events' numbers.
     Yes(Vec<u32>),
     /// They have none, since in no order a run of the machine comes to this event, by its number.
-    Never(u64),
+    /// Each order in which one would has these edges.
+    Never(u64, Vec<Edge>),
     /// They have none: all their orders were tried. The event, by its number, is the first that the
     /// search for an order could not place.
     NoneOfAll(u64),
@@ -55,7 +56,7 @@ fn verdict_in_only_order(alloc: Global, run: &SpannedRun) -> Result<Verdict, All
     let order = numbers_below(alloc, run.len() as u32)?;
     match certify_in_order(alloc, run, &order)? {
         InOrder::Certified => Ok(Verdict::Yes(order)),
-        InOrder::Denied(place) => Ok(Verdict::Never(place)),
+        InOrder::Denied(place) => Ok(Verdict::Never(place, Vec::new(alloc))),
         InOrder::NoOrder => unreachable!(),
     }
 }
@@ -106,15 +107,24 @@ fn verdict_in_whole(
     }
 }
 
-/// The verdict by all orders, where the events are few. The event is told of a no.
+/// The verdict by what is sure of the orders near an event, which is told where that is not enough.
+fn verdict_near(alloc: Global, run: &SpannedRun, number: u32) -> Result<Verdict, AllocError>
+    requires several { EachPrecedesNext run.now → ⊥ }
+    requires within { number < length run.now.events }
+    ensures { IfOk result (IsVerdict run.now) }
+{
+    match refute_near(alloc, run, number)? {
+        Some(Refuted { number, edges }) => Ok(Verdict::Never(number as u64, edges)),
+        None => Ok(Verdict::Undecided(number as u64)),
+    }
+}
+
+/// The verdict by all orders of few events. The event is told of a no.
 fn verdict_of_all(alloc: Global, run: &SpannedRun, number: u32) -> Result<Verdict, AllocError>
     requires several { EachPrecedesNext run.now → ⊥ }
     requires within { number < length run.now.events }
     ensures { IfOk result (IsVerdict run.now) }
 {
-    if run.len() > MOST_TRIED {
-        return Ok(Verdict::Undecided(number as u64));
-    }
     match try_orders(alloc, run)? {
         Tried::Whole(order) => verdict_in_whole(alloc, run, order, number),
         Tried::NoOrder => Ok(Verdict::NoneOfAll(number as u64)),
@@ -123,7 +133,8 @@ fn verdict_of_all(alloc: Global, run: &SpannedRun, number: u32) -> Result<Verdic
 }
 
 /// The verdict of a run whose search gave up with these events waiting: a no, where in no order a
-/// run comes to one of them, or where all orders were tried.
+/// run comes to one of them, or to an access near the first, or where all orders of few events were
+/// tried.
 fn verdict_of_waiting(
     alloc: Global,
     run: &SpannedRun,
@@ -134,10 +145,15 @@ fn verdict_of_waiting(
 {
     for number in waiting {
         if refute(alloc, run, *number)? {
-            return Ok(Verdict::Never(*number as u64));
+            return Ok(Verdict::Never(*number as u64, Vec::new(alloc)));
         }
     }
-    verdict_of_all(alloc, run, number_at(run, waiting, 0))
+    let first = number_at(run, waiting, 0);
+    if run.len() > MOST_TRIED {
+        verdict_near(alloc, run, first)
+    } else {
+        verdict_of_all(alloc, run, first)
+    }
 }
 
 /// The verdict in an order that a search came to.
@@ -159,8 +175,9 @@ fn verdict_in(alloc: Global, run: &SpannedRun, order: Vec<u32>) -> Result<Verdic
 /// the order, in which `moments_in_order` names the moments. Where the events have one order alone
 /// the answer is a yes or a no. Else the order in which the events ended is tried first, then a
 /// search. It is a no where in no order a run comes to an event that waits when the search gives
-/// up, as far as `refute` of `pg_relaxed` tells, or where a run of at most 64 events has no order
-/// with a run.
+/// up, as far as `refute` of `pg_relaxed` tells; where a run of at most 64 events has no order with
+/// a run; or where one of more events has an access near the first that waits to which no run
+/// comes, as far as `refute_near` tells.
 ///
 /// It fails only where memory is refused.
 pub fn find_ordered_run(alloc: Global, run: &SpannedRun) -> Result<Verdict, AllocError>

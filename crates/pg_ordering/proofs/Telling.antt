@@ -1,5 +1,6 @@
 -- What is told of a run, and written.
 use Rattle.std.proofs.Common.{◌≡◌, ◌≢◌, ◌<◌, ◌+◌, ◌++◌, ℕ, List, [], ◌∷◌, length, take, get_or, codes, decimal, refl, ap, ◌∙◌}
+use Rattle.std.specs.List.{flat_map}
 use Rattle.std.proofs.lemmas.Grind.{flat_map-append}
 use Rattle.std.proofs.lemmas.List.{append-nil, take_more}
 use Rattle.pg_report.specs.Changes.{Change}
@@ -8,12 +9,13 @@ use Rattle.pg_ordering.specs.declared.told.Asked.{Asked}
 use Rattle.pg_ordering.specs.declared.told.Told.{Told}
 use Rattle.pg_ordering.specs.declared.told.Told.TheVariants.{Yes, Never, NoneOfAll, Undecided}
 use Rattle.pg_ordering.specs.Answers.{Gives, GivesOther}
-use Rattle.pg_ordering.specs.Texts.{order_text}
+use Rattle.pg_ordering.specs.Texts.{edge_line, order_text}
+use Rattle.pg_relaxed.specs.declared.edge.Edge.{Edge}
 
 -- what is no yes is given as that
 pub gives_other : (asked : Asked) (s : Spanned) (told : Told) (output errors : Change) (status : ℕ) → told ≢ Yes → GivesOther asked s told output errors status → Gives asked s told output errors status
 gives_other asked s Yes output errors status other gives = absurd (other refl)
-gives_other asked s (Never n) output errors status other gives = gives
+gives_other asked s (Never n edges) output errors status other gives = gives
 gives_other asked s (NoneOfAll n) output errors status other gives = gives
 gives_other asked s (Undecided n) output errors status other gives = gives
 
@@ -23,3 +25,10 @@ order_more order k within =
     ap order_text (take_more order k 0 within)
     ∙ (flat_map-append (λ (m : ℕ). decimal m ++ codes "\n") (take k order) (n ∷ [])
     ∙ ap (λ xs. order_text (take k order) ++ xs) (append-nil (decimal n ++ codes "\n")))
+
+pub edges_more : (edges : List Edge) (k : ℕ) (d : Edge) → k < length edges →
+    flat_map edge_line (take (k + 1) edges) ≡ flat_map edge_line (take k edges) ++ edge_line (get_or edges k d)
+edges_more edges k d within =
+    let e = get_or edges k d in
+    ap (flat_map edge_line) (take_more edges k d within)
+    ∙ (flat_map-append edge_line (take k edges) (e ∷ []) ∙ ap (λ xs. flat_map edge_line (take k edges) ++ xs) (append-nil (edge_line e)))

@@ -27,13 +27,13 @@ use Rattle.pg_ordering.specs.Texts.{told_text, drawn_text, order_text}
 -- where no event overlaps another it is one of both, and what is undecided says nothing else
 abbrev pub IsSo : Spanned → Told → Type 0
 IsSo s Yes = HasOrderedRun s
-IsSo s (Never n) = HasNoRunTo s n
+IsSo s (Never n edges) = HasNoRunTo s n edges.items
 IsSo s (NoneOfAll n) = HasNoOrderedRun s n
 IsSo s (Undecided n) = IsUndecided s n
 
 abbrev pub told_status : Told → ℕ
 told_status Yes = 0
-told_status (Never n) = 1
+told_status (Never n edges) = 1
 told_status (NoneOfAll n) = 1
 told_status (Undecided n) = 4
 
@@ -117,7 +117,7 @@ GivesOther Order s told output errors status = GivesReportAside s told output er
 
 abbrev pub Gives : Asked → Spanned → Told → Change → Change → ℕ → Type 0
 Gives asked s Yes = GivesYes asked s
-Gives asked s (Never n) = GivesOther asked s (Never n)
+Gives asked s (Never n edges) = GivesOther asked s (Never n edges)
 Gives asked s (NoneOfAll n) = GivesOther asked s (NoneOfAll n)
 Gives asked s (Undecided n) = GivesOther asked s (Undecided n)
 

@@ -3,6 +3,7 @@ use Rattle.std.specs.Prelude.{ℕ, List, [], ◌++◌, length, codes, decimal}
 use Rattle.std.specs.List.{flat_map}
 use Rattle.std.specs.Int.{div_ceil}
 use Rattle.pg_report.specs.Text.{counts_text}
+use Rattle.pg_relaxed.specs.declared.edge.Edge.{Edge}
 use Rattle.pg_spanned.specs.Orders.{Spanned}
 use Rattle.pg_spanned_text.specs.Cause.{cause_text}
 use Rattle.pg_spanned_text.specs.Picture.{picture_text}
@@ -23,7 +24,7 @@ no_text n = codes "verdict: no\nevent: " ++ (decimal n ++ codes "\nreason: 15 no
 -- the verdict, and at which event it was come to
 abbrev pub head_text : Told → List ℕ
 head_text Yes = codes "verdict: yes\n"
-head_text (Never n) = no_text n
+head_text (Never n edges) = no_text n
 head_text (NoneOfAll n) = no_text n
 head_text (Undecided n) = codes "verdict: undecided\nevent: " ++ (decimal n ++ codes "\n")
 
@@ -31,10 +32,15 @@ head_text (Undecided n) = codes "verdict: undecided\nevent: " ++ (decimal n ++ c
 abbrev pub none_of_all : List ℕ
 none_of_all = codes "all orders: each was tried, and none has a run\n"
 
+-- that an event comes before another in each order in which a run would come to the event of a no
+abbrev pub edge_line : Edge → List ℕ
+edge_line edge = codes "in each order: event " ++ (decimal edge.first
+    ++ (codes " comes before event " ++ (decimal edge.second ++ codes "\n")))
+
 -- why no order has a run, where that is told
 abbrev pub cause_of : Spanned → Told → List ℕ
 cause_of s Yes = []
-cause_of s (Never n) = cause_text s n
+cause_of s (Never n edges) = cause_text s n ++ flat_map edge_line edges.items
 cause_of s (NoneOfAll n) = none_of_all
 cause_of s (Undecided n) = []
 
@@ -45,7 +51,7 @@ told_text s told = head_text told ++ counts_of s ++ cause_of s told
 -- the picture of the cause, where that is of one event, and else the report
 abbrev pub drawn_text : Spanned → Told → List ℕ
 drawn_text s Yes = told_text s Yes
-drawn_text s (Never n) = picture_text s n
+drawn_text s (Never n edges) = picture_text s n
 drawn_text s (NoneOfAll n) = told_text s (NoneOfAll n)
 drawn_text s (Undecided n) = told_text s (Undecided n)
 

@@ -28,12 +28,12 @@ use std::alloc::Global;
 /// Of what is undecided.
 const UNDECIDED: u8 = 4;
 
-fn told_status(told: Told) -> u8
-    ensures { result ≡ told_status told }
+fn told_status(told: &Told) -> u8
+    ensures { result ≡ told_status told.now }
 {
     match told {
         Told::Yes => YES,
-        Told::Never(_) | Told::NoneOfAll(_) => NO,
+        Told::Never(..) | Told::NoneOfAll(_) => NO,
         Told::Undecided(_) => UNDECIDED,
     }
 }
@@ -80,11 +80,11 @@ fn give_error<O: Sink, E: Sink>(output: &mut O, errors: &mut E, text: &str, good
 fn give_report<O: Sink, E: Sink>(
     alloc: Global,
     run: &SpannedRun,
-    told: Told,
+    told: &Told,
     output: &mut O,
     errors: &mut E,
 ) -> u8
-    ensures { GivesReport run.now told
+    ensures { GivesReport run.now told.now
         (filled O.Sink output.old output.new) (filled E.Sink errors.old errors.new) result }
 {
     match told_text(alloc, run, told) {
@@ -97,11 +97,11 @@ fn give_report<O: Sink, E: Sink>(
 fn give_picture<O: Sink, E: Sink>(
     alloc: Global,
     run: &SpannedRun,
-    told: Told,
+    told: &Told,
     output: &mut O,
     errors: &mut E,
 ) -> u8
-    ensures { GivesPicture run.now told
+    ensures { GivesPicture run.now told.now
         (filled O.Sink output.old output.new) (filled E.Sink errors.old errors.new) result }
 {
     match drawn_text(alloc, run, told) {
@@ -114,11 +114,11 @@ fn give_picture<O: Sink, E: Sink>(
 fn give_report_aside<O: Sink, E: Sink>(
     alloc: Global,
     run: &SpannedRun,
-    told: Told,
+    told: &Told,
     output: &mut O,
     errors: &mut E,
 ) -> u8
-    ensures { GivesReportAside run.now told
+    ensures { GivesReportAside run.now told.now
         (filled O.Sink output.old output.new) (filled E.Sink errors.old errors.new) result }
 {
     match told_text(alloc, run, told) {
@@ -193,8 +193,8 @@ fn answer_yes<O: Sink, E: Sink>(
         (filled O.Sink output.old output.new) (filled E.Sink errors.old errors.new) result }
 {
     match asked {
-        Asked::Report => give_report(alloc, run, Told::Yes, output, errors),
-        Asked::Picture => give_report(alloc, run, Told::Yes, output, errors),
+        Asked::Report => give_report(alloc, run, &Told::Yes, output, errors),
+        Asked::Picture => give_report(alloc, run, &Told::Yes, output, errors),
         Asked::Record => give_named(alloc, run, order, output, errors),
         Asked::Order => give_order(alloc, order, output, errors),
     }
@@ -205,12 +205,12 @@ fn answer_other<O: Sink, E: Sink>(
     alloc: Global,
     asked: Asked,
     run: &SpannedRun,
-    told: Told,
+    told: &Told,
     output: &mut O,
     errors: &mut E,
 ) -> u8
-    requires told { IsSo run.now told }
-    requires other { told ≢ Told.Yes }
+    requires told { IsSo run.now told.now }
+    requires other { told.now ≢ Told.Yes }
     ensures { AnswersRun asked run.now
         (filled O.Sink output.old output.new) (filled E.Sink errors.old errors.new) result }
 {
@@ -235,14 +235,21 @@ fn answer_run<O: Sink, E: Sink>(
 {
     match find_ordered_run(alloc, run) {
         Ok(Verdict::Yes(order)) => answer_yes(alloc, asked, run, &order, output, errors),
-        Ok(Verdict::Never(event)) => {
-            answer_other(alloc, asked, run, Told::Never(event), output, errors)
+        Ok(Verdict::Never(event, edges)) => {
+            answer_other(
+                alloc,
+                asked,
+                run,
+                &Told::Never(event, edges),
+                output,
+                errors,
+            )
         }
         Ok(Verdict::NoneOfAll(event)) => {
-            answer_other(alloc, asked, run, Told::NoneOfAll(event), output, errors)
+            answer_other(alloc, asked, run, &Told::NoneOfAll(event), output, errors)
         }
         Ok(Verdict::Undecided(event)) => {
-            answer_other(alloc, asked, run, Told::Undecided(event), output, errors)
+            answer_other(alloc, asked, run, &Told::Undecided(event), output, errors)
         }
         Err(_) => tell_memory(output, errors),
     }

@@ -1,10 +1,12 @@
 //! What is written of a record with no one order.
 
 ghost use Rattle.std.specs.Prelude.{◌≡◌, ◌++◌, IfOk, OnOk, codes, decimal, string_bytes};
+ghost use Rattle.std.specs.List.{flat_map};
 ghost use Rattle.pg_ordering.specs.Texts.{told_text, order_text, segments_of, counts_of};
-ghost use Rattle.pg_ordering.specs.Texts.{head_text, cause_of, none_of_all, drawn_text};
+ghost use Rattle.pg_ordering.specs.Texts.{head_text, cause_of, none_of_all, drawn_text, edge_line};
 
 use crate::told::Told;
+use pg_relaxed::Edge;
 use pg_spanned::SpannedRun;
 use pg_spanned_text::{cause_picture, cause_text};
 use std::alloc::{AllocError, Global};
@@ -20,12 +22,12 @@ pub fn segments_of(run: &SpannedRun) -> u64
 }
 
 /// What stands before the counts, where the answer is no yes.
-fn head_of(alloc: Global, told: Told) -> Result<String, AllocError>
-    ensures { IfOk result (λ t. string_bytes t ≡ head_text told) }
+fn head_of(alloc: Global, told: &Told) -> Result<String, AllocError>
+    ensures { IfOk result (λ t. string_bytes t ≡ head_text told.now) }
 {
     match told {
         Told::Yes => format!(in alloc; "verdict: yes\n"),
-        Told::Never(event) | Told::NoneOfAll(event) => {
+        Told::Never(event, _) | Told::NoneOfAll(event) => {
             format!(in alloc; "verdict: no\nevent: {event}\nreason: 15 no order\n")
         }
         Told::Undecided(event) => format!(in alloc; "verdict: undecided\nevent: {event}\n"),
@@ -40,20 +42,43 @@ fn counts_of(alloc: Global, run: &SpannedRun) -> Result<String, AllocError>
     format!(in alloc; "events: {events}\nsegments: {segments}\n")
 }
 
+/// The line of an edge.
+fn push_edge(alloc: Global, text: &mut String, edge: Edge) -> Result<(), AllocError>
+    ensures { OnOk result (string_bytes text.new ≡ string_bytes text.old ++ edge_line edge) }
+{
+    let Edge { first, second } = edge;
+    let line = format!(in alloc; "in each order: event {first} comes before event {second}\n")?;
+    text.push_str(line.as_str())
+}
+
+/// A line of each edge.
+fn edge_lines(alloc: Global, edges: &[Edge]) -> Result<String, AllocError>
+    ensures { IfOk result (λ t. string_bytes t ≡ flat_map edge_line edges.now) }
+{
+    let mut text = String::new(alloc);
+    for edge in edges {
+        push_edge(alloc, &mut text, *edge)?;
+    }
+    Ok(text)
+}
+
 /// Appends why no order of a run's events has a run of the machine, where that is told. `Err` is for
 /// want of memory alone, and may leave a part of it.
 pub fn push_cause(
     alloc: Global,
     text: &mut String,
     run: &SpannedRun,
-    told: Told,
+    told: &Told,
 ) -> Result<(), AllocError>
-    ensures { OnOk result (string_bytes text.new ≡ string_bytes text.old ++ cause_of run.now told) }
+    ensures { OnOk result
+        (string_bytes text.new ≡ string_bytes text.old ++ cause_of run.now told.now) }
 {
     match told {
-        Told::Never(event) => {
-            let cause = cause_text(alloc, run, event)?;
-            text.push_str(cause.as_str())
+        Told::Never(event, edges) => {
+            let cause = cause_text(alloc, run, *event)?;
+            text.push_str(cause.as_str())?;
+            let lines = edge_lines(alloc, edges)?;
+            text.push_str(lines.as_str())
         }
         Told::NoneOfAll(_) => text.push_str(NONE_OF_ALL),
         Told::Yes | Told::Undecided(_) => Ok(()),
@@ -61,8 +86,8 @@ pub fn push_cause(
 }
 
 /// The report of what is told of a run, and after a no its cause.
-pub(crate) fn told_text(alloc: Global, run: &SpannedRun, told: Told) -> Result<String, AllocError>
-    ensures { IfOk result (λ t. string_bytes t ≡ told_text run.now told) }
+pub(crate) fn told_text(alloc: Global, run: &SpannedRun, told: &Told) -> Result<String, AllocError>
+    ensures { IfOk result (λ t. string_bytes t ≡ told_text run.now told.now) }
 {
     let mut text = head_of(alloc, told)?;
     let counts = counts_of(alloc, run)?;
@@ -72,11 +97,11 @@ pub(crate) fn told_text(alloc: Global, run: &SpannedRun, told: Told) -> Result<S
 }
 
 /// The picture of the cause, where that is of one event, and else the report.
-pub(crate) fn drawn_text(alloc: Global, run: &SpannedRun, told: Told) -> Result<String, AllocError>
-    ensures { IfOk result (λ t. string_bytes t ≡ drawn_text run.now told) }
+pub(crate) fn drawn_text(alloc: Global, run: &SpannedRun, told: &Told) -> Result<String, AllocError>
+    ensures { IfOk result (λ t. string_bytes t ≡ drawn_text run.now told.now) }
 {
     match told {
-        Told::Never(event) => cause_picture(alloc, run, event),
+        Told::Never(event, _) => cause_picture(alloc, run, *event),
         Told::Yes | Told::NoneOfAll(_) | Told::Undecided(_) => told_text(alloc, run, told),
     }
 }

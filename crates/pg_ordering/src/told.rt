@@ -1,5 +1,7 @@
 //! What is asked of a record with no one order, and what is told of it.
 
+use pg_relaxed::Edge;
+
 /// What is written of an answer.
 #[derive(Clone, Copy, Debug, PartialEq, Eq)]
 pub enum Asked {
@@ -15,12 +17,13 @@ pub enum Asked {
 }
 
 /// What is told of a record with no one order.
-#[derive(Clone, Copy, Debug, PartialEq, Eq)]
+#[derive(Drop)]
 pub enum Told {
     /// Its events have an order in which some run of the machine has them.
     Yes,
     /// They have none, since in no order a run of the machine comes to this event, by its number.
-    Never(u64),
+    /// Each order in which one would has these edges.
+    Never(u64, Vec<Edge>),
     /// They have none: all their orders were tried. The number of the first event that the search
     /// for an order could not place.
     NoneOfAll(u64),

@@ -28,6 +28,8 @@ use Rattle.pg_relaxed.specs.declared.slot.Slot.{Slot}
 use Rattle.pg_relaxed.specs.declared.table.Table.{Table}
 use Rattle.pg_relaxed.specs.Caches.{Known, table_by, table_below, word_in, IsTaken, IsFilled, Grows}
 use Rattle.pg_relaxed.specs.Memory.{IsOwn, MayHold}
+use Rattle.pg_relaxed.specs.Supposed.{Keeps}
+use Rattle.pg_relaxed.specs.declared.edge.Edge.{Edge}
 use Rattle.pg_relaxed.proofs.History.{state_after, count, IsAt, Came, Before, IsFront, before_more, before_less, processor_at}
 use Rattle.pg_relaxed.proofs.Holding.{memory_holds, may_hold}
 use Rattle.pg_relaxed.proofs.Prefixes.{Agree, agree_above, same_address, shift_is}
@@ -61,13 +63,13 @@ pub record IsThere (s : Spanned) (p la : ℕ) (order : List ℕ) (past : List St
   pub known : IsKnown (state_after s.head past) p la k
   pub come : HaveCome order (count past) ended
 
--- in each order, at each time before event next of p and behind its earlier ones
-abbrev pub Covers : Spanned → ℕ → ℕ → ℕ → ℕ → Known → Type 0
-Covers s p la next ended k = (order : List ℕ) (past : List Step) → IsOrder s order → Came s order past → IsFront s p order (count past) next → IsThere s p la order past ended k
+-- in each order that is as supposed, at each time before event next of p and behind its earlier ones
+abbrev pub Covers : Spanned → List Edge → ℕ → ℕ → ℕ → ℕ → Known → Type 0
+Covers s edges p la next ended k = (order : List ℕ) (past : List Step) → IsOrder s order → Keeps order edges → Came s order past → IsFront s p order (count past) next → IsThere s p la order past ended k
 
--- in each order, as soon as the earlier ones have come
-abbrev pub Enters : Spanned → ℕ → ℕ → ℕ → ℕ → Known → Type 0
-Enters s p la next ended k = (order : List ℕ) (past : List Step) → IsOrder s order → Came s order past → IsFront s p order (count past) next → HasEntered p past → IsThere s p la order past ended k
+-- in each order that is as supposed, as soon as the earlier ones have come
+abbrev pub Enters : Spanned → List Edge → ℕ → ℕ → ℕ → ℕ → Known → Type 0
+Enters s edges p la next ended k = (order : List ℕ) (past : List Step) → IsOrder s order → Keeps order edges → Came s order past → IsFront s p order (count past) next → HasEntered p past → IsThere s p la order past ended k
 
 -- what is in a cache after a step
 in_pushed : {X : Type 0} (p q : ℕ) (x y : X) (old : ℕ → List X) → IsIn x (changed_at p (λ xs. y ∷ xs) old q) → ((q ≡ p) × (y ≡ x)) ⊎ IsIn x (old q)
@@ -241,8 +243,8 @@ other_front s p order w next e at other here = record {
 }
 
 pub fill_covers : (s : Spanned) (slot : Slot) (la : ℕ) (k l : Known) → IsOwn s.events slot.p slot.next →
-    Enters s slot.p la slot.next slot.ended k → Grows k l → IsFilled s slot la l → Covers s slot.p la slot.next slot.ended l
-fill_covers s slot la k l own enters grows filled order past is came here = go past came here
+    Enters s slot.edges.now slot.p la slot.next slot.ended k → Grows k l → IsFilled s slot la l → Covers s slot.edges.now slot.p la slot.next slot.ended l
+fill_covers s slot la k l own enters grows filled order past is keeps came here = go past came here
   where
     grown : (st : State) → IsKnown st slot.p la k → IsKnown st slot.p la l
     grown st known = record {
@@ -252,11 +254,11 @@ fill_covers s slot la k l own enters grows filled order past is came here = go p
     }
 
     entered : (past : List Step) → Came s order past → IsFront s slot.p order (count past) slot.next → HasEntered slot.p past → IsThere s slot.p la order past slot.ended l
-    entered past came here h = let t = enters order past is came here h in record { known = grown (state_after s.head past) t.known; come = t.come }
+    entered past came here h = let t = enters order past is keeps came here h in record { known = grown (state_after s.head past) t.known; come = t.come }
 
     holds : (past : List Step) → Came s order past → IsFront s slot.p order (count past) slot.next → IsThere s slot.p la order past slot.ended l →
         (a : ℕ) → MayHold s slot a ((state_after s.head past).memory a)
-    holds past came here t a = may_hold s order is slot (count past) a _ own here t.come (memory_holds s order is past came a)
+    holds past came here t a = may_hold s order is slot (count past) a _ own here t.come keeps (memory_holds s order is past came a)
 
     go : (past : List Step) → Came s order past → IsFront s slot.p order (count past) slot.next → IsThere s slot.p la order past slot.ended l
     go [] came here = entered [] came here tt

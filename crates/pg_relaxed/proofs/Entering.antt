@@ -17,6 +17,7 @@ use Rattle.pg_machine.specs.Machine.{State, after_event}
 use Rattle.pg_spanned.specs.Orders.{Spanned, MustPrecede, IsOrder}
 use Rattle.pg_relaxed.specs.Caches.{Known, IsLeft}
 use Rattle.pg_relaxed.specs.Memory.{IsOwn}
+use Rattle.pg_relaxed.specs.declared.edge.Edge.{Edge}
 use Rattle.pg_relaxed.proofs.History.{state_after, count, IsAt, Before, IsFront, before_more, before_less, front, front_next, not_before, own_at}
 use Rattle.pg_relaxed.proofs.Covering.{entry_of, IsKnown, IsThere, Covers, Enters, in_filtered}
 use Rattle.pg_relaxed.proofs.Same.{controlled_same, processor_same, structure_same, translation_same}
@@ -26,23 +27,23 @@ abbrev pub HasEnded : Spanned → ℕ → ℕ → ℕ → Type 0
 HasEnded s i ended later = (j : ℕ) → j < later → (j < ended) ⊎ MustPrecede s j i
 
 -- nothing is known at the start
-pub starts : (s : Spanned) (p la : ℕ) → Enters s p la 0 0 (record { control = started s.head.cfg.m (slice_get s.head.processors p); tables = []; translations = [] })
-starts s p la order [] is came here entered =
+pub starts : (s : Spanned) (edges : List Edge) (p la : ℕ) → Enters s edges p la 0 0 (record { control = started s.head.cfg.m (slice_get s.head.processors p); tables = []; translations = [] })
+starts s edges p la order [] is keeps came here entered =
     record { known = record { control = refl; tables = λ up pcid from high h. absurd h; translations = λ x h matches. absurd h }; come = λ j lt. absurd (omega (arith, lt)) }
-starts s p la order (Fill4 q b ∷ past) is came here entered = absurd entered
-starts s p la order (Fill3 q b from ∷ past) is came here entered = absurd entered
-starts s p la order (Fill2 q b from ∷ past) is came here entered = absurd entered
-starts s p la order (FillLeaf q b level from ∷ past) is came here entered = absurd entered
-starts s p la order (Drop q member ∷ past) is came here entered = absurd entered
-starts s p la order (Do e ∷ past) is came here entered =
+starts s edges p la order (Fill4 q b ∷ past) is keeps came here entered = absurd entered
+starts s edges p la order (Fill3 q b from ∷ past) is keeps came here entered = absurd entered
+starts s edges p la order (Fill2 q b from ∷ past) is keeps came here entered = absurd entered
+starts s edges p la order (FillLeaf q b level from ∷ past) is keeps came here entered = absurd entered
+starts s edges p la order (Drop q member ∷ past) is keeps came here entered = absurd entered
+starts s edges p la order (Do e ∷ past) is keeps came here entered =
     let at : IsAt s order (count past) e = came.1 in
     let own : IsOwn s.events p at.number = own_at s.events p at.number at.event at.there (sym (processor_same e at.event at.same) ∙ entered) in
     let lt : at.number < 0 = here.below at.number own (count past, omega arith, at.place) in
     absurd (omega (arith, lt))
 
 -- an event of another processor
-pub skips : (s : Spanned) (p la c ended : ℕ) (k : Known) → (IsOwn s.events p c → ⊥) → Enters s p la c ended k → Enters s p la (suc c) ended k
-skips s p la c ended k other enters order past is came here entered = enters order past is came (record {
+pub skips : (s : Spanned) (edges : List Edge) (p la c ended : ℕ) (k : Known) → (IsOwn s.events p c → ⊥) → Enters s edges p la c ended k → Enters s edges p la (suc c) ended k
+skips s edges p la c ended k other enters order past is keeps came here entered = enters order past is keeps came (record {
   below = λ j own b.
       let lt : j < suc c = here.below j own b in
       let differs : j ≡ c → ⊥ = λ e. other (subst (IsOwn s.events p) e own) in
@@ -58,7 +59,7 @@ and_true : (a b : Bool) → a ≡ true → (a && b) ≡ false → b ≡ false
 and_true true b h e = e
 and_true false b h e = absurd (cc)
 
-module _ (s : Spanned) (p la c ended later : ℕ) (x : Event) (k l : Known) (there : slice_get s.events c ≡ Some x) (mine : processor_of x ≡ p)
+module _ (s : Spanned) (edges : List Edge) (p la c ended later : ℕ) (x : Event) (k l : Known) (there : slice_get s.events c ≡ Some x) (mine : processor_of x ≡ p)
     (control : l.control ≡ controlled s.head.cfg.m p k.control x) (left : IsLeft la x k l) (more : HasEnded s c ended later) where
   own_c : IsOwn s.events p c
   own_c = own_at s.events p c x there mine
@@ -106,24 +107,24 @@ module _ (s : Spanned) (p la c ended later : ℕ) (x : Event) (k l : Known) (the
   }
 
   -- event c of p itself
-  pub passes : Covers s p la c ended k → Enters s p la (suc c) later l
-  passes covers order [] is came here entered =
+  pub passes : Covers s edges p la c ended k → Enters s edges p la (suc c) later l
+  passes covers order [] is keeps came here entered =
       let b : Before order 0 c = here.come c own_c (omega arith) in
       let lt : b.0 < 0 = b.1 in
       absurd (omega (arith, lt))
-  passes covers order (Fill4 q b ∷ past) is came here entered = absurd entered
-  passes covers order (Fill3 q b from ∷ past) is came here entered = absurd entered
-  passes covers order (Fill2 q b from ∷ past) is came here entered = absurd entered
-  passes covers order (FillLeaf q b level from ∷ past) is came here entered = absurd entered
-  passes covers order (Drop q member ∷ past) is came here entered = absurd entered
-  passes covers order (Do e ∷ past) is came here entered =
+  passes covers order (Fill4 q b ∷ past) is keeps came here entered = absurd entered
+  passes covers order (Fill3 q b from ∷ past) is keeps came here entered = absurd entered
+  passes covers order (Fill2 q b from ∷ past) is keeps came here entered = absurd entered
+  passes covers order (FillLeaf q b level from ∷ past) is keeps came here entered = absurd entered
+  passes covers order (Drop q member ∷ past) is keeps came here entered = absurd entered
+  passes covers order (Do e ∷ past) is keeps came here entered =
       let at : IsAt s order (count past) e = came.1 in
       let w : ℕ = count past in
       let own : IsOwn s.events p at.number = own_at s.events p at.number at.event at.there (sym (processor_same e at.event at.same) ∙ entered) in
       let this : at.number ≡ c = is_c order w at.number is at.place own here in
       let place : slice_get order w ≡ Some c = at.place ∙ ap Some this in
       let event : at.event ≡ x = some_is at.event x (sym at.there ∙ (ap (slice_get s.events) this ∙ there)) in
-      let t : IsThere s p la order past ended k = covers order past is came.0 (front_c order w is place here) in
+      let t : IsThere s p la order past ended k = covers order past is keeps came.0 (front_c order w is place here) in
       record {
         known = after_own s.head (state_after s.head past) e refl t.known entered
             (λ m q d. controlled_same e at.event at.same m q d ∙ ap (controlled m q d) event)

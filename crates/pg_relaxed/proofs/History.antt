@@ -63,13 +63,16 @@ module _ (s : Spanned) (order : List ℕ) (is : IsOrder s order) where
   pub once : (a b j : ℕ) → slice_get order a ≡ Some j → slice_get order b ≡ Some j → a ≡ b
   once a b j = stands_once order (length s.events) (are_all s order is) a b j
 
-  -- what must come before one that has come has come
-  pub front : (w x j : ℕ) → Before order w j → MustPrecede s x j → Before order w x
-  front w x j h must =
-      let b : StandsBefore order x j = is.keeps x j must in
+  -- what stands before one that has come has come
+  pub front_by : (w x j : ℕ) → Before order w j → StandsBefore order x j → Before order w x
+  front_by w x j h b =
       let at : b.later ≡ h.0 = once b.later h.0 j b.second h.2 in
       let lt : h.0 < w = h.1 in
       (b.place, omega (arith, b.rises, at, lt), b.first)
+
+  -- what must come before one that has come has come
+  pub front : (w x j : ℕ) → Before order w j → MustPrecede s x j → Before order w x
+  front w x j h must = front_by w x j h (is.keeps x j must)
 
   -- and what must come before the one that comes next
   pub front_next : (w x j : ℕ) → slice_get order w ≡ Some j → MustPrecede s x j → Before order w x

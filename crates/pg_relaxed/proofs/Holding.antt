@@ -17,8 +17,9 @@ use Rattle.pg_machine.specs.declared.step.Translation.{Translation}
 use Rattle.pg_machine.specs.Machine.{State, with_leaf, without}
 use Rattle.pg_spanned.specs.Orders.{Spanned, MustPrecede, IsOrder}
 use Rattle.pg_relaxed.specs.declared.slot.Slot.{Slot}
-use Rattle.pg_relaxed.specs.Memory.{Writes, WritesTo, IsOwn, IsPast, MayBeLeft, MayHold}
-use Rattle.pg_relaxed.proofs.History.{state_after, count, IsAt, Came, Before, IsFront, before_more, before_less, front, not_before}
+use Rattle.pg_relaxed.specs.Memory.{Writes, WritesTo, IsOwn, IsPast, IsSupposedPast, IsSupposedLater, MayBeLeft, MayHold}
+use Rattle.pg_relaxed.specs.Supposed.{Keeps}
+use Rattle.pg_relaxed.proofs.History.{state_after, count, IsAt, Came, Before, IsFront, before_more, before_less, front, front_by, not_before}
 use Rattle.pg_relaxed.proofs.Same.{written_same}
 
 -- a write of the value has come, and none that must follow it
@@ -134,12 +135,29 @@ memory_holds s order is (Do e ∷ past) came a =
     subst (Holds s order (suc (count past)) a) (sym (written_same e at.event at.same a v))
     (after_write s order is (count past) a v at.number at.event at.place at.there (memory_holds s order is past came.0 a))
 
+-- what is supposed to come before an event that has come has come, and what is supposed to come
+-- after one that has not come has not
+module _ (s : Spanned) (order : List ℕ) (is : IsOrder s order) (slot : Slot) (w : ℕ) (here : IsFront s slot.p order w slot.next) (keeps : Keeps order slot.edges.now) where
+  supposed_past : (j : ℕ) → IsSupposedPast s slot j → Before order w j
+  supposed_past j h =
+      let second : Before order w h.edge.second = here.come h.edge.second h.own h.came in
+      subst (Before order w) h.first (front_by s order is w h.edge.first h.edge.second second (keeps h.edge h.there))
+
+  supposed_later : (j : ℕ) → IsSupposedLater s slot j → Before order w j → ⊥
+  supposed_later j h b =
+      let first : Before order w h.edge.first = front_by s order is w h.edge.first h.edge.second (subst (Before order w) (sym h.second) b) (keeps h.edge h.there) in
+      let lt : h.edge.first < slot.next = here.below h.edge.first h.own first in
+      omega (arith, lt, h.waits)
+
 -- what is left in an order may be left in the slot
 may_be_left : (s : Spanned) (order : List ℕ) → IsOrder s order → (slot : Slot) (w a v : ℕ) → IsOwn s.events slot.p slot.next → IsFront s slot.p order w slot.next →
-    ((j : ℕ) → j < slot.ended → Before order w j) → Left s order w a v → MayBeLeft s slot a v
-may_be_left s order is slot w a v own here ended h =
+    ((j : ℕ) → j < slot.ended → Before order w j) → Keeps order slot.edges.now → Left s order w a v → MayBeLeft s slot a v
+may_be_left s order is slot w a v own here ended keeps h =
     let next_left : Before order w slot.next → ⊥ = λ b. let lt : slot.next < slot.next = here.below slot.next own b in omega (arith, lt) in
-    let past_came : (i : ℕ) → IsPast s slot i → Before order w i = λ i past. elim past [ inl lt ↦ ended i lt | inr mine ↦ here.come i mine.1 mine.0 ] in
+    let past_came : (i : ℕ) → IsPast s slot i → Before order w i = λ i past. elim past [
+      | inl lt ↦ ended i lt
+      | inr other ↦ elim other [ inl mine ↦ here.come i mine.1 mine.0 | inr supposed ↦ supposed_past s order is slot w here keeps i supposed ]
+    ] in
     elim h [
       | inl m ↦ inl (
         m.0,
@@ -147,7 +165,10 @@ may_be_left s order is slot w a v own here ended h =
           writes = m.1.writes;
           came = λ to_come. elim to_come [
             | inl e ↦ next_left (subst (Before order w) e m.1.came)
-            | inr must ↦ next_left (front s order is w slot.next m.0 m.1.came must)
+            | inr other ↦ elim other [
+              | inl must ↦ next_left (front s order is w slot.next m.0 m.1.came must)
+              | inr supposed ↦ supposed_later s order is slot w here keeps m.0 supposed m.1.came
+            ]
           ];
           last = λ i to past must. m.1.last i to (past_came i past) must;
         },
@@ -157,6 +178,6 @@ may_be_left s order is slot w a v own here ended h =
 
 -- what holds in an order may hold in the slot
 pub may_hold : (s : Spanned) (order : List ℕ) → IsOrder s order → (slot : Slot) (w a v : ℕ) → IsOwn s.events slot.p slot.next → IsFront s slot.p order w slot.next →
-    ((j : ℕ) → j < slot.ended → Before order w j) → Holds s order w a v → MayHold s slot a v
-may_hold s order is slot w a v own here ended (inl h) = inl (may_be_left s order is slot w a v own here ended h)
-may_hold s order is slot w a v own here ended (inr h) = inr (h.0, may_be_left s order is slot w a h.0 own here ended h.1, h.2, h.3)
+    ((j : ℕ) → j < slot.ended → Before order w j) → Keeps order slot.edges.now → Holds s order w a v → MayHold s slot a v
+may_hold s order is slot w a v own here ended keeps (inl h) = inl (may_be_left s order is slot w a v own here ended keeps h)
+may_hold s order is slot w a v own here ended keeps (inr h) = inr (h.0, may_be_left s order is slot w a h.0 own here ended keeps h.1, h.2, h.3)

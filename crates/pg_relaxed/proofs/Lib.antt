@@ -9,3 +9,4 @@ mod Taken
 mod Listing
 mod Passing
 mod Handing
+pub mod Deducing

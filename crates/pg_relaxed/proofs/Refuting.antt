@@ -29,6 +29,7 @@ use Rattle.pg_relaxed.specs.declared.slot.Slot.{Slot}
 use Rattle.pg_relaxed.specs.declared.table.Table.{Table}
 use Rattle.pg_relaxed.specs.Caches.{Known, word_in, IsFilled, HasNoFault, CannotCome}
 use Rattle.pg_relaxed.specs.Memory.{IsOwn, MayHold}
+use Rattle.pg_relaxed.specs.Supposed.{Keeps}
 use Rattle.pg_relaxed.proofs.History.{state_after, count, IsAt, Came, Before, IsFront, front, front_next, not_before, own_at}
 use Rattle.pg_relaxed.proofs.Holding.{memory_holds, may_hold}
 use Rattle.pg_relaxed.proofs.Covering.{IsThere, Covers, readable}
@@ -85,10 +86,10 @@ may_bare head st (Invlpg p la) h = h
 may_bare head st (Invpcid p kind pcid la) h = h
 may_bare head st (MovCr4Pge p on) h = h
 
-module _ (s : Spanned) (slot : Slot) (la ended flags : ℕ) (outcome : Outcome) (ws : List ℕ) (k : Known) (at_event : Slot)
-    (there : slice_get s.events slot.next ≡ Some (Access slot.p flags la outcome ws)) (filled : IsFilled s slot la k) (covers : Covers s slot.p la slot.next slot.ended k)
-    (same_p : at_event.p ≡ slot.p) (same_next : at_event.next ≡ slot.next) (more : HasEnded s slot.next slot.ended at_event.ended)
-    (cannot : CannotCome s at_event la k (access_kind flags) outcome (want_of outcome)) (order : List ℕ) (is : IsOrder s order) where
+module _ (s : Spanned) (slot : Slot) (la flags : ℕ) (outcome : Outcome) (ws : List ℕ) (k : Known) (at_event : Slot)
+    (there : slice_get s.events slot.next ≡ Some (Access slot.p flags la outcome ws)) (filled : IsFilled s slot la k) (covers : Covers s slot.edges.now slot.p la slot.next slot.ended k)
+    (same_p : at_event.p ≡ slot.p) (same_next : at_event.next ≡ slot.next) (same_edges : at_event.edges.now ≡ slot.edges.now) (more : HasEnded s slot.next slot.ended at_event.ended)
+    (cannot : CannotCome s at_event la k (access_kind flags) outcome (want_of outcome)) (order : List ℕ) (is : IsOrder s order) (keeps : Keeps order slot.edges.now) where
   own : IsOwn s.events slot.p slot.next
   own = own_at s.events slot.p slot.next (Access slot.p flags la outcome ws) there refl
 
@@ -117,13 +118,14 @@ module _ (s : Spanned) (slot : Slot) (la ended flags : ℕ) (outcome : Outcome) 
       (subst (λ q. IsOwn s.events q at_event.next) (sym same_p) (subst (IsOwn s.events slot.p) (sym same_next) own))
       (subst (λ q. IsFront s q order (count past) at_event.next) (sym same_p) (subst (IsFront s slot.p order (count past)) (sym same_next) (here_front (count past) place)))
       (λ j lt. elim (more j lt) [ inl low ↦ t.come j low | inr must ↦ front_next s order is (count past) j slot.next place must ])
+      (subst (Keeps order) (sym same_edges) keeps)
       (memory_holds s order is past came a)
 
   no_fault : (past : List Step) → Came s order past → slice_get order (count past) ≡ Some slot.next → (kind : Kind) (cause : Cause) →
       HasNoFault s at_event la k (access_kind flags) outcome kind cause → Faults s.head (state_after s.head past) slot.p la kind cause (access_kind flags) outcome → ⊥
   no_fault past came place kind cause free f =
       let st : State = state_after s.head past in
-      let t : IsThere s slot.p la order past slot.ended k = covers order past is came (here_front (count past) place) in
+      let t : IsThere s slot.p la order past slot.ended k = covers order past is keeps came (here_front (count past) place) in
       let x : Table = record { level = f.0; pcid = (st.control slot.p).pcid; from = f.1 } in
       free x (entry_now st la f.0 f.1) (readable s slot la k filled st t.known f.0 la f.1 refl f.2) (ap (λ (c : Control). c.pcid) t.known.control)
       (holds_at past came place t (word_in la x)) f.3 f.4
@@ -132,7 +134,7 @@ module _ (s : Spanned) (slot : Slot) (la ended flags : ℕ) (outcome : Outcome) 
       CannotCome s at_event la k (access_kind flags) outcome want → HasOutcome s.head (state_after s.head past) slot.p la (access_kind flags) outcome want → ⊥
   no_outcome past came place wants.Leaf cannot h =
       let st : State = state_after s.head past in
-      let t : IsThere s slot.p la order past slot.ended k = covers order past is came (here_front (count past) place) in
+      let t : IsThere s slot.p la order past slot.ended k = covers order past is keeps came (here_front (count past) place) in
       let usable : is_usable k.control la h.0 ≡ true = ap (λ c. is_usable c la h.0) (sym t.known.control) ∙ h.2 in
       let parts = and_parts (translation_matches h.0.key la) _ usable in
       cannot h.0 (t.known.translations h.0 h.1 parts.0) usable h.3

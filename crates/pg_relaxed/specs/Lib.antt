@@ -2,3 +2,4 @@ pub mod Orders
 pub mod Memory
 pub mod Caches
 pub mod Words
+pub mod Supposed

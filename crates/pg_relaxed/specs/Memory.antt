@@ -1,11 +1,13 @@
 -- What a word may hold while a processor stands between two of its events, in whichever order.
-use Rattle.std.specs.Prelude.{◌≡◌, ℕ, ◌<◌, ◌⊎◌, Bool, List, Some, slice_get}
+use Rattle.std.specs.Prelude.{◌≡◌, ℕ, ◌<◌, ◌≤◌, ◌⊎◌, Bool, List, Some, slice_get}
 use Rattle.std.specs.Option.{option_map}
 use Rattle.pg_entry.specs.Kinds.{marked}
 use Rattle.pg_event.specs.declared.event.Event.{Event}
 use Rattle.pg_event.specs.declared.event.Event.TheVariants.{Write}
 use Rattle.pg_event.specs.Form.{processor_of}
+use Rattle.pg_machine.specs.Machine.{IsIn}
 use Rattle.pg_spanned.specs.Orders.{Spanned, MustPrecede}
+use Rattle.pg_relaxed.specs.declared.edge.Edge.{Edge}
 use Rattle.pg_relaxed.specs.declared.slot.Slot.{Slot}
 
 -- event j writes the value to the word
@@ -20,13 +22,31 @@ WritesTo events a j = (v : ℕ) × Writes events a v j
 abbrev pub IsOwn : List Event → ℕ → ℕ → Type 0
 IsOwn events p j = option_map processor_of (slice_get events j) ≡ Some p
 
--- event j has come before the slot in every order
-abbrev pub IsPast : Spanned → Slot → ℕ → Type 0
-IsPast s slot j = (j < slot.ended) ⊎ ((j < slot.next) × IsOwn s.events slot.p j)
+-- event j is supposed to come before an event of the processor that has come
+pub record IsSupposedPast (s : Spanned) (slot : Slot) (j : ℕ) : Type 0 where
+  pub edge : Edge
+  pub there : IsIn edge slot.edges.now
+  pub first : edge.first ≡ j
+  pub came : edge.second < slot.next
+  pub own : IsOwn s.events slot.p edge.second
 
--- event j comes after the slot in every order
+-- event j is supposed to come after an event of the processor that has not come
+pub record IsSupposedLater (s : Spanned) (slot : Slot) (j : ℕ) : Type 0 where
+  pub edge : Edge
+  pub there : IsIn edge slot.edges.now
+  pub second : edge.second ≡ j
+  pub waits : slot.next ≤ edge.first
+  pub own : IsOwn s.events slot.p edge.first
+
+-- event j has come before the slot in every order that is as supposed
+abbrev pub IsPast : Spanned → Slot → ℕ → Type 0
+IsPast s slot j =
+    (j < slot.ended) ⊎ (((j < slot.next) × IsOwn s.events slot.p j) ⊎ IsSupposedPast s slot j)
+
+-- event j comes after the slot in every order that is as supposed
 abbrev pub IsToCome : Spanned → Slot → ℕ → Type 0
-IsToCome s slot j = (j ≡ slot.next) ⊎ MustPrecede s slot.next j
+IsToCome s slot j =
+    (j ≡ slot.next) ⊎ (MustPrecede s slot.next j ⊎ IsSupposedLater s slot j)
 
 -- a write that may have come, and no write that has come must follow it
 pub record MayBeLast (s : Spanned) (slot : Slot) (a v j : ℕ) : Type 0 where

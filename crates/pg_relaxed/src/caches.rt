@@ -176,7 +176,7 @@ impl Caches {
         alloc: Global,
         run: &SpannedRun,
         words: &mut Words,
-        slot: Slot,
+        slot: Slot<'_>,
         la: u64,
         table: Table,
     ) -> Result<bool, AllocError>
@@ -185,7 +185,7 @@ impl Caches {
         ensures words { OnOk result (AreWordsOf run.now.events words.new.words.items) }
         ensures more { OnOk result (Extends (known_of self.old) (known_of self.new)) }
         ensures taken { IfOk result (λ whole. IsTrue whole → (entry : ℕ) →
-            MayHold run.now slot (word_in la table) entry →
+            MayHold run.now slot.entry (word_in la table) entry →
             IsTaken run.now.head.cfg la (known_of self.new) table entry) }
     {
         let address = entry_address(table.from.table, table.level, la);
@@ -203,7 +203,7 @@ impl Caches {
         alloc: Global,
         run: &SpannedRun,
         words: &mut Words,
-        slot: Slot,
+        slot: Slot<'_>,
         la: u64,
     ) -> Result<bool, AllocError>
         requires root { self.old.control.root < 2 ^ 52 }
@@ -212,7 +212,7 @@ impl Caches {
         ensures grows { IfOk result (λ whole. IsTrue whole →
             Grows (known_of self.old) (known_of self.new)) }
         ensures filled { IfOk result (λ whole. IsTrue whole →
-            IsFilled run.now slot la (known_of self.new)) }
+            IsFilled run.now slot.entry la (known_of self.new)) }
     {
         let pcid = self.control.pcid;
         self.add_table(Table {

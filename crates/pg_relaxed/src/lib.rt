@@ -3,6 +3,8 @@
 #![tactic(auto)]
 
 mod caches;
+mod deduced;
+mod edge;
 mod held;
 mod precede;
 mod refuter;
@@ -10,4 +12,6 @@ mod slot;
 mod table;
 mod words;
 
+pub use deduced::{Refuted, refute_near};
+pub use edge::Edge;
 pub use refuter::refute;

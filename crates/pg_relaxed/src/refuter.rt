@@ -11,9 +11,11 @@ ghost use Rattle.pg_relaxed.specs.Caches.{CannotCome, HasNoFault, HasNoAnswer, k
 ghost use Rattle.pg_relaxed.specs.Caches.{word_in};
 ghost use Rattle.pg_relaxed.specs.Memory.{MayHold};
 ghost use Rattle.pg_relaxed.specs.Orders.{NeverComes, IsAccess};
+ghost use Rattle.pg_relaxed.specs.Supposed.{NeverComesSo};
 ghost use Rattle.pg_relaxed.specs.Words.{AreWordsOf};
 
 use crate::caches::Caches;
+use crate::edge::Edge;
 use crate::precede::ended_before;
 use crate::slot::Slot;
 use crate::table::Table;
@@ -26,6 +28,9 @@ use pg_event::{
 use pg_machine::Translation;
 use pg_spanned::SpannedRun;
 use std::alloc::{AllocError, Global};
+
+/// So much is looked at for one event.
+const MOST_LOOKS: u64 = 100_000_000;
 
 /// The access that an event is.
 #[derive(Clone, Copy)]
@@ -138,7 +143,7 @@ fn table_faults_not(
     alloc: Global,
     run: &SpannedRun,
     words: &mut Words,
-    slot: Slot,
+    slot: Slot<'_>,
     la: u64,
     table: Table,
     cause: Cause,
@@ -147,7 +152,7 @@ fn table_faults_not(
     requires words { AreWordsOf run.now.events words.old.words.items }
     ensures words { OnOk result (AreWordsOf run.now.events words.new.words.items) }
     ensures none { IfOk result (λ none. IsTrue none → (entry : ℕ) →
-        MayHold run.now slot (word_in la table) entry →
+        MayHold run.now slot.entry (word_in la table) entry →
         kind_of run.now.head.cfg table.level entry ≡ kind_for cause → ⊥) }
 {
     let address = entry_address(table.from.table, table.level, la);
@@ -163,12 +168,13 @@ fn has_no_fault(
     run: &SpannedRun,
     words: &mut Words,
     caches: &Caches,
-    slot: Slot,
+    slot: Slot<'_>,
     asked: Asked,
     cause: Cause,
 ) -> Result<bool, AllocError>
     requires words { AreWordsOf run.now.events words.old.words.items }
-    ensures { IfOk result (λ none. IsTrue none → HasNoFault run.now slot asked.la
+    ensures words { OnOk result (AreWordsOf run.now.events words.new.words.items) }
+    ensures none { IfOk result (λ none. IsTrue none → HasNoFault run.now slot.entry asked.la
         (known_of caches.now) (access_kind asked.flags) asked.outcome (kind_for cause) cause) }
 {
     for held in &caches.tables {
@@ -188,11 +194,12 @@ fn cannot_come(
     run: &SpannedRun,
     words: &mut Words,
     caches: &Caches,
-    slot: Slot,
+    slot: Slot<'_>,
     asked: Asked,
 ) -> Result<bool, AllocError>
     requires words { AreWordsOf run.now.events words.old.words.items }
-    ensures { IfOk result (λ cannot. IsTrue cannot → CannotCome run.now slot asked.la
+    ensures words { OnOk result (AreWordsOf run.now.events words.new.words.items) }
+    ensures cannot { IfOk result (λ cannot. IsTrue cannot → CannotCome run.now slot.entry asked.la
         (known_of caches.now) (access_kind asked.flags) asked.outcome (want_of asked.outcome)) }
 {
     match want_of(asked.outcome) {
@@ -203,23 +210,40 @@ fn cannot_come(
     }
 }
 
-/// Whether no order of a run can witness an access.
-fn refute_access(alloc: Global, run: &SpannedRun, asked: Asked) -> Result<bool, AllocError>
+/// Whether no order of a run that is as supposed can witness an access.
+fn refute_access(
+    alloc: Global,
+    run: &SpannedRun,
+    words: &mut Words,
+    edges: &[Edge],
+    asked: Asked,
+) -> Result<bool, AllocError>
     requires there { IsAccess run.now.events asked.number asked.p asked.flags asked.la
         asked.outcome }
     requires count { asked.number < length run.now.events }
-    ensures { IfOk result (λ refuted. IsTrue refuted → NeverComes run.now asked.number) }
+    requires words { AreWordsOf run.now.events words.old.words.items }
+    ensures words { OnOk result (AreWordsOf run.now.events words.new.words.items) }
+    ensures never { IfOk result (λ refuted. IsTrue refuted →
+        NeverComesSo run.now edges.now asked.number) }
 {
     let Asked { number, p, la, .. } = asked;
+    if !words.may_look(number as u64) {
+        return Ok(false);
+    }
     let header = run.header();
     let events = run.events();
-    let mut words = Words::new(alloc);
     let mut caches = Caches::new(alloc, started(header, p));
     let mut ended = 0;
     for next in 0..number {
         let event = &events[next as usize];
         if processor_of(event) == p {
-            if !caches.fill(alloc, run, &mut words, Slot { p, next, ended }, la)? {
+            let slot = Slot {
+                p,
+                next,
+                ended,
+                edges,
+            };
+            if !caches.fill(alloc, run, words, slot, la)? {
                 return Ok(false);
             }
             caches.pass(header.cfg.m, la, event);
@@ -230,27 +254,34 @@ fn refute_access(alloc: Global, run: &SpannedRun, asked: Asked) -> Result<bool, 
         p,
         next: number,
         ended,
+        edges,
     };
-    if !caches.fill(alloc, run, &mut words, slot, la)? {
+    if !caches.fill(alloc, run, words, slot, la)? {
         return Ok(false);
     }
     let at_event = Slot {
         p,
         next: number,
         ended: ended.max(ended_before(run, number)),
+        edges,
     };
-    cannot_come(alloc, run, &mut words, &caches, at_event, asked)
+    cannot_come(alloc, run, words, &caches, at_event, asked)
 }
 
-/// Whether in no order of its events a run of the machine comes to this event, by its number, so
-/// that no order has a run. A no says nothing: it is the answer for an event that is no access too,
-/// and where too much would have to be looked at.
-///
-/// It fails only where memory is refused. It takes time by the events of the processor before the
-/// event, and by the writes to the words that walks for its address read.
-pub fn refute(alloc: Global, run: &SpannedRun, number: u32) -> Result<bool, AllocError>
+/// Whether in no order of its events that is as supposed a run of the machine comes to this event,
+/// by its number. A no says nothing.
+pub(crate) fn refute_so(
+    alloc: Global,
+    run: &SpannedRun,
+    words: &mut Words,
+    edges: &[Edge],
+    number: u32,
+) -> Result<bool, AllocError>
+    requires words { AreWordsOf run.now.events words.old.words.items }
+    ensures words { OnOk result (AreWordsOf run.now.events words.new.words.items) }
     ensures within { IfOk result (λ refuted. IsTrue refuted → number < length run.now.events) }
-    ensures never { IfOk result (λ refuted. IsTrue refuted → NeverComes run.now number) }
+    ensures never { IfOk result (λ refuted. IsTrue refuted →
+        NeverComesSo run.now edges.now number) }
 {
     if number as usize >= run.len() {
         return Ok(false);
@@ -270,7 +301,7 @@ pub fn refute(alloc: Global, run: &SpannedRun, number: u32) -> Result<bool, Allo
                 la,
                 outcome,
             };
-            refute_access(alloc, run, asked)
+            refute_access(alloc, run, words, edges, asked)
         }
         Event::Write { .. }
         | Event::Assist { .. }
@@ -279,4 +310,18 @@ pub fn refute(alloc: Global, run: &SpannedRun, number: u32) -> Result<bool, Allo
         | Event::Invpcid { .. }
         | Event::MovCr4Pge { .. } => Ok(false),
     }
+}
+
+/// Whether in no order of its events a run of the machine comes to this event, by its number, so
+/// that no order has a run. A no says nothing: it is the answer for an event that is no access too,
+/// and where too much would have to be looked at.
+///
+/// It fails only where memory is refused. It takes time by the events of the processor before the
+/// event, and by the writes to the words that walks for its address read.
+pub fn refute(alloc: Global, run: &SpannedRun, number: u32) -> Result<bool, AllocError>
+    ensures within { IfOk result (λ refuted. IsTrue refuted → number < length run.now.events) }
+    ensures never { IfOk result (λ refuted. IsTrue refuted → NeverComes run.now number) }
+{
+    let mut words = Words::new(alloc, MOST_LOOKS);
+    refute_so(alloc, run, &mut words, &[], number)
 }

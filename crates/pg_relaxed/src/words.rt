@@ -7,15 +7,15 @@ ghost use Rattle.pg_relaxed.specs.Memory.{MayBeLeft, MayHold, IsToCome};
 ghost use Rattle.pg_relaxed.specs.Words.{AreWritesTo, AreWordsOf, IsOverwritten, IsWritten};
 ghost use Rattle.pg_relaxed.specs.Words.{WritesValue, AreBelow, IsPlaceOf, AreAllIn, IsMarkedIn};
 
-use crate::precede::must_precede;
+use crate::precede::{ended_before, must_precede};
 use crate::slot::{Slot, is_past, is_to_come};
 use pg_entry::{Entry, marked};
 use pg_event::Event;
 use pg_spanned::SpannedRun;
 use std::alloc::{AllocError, Global};
 
-/// So many writes are looked at.
-const MOST_LOOKS: u64 = 100_000_000;
+/// What a word costs beside its writes.
+const LOOKS: u64 = 32;
 
 /// So many writes are looked at for one that must follow the first of them. Where no two events of
 /// one processor overlap, at most 63 of other processors end behind it and need not follow it.
@@ -42,7 +42,8 @@ pub(crate) struct Words {
     /// What the last write may have left.
     left_there: Vec<u64>,
     pub values: Vec<u64>,
-    pub left: u64,
+    /// So much more may be looked at.
+    left: u64,
 }
 
 /// The value that an event writes to a word.
@@ -79,9 +80,9 @@ fn writes_to(alloc: Global, events: &[Event], address: u64) -> Result<Vec<Writte
 }
 
 /// Whether one of the first of these writes must follow event j and has come.
-fn is_overwritten(run: &SpannedRun, slot: Slot, writes: &[Written], j: u32) -> bool
+fn is_overwritten(run: &SpannedRun, slot: Slot<'_>, writes: &[Written], j: u32) -> bool
     requires { AreBelow (length run.now.events) writes.now }
-    ensures { IsTrue result → IsOverwritten run.now slot writes.now j }
+    ensures { IsTrue result → IsOverwritten run.now slot.entry writes.now j }
 {
     let next = &writes[..writes.len().min(MOST_LATER)];
     for written in next {
@@ -93,8 +94,8 @@ fn is_overwritten(run: &SpannedRun, slot: Slot, writes: &[Written], j: u32) -> b
 }
 
 /// Whether one of these writes has come.
-fn is_written(run: &SpannedRun, slot: Slot, writes: &[Written]) -> bool
-    ensures { IsTrue result → IsWritten run.now slot writes.now }
+fn is_written(run: &SpannedRun, slot: Slot<'_>, writes: &[Written]) -> bool
+    ensures { IsTrue result → IsWritten run.now slot.entry writes.now }
 {
     for written in writes {
         if is_past(run, slot, written.number) {
@@ -104,35 +105,56 @@ fn is_written(run: &SpannedRun, slot: Slot, writes: &[Written]) -> bool
     false
 }
 
-/// Whether a write may be the last to its word in a slot. Not where it comes later, or another must
-/// follow it and has come.
-fn may_be_last(run: &SpannedRun, slot: Slot, writes: &[Written], written: Written) -> bool
+/// Whether a write may be the last to its word in a slot. Not where it is below a bound, or comes
+/// later, or another must follow it and has come.
+fn may_be_last(
+    run: &SpannedRun,
+    slot: Slot<'_>,
+    bound: u32,
+    writes: &[Written],
+    written: Written,
+) -> bool
     requires within { written.number < length run.now.events }
     requires writes { AreBelow (length run.now.events) writes.now }
-    ensures { IsFalse result → IsToCome run.now slot written.number
-        ⊎ IsOverwritten run.now slot writes.now written.number }
+    ensures { IsFalse result → (written.number < bound) ⊎ (IsToCome run.now slot.entry written.number
+        ⊎ IsOverwritten run.now slot.entry writes.now written.number) }
 {
-    if is_to_come(run, slot, written.number) {
+    if written.number < bound || is_to_come(run, slot, written.number) {
         return false;
     }
     !is_overwritten(run, slot, writes, written.number)
 }
 
+/// A number below which each event was overwritten by one of these writes that has come.
+fn overwritten_below(run: &SpannedRun, slot: Slot<'_>, writes: &[Written]) -> u32
+    requires { AreBelow (length run.now.events) writes.now }
+    ensures { (j : ℕ) → j < result → IsOverwritten run.now slot.entry writes.now j }
+{
+    let mut bound: u32 = 0;
+    for written in writes {
+        if written.number < slot.ended {
+            bound = bound.max(ended_before(run, written.number));
+        }
+    }
+    bound
+}
+
 /// The values that the last write to a word may have left in a slot, put into a list.
 fn put_values(
     run: &SpannedRun,
-    slot: Slot,
+    slot: Slot<'_>,
     word: &Word,
     values: &mut Vec<u64>,
 ) -> Result<(), AllocError>
     requires { AreWritesTo run.now.events word.now.address word.now.writes.items }
-    ensures { OnOk result ((value : ℕ) → MayBeLeft run.now slot word.now.address value →
+    ensures { OnOk result ((value : ℕ) → MayBeLeft run.now slot.entry word.now.address value →
         IsIn value values.new.items) }
 {
     let writes = word.writes.as_slice();
+    let bound = overwritten_below(run, slot, writes);
     for (place, written) in writes.iter().enumerate() {
         // Those that follow come later in the list.
-        if may_be_last(run, slot, &writes[place..], *written) {
+        if may_be_last(run, slot, bound, &writes[place..], *written) {
             values.push(written.value)?;
         }
     }
@@ -176,15 +198,27 @@ fn find_place(words: &[Word], address: u64) -> Option<usize>
 }
 
 impl Words {
-    pub(crate) fn new(alloc: Global) -> Words
+    /// None was looked at. So much may be: an event or a write that is passed over counts as one.
+    pub(crate) fn new(alloc: Global, most: u64) -> Words
         ensures { result.words.items ≡ [] }
     {
         Words {
             words: Vec::new(alloc),
             left_there: Vec::new(alloc),
             values: Vec::new(alloc),
-            left: MOST_LOOKS,
+            left: most,
         }
+    }
+
+    /// Counts what is looked at. Says no where it would be too much.
+    pub(crate) fn may_look(&mut self, looks: u64) -> bool
+        ensures { self.new.words.items ≡ self.old.words.items }
+    {
+        if self.left < looks {
+            return false;
+        }
+        self.left -= looks;
+        true
     }
 
     /// The place of a word among those that were looked at, with its writes if it is new.
@@ -214,19 +248,19 @@ impl Words {
         &mut self,
         alloc: Global,
         run: &SpannedRun,
-        slot: Slot,
+        slot: Slot<'_>,
         address: u64,
     ) -> Result<bool, AllocError>
         requires { AreWordsOf run.now.events self.old.words.items }
         ensures words { OnOk result (AreWordsOf run.now.events self.new.words.items) }
         ensures values { IfOk result (λ whole. IsTrue whole → (value : ℕ) →
-            MayHold run.now slot address value → IsIn value self.new.values.items) }
+            MayHold run.now slot.entry address value → IsIn value self.new.values.items) }
     {
         let place = self.place_of(alloc, run.events(), address)?;
         self.left_there.clear();
         self.values.clear();
         let word = &self.words[place];
-        let looks = word.writes.len() as u64 + 1;
+        let looks = word.writes.len() as u64 + LOOKS;
         if self.left < looks {
             return Ok(false);
         }

@@ -1,4 +1,7 @@
+use Rattle.std.proofs.Common.{sym, subst}
 use Rattle.pg_spanned.specs.Orders.{Spanned}
+use Rattle.pg_relaxed.specs.Supposed.{AreSure}
+use Rattle.pg_relaxed.proofs.Deducing.{sure_of_none}
 use Rattle.pg_order.proofs.Meaning.{never_comes_none_runs}
 use Rattle.pg_order.proofs.verdict.verdict_of_waiting.Goals as goal
 
@@ -10,6 +13,7 @@ returns-then-branch c =
     record {
       within = within;
       never = never;
+      sure = subst (λ es. AreSure s es _) (sym c.new.ensures.items) (sure_of_none s _);
       only = λ none. absurd (c.requires none);
       run = never_comes_none_runs s _ within never;
     }

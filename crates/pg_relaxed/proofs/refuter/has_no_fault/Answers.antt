@@ -37,8 +37,8 @@ loop-held-preserved c =
       }
     ]
 
-pub returns : goal.returns
-returns c = λ yes t entry there own may kind code.
+pub returns-clause-none : goal.returns-clause-none
+returns-clause-none c = λ yes t entry there own may kind code.
     let short : length c.args.caches.now.tables.items ≤ c.loop-held.held-index =
     subst (λ (ys : List Table). length ys ≤ c.loop-held.held-index) c.deref-held-items.ensures.value c.loop-held-test.false in
     c.loop-held.invariant.none t (subst (IsIn t) (sym (take_all c.args.caches.now.tables.items c.loop-held.held-index short)) there) own entry may kind

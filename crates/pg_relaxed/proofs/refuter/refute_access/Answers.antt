@@ -1,4 +1,4 @@
-use Rattle.std.proofs.Common.{◌≡◌, ◌+◌, ◌<◌, ◌≤◌, ◌^◌, ℕ, [], List, length, get_or, max, sym, ap, subst, ◌∙◌, arith, Some, Result, Ok, Err, Bool}
+use Rattle.std.proofs.Common.{◌≡◌, ◌+◌, ◌<◌, ◌≤◌, ◌^◌, ℕ, [], List, length, get_or, max, refl, sym, ap, subst, ◌∙◌, arith, Some, Result, Ok, Err, Bool}
 use Rattle.std.specs.Prelude.{IfOk, IsTrue, slice_get}
 use Rattle.std.proofs.lemmas.Option.{slice_get-get_or}
 use Rattle.pg_event.specs.declared.control.Control.{Control}
@@ -12,11 +12,11 @@ use Rattle.pg_spanned.specs.Orders.{Spanned, ended_before}
 use Rattle.pg_relaxed.specs.declared.caches.Caches.{Caches}
 use Rattle.pg_relaxed.specs.declared.words.Words.{Words}
 use Rattle.pg_relaxed.specs.Caches.{Known, Grows, CannotCome, known_of}
-use Rattle.pg_relaxed.specs.Orders.{NeverComes}
+use Rattle.pg_relaxed.specs.Supposed.{NeverComesSo}
 use Rattle.pg_relaxed.specs.Words.{AreWordsOf}
 use Rattle.pg_relaxed.proofs.Covering.{Enters}
 use Rattle.pg_relaxed.proofs.Entering.{starts}
-use Rattle.pg_relaxed.proofs.Handing.{slot_of, hands_on, hands_over, cannot_run}
+use Rattle.pg_relaxed.proofs.Handing.{hands_on, hands_over, cannot_run}
 use Rattle.pg_relaxed.proofs.refuter.refute_access.Goals as goal
 use Rattle.pg_relaxed.proofs.refuter.refute_access.Goals.{then-processor_of-p+in_ok-fill+else-not-branch, else-processor_of-p}
 
@@ -32,9 +32,9 @@ loop-next-init c =
     let control : c.started.result ≡ started s.head.cfg.m (slice_get s.head.processors p) =
     c.started.ensures.value ∙ ap (λ (h : Head). started h.cfg.m (slice_get h.processors p)) c.header-header.ensures.header in
     record {
-      words = subst (AreWordsOf s.events) (sym c.new-words.ensures) tt;
+      words = subst (AreWordsOf s.events) (sym c.may_look.ensures) c.requires.words;
       root = subst (λ (k : Known). k.control.root < 2 ^ 52) (sym c.new-caches.ensures) c.started.ensures.within;
-      enters = subst (Enters s p c.args.asked.la 0 0) (sym (c.new-caches.ensures ∙ ap empty control)) (starts s p c.args.asked.la);
+      enters = subst (Enters s c.args.edges.now p c.args.asked.la 0 0) (sym (c.new-caches.ensures ∙ ap empty control)) (starts s c.args.edges.now p c.args.asked.la);
     }
 
 pub loop-next-preserved : goal.loop-next-preserved
@@ -62,28 +62,28 @@ loop-next-preserved c =
           let root : left.control.root < 2 ^ 52 =
           subst (λ (d : Control). d.root < 2 ^ 52) (sym control)
           (root-controlled s.head.cfg.m (processor_of e) filled.control e (omega (arith, low)) high (subst (λ (d : Control). d.root < 2 ^ 52) (sym grows.control) c.loop-next.invariant.root)) in
-          let on : Enters s p la (n + 1) w.max-ended.result left =
-          hands_on s p la n c.loop-next.ended w.max-ended.result e before filled left there mine within c.loop-next.invariant.enters grows
-          (w.in_ok-fill.ensures.filled w.if-not-branch.false) w.pass.ensures.left control later in
+          let on : Enters s c.args.edges.now p la (n + 1) w.max-ended.result left =
+          hands_on s la filled _ (w.in_ok-fill.ensures.filled w.if-not-branch.false) w.max-ended.result e before left there mine within c.loop-next.invariant.enters grows
+          w.pass.ensures.left control later in
           record {
             words = subst (λ (v : Words). AreWordsOf s.events v.words.items) (sym w.words-is) w.in_ok-fill.ensures.words;
             root = subst (λ (v : Caches). v.control.root < 2 ^ 52) (sym w.caches-is) root;
-            enters = subst (λ (v : Caches). Enters s p la (n + 1) c.if-processor_of-p.ended (known_of v)) (sym w.caches-is)
-                (subst (λ (k : ℕ). Enters s p la (n + 1) k left) (sym w.ended-is) on);
+            enters = subst (λ (v : Caches). Enters s c.args.edges.now p la (n + 1) c.if-processor_of-p.ended (known_of v)) (sym w.caches-is)
+                (subst (λ (k : ℕ). Enters s c.args.edges.now p la (n + 1) k left) (sym w.ended-is) on);
           }
       | else-processor_of-p w ↦
-          let on : Enters s p la (n + 1) c.loop-next.ended (known_of c.loop-next.caches) =
-          hands_over s p la n c.loop-next.ended e (known_of c.loop-next.caches) there (λ h. w.if-processor_of-p.false (c.processor_of.ensures ∙ h)) c.loop-next.invariant.enters in
+          let on : Enters s c.args.edges.now p la (n + 1) c.loop-next.ended (known_of c.loop-next.caches) =
+          hands_over s c.args.edges.now p la n c.loop-next.ended e (known_of c.loop-next.caches) there (λ h. w.if-processor_of-p.false (c.processor_of.ensures ∙ h)) c.loop-next.invariant.enters in
           record {
             words = subst (λ (v : Words). AreWordsOf s.events v.words.items) (sym w.words-is) c.loop-next.invariant.words;
             root = subst (λ (v : Caches). v.control.root < 2 ^ 52) (sym w.caches-is) c.loop-next.invariant.root;
-            enters = subst (λ (v : Caches). Enters s p la (n + 1) c.if-processor_of-p.ended (known_of v)) (sym w.caches-is)
-                (subst (λ (k : ℕ). Enters s p la (n + 1) k (known_of c.loop-next.caches)) (sym w.ended-is) on);
+            enters = subst (λ (v : Caches). Enters s c.args.edges.now p la (n + 1) c.if-processor_of-p.ended (known_of v)) (sym w.caches-is)
+                (subst (λ (k : ℕ). Enters s c.args.edges.now p la (n + 1) k (known_of c.loop-next.caches)) (sym w.ended-is) on);
           }
     ]
 
-pub returns : goal.returns
-returns c =
+pub returns-clause-never : goal.returns-clause-never
+returns-clause-never c =
     let s : Spanned = c.args.run.now in
     let p : ℕ = c.args.asked.p in
     let la : ℕ = c.args.asked.la in
@@ -92,9 +92,8 @@ returns c =
     let before : Known = known_of c.loop-next.caches in
     let filled : Known = known_of c.fill-2.new.self in
     let later : c.max.result ≡ max c.loop-next.ended (ended_before s i) = c.max.ensures ∙ ap (max c.loop-next.ended) c.ended_before-2.ensures.count in
-    if_ok (λ cannot. IsTrue cannot → CannotCome s (slot_of p i c.max.result) la filled (access_kind c.args.asked.flags) c.args.asked.outcome (want_of c.args.asked.outcome))
-    (λ refuted. IsTrue refuted → NeverComes s i)
-    (λ b h yes. cannot_run s p la i c.loop-next.ended c.max.result c.args.asked.flags c.args.asked.outcome before filled c.requires.there c.requires.count
-    (subst (λ (k : ℕ). Enters s p la k c.loop-next.ended before) end c.loop-next.invariant.enters)
-    (c.in_ok-fill-2.ensures.grows c.if-not-branch-2.false) (c.in_ok-fill-2.ensures.filled c.if-not-branch-2.false) later (h yes))
-    c.cannot_come.result c.cannot_come.ensures
+    let yes_means : (b : Bool) → (IsTrue b → CannotCome s _ la filled (access_kind c.args.asked.flags) c.args.asked.outcome (want_of c.args.asked.outcome)) → IsTrue b → NeverComesSo s c.args.edges.now i =
+    λ b h yes. cannot_run s la filled _ (c.in_ok-fill-2.ensures.filled c.if-not-branch-2.false) c.args.asked.flags c.args.asked.outcome _ (h yes) refl refl refl before c.requires.there c.requires.count
+    (subst (λ (k : ℕ). Enters s c.args.edges.now p la k c.loop-next.ended before) end c.loop-next.invariant.enters)
+    (c.in_ok-fill-2.ensures.grows c.if-not-branch-2.false) later in
+    if_ok _ (λ refuted. IsTrue refuted → NeverComesSo s c.args.edges.now i) yes_means c.cannot_come.result c.cannot_come.ensures.cannot

@@ -8,5 +8,5 @@ abbrev pub invariant-loop-next : goal.invariant-loop-next
 invariant-loop-next l = record {
   words : AreWordsOf l.run.events l.words.words.items;
   root : l.caches.control.root < 2 ^ 52;
-  enters : Enters l.fn.run l.fn.asked.p l.fn.asked.la l.next l.ended (known_of l.caches);
+  enters : Enters l.fn.run l.fn.edges l.fn.asked.p l.fn.asked.la l.next l.ended (known_of l.caches);
 }

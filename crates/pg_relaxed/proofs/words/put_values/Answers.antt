@@ -13,6 +13,9 @@ use Rattle.pg_relaxed.proofs.words.put_values.Goals.{then-may_be_last+in_ok-push
 below : (events : List Event) (a : ℕ) (items writes : List Written) → writes ≡ items → AreWritesTo events a items → AreBelow (length events) writes
 below events a items writes is are = subst (AreBelow (length events)) (sym is) (are_below events a items are)
 
+pub overwritten_below-bound-requires : goal.overwritten_below-bound-requires
+overwritten_below-bound-requires c = below c.args.run.now.events c.args.word.now.address c.args.word.now.writes.items c.as_slice-writes.result.now c.as_slice-writes.ensures.value c.requires
+
 pub may_be_last-requires : goal.may_be_last-requires
 may_be_last-requires c =
     let writes : List Written = c.as_slice-writes.result.now in
@@ -37,7 +40,13 @@ loop-place-preserved c =
           let items : c.if-may_be_last.values.items ≡ old = ap (λ (v : Vec ℕ Global). v.items) w.values-is in
           subst (λ vs. (x : Written) → IsIn x (take (n + 1) writes) → IsSeen s slot writes vs x) (sym items)
           (one_more_get (IsSeen s slot writes old) writes n (record { number = 0; value = 0 }) c.loop-place-test.true c.loop-place.invariant
-          (elim (c.may_be_last.ensures w.if-may_be_last.false) [ inl a ↦ inl a | inr b ↦ inr (inl (overwritten_in s slot writes (take (length writes - n) (drop n writes)) w0.number (λ x h. in_part writes n (length writes - n) x h) b)) ]))
+          (elim (c.may_be_last.ensures w.if-may_be_last.false) [
+            | inl low ↦ inr (inl (c.overwritten_below-bound.ensures w0.number low))
+            | inr other ↦ elim other [
+              | inl a ↦ inl a
+              | inr b ↦ inr (inl (overwritten_in s slot writes (take (length writes - n) (drop n writes)) w0.number (λ x h. in_part writes n (length writes - n) x h) b))
+            ]
+          ]))
     ]
 
 pub returns-in_ok-push-2 : goal.returns-in_ok-push-2

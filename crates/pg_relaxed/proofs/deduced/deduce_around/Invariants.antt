@@ -1,0 +1,10 @@
+use Rattle.std.proofs.Common.{ℕ}
+use Rattle.pg_relaxed.specs.Supposed.{AreSure, IsUpTo}
+use Rattle.pg_relaxed.specs.Words.{AreWordsOf}
+use Rattle.pg_relaxed.proofs.deduced.deduce_around.Given as goal
+
+abbrev pub invariant-loop-write : goal.invariant-loop-write
+invariant-loop-write l = record {
+  words : AreWordsOf l.run.events l.words.words.items;
+  sure : (i : ℕ) → IsUpTo l.run l.access i → AreSure l.run l.fn.edges.items i → AreSure l.run l.edges.items i;
+}

@@ -1,0 +1,37 @@
+-- What is supposed of the orders of a record: that of two events one comes first.
+use Rattle.std.specs.Prelude.{◌≡◌, ℕ, ◌<◌, ◌⊎◌, List, length, Some, slice_get}
+use Rattle.pg_machine.specs.Machine.{IsIn}
+use Rattle.pg_spanned.specs.Orders.{Spanned, IsOrder, StandsBefore, MustPrecede}
+use Rattle.pg_relaxed.specs.declared.deduced.Refuted.{Refuted}
+use Rattle.pg_relaxed.specs.declared.edge.Edge.{Edge}
+use Rattle.pg_relaxed.specs.Orders.{RunComesTo, NeverComes}
+
+-- an order is as supposed
+abbrev pub Keeps : List ℕ → List Edge → Type 0
+Keeps order edges = (edge : Edge) → IsIn edge edges → StandsBefore order edge.first edge.second
+
+-- in no order of the events that is as supposed a run comes to event i
+abbrev pub NeverComesSo : Spanned → List Edge → ℕ → Type 0
+NeverComesSo s edges i = (order : List ℕ) (place : ℕ) → IsOrder s order → Keeps order edges →
+    slice_get order place ≡ Some i → RunComesTo s order place → ⊥
+
+-- each order in which a run comes to event i is as supposed
+abbrev pub AreSure : Spanned → List Edge → ℕ → Type 0
+AreSure s edges i = (order : List ℕ) (place : ℕ) → IsOrder s order →
+    slice_get order place ≡ Some i → RunComesTo s order place → Keeps order edges
+
+-- event j is event i or comes before it in every order
+abbrev pub IsUpTo : Spanned → ℕ → ℕ → Type 0
+IsUpTo s j i = (j ≡ i) ⊎ MustPrecede s j i
+
+-- in no order a run comes to the event, and each order in which one would is as is told
+pub record IsRefuted (s : Spanned) (found : Refuted) : Type 0 where
+  pub within : found.number < length s.events
+  pub never : NeverComes s found.number
+  pub sure : AreSure s found.edges.items found.number
+
+-- both are events, and not the same
+pub record AreApart (s : Spanned) (edge : Edge) : Type 0 where
+  pub first : edge.first < length s.events
+  pub second : edge.second < length s.events
+  pub other : edge.first ≡ edge.second → ⊥

@@ -1,0 +1,155 @@
+//! What is sure of the orders around an event: on which side of an access of the processor a write
+//! stands, where no run comes to the access on the other side.
+
+ghost use Rattle.std.specs.Prelude.{◌≡◌, ℕ, ◌<◌, ◌≤◌, length, IfOk, OnOk, IfSome, IsTrue};
+ghost use Rattle.pg_relaxed.specs.Memory.{IsOwn};
+ghost use Rattle.pg_relaxed.specs.Supposed.{AreSure, IsUpTo, AreApart, IsRefuted};
+ghost use Rattle.pg_relaxed.specs.Words.{AreWordsOf};
+
+use crate::edge::Edge;
+use crate::precede::{ended_before, is_own, must_precede};
+use crate::refuter::refute_so;
+use crate::words::Words;
+use pg_event::Event;
+use pg_spanned::SpannedRun;
+use std::alloc::{AllocError, Global};
+
+/// So much is looked at in all.
+const MOST_LOOKS: u64 = 1_000_000_000;
+
+/// So many events on each side of one are looked at.
+const MOST_NEAR: usize = 64;
+
+/// An event to which in no order a run of the machine comes, by its number.
+#[derive(Drop)]
+pub struct Refuted {
+    pub number: u32,
+    /// What each order keeps in which a run would come to it.
+    pub edges: Vec<Edge>,
+}
+
+/// Adds that one of two events comes before the other, where no run comes to an access the other
+/// way round.
+fn deduce(
+    alloc: Global,
+    run: &SpannedRun,
+    words: &mut Words,
+    edges: &mut Vec<Edge>,
+    edge: Edge,
+    access: u32,
+) -> Result<(), AllocError>
+    requires apart { AreApart run.now edge }
+    requires words { AreWordsOf run.now.events words.old.words.items }
+    ensures words { OnOk result (AreWordsOf run.now.events words.new.words.items) }
+    ensures sure { OnOk result ((i : ℕ) → IsUpTo run.now access i →
+        AreSure run.now edges.old.items i → AreSure run.now edges.new.items i) }
+{
+    edges.push(Edge {
+        first: edge.second,
+        second: edge.first,
+    })?;
+    let is_sure = refute_so(alloc, run, words, edges, access)?;
+    edges.pop();
+    if is_sure {
+        edges.push(edge)?;
+    }
+    Ok(())
+}
+
+/// Whether an event is a write that may come on both sides of an access.
+fn may_come_on_both_sides(run: &SpannedRun, access: u32, write: u32) -> bool
+    requires access { access < length run.now.events }
+    requires write { write < length run.now.events }
+    ensures { IsTrue result → AreApart run.now (record { first = write; second = access }) }
+{
+    write != access
+        && matches!(run.events()[write as usize], Event::Write { .. })
+        && !must_precede(run, write, access)
+        && !must_precede(run, access, write)
+}
+
+/// Adds what is sure of the writes around an access.
+fn deduce_around(
+    alloc: Global,
+    run: &SpannedRun,
+    words: &mut Words,
+    edges: &mut Vec<Edge>,
+    access: u32,
+) -> Result<(), AllocError>
+    requires access { access < length run.now.events }
+    requires words { AreWordsOf run.now.events words.old.words.items }
+    ensures words { OnOk result (AreWordsOf run.now.events words.new.words.items) }
+    ensures sure { OnOk result ((i : ℕ) → IsUpTo run.now access i →
+        AreSure run.now edges.old.items i → AreSure run.now edges.new.items i) }
+{
+    let end = (access as usize + MOST_NEAR).min(run.len()) as u32;
+    for write in ended_before(run, access)..end {
+        if may_come_on_both_sides(run, access, write) {
+            let edge = Edge {
+                first: write,
+                second: access,
+            };
+            deduce(alloc, run, words, edges, edge, access)?;
+        }
+    }
+    Ok(())
+}
+
+/// Whether an event is an access of a processor.
+fn is_own_access(run: &SpannedRun, p: u16, number: u32) -> bool
+    requires { number < length run.now.events }
+    ensures { IsTrue result → IsOwn run.now.events p number }
+{
+    matches!(run.events()[number as usize], Event::Access { .. }) && is_own(run.events(), p, number)
+}
+
+/// The first access of a processor among these events to which no run comes, as far as is seen.
+fn refute_own(
+    alloc: Global,
+    run: &SpannedRun,
+    words: &mut Words,
+    p: u16,
+    from: u32,
+    to: u32,
+) -> Result<Option<Refuted>, AllocError>
+    requires within { to ≤ length run.now.events }
+    requires words { AreWordsOf run.now.events words.old.words.items }
+    ensures words { OnOk result (AreWordsOf run.now.events words.new.words.items) }
+    ensures refuted { IfOk result (λ found. IfSome found (IsRefuted run.now)) }
+{
+    let mut edges = Vec::new(alloc);
+    for number in from..to {
+        if is_own_access(run, p, number) {
+            if refute_so(alloc, run, words, &edges, number)? {
+                return Ok(Some(Refuted { number, edges }));
+            }
+            deduce_around(alloc, run, words, &mut edges, number)?;
+        }
+    }
+    Ok(None)
+}
+
+/// An event near another, by its number, to which in no order a run of the machine comes, so that
+/// no order has a run. It asks what `refute` does of the accesses near it, but where a write may
+/// come on both sides of one, and no run comes to the access on one side, it goes on with the
+/// other. `None` says nothing.
+///
+/// It fails only where memory is refused. Each access and each such write takes as long as `refute`
+/// does, up to a limit of all.
+pub fn refute_near(
+    alloc: Global,
+    run: &SpannedRun,
+    number: u32,
+) -> Result<Option<Refuted>, AllocError>
+    ensures { IfOk result (λ found. IfSome found (IsRefuted run.now)) }
+{
+    let to = (number as usize + MOST_NEAR).min(run.len()) as u32;
+    let from = number.saturating_sub(MOST_NEAR as u32);
+    let mut words = Words::new(alloc, MOST_LOOKS);
+    for p in 0..run.header().processors.len() {
+        if let Some(refuted) = refute_own(alloc, run, &mut words, p as u16, from, to)? {
+            return Ok(Some(refuted));
+        }
+    }
+    Ok(None)
+}
