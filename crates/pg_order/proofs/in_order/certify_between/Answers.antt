@@ -1,4 +1,4 @@
-use Rattle.std.proofs.Common.{◌≡◌, ◌+◌, ◌<◌, ◌≤◌, ℕ, List, ◌++◌, length, take, arith, ap, sym, ◌∙◌, subst}
+use Rattle.std.proofs.Common.{◌≡◌, List, ◌++◌, length, take, arith, ap, sym, ◌∙◌, subst}
 use Rattle.std.specs.Prelude.{OnOk}
 use Rattle.std.proofs.lemmas.List.{length-append, length-take}
 use Rattle.pg_event.specs.declared.event.Event.{Event}

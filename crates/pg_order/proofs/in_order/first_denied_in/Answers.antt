@@ -1,10 +1,9 @@
-use Rattle.std.proofs.Common.{◌≡◌, ◌+◌, ◌<◌, ◌≤◌, ℕ, List, length, take, take_all, arith, ap, sym, subst, Option, Some}
+use Rattle.std.proofs.Common.{◌≡◌, ◌+◌, ℕ, List, take, take_all, arith, subst, Option}
 use Rattle.std.specs.Prelude.{IfSome, IfNone}
 use Rattle.pg_event.specs.declared.event.Event.{Event}
 use Rattle.pg_event.specs.Heads.{Head}
 use Rattle.pg_certify.specs.Certified.{CanBeCertified, IsDenied}
-use Rattle.pg_certify.specs.Windows.{IsCertifying}
-use Rattle.pg_spanned.specs.Orders.{Spanned, ordered}
+use Rattle.pg_spanned.specs.Orders.{ordered}
 use Rattle.pg_order.proofs.Ordered.{denied_in_all}
 use Rattle.pg_order.proofs.in_order.first_denied_in.Goals as goal
 

@@ -2,7 +2,6 @@ use Rattle.std.proofs.Common.{ℕ, ◌-◌, ◌^◌, ◌≤◌, List, length, su
 use Rattle.pg_event.specs.declared.event.Event.{Event}
 use Rattle.pg_event.specs.Spelling.{Recorded}
 use Rattle.pg_check.specs.Kept.{AreWellFormed}
-use Rattle.pg_certify.specs.declared.certifier.Certified.TheVariants.{Yes, No}
 use Rattle.pg_certify.specs.Certified.{IsCertified, IsDenied, Certifies}
 use Rattle.pg_spanned.specs.Orders.{Spanned, ordered}
 use Rattle.pg_order.proofs.Fronts.{numbers_of_order}

@@ -1,4 +1,3 @@
-use Rattle.std.proofs.Common.{◌-◌}
 use Rattle.pg_order.specs.Trying.{IsTrying}
 use Rattle.pg_order.proofs.trying.try_orders.Given as goal
 

@@ -1,13 +1,11 @@
-use Rattle.std.proofs.Common.{◌<◌, ◌≤◌, ℕ, List, length, sym, subst, arith}
+use Rattle.std.proofs.Common.{◌<◌, ◌≤◌, ℕ, List, length, subst, arith}
 use Rattle.pg_certify.specs.Certified.{IsDenied}
 use Rattle.pg_spanned.specs.Laws.{ends}
 use Rattle.pg_spanned.specs.Orders.{Spanned, ordered}
 use Rattle.pg_relaxed.specs.Orders.{NeverComes}
-use Rattle.pg_relaxed.specs.Supposed.{AreSure}
-use Rattle.pg_relaxed.proofs.Deducing.{sure_of_none}
 use Rattle.pg_order.specs.declared.in_order.InOrder.TheVariants.{Denied}
 use Rattle.pg_order.specs.Runs.{IsToldOf}
-use Rattle.pg_order.proofs.Meaning.{denied_never_comes, never_comes_none_runs, ordered_within}
+use Rattle.pg_order.proofs.Meaning.{denied_never_comes, never_comes_none_runs, none_are_sure, ordered_within}
 use Rattle.pg_order.proofs.verdict.verdict_in_only_order.Goals as goal
 
 pub returns-in-Denied : goal.returns-in-Denied
@@ -23,7 +21,7 @@ returns-in-Denied c =
     record {
       within = within;
       never = never;
-      sure = subst (λ es. AreSure s es place) (sym c.new.ensures.items) (sure_of_none s place);
+      sure = none_are_sure s place _ c.new.ensures.items;
       only = λ none. denied;
       run = never_comes_none_runs s place within never;
     }

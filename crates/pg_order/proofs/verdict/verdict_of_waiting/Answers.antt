@@ -1,8 +1,5 @@
-use Rattle.std.proofs.Common.{sym, subst}
 use Rattle.pg_spanned.specs.Orders.{Spanned}
-use Rattle.pg_relaxed.specs.Supposed.{AreSure}
-use Rattle.pg_relaxed.proofs.Deducing.{sure_of_none}
-use Rattle.pg_order.proofs.Meaning.{never_comes_none_runs}
+use Rattle.pg_order.proofs.Meaning.{never_comes_none_runs, none_are_sure}
 use Rattle.pg_order.proofs.verdict.verdict_of_waiting.Goals as goal
 
 pub returns-then-branch : goal.returns-then-branch
@@ -13,7 +10,7 @@ returns-then-branch c =
     record {
       within = within;
       never = never;
-      sure = subst (λ es. AreSure s es _) (sym c.new.ensures.items) (sure_of_none s _);
+      sure = none_are_sure s _ _ c.new.ensures.items;
       only = λ none. absurd (c.requires none);
       run = never_comes_none_runs s _ within never;
     }

@@ -1,4 +1,4 @@
-use Rattle.std.proofs.Common.{◌≡◌, ℕ, ◌+◌, ◌<◌, [], ◌∷◌, ◌++◌, List, length, ap, subst, arith, refl, Vec, Global}
+use Rattle.std.proofs.Common.{◌≡◌, ℕ, ◌<◌, [], ◌∷◌, ◌++◌, List, length, ap, subst, arith, refl, Vec, Global}
 use Rattle.std.proofs.lemmas.List.{length-append}
 use Rattle.std.specs.Vec.{vec_len}
 use Rattle.pg_spanned.specs.Orders.{Spanned}
