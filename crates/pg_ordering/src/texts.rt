@@ -40,9 +40,8 @@ fn counts_of(alloc: Global, run: &SpannedRun) -> Result<String, AllocError>
     format!(in alloc; "events: {events}\nsegments: {segments}\n")
 }
 
-/// Appends why no order of a run's events has a run of the machine, where that is told. `Err` is for
-/// want of memory alone, and may leave a part of it.
-pub fn push_cause(
+/// Appends why no order of a run's events has a run of the machine, where that is told.
+fn push_cause(
     alloc: Global,
     text: &mut String,
     run: &SpannedRun,
