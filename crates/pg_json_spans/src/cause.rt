@@ -169,12 +169,22 @@ fn parts_fields(alloc: Global, run: &SpannedRun, cause: &WalkCause) -> Result<Fi
 {
     let header = run.header();
     let mut fields = Map::new(alloc);
-    put_flag(&mut fields, alloc, "as_written", is_as_written(header.version))?;
+    put_flag(
+        &mut fields,
+        alloc,
+        "as_written",
+        is_as_written(header.version),
+    )?;
     let cannot = cannot_read(alloc, &cause.cannot_read)?;
     put(&mut fields, alloc, "cannot_read", cannot)?;
     let may = may_read(alloc, header.cfg, &cause.may_read)?;
     put(&mut fields, alloc, "may_read", may)?;
-    put_flag(&mut fields, alloc, "if_not_global", is_not_global(cause.after))?;
+    put_flag(
+        &mut fields,
+        alloc,
+        "if_not_global",
+        is_not_global(cause.after),
+    )?;
     let after = after_json(alloc, run, cause.after)?;
     put(&mut fields, alloc, "read_after", after)?;
     Ok(fields)
@@ -222,7 +232,8 @@ pub(crate) fn cause_json(alloc: Global, run: &SpannedRun, number: u64) -> Result
 {
     if number < run.len() as u64 {
         let number = number as u32;
-        return event_cause(alloc, run, number, event_of(run, number));
+        event_cause(alloc, run, number, event_of(run, number))
+    } else {
+        Ok(Value::Null)
     }
-    Ok(Value::Null)
 }

@@ -51,13 +51,7 @@ pub fn walked_address(event: &Event) -> Option<u64>
 }
 
 /// Behind which event a walk reads, by the number of the one that drops what it had.
-fn read_after(
-    run: &SpannedRun,
-    p: u16,
-    pcid: u16,
-    la: u64,
-    drop: Option<u32>,
-) -> Option<ReadAfter>
+fn read_after(run: &SpannedRun, p: u16, pcid: u16, la: u64, drop: Option<u32>) -> Option<ReadAfter>
     requires { ForSome drop (λ d. d < length run.now.events) }
     ensures after { result ≡ read_after run.now p pcid la drop }
     ensures within { ForSome result (λ after. after.number < length run.now.events) }

@@ -107,11 +107,7 @@ fn push_cannot(text: &mut String, seen: Seen) -> Result<(), AllocError>
 }
 
 /// Appends the lines of entries that may be read, or of the first of them.
-pub(crate) fn push_may_lines(
-    text: &mut String,
-    cfg: Cfg,
-    seen: &[Seen],
-) -> Result<(), AllocError>
+pub(crate) fn push_may_lines(text: &mut String, cfg: Cfg, seen: &[Seen]) -> Result<(), AllocError>
     requires { (36 ≤ cfg.m) × (cfg.m ≤ 52) }
     ensures { OnOk result
         (string_bytes text.new ≡ string_bytes text.old ++ may_lines cfg 0 seen.now) }
