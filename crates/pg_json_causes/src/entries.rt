@@ -36,8 +36,8 @@ fn is_table(kind: Kind) -> bool
     }
 }
 
-/// The number of an event, if there is one.
-fn number_json(number: Option<u32>) -> Value
+/// The number of an event, or null where there is none.
+pub fn number_json(number: Option<u32>) -> Value
     ensures { view result ≡ data_of (number_json number) }
 {
     match number {
@@ -47,7 +47,7 @@ fn number_json(number: Option<u32>) -> Value
 }
 
 /// Puts a word, what it holds, and what that is.
-pub(crate) fn put_held(
+pub fn put_held(
     fields: &mut Fields,
     alloc: Global,
     address: u64,

@@ -8,4 +8,5 @@ mod lasts;
 mod tallies;
 
 pub use causes::{denial_json, explanation_json};
+pub use entries::{number_json, put_held};
 pub use tallies::tallies_json;

@@ -7,13 +7,17 @@ use Rattle.pg_event.specs.declared.event.Event.{Event}
 use Rattle.pg_explain.specs.declared.filter.Filter.{Filter}
 use Rattle.pg_explain.specs.Filters.{is_shown}
 use Rattle.pg_spanned.specs.Orders.{Spanned, ended_before}
-use Rattle.pg_json.specs.Tree.{json_line}
+use Rattle.pg_json.specs.Tree.{Json, json_line}
 use Rattle.pg_json.specs.Events.{began_json}
+
+-- an event with its span
+abbrev pub event_json : Spanned → ℕ → Event → Json
+event_json s number e = began_json (ended_before s number) number e
 
 -- the line of an event, if it is shown
 abbrev pub spanned_line : Bool → Spanned → ℕ → Event → List ℕ
 spanned_line is_shown s number e =
-    if is_shown then json_line (began_json (ended_before s number) number e) else []
+    if is_shown then json_line (event_json s number e) else []
 
 -- the lines of those events that are shown, where the first has this number
 abbrev pub lines_from : Filter → Spanned → ℕ → List Event → List ℕ

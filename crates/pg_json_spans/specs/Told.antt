@@ -3,26 +3,38 @@
 --     verdict              yes, no or undecided
 --     event                the event of a no, or at which the search gave up
 --     reason, reason_name  of a no: 15, no order
---     cause_text           of a no: the lines that say why, as the text has them
---     all_orders           of a no: whether they say that all orders were tried
+--     all_orders           of a no: whether it is one since all orders were tried
+--     cause                of a no: why no order has a run (`Causes`), or null where all were tried
+--     in_each_order        of a no with a cause: of two events each, first and second, which comes
+--                          first in each order in which a run would come to the event
 --     events, segments     how many
-use Rattle.std.specs.Prelude.{ℕ, Bool, true, false, List, length, codes}
+use Rattle.std.specs.Prelude.{ℕ, Bool, true, false, List, map, length, codes}
 use Rattle.pg_spanned.specs.Orders.{Spanned}
+use Rattle.pg_relaxed.specs.declared.edge.Edge.{Edge}
 use Rattle.pg_ordering.specs.declared.told.Told.{Told}
 use Rattle.pg_ordering.specs.declared.told.Told.TheVariants.{Yes, Never, NoneOfAll, Undecided}
-use Rattle.pg_ordering.specs.Texts.{segments_of, cause_of}
-use Rattle.pg_json.specs.Tree.{Json, flag, count, text, object, Fields, no_fields, field}
+use Rattle.pg_ordering.specs.Texts.{segments_of}
+use Rattle.pg_json.specs.Tree.{Json, nothing, flag, count, text, list, object, elements}
+use Rattle.pg_json.specs.Tree.{Fields, no_fields, field}
 use Rattle.pg_json.specs.Reports.{with_counts, with_yes, with_no}
+use Rattle.pg_json_spans.specs.Causes.{cause_json}
 
-abbrev pub why_fields : List ℕ → Bool → Fields
+abbrev pub why_fields : Json → Bool → Fields
 why_fields cause is_of_all =
-    field (codes "all_orders") (flag is_of_all)
-    (field (codes "cause_text") (text cause) no_fields)
+    field (codes "all_orders") (flag is_of_all) (field (codes "cause") cause no_fields)
+
+abbrev pub edge_json : Edge → Json
+edge_json edge = object (
+    field (codes "first") (count edge.first) (field (codes "second") (count edge.second) no_fields))
+
+abbrev pub never_fields : Spanned → ℕ → List Edge → Fields
+never_fields s n edges = field (codes "in_each_order") (list (elements (map edge_json edges)))
+    (why_fields (cause_json s n) false)
 
 abbrev pub cause_fields : Spanned → Told → Fields
 cause_fields s Yes = no_fields
-cause_fields s (Never n) = why_fields (cause_of s (Never n)) false
-cause_fields s (NoneOfAll n) = why_fields (cause_of s (NoneOfAll n)) true
+cause_fields s (Never n edges) = never_fields s n edges.items
+cause_fields s (NoneOfAll n) = why_fields nothing true
 cause_fields s (Undecided n) = no_fields
 
 abbrev pub with_undecided : ℕ → Fields → Fields
@@ -31,7 +43,7 @@ with_undecided event others =
 
 abbrev pub with_told : Told → Fields → Fields
 with_told Yes others = with_yes others
-with_told (Never n) others = with_no n 15 (codes "no order") others
+with_told (Never n edges) others = with_no n 15 (codes "no order") others
 with_told (NoneOfAll n) others = with_no n 15 (codes "no order") others
 with_told (Undecided n) others = with_undecided n others
 

@@ -2,6 +2,7 @@
 #![tactic(auto)]
 
 mod answers;
+mod cause;
 mod lines;
 mod refusals;
 mod told;

@@ -1,22 +1,30 @@
 //! The events of a record with no one order, an object a line.
 
 ghost use Rattle.std.specs.Prelude.{◌≡◌, ◌++◌, ◌<◌, IfOk, OnOk, length, string_bytes};
-ghost use Rattle.pg_spanned.specs.Orders.{ended_before};
-ghost use Rattle.pg_json_spans.specs.Lines.{spanned_line, spanned_json_lines};
+ghost use Rattle.serde_json.specs.View.{view};
+ghost use Rattle.pg_json.specs.Tree.{data_of};
+ghost use Rattle.pg_json_spans.specs.Lines.{event_json, spanned_line, spanned_json_lines};
 
 use pg_event::{Event, processor_of};
 use pg_explain::{Filter, fits, is_marked, marks_of};
 use pg_json::{began_json, line_of};
 use pg_spanned::SpannedRun;
+use pg_spanned_text::ended_before;
+use serde_json::Value;
 use std::alloc::{AllocError, Global};
 
-/// How many events had ended in every order when an event began.
-fn ended_before(run: &SpannedRun, number: u32) -> u32
+/// An event with its span.
+pub(crate) fn event_json(
+    alloc: Global,
+    run: &SpannedRun,
+    number: u32,
+    event: &Event,
+) -> Result<Value, AllocError>
     requires { number < length run.now.events }
-    ensures { result ≡ ended_before run.now number }
+    ensures { IfOk result (λ v. view v ≡ data_of (event_json run.now number event.now)) }
 {
-    let backs = run.backs();
-    number - backs[number as usize]
+    let began = ended_before(run, number);
+    began_json(alloc, began as u64, number as u64, event)
 }
 
 /// Appends the line of an event, if it is shown.
@@ -33,8 +41,7 @@ fn push_shown(
         ≡ string_bytes text.old ++ spanned_line is_shown run.now number event.now) }
 {
     if is_shown {
-        let began = ended_before(run, number);
-        let value = began_json(alloc, began as u64, number as u64, event)?;
+        let value = event_json(alloc, run, number, event)?;
         let line = line_of(alloc, &value)?;
         text.push_str(line.as_str())?;
     }

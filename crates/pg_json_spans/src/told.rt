@@ -1,16 +1,17 @@
 //! What is told of a record with no one order, as JSON.
 
-ghost use Rattle.std.specs.Prelude.{◌≡◌, IfOk, OnOk, string_bytes};
-ghost use Rattle.serde_json.specs.View.{members_view};
+ghost use Rattle.std.specs.Prelude.{◌≡◌, false, IfOk, OnOk, string_bytes};
+ghost use Rattle.serde_json.specs.View.{view, members_view};
 ghost use Rattle.pg_ordering.specs.Answers.{IsSo};
-ghost use Rattle.pg_ordering.specs.Texts.{cause_of};
-ghost use Rattle.pg_json.specs.Tree.{members_of, Fields as ToldFields, json_line};
+ghost use Rattle.pg_json.specs.Tree.{Json, data_of, members_of, Fields as ToldFields, json_line};
+ghost use Rattle.pg_json_spans.specs.Causes.{cause_json};
 ghost use Rattle.pg_json_spans.specs.Told.{why_fields, cause_fields, with_undecided, with_told};
 ghost use Rattle.pg_json_spans.specs.Told.{told_json};
 
+use crate::cause::cause_json;
 use pg_json::{Fields, line_of, put_count, put_counts, put_flag, put_no, put_text, put_yes};
 use pg_order::{Verdict, find_ordered_run};
-use pg_ordering::{Told, push_cause, segments_of};
+use pg_ordering::{Told, segments_of};
 use pg_spanned::SpannedRun;
 use serde_json::{Map, Value, put};
 use std::alloc::{AllocError, Global};
@@ -28,22 +29,23 @@ pub(crate) fn told_of(alloc: Global, run: &SpannedRun) -> Result<Told, AllocErro
     }
 }
 
-/// What stands behind a no, and whether it is that all orders were tried.
-fn why_fields(
-    alloc: Global,
-    run: &SpannedRun,
-    told: Told,
-    is_of_all: bool,
-) -> Result<Fields, AllocError>
-    ensures { IfOk result (λ m. members_view m.entries
-        ≡ members_of (why_fields (cause_of run.now told) is_of_all)) }
+/// What stands behind a no, and whether it is one since all orders were tried.
+fn why_fields(alloc: Global, cause: Value, is_of_all: bool) -> Result<Fields, AllocError>
+    ensures { (told : Json) → view cause ≡ data_of told →
+        IfOk result (λ m. members_view m.entries ≡ members_of (why_fields told is_of_all)) }
 {
-    let mut cause = String::new(alloc);
-    push_cause(alloc, &mut cause, run, told)?;
     let mut fields = Map::new(alloc);
-    put(&mut fields, alloc, "cause_text", Value::String(cause))?;
+    put(&mut fields, alloc, "cause", cause)?;
     put_flag(&mut fields, alloc, "all_orders", is_of_all)?;
     Ok(fields)
+}
+
+fn never_fields(alloc: Global, run: &SpannedRun, event: u64) -> Result<Fields, AllocError>
+    ensures { IfOk result (λ m. members_view m.entries
+        ≡ members_of (why_fields (cause_json run.now event) false)) }
+{
+    let cause = cause_json(alloc, run, event)?;
+    why_fields(alloc, cause, false)
 }
 
 fn cause_fields(alloc: Global, run: &SpannedRun, told: Told) -> Result<Fields, AllocError>
@@ -51,8 +53,8 @@ fn cause_fields(alloc: Global, run: &SpannedRun, told: Told) -> Result<Fields, A
 {
     match told {
         Told::Yes => Ok(Map::new(alloc)),
-        Told::Never(_) => why_fields(alloc, run, told, false),
-        Told::NoneOfAll(_) => why_fields(alloc, run, told, true),
+        Told::Never(event) => never_fields(alloc, run, event),
+        Told::NoneOfAll(_) => why_fields(alloc, Value::Null, true),
         Told::Undecided(_) => Ok(Map::new(alloc)),
     }
 }

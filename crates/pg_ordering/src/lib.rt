@@ -14,5 +14,5 @@ pub use answers::certify_spanned;
 pub use merging::merge;
 pub use reading::{Unread, read_run};
 pub use showing::show_spanned;
-pub use texts::{push_cause, segments_of};
+pub use texts::segments_of;
 pub use told::{Asked, Told};

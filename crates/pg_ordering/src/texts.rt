@@ -62,9 +62,8 @@ fn edge_lines(alloc: Global, edges: &[Edge]) -> Result<String, AllocError>
     Ok(text)
 }
 
-/// Appends why no order of a run's events has a run of the machine, where that is told. `Err` is for
-/// want of memory alone, and may leave a part of it.
-pub fn push_cause(
+/// Appends why no order of a run's events has a run of the machine, where that is told.
+fn push_cause(
     alloc: Global,
     text: &mut String,
     run: &SpannedRun,

@@ -11,34 +11,20 @@
 --     can't read: ..                         which entries of these words it can't, and why
 --
 -- An event that names no walk has its own line alone.
-use Rattle.std.specs.Prelude.{ℕ, ◌+◌, Bool, if◌then◌else◌, List, [], ◌++◌}
-use Rattle.std.specs.Prelude.{Option, Some, None, codes, slice_get}
+use Rattle.std.specs.Prelude.{ℕ, Bool, if◌then◌else◌, List, [], ◌++◌, Option, Some, None, codes}
+use Rattle.std.specs.Prelude.{slice_get}
 use Rattle.pg_event.specs.declared.event.Event.{Event}
-use Rattle.pg_event.specs.declared.event.Event.TheVariants.{Write, Access, Assist, MovCr3, Invlpg}
-use Rattle.pg_event.specs.declared.event.Event.TheVariants.{Invpcid, MovCr4Pge}
 use Rattle.pg_event.specs.declared.version.Version.{Version}
 use Rattle.pg_event.specs.declared.version.Version.TheVariants as versions
 use Rattle.pg_event.specs.Heads.{Head}
-use Rattle.pg_event.specs.Values.{control_at}
 use Rattle.pg_spanned.specs.Orders.{Spanned, ended_before}
+use Rattle.pg_spanned_text.specs.declared.parts.ReadAfter.{ReadAfter}
 use Rattle.pg_spanned_text.specs.declared.seen.Seen.{Seen}
-use Rattle.pg_spanned_text.specs.declared.seen.Walk.{Walk}
 use Rattle.pg_spanned_text.specs.declared.span.Span.{Span}
-use Rattle.pg_spanned_text.specs.Drops.{keeps_global, last_drop, roots}
 use Rattle.pg_spanned_text.specs.Lines.{began_line}
-use Rattle.pg_spanned_text.specs.Seen.{seen_of}
-use Rattle.pg_spanned_text.specs.Spans.{span_of, span_at}
-use Rattle.pg_spanned_text.specs.Text.{may_text, cannot_text}
-
--- the linear address whose walk an event names
-abbrev pub walked_address : Event → Option ℕ
-walked_address (Write p addr value) = None
-walked_address (Access p flags la outcome moments) = Some la
-walked_address (Assist p flags la word moments) = Some la
-walked_address (MovCr3 p operand) = None
-walked_address (Invlpg p la) = None
-walked_address (Invpcid p kind pcid la) = None
-walked_address (MovCr4Pge p on) = None
+use Rattle.pg_spanned_text.specs.Parts.{walked_address, Parts, parts_of}
+use Rattle.pg_spanned_text.specs.Spans.{span_of}
+use Rattle.pg_spanned_text.specs.Text.{may_lines, cannot_lines}
 
 -- the line of an event with this number
 abbrev pub numbered_line : Spanned → ℕ → Event → List ℕ
@@ -49,14 +35,14 @@ numbered_line s number e = began_line (ended_before s number) number e ++ codes 
 abbrev pub after_name : Bool → List ℕ
 after_name keeps = if keeps then codes "read after, if not global: " else codes "read after: "
 
-abbrev pub after_event : Spanned → ℕ → ℕ → ℕ → ℕ → Option Event → List ℕ
-after_event s p pcid la d None = []
-after_event s p pcid la d (Some e) =
-    after_name (keeps_global (control_at s.head s.events p d) pcid la e) ++ numbered_line s d e
+abbrev pub after_event : Spanned → ReadAfter → Option Event → List ℕ
+after_event s after None = []
+after_event s after (Some e) =
+    after_name after.keeps_global ++ numbered_line s after.number e
 
-abbrev pub after_text : Spanned → ℕ → ℕ → ℕ → Option ℕ → List ℕ
-after_text s p pcid la None = []
-after_text s p pcid la (Some d) = after_event s p pcid la d (slice_get s.events d)
+abbrev pub after_text : Spanned → Option ReadAfter → List ℕ
+after_text s None = []
+after_text s (Some after) = after_event s after (slice_get s.events after.number)
 
 -- ---- which entries
 
@@ -65,41 +51,19 @@ version_text versions.One = []
 version_text versions.Two =
     codes "values are as written: assists may have set accessed and dirty\n"
 
-abbrev pub seen_text : Head → List Seen → List ℕ
-seen_text head xs = may_text head.cfg xs ++ (version_text head.version ++ cannot_text xs)
-
--- the span of an event by its number, where there is one
-abbrev pub span_of_some : Spanned → Option ℕ → Option Span
-span_of_some s None = None
-span_of_some s (Some d) = span_at s d
-
--- the first event behind one, or behind none
-abbrev pub start_of : Option ℕ → ℕ
-start_of None = 0
-start_of (Some d) = d + 1
-
-abbrev pub walk_of : Spanned → Span → ℕ → Option ℕ → Walk
-walk_of s event la d = record { la = la; event = event; drop = span_of_some s d }
-
--- what the words hold that the walk of the asked event may read behind an event
-abbrev pub seen_behind : Spanned → Span → ℕ → ℕ → Option ℕ → List Seen
-seen_behind s event la pcid d =
-    seen_of s (walk_of s event la d) (roots s event.p pcid (start_of d) event.number)
-
-abbrev pub behind_text : Spanned → Span → ℕ → ℕ → Option ℕ → List ℕ
-behind_text s event la pcid d =
-    after_text s event.p pcid la d ++ seen_text s.head (seen_behind s event la pcid d)
+abbrev pub entries_text : Head → List Seen → List Seen → List ℕ
+entries_text head may cannot =
+    may_lines head.cfg 0 may ++ (version_text head.version ++ cannot_lines 0 cannot)
 
 -- ---- the whole
 
-abbrev pub pcid_text : Spanned → Span → ℕ → ℕ → List ℕ
-pcid_text s event la pcid =
-    behind_text s event la pcid (last_drop s event.p pcid la event.number)
+abbrev pub parts_text : Spanned → Parts → List ℕ
+parts_text s parts =
+    after_text s parts.after ++ entries_text s.head parts.may_read parts.cannot_read
 
 abbrev pub walk_text : Spanned → Span → Option ℕ → List ℕ
 walk_text s event None = []
-walk_text s event (Some la) =
-    pcid_text s event la (control_at s.head s.events event.p event.number).pcid
+walk_text s event (Some la) = parts_text s (parts_of s event la)
 
 abbrev pub event_text : Spanned → ℕ → Event → List ℕ
 event_text s number e =

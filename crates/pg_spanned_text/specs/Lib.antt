@@ -4,6 +4,7 @@ pub mod Drops
 pub mod Words
 pub mod Seen
 pub mod Text
+pub mod Parts
 pub mod Cause
 pub mod Named
 pub mod Picture

@@ -1,17 +1,15 @@
 -- The events that a cause names.
-use Rattle.std.specs.Prelude.{ℕ, Bool, not, ◌&&◌, ◌==◌, nat_lt, if◌then◌else◌, fold, reverse}
+use Rattle.std.specs.Prelude.{ℕ, not, ◌&&◌, ◌==◌, nat_lt, if◌then◌else◌, fold}
 use Rattle.std.specs.Prelude.{List, [], ◌∷◌, ◌++◌, Option, Some, None, length, slice_get}
 use Rattle.std.specs.List.{list_any}
 use Rattle.pg_event.specs.declared.event.Event.{Event}
-use Rattle.pg_event.specs.Values.{control_at}
 use Rattle.pg_spanned.specs.Orders.{Spanned}
+use Rattle.pg_spanned_text.specs.declared.parts.ReadAfter.{ReadAfter}
 use Rattle.pg_spanned_text.specs.declared.seen.Gone.{Gone}
 use Rattle.pg_spanned_text.specs.declared.seen.Seen.{Seen}
 use Rattle.pg_spanned_text.specs.declared.span.Span.{Span}
-use Rattle.pg_spanned_text.specs.Cause.{walked_address, seen_behind}
-use Rattle.pg_spanned_text.specs.Drops.{last_drop}
+use Rattle.pg_spanned_text.specs.Parts.{walked_address, Parts, parts_of}
 use Rattle.pg_spanned_text.specs.Spans.{span_of}
-use Rattle.pg_spanned_text.specs.Text.{open_ones, gone_ones}
 
 -- a number behind others, unless it is there, or they are 40 already
 abbrev pub put_name : List ℕ → ℕ → List ℕ
@@ -22,6 +20,10 @@ put_name names number =
 abbrev pub put_some : List ℕ → Option ℕ → List ℕ
 put_some names None = names
 put_some names (Some number) = put_name names number
+
+abbrev pub put_after : List ℕ → Option ReadAfter → List ℕ
+put_after names None = names
+put_after names (Some after) = put_name names after.number
 
 abbrev pub put_gone : List ℕ → Option Gone → List ℕ
 put_gone names None = names
@@ -36,21 +38,16 @@ put_all names xs = fold put_names names xs
 
 -- the asked event, the one behind which it reads, and those of entries, first of those that may be
 -- read
-abbrev pub named_by : ℕ → Option ℕ → List Seen → List ℕ
-named_by number d xs =
-    put_all (put_all (put_some (put_name [] number) d) (open_ones xs)) (reverse (gone_ones xs))
+abbrev pub named_by : ℕ → Option ReadAfter → List Seen → List Seen → List ℕ
+named_by number after may cannot =
+    put_all (put_all (put_after (put_name [] number) after) may) cannot
 
-abbrev pub named_behind : Spanned → Span → ℕ → ℕ → Option ℕ → List ℕ
-named_behind s event la pcid d = named_by event.number d (seen_behind s event la pcid d)
-
-abbrev pub named_under : Spanned → Span → ℕ → ℕ → List ℕ
-named_under s event la pcid =
-    named_behind s event la pcid (last_drop s event.p pcid la event.number)
+abbrev pub named_parts : ℕ → Parts → List ℕ
+named_parts number parts = named_by number parts.after parts.may_read parts.cannot_read
 
 abbrev pub named_walk : Spanned → Span → Option ℕ → List ℕ
-named_walk s event None = named_by event.number None []
-named_walk s event (Some la) =
-    named_under s event la (control_at s.head s.events event.p event.number).pcid
+named_walk s event None = named_by event.number None [] []
+named_walk s event (Some la) = named_parts event.number (parts_of s event la)
 
 abbrev pub named_of : Spanned → ℕ → Option Event → List ℕ
 named_of s number None = []

@@ -6,8 +6,8 @@
 -- KIND is absent, reserved, table, or leaf with the address of its page. WRITTEN is the event that
 -- wrote the value, or `never written`. Of the first at most 64 lines stand there, and of the second
 -- 16; where there are more, a line of two dots follows.
-use Rattle.std.specs.Prelude.{ℕ, ◌+◌, not, ◌==◌, if◌then◌else◌, filter, reverse}
-use Rattle.std.specs.Prelude.{List, [], ◌∷◌, ◌++◌, Option, Some, None, is_none, codes, decimal}
+use Rattle.std.specs.Prelude.{ℕ, ◌+◌, ◌==◌, if◌then◌else◌, List, [], ◌∷◌, ◌++◌}
+use Rattle.std.specs.Prelude.{Option, Some, None, codes, decimal}
 use Rattle.pg_entry.specs.declared.Cfg.{Cfg}
 use Rattle.pg_entry.specs.declared.Kind.{Kind}
 use Rattle.pg_entry.specs.declared.Kind.TheVariants as kinds
@@ -70,19 +70,3 @@ abbrev pub cannot_lines : ℕ → List Seen → List ℕ
 cannot_lines i [] = []
 cannot_lines i (x ∷ xs) =
     if i == 16 then codes "..\n" else cannot_line x ++ cannot_lines (i + 1) xs
-
--- those that may be read
-abbrev pub open_ones : List Seen → List Seen
-open_ones xs = filter (λ (x : Seen). is_none x.gone) xs
-
--- those that can't
-abbrev pub gone_ones : List Seen → List Seen
-gone_ones xs = filter (λ (x : Seen). not (is_none x.gone)) xs
-
--- which entries may be read, from level 4 down
-abbrev pub may_text : Cfg → List Seen → List ℕ
-may_text cfg xs = may_lines cfg 0 (open_ones xs)
-
--- which can't, from the last level up, and of a word the last written first
-abbrev pub cannot_text : List Seen → List ℕ
-cannot_text xs = cannot_lines 0 (reverse (gone_ones xs))

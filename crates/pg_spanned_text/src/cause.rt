@@ -3,34 +3,20 @@
 ghost use Rattle.std.specs.Prelude.{◌≡◌, ◌++◌, ◌<◌, ◌≤◌, IfOk, OnOk, length, slice_get};
 ghost use Rattle.std.specs.Prelude.{string_bytes};
 ghost use Rattle.std.specs.Option.{ForSome};
-ghost use Rattle.pg_spanned_text.specs.Cause.{walked_address, numbered_line, after_name};
-ghost use Rattle.pg_spanned_text.specs.Cause.{after_event, after_text, version_text, seen_text};
-ghost use Rattle.pg_spanned_text.specs.Cause.{span_of_some, behind_text, walk_text};
-ghost use Rattle.pg_spanned_text.specs.Cause.{seen_behind};
+ghost use Rattle.pg_spanned_text.specs.Spans.{span_of};
+ghost use Rattle.pg_spanned_text.specs.Parts.{parts_in};
+ghost use Rattle.pg_spanned_text.specs.Cause.{numbered_line, after_name, after_event, after_text};
+ghost use Rattle.pg_spanned_text.specs.Cause.{version_text, entries_text, parts_text, walk_text};
 ghost use Rattle.pg_spanned_text.specs.Cause.{event_text, cause_text};
 
-use crate::drops::{control_before, keeps_global, last_drop, roots};
 use crate::lines::push_began;
-use crate::seen::{Seen, Walk, seen_of};
-use crate::seen_lines::{push_cannot_text, push_may_text};
-use crate::span::{Span, ended_before, event_of, span_of};
+use crate::parts::{ReadAfter, WalkCause, walk_cause, walked_address};
+use crate::seen::Seen;
+use crate::seen_lines::{push_cannot_lines, push_may_lines};
+use crate::span::{ended_before, event_of};
 use pg_event::{Event, Header, Version};
 use pg_spanned::SpannedRun;
 use std::alloc::{AllocError, Global};
-
-/// The linear address whose walk an event names.
-pub(crate) fn walked_address(event: &Event) -> Option<u64>
-    ensures { result ≡ walked_address event.now }
-{
-    match *event {
-        Event::Access { la, .. } | Event::Assist { la, .. } => Some(la),
-        Event::Write { .. }
-        | Event::MovCr3 { .. }
-        | Event::Invlpg { .. }
-        | Event::Invpcid { .. }
-        | Event::MovCr4Pge { .. } => None,
-    }
-}
 
 /// Appends the line of the event with this number.
 fn push_numbered(
@@ -58,40 +44,28 @@ fn after_name(keeps: bool) -> &'static str
 }
 
 /// Appends the line of the event behind which a page is read.
-fn push_after_event(
-    text: &mut String,
-    run: &SpannedRun,
-    p: u16,
-    pcid: u16,
-    la: u64,
-    drop: u32,
-) -> Result<(), AllocError>
-    requires { drop < length run.now.events }
+fn push_after_event(text: &mut String, run: &SpannedRun, after: ReadAfter) -> Result<(), AllocError>
+    requires { after.number < length run.now.events }
     ensures { OnOk result (string_bytes text.new ≡ string_bytes text.old
-        ++ after_event run.now p pcid la drop (slice_get run.now.events drop)) }
+        ++ after_event run.now after (slice_get run.now.events after.number)) }
 {
-    let event = event_of(run, drop);
-    let keeps = keeps_global(control_before(run, p, drop), pcid, la, event);
-    text.push_str(after_name(keeps))?;
-    push_numbered(text, run, drop, event)
+    text.push_str(after_name(after.keeps_global))?;
+    push_numbered(text, run, after.number, event_of(run, after.number))
 }
 
 /// The same, if there is one.
 fn push_after(
     text: &mut String,
     run: &SpannedRun,
-    p: u16,
-    pcid: u16,
-    la: u64,
-    drop: Option<u32>,
+    after: Option<ReadAfter>,
 ) -> Result<(), AllocError>
-    requires { ForSome drop (λ d. d < length run.now.events) }
+    requires { ForSome after (λ x. x.number < length run.now.events) }
     ensures { OnOk result (string_bytes text.new
-        ≡ string_bytes text.old ++ after_text run.now p pcid la drop) }
+        ≡ string_bytes text.old ++ after_text run.now after) }
 {
-    match drop {
+    match after {
         None => Ok(()),
-        Some(drop) => push_after_event(text, run, p, pcid, la, drop),
+        Some(after) => push_after_event(text, run, after),
     }
 }
 
@@ -109,76 +83,29 @@ fn push_version(text: &mut String, version: Version) -> Result<(), AllocError>
 }
 
 /// Appends which entries may be read, and which can't.
-fn push_seen(
-    alloc: Global,
+fn push_entries(
     text: &mut String,
     header: &Header,
-    seen: &[Seen],
+    may: &[Seen],
+    cannot: &[Seen],
 ) -> Result<(), AllocError>
     requires { (36 ≤ header.now.cfg.m) × (header.now.cfg.m ≤ 52) }
-    ensures { OnOk result
-        (string_bytes text.new ≡ string_bytes text.old ++ seen_text header.now seen.now) }
-{
-    push_may_text(alloc, text, header.cfg, seen)?;
-    push_version(text, header.version)?;
-    push_cannot_text(alloc, text, seen)
-}
-
-/// The span of an event by its number.
-fn span_of_some(run: &SpannedRun, number: Option<u32>) -> Option<Span>
-    requires { ForSome number (λ d. d < length run.now.events) }
-    ensures { result ≡ span_of_some run.now number }
-{
-    match number {
-        None => None,
-        Some(number) => Some(span_of(run, number, event_of(run, number))),
-    }
-}
-
-/// What the words hold that the walk of the asked event may read behind an event.
-pub(crate) fn seen_behind(
-    alloc: Global,
-    run: &SpannedRun,
-    event: Span,
-    la: u64,
-    pcid: u16,
-    drop: Option<u32>,
-) -> Result<Vec<Seen>, AllocError>
-    requires within { event.number < length run.now.events }
-    requires drop { ForSome drop (λ d. d < event.number) }
-    ensures { IfOk result (λ seen. seen.items ≡ seen_behind run.now event la pcid drop) }
-{
-    let start = match drop {
-        None => 0,
-        Some(drop) => drop + 1,
-    };
-    let roots = roots(alloc, run, event.p, pcid, start, event.number)?;
-    let walk = Walk {
-        la,
-        event,
-        drop: span_of_some(run, drop),
-    };
-    seen_of(alloc, run, walk, &roots)
-}
-
-/// Appends behind which event the asked one reads its page, and what it may read there.
-fn push_behind(
-    alloc: Global,
-    text: &mut String,
-    run: &SpannedRun,
-    event: Span,
-    la: u64,
-    pcid: u16,
-    drop: Option<u32>,
-) -> Result<(), AllocError>
-    requires within { event.number < length run.now.events }
-    requires drop { ForSome drop (λ d. d < event.number) }
     ensures { OnOk result (string_bytes text.new
-        ≡ string_bytes text.old ++ behind_text run.now event la pcid drop) }
+        ≡ string_bytes text.old ++ entries_text header.now may.now cannot.now) }
 {
-    push_after(text, run, event.p, pcid, la, drop)?;
-    let seen = seen_behind(alloc, run, event, la, pcid, drop)?;
-    push_seen(alloc, text, run.header(), &seen)
+    push_may_lines(text, header.cfg, may)?;
+    push_version(text, header.version)?;
+    push_cannot_lines(text, cannot)
+}
+
+/// Appends behind which event a walk reads, and which entries.
+fn push_parts(text: &mut String, run: &SpannedRun, cause: &WalkCause) -> Result<(), AllocError>
+    requires { ForSome cause.now.after (λ x. x.number < length run.now.events) }
+    ensures { OnOk result (string_bytes text.new
+        ≡ string_bytes text.old ++ parts_text run.now (parts_in cause.now)) }
+{
+    push_after(text, run, cause.after)?;
+    push_entries(text, run.header(), &cause.may_read, &cause.cannot_read)
 }
 
 /// Appends what the walk of an event reads.
@@ -186,16 +113,16 @@ fn push_walk(
     alloc: Global,
     text: &mut String,
     run: &SpannedRun,
-    event: Span,
+    number: u32,
+    event: &Event,
     la: u64,
 ) -> Result<(), AllocError>
-    requires { event.number < length run.now.events }
-    ensures { OnOk result (string_bytes text.new
-        ≡ string_bytes text.old ++ walk_text run.now event (Some la)) }
+    requires { number < length run.now.events }
+    ensures { OnOk result (string_bytes text.new ≡ string_bytes text.old
+        ++ walk_text run.now (span_of run.now number event.now) (Some la)) }
 {
-    let pcid = control_before(run, event.p, event.number).pcid;
-    let drop = last_drop(run, event.p, pcid, la, event.number);
-    push_behind(alloc, text, run, event, la, pcid, drop)
+    let cause = walk_cause(alloc, run, number, event, la)?;
+    push_parts(text, run, &cause)
 }
 
 /// Appends why in every order an event does not come to pass.
@@ -214,7 +141,7 @@ fn push_event(
     push_numbered(text, run, number, event)?;
     match walked_address(event) {
         None => Ok(()),
-        Some(la) => push_walk(alloc, text, run, span_of(run, number, event), la),
+        Some(la) => push_walk(alloc, text, run, number, event, la),
     }
 }
 

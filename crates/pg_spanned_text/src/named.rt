@@ -1,15 +1,14 @@
 //! The events that a cause names.
 
-ghost use Rattle.std.specs.Prelude.{◌≡◌, ◌<◌, IfOk, OnOk, length, slice_get};
-ghost use Rattle.std.specs.Option.{ForSome};
-ghost use Rattle.pg_spanned_text.specs.Named.{put_name, put_some, put_gone, put_names, put_all};
-ghost use Rattle.pg_spanned_text.specs.Named.{named_by, named_walk, named};
+ghost use Rattle.std.specs.Prelude.{◌≡◌, ◌<◌, IfOk, OnOk, length};
+ghost use Rattle.pg_spanned_text.specs.Spans.{span_of};
+ghost use Rattle.pg_spanned_text.specs.Named.{put_name, put_some, put_after, put_gone, put_names};
+ghost use Rattle.pg_spanned_text.specs.Named.{put_all, named_by, named_walk, named};
 
-use crate::cause::{seen_behind, walked_address};
-use crate::drops::{control_before, last_drop};
+use crate::parts::{ReadAfter, walk_cause, walked_address};
 use crate::seen::{Gone, Seen};
-use crate::seen_lines::{gone_ones, open_ones};
-use crate::span::{Span, event_of, span_of};
+use crate::span::event_of;
+use pg_event::Event;
 use pg_spanned::SpannedRun;
 use std::alloc::{AllocError, Global};
 
@@ -33,6 +32,16 @@ fn put_some(names: &mut Vec<u32>, number: Option<u32>) -> Result<(), AllocError>
     match number {
         None => Ok(()),
         Some(number) => put_name(names, number),
+    }
+}
+
+/// Puts the event behind which a walk reads behind others.
+fn put_after(names: &mut Vec<u32>, after: Option<ReadAfter>) -> Result<(), AllocError>
+    ensures { OnOk result (names.new.items ≡ put_after names.old.items after) }
+{
+    match after {
+        None => Ok(()),
+        Some(after) => put_name(names, after.number),
     }
 }
 
@@ -69,31 +78,40 @@ fn put_all(names: &mut Vec<u32>, seen: &[Seen]) -> Result<(), AllocError>
 fn named_by(
     alloc: Global,
     number: u32,
-    drop: Option<u32>,
-    seen: &[Seen],
+    after: Option<ReadAfter>,
+    may: &[Seen],
+    cannot: &[Seen],
 ) -> Result<Vec<u32>, AllocError>
-    ensures { IfOk result (λ names. names.items ≡ named_by number drop seen.now) }
+    ensures { IfOk result (λ names. names.items ≡ named_by number after may.now cannot.now) }
 {
-    let open = open_ones(alloc, seen)?;
-    let mut gone = gone_ones(alloc, seen)?;
-    gone.reverse();
     let mut names = Vec::new(alloc);
     put_name(&mut names, number)?;
-    put_some(&mut names, drop)?;
-    put_all(&mut names, &open)?;
-    put_all(&mut names, &gone)?;
+    put_after(&mut names, after)?;
+    put_all(&mut names, may)?;
+    put_all(&mut names, cannot)?;
     Ok(names)
 }
 
 /// The same of the walk of an event.
-fn named_walk(alloc: Global, run: &SpannedRun, event: Span, la: u64) -> Result<Vec<u32>, AllocError>
-    requires { event.number < length run.now.events }
-    ensures { IfOk result (λ names. names.items ≡ named_walk run.now event (Some la)) }
+fn named_walk(
+    alloc: Global,
+    run: &SpannedRun,
+    number: u32,
+    event: &Event,
+    la: u64,
+) -> Result<Vec<u32>, AllocError>
+    requires { number < length run.now.events }
+    ensures { IfOk result (λ names. names.items
+        ≡ named_walk run.now (span_of run.now number event.now) (Some la)) }
 {
-    let pcid = control_before(run, event.p, event.number).pcid;
-    let drop = last_drop(run, event.p, pcid, la, event.number);
-    let seen = seen_behind(alloc, run, event, la, pcid, drop)?;
-    named_by(alloc, event.number, drop, &seen)
+    let cause = walk_cause(alloc, run, number, event, la)?;
+    named_by(
+        alloc,
+        number,
+        cause.after,
+        &cause.may_read,
+        &cause.cannot_read,
+    )
 }
 
 /// The events that the cause of an event names, 40 of them at most.
@@ -103,7 +121,7 @@ pub(crate) fn named(alloc: Global, run: &SpannedRun, number: u32) -> Result<Vec<
 {
     let event = event_of(run, number);
     match walked_address(event) {
-        None => named_by(alloc, number, None, &[]),
-        Some(la) => named_walk(alloc, run, span_of(run, number, event), la),
+        None => named_by(alloc, number, None, &[], &[]),
+        Some(la) => named_walk(alloc, run, number, event, la),
     }
 }

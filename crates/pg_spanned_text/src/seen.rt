@@ -16,7 +16,7 @@ use std::alloc::{AllocError, Global};
 
 /// That a value is overwritten in every order.
 #[derive(Clone, Copy)]
-pub(crate) struct Gone {
+pub struct Gone {
     /// By which event.
     pub by: u32,
     /// Which comes before this one.
@@ -25,7 +25,7 @@ pub(crate) struct Gone {
 
 /// What a word holds at some time.
 #[derive(Clone, Copy)]
-pub(crate) struct Seen {
+pub struct Seen {
     /// The level of the walk that reads the word.
     pub level: Level,
     /// The physical address of the word.

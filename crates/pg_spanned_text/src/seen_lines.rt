@@ -1,15 +1,14 @@
 //! The text of which entries a walk may read, and which it can't.
 
-ghost use Rattle.std.specs.Prelude.{◌≡◌, ◌++◌, ◌≤◌, IfOk, OnOk, string_bytes};
+ghost use Rattle.std.specs.Prelude.{◌≡◌, ◌++◌, ◌≤◌, OnOk, string_bytes};
 ghost use Rattle.pg_spanned_text.specs.Text.{kind_text, writer_text, held_text, level_text};
 ghost use Rattle.pg_spanned_text.specs.Text.{entry_text, may_line, reason_text};
 ghost use Rattle.pg_spanned_text.specs.Text.{gone_line, cannot_line, may_lines, cannot_lines};
-ghost use Rattle.pg_spanned_text.specs.Text.{may_text, cannot_text, open_ones, gone_ones};
 
 use crate::seen::{Gone, Seen};
 use pg_entry::{Cfg, Entry, Kind, Level, classify};
 use pg_explain::level_number;
-use std::alloc::{AllocError, Global};
+use std::alloc::AllocError;
 
 /// So many lines of entries that may be read.
 const MOST_MAY: usize = 64;
@@ -108,7 +107,7 @@ fn push_cannot(text: &mut String, seen: Seen) -> Result<(), AllocError>
 }
 
 /// Appends the lines of entries that may be read, or of the first of them.
-fn push_may_lines(text: &mut String, cfg: Cfg, seen: &[Seen]) -> Result<(), AllocError>
+pub(crate) fn push_may_lines(text: &mut String, cfg: Cfg, seen: &[Seen]) -> Result<(), AllocError>
     requires { (36 ≤ cfg.m) × (cfg.m ≤ 52) }
     ensures { OnOk result
         (string_bytes text.new ≡ string_bytes text.old ++ may_lines cfg 0 seen.now) }
@@ -124,7 +123,7 @@ fn push_may_lines(text: &mut String, cfg: Cfg, seen: &[Seen]) -> Result<(), Allo
 }
 
 /// Appends the lines of entries that can't be read, or of the first of them.
-fn push_cannot_lines(text: &mut String, seen: &[Seen]) -> Result<(), AllocError>
+pub(crate) fn push_cannot_lines(text: &mut String, seen: &[Seen]) -> Result<(), AllocError>
     ensures { OnOk result
         (string_bytes text.new ≡ string_bytes text.old ++ cannot_lines 0 seen.now) }
 {
@@ -136,53 +135,4 @@ fn push_cannot_lines(text: &mut String, seen: &[Seen]) -> Result<(), AllocError>
         push_cannot(text, *one)?;
     }
     Ok(())
-}
-
-/// Those that may be read.
-pub(crate) fn open_ones(alloc: Global, seen: &[Seen]) -> Result<Vec<Seen>, AllocError>
-    ensures { IfOk result (λ chosen. chosen.items ≡ open_ones seen.now) }
-{
-    seen.iter()
-        .filter(|one| one.gone.is_none())
-        .copied()
-        .collect(alloc)
-}
-
-/// Those that can't.
-pub(crate) fn gone_ones(alloc: Global, seen: &[Seen]) -> Result<Vec<Seen>, AllocError>
-    ensures { IfOk result (λ chosen. chosen.items ≡ gone_ones seen.now) }
-{
-    seen.iter()
-        .filter(|one| !one.gone.is_none())
-        .copied()
-        .collect(alloc)
-}
-
-/// Appends which entries may be read, from level 4 down.
-pub(crate) fn push_may_text(
-    alloc: Global,
-    text: &mut String,
-    cfg: Cfg,
-    seen: &[Seen],
-) -> Result<(), AllocError>
-    requires { (36 ≤ cfg.m) × (cfg.m ≤ 52) }
-    ensures { OnOk result
-        (string_bytes text.new ≡ string_bytes text.old ++ may_text cfg seen.now) }
-{
-    let open = open_ones(alloc, seen)?;
-    push_may_lines(text, cfg, &open)
-}
-
-/// Appends which entries can't be read, from the last level up, and the last written first.
-pub(crate) fn push_cannot_text(
-    alloc: Global,
-    text: &mut String,
-    seen: &[Seen],
-) -> Result<(), AllocError>
-    ensures { OnOk result
-        (string_bytes text.new ≡ string_bytes text.old ++ cannot_text seen.now) }
-{
-    let mut gone = gone_ones(alloc, seen)?;
-    gone.reverse();
-    push_cannot_lines(text, &gone)
 }

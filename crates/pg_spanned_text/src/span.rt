@@ -24,7 +24,7 @@ pub(crate) fn precedes(first: Span, second: Span) -> bool
 }
 
 /// How many events had ended in every order when an event began.
-pub(crate) fn ended_before(run: &SpannedRun, number: u32) -> u32
+pub fn ended_before(run: &SpannedRun, number: u32) -> u32
     requires { number < length run.now.events }
     ensures { result ≡ ended_before run.now number }
 {
@@ -33,7 +33,7 @@ pub(crate) fn ended_before(run: &SpannedRun, number: u32) -> u32
 }
 
 /// The event with this number.
-pub(crate) fn event_of(run: &SpannedRun, number: u32) -> &Event
+pub fn event_of(run: &SpannedRun, number: u32) -> &Event
     requires { number < length run.now.events }
     ensures { slice_get run.now.events number ≡ Some result.now }
 {

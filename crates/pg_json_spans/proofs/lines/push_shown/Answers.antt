@@ -1,9 +1,7 @@
-use Rattle.std.proofs.Common.{◌≡◌, ◌∙◌, ◌++◌, ℕ, Bool, List, ap, sym, string_bytes}
-use Rattle.pg_spanned.specs.Orders.{Spanned, ended_before}
+use Rattle.std.proofs.Common.{◌≡◌, ◌∙◌, ◌++◌, Bool, List, ℕ, ap, sym, string_bytes}
+use Rattle.pg_spanned.specs.Orders.{Spanned}
 use Rattle.pg_event.specs.declared.event.Event.{Event}
-use Rattle.pg_json.specs.Events.{began_json}
-use Rattle.pg_json.specs.Tree.{data_of}
-use Rattle.pg_json_spans.specs.Lines.{spanned_line}
+use Rattle.pg_json_spans.specs.Lines.{event_json, spanned_line}
 use Rattle.pg_json_spans.proofs.lines.push_shown.Goals as goal
 
 pub returns-in_ok-push_str : goal.returns-in_ok-push_str
@@ -11,7 +9,6 @@ returns-in_ok-push_str c =
     let s : Spanned = c.args.run.now in
     let n = c.args.number in
     let e : Event = c.args.event.now in
-    let value = c.in_ok-value.ensures ∙ ap (λ (b : ℕ). data_of (began_json b n e)) c.ended_before-began.ensures in
-    let line = c.in_ok-line.ensures (began_json (ended_before s n) n e) value in
+    let line = c.in_ok-line.ensures (event_json s n e) c.in_ok-value.ensures in
     let shown = c.as_str.ensures.value ∙ line ∙ ap (λ (b : Bool). spanned_line b s n e) (sym c.if-is_shown.true) in
     c.in_ok-push_str.ensures.bytes ∙ ap (λ (t : List ℕ). string_bytes c.args.text.now ++ t) shown

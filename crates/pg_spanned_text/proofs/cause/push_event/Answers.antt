@@ -3,8 +3,8 @@ use Rattle.std.proofs.lemmas.Result.{on_ok_weaker}
 use Rattle.pg_event.specs.declared.event.Event.{Event}
 use Rattle.pg_explain.proofs.Lines.{three_written}
 use Rattle.pg_spanned.specs.Orders.{Spanned}
-use Rattle.pg_spanned_text.specs.declared.span.Span.{Span}
-use Rattle.pg_spanned_text.specs.Cause.{numbered_line, walk_text, walked_address}
+use Rattle.pg_spanned_text.specs.Cause.{numbered_line, walk_text}
+use Rattle.pg_spanned_text.specs.Parts.{walked_address}
 use Rattle.pg_spanned_text.specs.Spans.{span_of}
 use Rattle.pg_spanned_text.proofs.cause.push_event.Goals as goal
 
@@ -17,10 +17,10 @@ returns-in-Some c =
     let one = string_bytes c.push_str.new.self in
     let two = string_bytes c.push_numbered.new.text in
     let three = string_bytes c.push_walk.new.text in
-    let walk : walk_text s c.span_of.result (Some la) ≡ walk_text s (span_of s number e) (walked_address e) =
-    ap (λ (x : Span). walk_text s x (Some la)) c.span_of.ensures ∙ ap (walk_text s (span_of s number e)) c.in-Some.ensures in
+    let walk : walk_text s (span_of s number e) (Some la) ≡ walk_text s (span_of s number e) (walked_address e) =
+    ap (walk_text s (span_of s number e)) c.in-Some.ensures in
     on_ok_weaker c.push_walk.result
-    (λ (w : three ≡ two ++ walk_text s c.span_of.result (Some la)).
+    (λ (w : three ≡ two ++ walk_text s (span_of s number e) (Some la)).
     three_written (string_bytes c.args.text.now) one two three (codes "event: ") (numbered_line s number e) (walk_text s (span_of s number e) (walked_address e))
     c.in_ok-push_str.ensures.bytes c.in_ok-push_numbered.ensures (w ∙ ap (λ (t : List ℕ). two ++ t) walk))
     c.push_walk.ensures
