@@ -95,8 +95,8 @@ const STALE_LINE: &str = "{\"all_orders\":false,\"cause\":{\"as_written\":false,
     \"value\":\"0x4007\",\"word\":\"0x3000\",\"written_by\":2},{\"is\":\"leaf\",\"level\":1,\
     \"page\":\"0xa000\",\"value\":\"0xa007\",\"word\":\"0x4028\",\"written_by\":4}],\
     \"read_after\":{\"address\":\"0x5000\",\"began\":5,\"cpu\":1,\"event\":5,\
-    \"kind\":\"invlpg\"}},\"event\":6,\"events\":7,\"reason\":15,\"reason_name\":\"no order\",\
-    \"segments\":1,\"verdict\":\"no\"}\n";
+    \"kind\":\"invlpg\"}},\"event\":6,\"events\":7,\"in_each_order\":[],\"reason\":15,\
+    \"reason_name\":\"no order\",\"segments\":1,\"verdict\":\"no\"}\n";
 
 pub const SPANS: [Row; 10] = [
     Row {
@@ -138,7 +138,7 @@ pub const SPANS: [Row; 10] = [
             \"value\":\"0x4027\",\"word\":\"0x3000\",\"written_by\":2},{\"is\":\"leaf\",\
             \"level\":1,\"page\":\"0xa000\",\"value\":\"0xa067\",\"word\":\"0x4028\",\
             \"written_by\":4}],\"read_after\":{\"began\":5,\"cpu\":1,\"event\":5,\"kind\":\"cr3\",\
-            \"operand\":\"0x1001\"}},\"event\":6,\"events\":7,\"reason\":15,\
+            \"operand\":\"0x1001\"}},\"event\":6,\"events\":7,\"in_each_order\":[],\"reason\":15,\
             \"reason_name\":\"no order\",\"segments\":1,\"verdict\":\"no\"}\n",
         line: "",
         status: 1,
@@ -157,7 +157,7 @@ pub const SPANS: [Row; 10] = [
             \"written_by\":1},{\"is\":\"table\",\"level\":2,\"value\":\"0x4007\",\
             \"word\":\"0x3000\",\"written_by\":2},{\"is\":\"leaf\",\"level\":1,\
             \"page\":\"0x9000\",\"value\":\"0x9007\",\"word\":\"0x4028\",\"written_by\":3}],\
-            \"read_after\":null},\"event\":5,\"events\":6,\"reason\":15,\
+            \"read_after\":null},\"event\":5,\"events\":6,\"in_each_order\":[],\"reason\":15,\
             \"reason_name\":\"no order\",\"segments\":1,\"verdict\":\"no\"}\n",
         line: "",
         status: 1,

@@ -27,9 +27,12 @@ abbrev pub edge_json : Edge → Json
 edge_json edge = object (
     field (codes "first") (count edge.first) (field (codes "second") (count edge.second) no_fields))
 
+abbrev pub edges_json : List Edge → Json
+edges_json edges = list (elements (map edge_json edges))
+
 abbrev pub never_fields : Spanned → ℕ → List Edge → Fields
-never_fields s n edges = field (codes "in_each_order") (list (elements (map edge_json edges)))
-    (why_fields (cause_json s n) false)
+never_fields s n edges =
+    field (codes "in_each_order") (edges_json edges) (why_fields (cause_json s n) false)
 
 abbrev pub cause_fields : Spanned → Told → Fields
 cause_fields s Yes = no_fields

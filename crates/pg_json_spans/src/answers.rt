@@ -22,12 +22,12 @@ use std::alloc::Global;
 /// Of what is undecided.
 const UNDECIDED: u8 = 4;
 
-fn told_status(told: Told) -> u8
-    ensures { result ≡ told_status told }
+fn told_status(told: &Told) -> u8
+    ensures { result ≡ told_status told.now }
 {
     match told {
         Told::Yes => YES,
-        Told::Never(_) | Told::NoneOfAll(_) => NO,
+        Told::Never(..) | Told::NoneOfAll(_) => NO,
         Told::Undecided(_) => UNDECIDED,
     }
 }
@@ -50,11 +50,11 @@ fn give_line<O: Sink, E: Sink>(output: &mut O, errors: &mut E, text: &str, good:
 fn give_told<O: Sink, E: Sink>(
     alloc: Global,
     run: &SpannedRun,
-    told: Told,
+    told: &Told,
     output: &mut O,
     errors: &mut E,
 ) -> u8
-    ensures { GivesTold run.now told
+    ensures { GivesTold run.now told.now
         (filled O.Sink output.old output.new) (filled E.Sink errors.old errors.new) result }
 {
     match told_line(alloc, run, told) {
@@ -74,7 +74,7 @@ fn answer_run<O: Sink, E: Sink>(
         (filled O.Sink output.old output.new) (filled E.Sink errors.old errors.new) result }
 {
     match told_of(alloc, run) {
-        Ok(told) => give_told(alloc, run, told, output, errors),
+        Ok(told) => give_told(alloc, run, &told, output, errors),
         Err(_) => tell_memory(output, errors),
     }
 }

@@ -3,6 +3,7 @@
 
 mod answers;
 mod cause;
+mod edges;
 mod lines;
 mod refusals;
 mod told;

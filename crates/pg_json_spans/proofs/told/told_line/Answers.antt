@@ -10,7 +10,7 @@ use Rattle.pg_json_spans.proofs.told.told_line.Goals as goal
 pub returns : goal.returns
 returns c =
     let s = c.args.run.now in
-    let told = c.args.told in
+    let told = c.args.told.now in
     let cause = cause_fields s told in
     let counted = c.in_ok-put_counts.ensures cause c.in_ok-fields.ensures
     ∙ ap (λ n. members_of (with_counts n c.segments_of.result cause)) c.len.ensures.length
