@@ -2,7 +2,7 @@ use Rattle.std.proofs.Common.{◌≡◌, ◌∙◌, List, ap, codes}
 use Rattle.serde_json.specs.Data.{Members, object, put}
 use Rattle.serde_json.specs.View.{members_view}
 use Rattle.serde_json.proofs.Views.{Entry, view-Object}
-use Rattle.pg_json.specs.Tree.{data_of, members_of, count, Fields, field, no_fields}
+use Rattle.pg_json.specs.Tree.{data_of, members_of, count, field, no_fields}
 use Rattle.pg_json_spans.proofs.edges.edge_json.Goals as goal
 
 pub returns : goal.returns

@@ -1,4 +1,4 @@
-use Rattle.std.proofs.Common.{◌≡◌, ◌∙◌, ◌++◌, Bool, List, ℕ, ap, sym, string_bytes}
+use Rattle.std.proofs.Common.{◌∙◌, ◌++◌, Bool, List, ℕ, ap, sym, string_bytes}
 use Rattle.pg_spanned.specs.Orders.{Spanned}
 use Rattle.pg_event.specs.declared.event.Event.{Event}
 use Rattle.pg_json_spans.specs.Lines.{event_json, spanned_line}

@@ -1,10 +1,10 @@
-use Rattle.std.proofs.Common.{◌≡◌, ◌∙◌, ap, length}
+use Rattle.std.proofs.Common.{◌∙◌, ap, length}
 use Rattle.serde_json.specs.Data.{object}
 use Rattle.serde_json.proofs.Views.{view-Object}
 use Rattle.pg_json.specs.Tree.{members_of}
 use Rattle.pg_json.specs.Reports.{with_counts}
 use Rattle.pg_ordering.specs.Texts.{segments_of}
-use Rattle.pg_json_spans.specs.Told.{cause_fields, with_told, told_json}
+use Rattle.pg_json_spans.specs.Told.{cause_fields, told_json}
 use Rattle.pg_json_spans.proofs.told.told_line.Goals as goal
 
 pub returns : goal.returns
