@@ -47,7 +47,48 @@ const NEW_THEN_OLD: &[&str] = &[
     "0208000000",
 ];
 
-/// The same of version 4, where CR4.PGE is 1 and a load of CR3 invalidates the page.
+/// Of an INVLPG of processor 0 three times.
+const THREE_INVLPGS: &str =
+    "130000000000005000000000000013000000000000500000000000001300000000000050000000000000";
+
+/// The same of 71 events, too many to try all orders: 63 times processor 0 invalidates the page
+/// first.
+const MANY_NEW_THEN_OLD: &[&str] = &[
+    "50475245434f5244030028030200010000011000000000000000011000000000000000",
+    "010000000047000000",
+    "10000000000000100000000000000720000000000000",
+    "10000000000000200000000000000730000000000000",
+    "10000000000000300000000000000740000000000000",
+    "10000000000028400000000000000790000000000000",
+    THREE_INVLPGS,
+    THREE_INVLPGS,
+    THREE_INVLPGS,
+    THREE_INVLPGS,
+    THREE_INVLPGS,
+    THREE_INVLPGS,
+    THREE_INVLPGS,
+    THREE_INVLPGS,
+    THREE_INVLPGS,
+    THREE_INVLPGS,
+    THREE_INVLPGS,
+    THREE_INVLPGS,
+    THREE_INVLPGS,
+    THREE_INVLPGS,
+    THREE_INVLPGS,
+    THREE_INVLPGS,
+    THREE_INVLPGS,
+    THREE_INVLPGS,
+    THREE_INVLPGS,
+    THREE_INVLPGS,
+    THREE_INVLPGS,
+    "1101000000000423510000000000000023a1000000000000",
+    "1301000000000050000000000000",
+    "110100000000042351000000000000002391000000000000",
+    "100003000000284000000000000007a0000000000000",
+    "0247000000",
+];
+
+/// As `STALE`, of version 4, where CR4.PGE is 1 and a load of CR3 invalidates the page.
 const RELOADED: &[&str] = &[
     "50475245434f5244040028030200100000000110000000000000010110000000000000",
     "01",
@@ -98,7 +139,7 @@ const STALE_LINE: &str = "{\"all_orders\":false,\"cause\":{\"as_written\":false,
     \"kind\":\"invlpg\"}},\"event\":6,\"events\":7,\"in_each_order\":[],\"reason\":15,\
     \"reason_name\":\"no order\",\"segments\":1,\"verdict\":\"no\"}\n";
 
-pub const SPANS: [Row; 10] = [
+pub const SPANS: [Row; 11] = [
     Row {
         name: "spans_with_an_order",
         words: &["certify", "--json"],
@@ -167,6 +208,28 @@ pub const SPANS: [Row; 10] = [
         words: &["certify", "--json"],
         input: NEW_THEN_OLD,
         output: "{\"all_orders\":true,\"cause\":null,\"event\":6,\"events\":8,\"reason\":15,\
+            \"reason_name\":\"no order\",\"segments\":1,\"verdict\":\"no\"}\n",
+        line: "",
+        status: 1,
+    },
+    Row {
+        name: "spans_of_a_no_by_what_comes_first",
+        words: &["certify", "--json"],
+        input: MANY_NEW_THEN_OLD,
+        output: "{\"all_orders\":false,\"cause\":{\"as_written\":false,\"cannot_read\":[],\
+            \"event\":{\"ac\":false,\"address\":\"0x5123\",\"began\":69,\"cpu\":1,\
+            \"event\":69,\"kind\":\"access\",\"operation\":\"read\",\
+            \"outcome\":{\"page\":\"0x9123\"},\"user\":true},\"if_not_global\":false,\
+            \"may_read\":[{\"is\":\"table\",\"level\":4,\"value\":\"0x2007\",\
+            \"word\":\"0x1000\",\"written_by\":0},{\"is\":\"table\",\"level\":3,\
+            \"value\":\"0x3007\",\"word\":\"0x2000\",\"written_by\":1},{\"is\":\"table\",\
+            \"level\":2,\"value\":\"0x4007\",\"word\":\"0x3000\",\"written_by\":2},{\
+            \"is\":\"leaf\",\"level\":1,\"page\":\"0x9000\",\"value\":\"0x9007\",\
+            \"word\":\"0x4028\",\"written_by\":3},{\"is\":\"leaf\",\"level\":1,\
+            \"page\":\"0xa000\",\"value\":\"0xa007\",\"word\":\"0x4028\",\
+            \"written_by\":70}],\"read_after\":{\"address\":\"0x5000\",\"began\":68,\
+            \"cpu\":1,\"event\":68,\"kind\":\"invlpg\"}},\"event\":69,\"events\":71,\
+            \"in_each_order\":[{\"first\":70,\"second\":67}],\"reason\":15,\
             \"reason_name\":\"no order\",\"segments\":1,\"verdict\":\"no\"}\n",
         line: "",
         status: 1,

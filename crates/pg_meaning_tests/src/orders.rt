@@ -135,7 +135,7 @@ fn is_told(alloc: Global, run: &SpannedRun, told: &Told) -> Result<bool, Fail> {
             let found = moments_in_order(alloc, run, &order)?;
             is_order(alloc, run, &order)? && found.len() == run.len()
         }
-        (Verdict::Never(event), Told::Never(at)) => event == *at,
+        (Verdict::Never(event, _), Told::Never(at)) => event == *at,
         (Verdict::NoneOfAll(event), Told::NoneOfAll(at)) => event == *at,
         (Verdict::Undecided(event), Told::Undecided(at)) => event == *at,
         _ => false,

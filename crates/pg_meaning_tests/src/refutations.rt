@@ -1,7 +1,7 @@
 use crate::orders::{OLD_READ, OWN_INVLPG, REMAP, Spanned, run_of};
 use crate::written::{INVLPG, READ, Written};
 use pg_event::Outcome;
-use pg_relaxed::refute;
+use pg_relaxed::{Edge, refute, refute_near};
 use std::alloc::{AllocGlobal, Global};
 use std::test::Fail;
 
@@ -137,6 +137,41 @@ fn is_so(alloc: Global, case: &Case) -> Result<bool, Fail> {
         return Ok(false);
     }
     Ok(refute(alloc, &run, run.len() as u32 - 1)? == case.refuted)
+}
+
+/// The events of a processor that reads a new leaf and then, behind an INVLPG or not, the old one,
+/// while another writes it.
+const NEW_THEN_OLD: [Spanned; 4] = [(NEW_READ, 0), (OWN_INVLPG, 0), (OLD_READ, 0), (REMAP, 3)];
+
+const NEW_THEN_KEPT: [Spanned; 3] = [(NEW_READ, 0), (OLD_READ, 0), (REMAP, 2)];
+
+/// Whether the last of these accesses is refuted, since the write comes before the first.
+fn is_deduced(alloc: Global) -> Result<bool, Fail> {
+    let run = run_of(alloc, &NEW_THEN_OLD)?;
+    match refute_near(alloc, &run, 7)? {
+        Some(found) => {
+            let edge = Edge {
+                first: 8,
+                second: 5,
+            };
+            Ok(found.number == 7 && found.edges.as_slice() == [edge].as_slice())
+        }
+        None => Ok(false),
+    }
+}
+
+fn is_none_deduced(alloc: Global) -> Result<bool, Fail> {
+    let run = run_of(alloc, &NEW_THEN_KEPT)?;
+    Ok(refute_near(alloc, &run, 6)?.is_none())
+}
+
+#[test]
+fn what_comes_first_is_deduced(rt: HostRuntime) -> Result<(), Fail> {
+    let alone = run_of(rt.alloc(), &NEW_THEN_OLD)?;
+    assert!(rt; !refute(rt.alloc(), &alone, 7)?);
+    assert!(rt; is_deduced(rt.alloc())?);
+    assert!(rt; is_none_deduced(rt.alloc())?);
+    Ok(())
 }
 
 #[test]

@@ -55,6 +55,47 @@ const NEW_THEN_OLD: &[&str] = &[
     "0208000000",
 ];
 
+/// Of an INVLPG of processor 0 three times.
+const THREE_INVLPGS: &str =
+    "130000000000005000000000000013000000000000500000000000001300000000000050000000000000";
+
+/// The same of 71 events, too many to try all orders: 63 times processor 0 invalidates the page
+/// first.
+const MANY_NEW_THEN_OLD: &[&str] = &[
+    "50475245434f5244030028030200010000011000000000000000011000000000000000",
+    "010000000047000000",
+    "10000000000000100000000000000720000000000000",
+    "10000000000000200000000000000730000000000000",
+    "10000000000000300000000000000740000000000000",
+    "10000000000028400000000000000790000000000000",
+    THREE_INVLPGS,
+    THREE_INVLPGS,
+    THREE_INVLPGS,
+    THREE_INVLPGS,
+    THREE_INVLPGS,
+    THREE_INVLPGS,
+    THREE_INVLPGS,
+    THREE_INVLPGS,
+    THREE_INVLPGS,
+    THREE_INVLPGS,
+    THREE_INVLPGS,
+    THREE_INVLPGS,
+    THREE_INVLPGS,
+    THREE_INVLPGS,
+    THREE_INVLPGS,
+    THREE_INVLPGS,
+    THREE_INVLPGS,
+    THREE_INVLPGS,
+    THREE_INVLPGS,
+    THREE_INVLPGS,
+    THREE_INVLPGS,
+    "1101000000000423510000000000000023a1000000000000",
+    "1301000000000050000000000000",
+    "110100000000042351000000000000002391000000000000",
+    "100003000000284000000000000007a0000000000000",
+    "0247000000",
+];
+
 /// No event overlaps another.
 const ONE: &[&str] = &[
     "50475245434f5244030028030110000000011000000000000000",
@@ -83,6 +124,21 @@ const NEW_THEN_OLD_LINES: &str = "verdict: no\n\
     segments: 1\n\
     all orders: each was tried, and none has a run\n";
 
+/// The write comes before the first read, so that its value is gone at the second.
+const MANY_NEW_THEN_OLD_LINES: &str = "verdict: no\n\
+    event: 69\n\
+    reason: 15 no order\n\
+    events: 71\n\
+    segments: 1\n\
+    event: 69 cpu 1 user read 0x5123 -> 0x9123 began 69\n\
+    read after: 68 cpu 1 invlpg 0x5000 began 68\n\
+    may read: level 4 [0x1000] = 0x2007 table, written by event 0\n\
+    may read: level 3 [0x2000] = 0x3007 table, written by event 1\n\
+    may read: level 2 [0x3000] = 0x4007 table, written by event 2\n\
+    may read: level 1 [0x4028] = 0x9007 leaf 0x9000, written by event 3\n\
+    may read: level 1 [0x4028] = 0xa007 leaf 0xa000, written by event 70\n\
+    in each order: event 70 comes before event 67\n";
+
 /// Behind the INVLPG no order has the entry of before, since what replaced it had ended.
 const STALE_LINES: &str = "verdict: no\n\
     event: 6\n\
@@ -100,7 +156,7 @@ const STALE_LINES: &str = "verdict: no\n\
 
 const REFUSED: &str = "pcid-audit: refused 2 version: certify judges records with spans\n";
 
-pub const ROWS: [Row; 15] = [
+pub const ROWS: [Row; 16] = [
     Row {
         name: "spanned_walk_certified",
         words: &["certify"],
@@ -222,6 +278,14 @@ pub const ROWS: [Row; 15] = [
         words: &["explain"],
         input: NEW_THEN_OLD,
         output: NEW_THEN_OLD_LINES,
+        line: "",
+        status: 1,
+    },
+    Row {
+        name: "reads_of_many_events_that_exclude_one_another",
+        words: &["certify"],
+        input: MANY_NEW_THEN_OLD,
+        output: MANY_NEW_THEN_OLD_LINES,
         line: "",
         status: 1,
     },
