@@ -5,6 +5,10 @@ use pg_entry::{Level, Rights};
 use pg_event::bits_from;
 use std::alloc::{AllocError, Global};
 use std::collections::HashMap;
+use std::mem::swap;
+
+/// So many are kept at least. Twice as many are at most: those before are forgotten.
+const KEPT: usize = 131_072;
 
 /// A translation of a page by a walk that ended in a slot.
 #[derive(Clone, Copy)]
@@ -17,15 +21,21 @@ pub(crate) struct Known {
     pub slot: u32,
 }
 
+/// A translation with where it belongs, in 32 bytes.
 #[derive(Clone, Copy)]
 struct Noted {
-    known: Known,
+    value: u64,
+    slot: u32,
     /// The number of its address.
     id: u32,
     /// The one before it for the same address.
     before: u32,
     /// The moment when it was found.
     moment: u32,
+    pcid: u16,
+    rights: Rights,
+    level: Level,
+    is_global: bool,
 }
 
 #[derive(Drop)]
@@ -33,6 +43,10 @@ pub(crate) struct Found {
     ids: HashMap<u64, u32>,
     /// For each address the place of the last that was found, or `NEVER`.
     last: Vec<u32>,
+    /// How many were forgotten.
+    forgotten: u32,
+    /// Those behind, and then the latest.
+    older: Vec<Noted>,
     noted: Vec<Noted>,
 }
 
@@ -40,11 +54,26 @@ fn key(p: u16, la: u64) -> u64 {
     (p as u64) << 40 | bits_from(12, la)
 }
 
+impl Noted {
+    fn known(&self) -> Known {
+        Known {
+            value: self.value,
+            rights: self.rights,
+            level: self.level,
+            is_global: self.is_global,
+            pcid: self.pcid,
+            slot: self.slot,
+        }
+    }
+}
+
 impl Found {
     pub(crate) fn new(alloc: Global) -> Found {
         Found {
             ids: HashMap::new(alloc),
             last: Vec::new(alloc),
+            forgotten: 0,
+            older: Vec::new(alloc),
             noted: Vec::new(alloc),
         }
     }
@@ -80,12 +109,39 @@ impl Found {
         }
     }
 
+    /// The place of the first that is not among the older ones.
+    fn middle(&self) -> u32 {
+        self.forgotten.saturating_add(number(self.older.len()))
+    }
+
+    fn noted_at(&self, place: u32) -> Option<&Noted> {
+        let middle = self.middle();
+        if middle <= place {
+            return self.noted.get((place - middle) as usize);
+        }
+        if place < self.forgotten {
+            return None;
+        }
+        self.older.get((place - self.forgotten) as usize)
+    }
+
     /// What stands at a place, and the place of the one before it.
     pub(crate) fn get(&self, place: u32) -> Option<(Known, u32)> {
-        match self.noted.get(place as usize) {
-            Some(noted) => Some((noted.known, noted.before)),
+        match self.noted_at(place) {
+            Some(noted) => Some((noted.known(), noted.before)),
             None => None,
         }
+    }
+
+    /// Forgets the older ones, where there are enough others.
+    fn make_room(&mut self) {
+        if self.noted.len() < KEPT {
+            return;
+        }
+        self.forgotten = self.middle();
+        self.older.clear();
+        let Found { older, noted, .. } = self;
+        swap(older, noted);
     }
 
     pub(crate) fn note(
@@ -95,29 +151,50 @@ impl Found {
         known: Known,
         moment: u32,
     ) -> Result<(), AllocError> {
+        self.make_room();
         let id = self.id(key(p, la))?;
         let before = self.last_of(id);
-        let place = number(self.noted.len());
+        let place = self.middle().saturating_add(number(self.noted.len()));
         self.set_last(id, place);
         self.noted.push(Noted {
-            known,
+            value: known.value,
+            slot: known.slot,
             id,
             before,
             moment,
+            pcid: known.pcid,
+            rights: known.rights,
+            level: known.level,
+            is_global: known.is_global,
         })?;
         Ok(())
     }
 
+    /// The latest that is not forgotten.
+    fn latest(&self) -> Option<Noted> {
+        match self.noted.last() {
+            Some(noted) => Some(*noted),
+            None => self.older.last().copied(),
+        }
+    }
+
+    /// Takes the latest away.
+    fn pop(&mut self) {
+        if self.noted.pop().is_none() {
+            self.older.pop();
+        }
+    }
+
     /// Forgets what was found behind a moment.
     pub(crate) fn take_back_to(&mut self, moment: u32) {
-        for _ in 0..self.noted.len() {
-            let Some(noted) = self.noted.last().copied() else {
+        for _ in 0..self.noted.len().saturating_add(self.older.len()) {
+            let Some(noted) = self.latest() else {
                 break;
             };
             if noted.moment <= moment {
                 break;
             }
-            self.noted.pop();
+            self.pop();
             self.set_last(noted.id, noted.before);
         }
     }
