@@ -19,8 +19,9 @@ const BEHIND: u32 = 100;
 /// So many events before the first of them, and behind the last, have a place among what is sure.
 const MORE: u32 = 700;
 
-/// So often all of them are looked at.
-const MOST_PASSES: u32 = 32;
+/// So often all of them are looked at. What is sure is kept, and looked at again where the event
+/// still waits.
+const MOST_PASSES: u32 = 4;
 
 /// Edges are supposed between events so near.
 const NEAR: u32 = 60;

@@ -81,7 +81,8 @@ impl<'v> Edges<'v> {
         let wrote = made.place(reading.writer);
         let mut near = NEVER;
         let mut any = reading.assist;
-        for other in writes.iter().skip(first).take(MOST_ASSISTS) {
+        // To skip events one after another would take as long as going over them.
+        for other in writes[first.min(writes.len())..].iter().take(MOST_ASSISTS) {
             if *other > most {
                 break;
             }

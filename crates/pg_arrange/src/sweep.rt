@@ -294,7 +294,7 @@ impl<'v> Sweep<'v> {
         self.over.clear();
         let stays = view.facts.stays.of(p, self.pcid);
         let skipped = stays.partition_point(|stay| stay.last < first);
-        for stay in stays.iter().skip(skipped) {
+        for stay in &stays[skipped.min(stays.len())..] {
             if stay.first > last {
                 break;
             }
