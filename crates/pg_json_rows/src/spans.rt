@@ -136,7 +136,7 @@ const STALE_LINE: &str = "{\"all_orders\":false,\"cause\":{\"as_written\":false,
     \"value\":\"0x4007\",\"word\":\"0x3000\",\"written_by\":2},{\"is\":\"leaf\",\"level\":1,\
     \"page\":\"0xa000\",\"value\":\"0xa007\",\"word\":\"0x4028\",\"written_by\":4}],\
     \"read_after\":{\"address\":\"0x5000\",\"began\":5,\"cpu\":1,\"event\":5,\
-    \"kind\":\"invlpg\"}},\"event\":6,\"events\":7,\"in_each_order\":[],\"reason\":15,\
+    \"kind\":\"invlpg\"}},\"deduced\":[],\"event\":6,\"events\":7,\"reason\":15,\
     \"reason_name\":\"no order\",\"segments\":1,\"verdict\":\"no\"}\n";
 
 pub const SPANS: [Row; 11] = [
@@ -179,7 +179,7 @@ pub const SPANS: [Row; 11] = [
             \"value\":\"0x4027\",\"word\":\"0x3000\",\"written_by\":2},{\"is\":\"leaf\",\
             \"level\":1,\"page\":\"0xa000\",\"value\":\"0xa067\",\"word\":\"0x4028\",\
             \"written_by\":4}],\"read_after\":{\"began\":5,\"cpu\":1,\"event\":5,\"kind\":\"cr3\",\
-            \"operand\":\"0x1001\"}},\"event\":6,\"events\":7,\"in_each_order\":[],\"reason\":15,\
+            \"operand\":\"0x1001\"}},\"deduced\":[],\"event\":6,\"events\":7,\"reason\":15,\
             \"reason_name\":\"no order\",\"segments\":1,\"verdict\":\"no\"}\n",
         line: "",
         status: 1,
@@ -198,7 +198,7 @@ pub const SPANS: [Row; 11] = [
             \"written_by\":1},{\"is\":\"table\",\"level\":2,\"value\":\"0x4007\",\
             \"word\":\"0x3000\",\"written_by\":2},{\"is\":\"leaf\",\"level\":1,\
             \"page\":\"0x9000\",\"value\":\"0x9007\",\"word\":\"0x4028\",\"written_by\":3}],\
-            \"read_after\":null},\"event\":5,\"events\":6,\"in_each_order\":[],\"reason\":15,\
+            \"read_after\":null},\"deduced\":[],\"event\":5,\"events\":6,\"reason\":15,\
             \"reason_name\":\"no order\",\"segments\":1,\"verdict\":\"no\"}\n",
         line: "",
         status: 1,
@@ -228,8 +228,8 @@ pub const SPANS: [Row; 11] = [
             \"word\":\"0x4028\",\"written_by\":3},{\"is\":\"leaf\",\"level\":1,\
             \"page\":\"0xa000\",\"value\":\"0xa007\",\"word\":\"0x4028\",\
             \"written_by\":70}],\"read_after\":{\"address\":\"0x5000\",\"began\":68,\
-            \"cpu\":1,\"event\":68,\"kind\":\"invlpg\"}},\"event\":69,\"events\":71,\
-            \"in_each_order\":[{\"first\":70,\"second\":67}],\"reason\":15,\
+            \"cpu\":1,\"event\":68,\"kind\":\"invlpg\"}},\
+            \"deduced\":[{\"first\":70,\"second\":67}],\"event\":69,\"events\":71,\"reason\":15,\
             \"reason_name\":\"no order\",\"segments\":1,\"verdict\":\"no\"}\n",
         line: "",
         status: 1,

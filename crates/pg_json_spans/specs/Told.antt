@@ -4,9 +4,9 @@
 --     event                the event of a no, or at which the search gave up
 --     reason, reason_name  of a no: 15, no order
 --     all_orders           of a no: whether it is one since all orders were tried
---     cause                of a no: why no order has a run (`Causes`), or null where all were tried
---     in_each_order        of a no with a cause: of two events each, first and second, which comes
---                          first in each order in which a run would come to the event
+--     cause                of a no: why no run comes to the event (`Causes`), or null where all were tried
+--     deduced              of a no with a cause: two events each, of which the first comes first in
+--                          each order in which a run comes to the second
 --     events, segments     how many
 use Rattle.std.specs.Prelude.{ℕ, Bool, true, false, List, map, length, codes}
 use Rattle.pg_spanned.specs.Orders.{Spanned}
@@ -32,7 +32,7 @@ edges_json edges = list (elements (map edge_json edges))
 
 abbrev pub never_fields : Spanned → ℕ → List Edge → Fields
 never_fields s n edges =
-    field (codes "in_each_order") (edges_json edges) (why_fields (cause_json s n) false)
+    field (codes "deduced") (edges_json edges) (why_fields (cause_json s n) false)
 
 abbrev pub cause_fields : Spanned → Told → Fields
 cause_fields s Yes = no_fields

@@ -1,4 +1,4 @@
-//! Which events come first in each order, as JSON.
+//! Which events were deduced to come first, as JSON.
 
 ghost use Rattle.std.specs.Prelude.{◌≡◌, map, IfOk};
 ghost use Rattle.serde_json.specs.View.{view};

@@ -54,7 +54,7 @@ fn never_fields(
     let cause = cause_json(alloc, run, event)?;
     let mut fields = why_fields(alloc, cause, false)?;
     let edges = edges_json(alloc, edges)?;
-    put(&mut fields, alloc, "in_each_order", edges)?;
+    put(&mut fields, alloc, "deduced", edges)?;
     Ok(fields)
 }
 

@@ -20,8 +20,7 @@ use Rattle.pg_spanned.specs.Laws.{ends, EachPrecedesNext, NoOtherOrder}
 use Rattle.pg_spanned.proofs.Places.{AllByRecursion-at, some_same}
 use Rattle.pg_spanned.specs.Orders.{ordered}
 use Rattle.pg_relaxed.specs.declared.edge.Edge.{Edge}
-use Rattle.pg_relaxed.specs.Supposed.{AreSure}
-use Rattle.pg_relaxed.proofs.Deducing.{sure_of_none}
+use Rattle.pg_relaxed.specs.Supposed.{AreDeduced}
 use Rattle.pg_relaxed.specs.Orders.{RunComesTo, NeverComes}
 use Rattle.pg_order.specs.Runs.{HasOrderedRun, OrderedEventsRun, OrderedExactlyWhereARunExists}
 
@@ -82,6 +81,6 @@ never_comes_none_runs s i within never run =
     let place = run.1.each i within in
     never run.0 place.0 run.1 (slice_get-get_or run.0 place.0 i place.1 ∙ ap Some place.2) (begins s.head (ordered s.events run.0) place.0 run.2)
 
--- no edges are in each order
-pub none_are_sure : (s : Spanned) (i : ℕ) (edges : List Edge) → edges ≡ [] → AreSure s edges i
-none_are_sure s i edges none = subst (λ es. AreSure s es i) (sym none) (sure_of_none s i)
+-- of no edges all are deduced
+pub none_are_deduced : (s : Spanned) (edges : List Edge) → edges ≡ [] → AreDeduced s edges
+none_are_deduced s edges none = subst (AreDeduced s) (sym none) (λ edge h. absurd h)

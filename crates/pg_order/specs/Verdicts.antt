@@ -5,7 +5,7 @@ use Rattle.pg_spanned.specs.Orders.{Spanned, IsOrder, ordered}
 use Rattle.pg_spanned.specs.Laws.{ends, EachPrecedesNext}
 use Rattle.pg_relaxed.specs.declared.edge.Edge.{Edge}
 use Rattle.pg_relaxed.specs.Orders.{NeverComes}
-use Rattle.pg_relaxed.specs.Supposed.{AreSure}
+use Rattle.pg_relaxed.specs.Supposed.{AreDeduced}
 use Rattle.pg_order.specs.Runs.{HasOrderedRun}
 use Rattle.pg_order.specs.declared.verdict.Verdict.{Verdict}
 use Rattle.pg_order.specs.declared.verdict.Verdict.TheVariants.{Yes, Never, NoneOfAll, Undecided}
@@ -16,12 +16,12 @@ pub record IsOrderedRun (s : Spanned) (order : List ℕ) : Type 0 where
   pub certified : CanBeCertified s.head (ordered s.events order)
   pub run : HasOrderedRun s
 
--- in no order a run comes to the event, so no order has a run, and each in which one would has the
--- edges; where they have one order alone, it is the least that no moments witness in it
+-- in no order a run comes to the event, so no order has a run, and the edges are deduced; where they
+-- have one order alone, it is the least that no moments witness in it
 pub record HasNoRunTo (s : Spanned) (event : ℕ) (edges : List Edge) : Type 0 where
   pub within : event < length s.events
   pub never : NeverComes s event
-  pub sure : AreSure s edges event
+  pub deduced : AreDeduced s edges
   pub only : EachPrecedesNext s → IsDenied s.head (ordered s.events (ends s)) event
   pub run : HasOrderedRun s → ⊥
 

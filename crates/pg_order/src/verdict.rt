@@ -19,7 +19,8 @@ pub enum Verdict {
     /// They have: the order, by the events' numbers.
     Yes(Vec<u32>),
     /// They have none, since in no order a run of the machine comes to this event, by its number.
-    /// Each order in which one would has these edges.
+    /// What was deduced for it: the first of two events comes first in each order in which a run
+    /// comes to the second.
     Never(u64, Vec<Edge>),
     /// They have none: all their orders were tried. The event, by its number, is the first that the
     /// search for an order could not place.
@@ -176,7 +177,7 @@ fn verdict_in(alloc: Global, run: &SpannedRun, order: Vec<u32>) -> Result<Verdic
 /// the answer is a yes or a no. Else the order in which the events ended is tried first, then a
 /// search. It is a no where in no order a run comes to an event that waits when the search gives
 /// up, as far as `refute` of `pg_relaxed` tells; where a run of at most 64 events has no order with
-/// a run; or where one of more events has an access near the first that waits to which no run
+/// a run; or where a run of more events has an access near the first that waits to which no run
 /// comes, as far as `refute_near` tells.
 ///
 /// It fails only where memory is refused.

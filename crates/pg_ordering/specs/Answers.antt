@@ -24,7 +24,7 @@ use Rattle.pg_ordering.specs.Refusals.{spans_line}
 use Rattle.pg_ordering.specs.Texts.{told_text, drawn_text, order_text}
 
 -- what is told is so: in some order of the events some run of the machine has them, or in none;
--- where no event overlaps another it is one of both, and what is undecided says nothing else
+-- where they have one order alone it is one of both, and what is undecided says nothing else
 abbrev pub IsSo : Spanned → Told → Type 0
 IsSo s Yes = HasOrderedRun s
 IsSo s (Never n edges) = HasNoRunTo s n edges.items

@@ -32,10 +32,11 @@ head_text (Undecided n) = codes "verdict: undecided\nevent: " ++ (decimal n ++ c
 abbrev pub none_of_all : List ℕ
 none_of_all = codes "all orders: each was tried, and none has a run\n"
 
--- that an event comes before another in each order in which a run would come to the event of a no
+-- that an event comes before another in each order in which a run comes to the other
 abbrev pub edge_line : Edge → List ℕ
-edge_line edge = codes "in each order: event " ++ (decimal edge.first
-    ++ (codes " comes before event " ++ (decimal edge.second ++ codes "\n")))
+edge_line edge = codes "deduced: event " ++ (decimal edge.first
+    ++ (codes " comes before event " ++ (decimal edge.second
+    ++ (codes ", or no run comes to event " ++ (decimal edge.second ++ codes "\n")))))
 
 -- why no order has a run, where that is told
 abbrev pub cause_of : Spanned → Told → List ℕ

@@ -47,7 +47,10 @@ fn push_edge(alloc: Global, text: &mut String, edge: Edge) -> Result<(), AllocEr
     ensures { OnOk result (string_bytes text.new ≡ string_bytes text.old ++ edge_line edge) }
 {
     let Edge { first, second } = edge;
-    let line = format!(in alloc; "in each order: event {first} comes before event {second}\n")?;
+    let line = format!(in alloc;
+        "deduced: event {first} comes before event {second}, \
+        or no run comes to event {second}\n"
+    )?;
     text.push_str(line.as_str())
 }
 

@@ -22,7 +22,8 @@ pub enum Told {
     /// Its events have an order in which some run of the machine has them.
     Yes,
     /// They have none, since in no order a run of the machine comes to this event, by its number.
-    /// Each order in which one would has these edges.
+    /// What was deduced for it: the first of two events comes first in each order in which a run
+    /// comes to the second.
     Never(u64, Vec<Edge>),
     /// They have none: all their orders were tried. The number of the first event that the search
     /// for an order could not place.

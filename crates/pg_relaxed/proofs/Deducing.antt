@@ -1,5 +1,5 @@
 -- What is sure of the orders in which a run comes to an event.
-use Rattle.std.proofs.Common.{◌≡◌, ◌⊎◌, ℕ, ◌+◌, ◌<◌, ◌≤◌, List, [], ◌∷◌, ◌++◌, map, take, length, ap, sym, ◌∙◌, subst, arith, inl, inr, Some}
+use Rattle.std.proofs.Common.{◌≡◌, ◌⊎◌, ℕ, ◌+◌, ◌<◌, ◌≤◌, List, [], ◌∷◌, ◌++◌, map, take, length, refl, ap, sym, ◌∙◌, subst, arith, inl, inr, Some}
 use Rattle.std.specs.Prelude.{slice_get}
 use Rattle.std.specs.List.{Contains}
 use Rattle.std.proofs.lemmas.Bool.{cases_lt}
@@ -13,7 +13,7 @@ use Rattle.pg_spanned.proofs.Orders.{are_all}
 use Rattle.pg_spanned.proofs.Places.{stands_once, some_same}
 use Rattle.pg_relaxed.specs.declared.edge.Edge.{Edge}
 use Rattle.pg_relaxed.specs.Orders.{RunComesTo, NeverComes}
-use Rattle.pg_relaxed.specs.Supposed.{Keeps, NeverComesSo, AreSure, IsUpTo, AreApart}
+use Rattle.pg_relaxed.specs.Supposed.{Keeps, NeverComesSo, AreSure, IsUpTo, AreApart, IsDeduced, AreDeduced}
 
 -- a run that comes to a place of an order comes to the places before it
 comes_earlier : (s : Spanned) (order : List ℕ) (a b : ℕ) → a ≤ b → RunComesTo s order b → RunComesTo s order a
@@ -63,6 +63,15 @@ deduced s edges edge other first second apart access never i up sure order place
           subst (λ k. StandsBefore order k other.second) (sym first) (subst (StandsBefore order edge.second) (sym second) b) in
           absurd (comes_not s order is (edges ++ other ∷ []) access never i up place at run (keeps_more order edges other keeps turned))
     ])
+
+-- what was added is deduced
+pub more_deduced : (s : Spanned) (edges : List Edge) (edge : Edge) → AreApart s edge → AreSure s (edges ++ edge ∷ []) edge.second → AreDeduced s edges → AreDeduced s (edges ++ edge ∷ [])
+more_deduced s [] edge apart sure are e (inl same) =
+    subst (IsDeduced s) same (record { apart = apart; first = λ order place is at run. sure order place is at run edge (inl refl) })
+more_deduced s [] edge apart sure are e (inr h) = absurd h
+more_deduced s (x ∷ xs) edge apart sure are e (inl same) = are e (inl same)
+more_deduced s (x ∷ xs) edge apart sure are e (inr h) =
+    more_deduced s xs edge apart (λ order place is at run y i. sure order place is at run y (inr i)) (λ y i. are y (inr i)) e h
 
 -- nothing is supposed at first
 pub sure_of_none : (s : Spanned) (i : ℕ) → AreSure s [] i

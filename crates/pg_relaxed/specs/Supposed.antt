@@ -24,14 +24,24 @@ AreSure s edges i = (order : List ℕ) (place : ℕ) → IsOrder s order →
 abbrev pub IsUpTo : Spanned → ℕ → ℕ → Type 0
 IsUpTo s j i = (j ≡ i) ⊎ MustPrecede s j i
 
--- in no order a run comes to the event, and each order in which one would is as is told
-pub record IsRefuted (s : Spanned) (found : Refuted) : Type 0 where
-  pub within : found.number < length s.events
-  pub never : NeverComes s found.number
-  pub sure : AreSure s found.edges.items found.number
-
 -- both are events, and not the same
 pub record AreApart (s : Spanned) (edge : Edge) : Type 0 where
   pub first : edge.first < length s.events
   pub second : edge.second < length s.events
   pub other : edge.first ≡ edge.second → ⊥
+
+-- the first comes first in each order in which a run comes to the second
+pub record IsDeduced (s : Spanned) (edge : Edge) : Type 0 where
+  pub apart : AreApart s edge
+  pub first : (order : List ℕ) (place : ℕ) → IsOrder s order →
+      slice_get order place ≡ Some edge.second → RunComesTo s order place →
+      StandsBefore order edge.first edge.second
+
+abbrev pub AreDeduced : Spanned → List Edge → Type 0
+AreDeduced s edges = (edge : Edge) → IsIn edge edges → IsDeduced s edge
+
+-- in no order a run comes to the event, as follows from what was deduced
+pub record IsRefuted (s : Spanned) (found : Refuted) : Type 0 where
+  pub within : found.number < length s.events
+  pub never : NeverComes s found.number
+  pub deduced : AreDeduced s found.edges.items

@@ -3,7 +3,7 @@
 
 ghost use Rattle.std.specs.Prelude.{◌≡◌, ℕ, ◌<◌, ◌≤◌, length, IfOk, OnOk, IfSome, IsTrue};
 ghost use Rattle.pg_relaxed.specs.Memory.{IsOwn};
-ghost use Rattle.pg_relaxed.specs.Supposed.{AreSure, IsUpTo, AreApart, IsRefuted};
+ghost use Rattle.pg_relaxed.specs.Supposed.{AreSure, IsUpTo, AreApart, AreDeduced, IsRefuted};
 ghost use Rattle.pg_relaxed.specs.Words.{AreWordsOf};
 
 use crate::edge::Edge;
@@ -24,31 +24,32 @@ const MOST_NEAR: usize = 64;
 #[derive(Drop)]
 pub struct Refuted {
     pub number: u32,
-    /// What each order keeps in which a run would come to it.
+    /// What was deduced of the orders before: the first of two events comes first in each order in
+    /// which a run comes to the second.
     pub edges: Vec<Edge>,
 }
 
-/// Adds that one of two events comes before the other, where no run comes to an access the other
-/// way round.
+/// Adds that an event comes before an access, where no run comes to the access the other way round.
 fn deduce(
     alloc: Global,
     run: &SpannedRun,
     words: &mut Words,
     edges: &mut Vec<Edge>,
     edge: Edge,
-    access: u32,
 ) -> Result<(), AllocError>
     requires apart { AreApart run.now edge }
     requires words { AreWordsOf run.now.events words.old.words.items }
     ensures words { OnOk result (AreWordsOf run.now.events words.new.words.items) }
-    ensures sure { OnOk result ((i : ℕ) → IsUpTo run.now access i →
+    ensures sure { OnOk result ((i : ℕ) → IsUpTo run.now edge.second i →
         AreSure run.now edges.old.items i → AreSure run.now edges.new.items i) }
+    ensures deduced { OnOk result (AreSure run.now edges.old.items edge.second →
+        AreDeduced run.now edges.old.items → AreDeduced run.now edges.new.items) }
 {
     edges.push(Edge {
         first: edge.second,
         second: edge.first,
     })?;
-    let is_sure = refute_so(alloc, run, words, edges, access)?;
+    let is_sure = refute_so(alloc, run, words, edges, edge.second)?;
     edges.pop();
     if is_sure {
         edges.push(edge)?;
@@ -81,6 +82,8 @@ fn deduce_around(
     ensures words { OnOk result (AreWordsOf run.now.events words.new.words.items) }
     ensures sure { OnOk result ((i : ℕ) → IsUpTo run.now access i →
         AreSure run.now edges.old.items i → AreSure run.now edges.new.items i) }
+    ensures deduced { OnOk result (AreSure run.now edges.old.items access →
+        AreDeduced run.now edges.old.items → AreDeduced run.now edges.new.items) }
 {
     let end = (access as usize + MOST_NEAR).min(run.len()) as u32;
     for write in ended_before(run, access)..end {
@@ -89,7 +92,7 @@ fn deduce_around(
                 first: write,
                 second: access,
             };
-            deduce(alloc, run, words, edges, edge, access)?;
+            deduce(alloc, run, words, edges, edge)?;
         }
     }
     Ok(())

@@ -137,7 +137,7 @@ const MANY_NEW_THEN_OLD_LINES: &str = "verdict: no\n\
     may read: level 2 [0x3000] = 0x4007 table, written by event 2\n\
     may read: level 1 [0x4028] = 0x9007 leaf 0x9000, written by event 3\n\
     may read: level 1 [0x4028] = 0xa007 leaf 0xa000, written by event 70\n\
-    in each order: event 70 comes before event 67\n";
+    deduced: event 70 comes before event 67, or no run comes to event 67\n";
 
 /// Behind the INVLPG no order has the entry of before, since what replaced it had ended.
 const STALE_LINES: &str = "verdict: no\n\

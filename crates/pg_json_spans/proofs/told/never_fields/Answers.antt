@@ -9,5 +9,5 @@ use Rattle.pg_json_spans.proofs.told.never_fields.Goals as goal
 pub returns : goal.returns
 returns c =
     let fields = c.in_ok-fields.ensures (cause_json c.args.run.now c.args.event) c.in_ok-cause.ensures in
-    c.in_ok-put.ensures.ok ∙ ap (λ (d : Data). put (codes "in_each_order") d (members_view c.in_ok-fields.fields.entries)) c.in_ok-edges.ensures
-    ∙ ap (λ (ms : Members). put (codes "in_each_order") (data_of (edges_json c.args.edges.now)) ms) fields
+    c.in_ok-put.ensures.ok ∙ ap (λ (d : Data). put (codes "deduced") d (members_view c.in_ok-fields.fields.entries)) c.in_ok-edges.ensures
+    ∙ ap (λ (ms : Members). put (codes "deduced") (data_of (edges_json c.args.edges.now)) ms) fields

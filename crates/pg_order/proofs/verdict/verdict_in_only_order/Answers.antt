@@ -5,7 +5,7 @@ use Rattle.pg_spanned.specs.Orders.{Spanned, ordered}
 use Rattle.pg_relaxed.specs.Orders.{NeverComes}
 use Rattle.pg_order.specs.declared.in_order.InOrder.TheVariants.{Denied}
 use Rattle.pg_order.specs.Runs.{IsToldOf}
-use Rattle.pg_order.proofs.Meaning.{denied_never_comes, never_comes_none_runs, none_are_sure, ordered_within}
+use Rattle.pg_order.proofs.Meaning.{denied_never_comes, never_comes_none_runs, none_are_deduced, ordered_within}
 use Rattle.pg_order.proofs.verdict.verdict_in_only_order.Goals as goal
 
 pub returns-in-Denied : goal.returns-in-Denied
@@ -21,7 +21,7 @@ returns-in-Denied c =
     record {
       within = within;
       never = never;
-      sure = none_are_sure s place _ c.new.ensures.items;
+      deduced = none_are_deduced s _ c.new.ensures.items;
       only = λ none. denied;
       run = never_comes_none_runs s place within never;
     }

@@ -13,7 +13,7 @@ returns-in-Some c =
     record {
       within = found.within;
       never = found.never;
-      sure = found.sure;
+      deduced = found.deduced;
       only = λ none. absurd (c.requires.several none);
       run = never_comes_none_runs s c.in-Some.field-0.number found.within found.never;
     }

@@ -1,5 +1,5 @@
 use Rattle.pg_spanned.specs.Orders.{Spanned}
-use Rattle.pg_order.proofs.Meaning.{never_comes_none_runs, none_are_sure}
+use Rattle.pg_order.proofs.Meaning.{never_comes_none_runs, none_are_deduced}
 use Rattle.pg_order.proofs.verdict.verdict_of_waiting.Goals as goal
 
 pub returns-then-branch : goal.returns-then-branch
@@ -10,7 +10,7 @@ returns-then-branch c =
     record {
       within = within;
       never = never;
-      sure = none_are_sure s _ _ c.new.ensures.items;
+      deduced = none_are_deduced s _ c.new.ensures.items;
       only = λ none. absurd (c.requires none);
       run = never_comes_none_runs s _ within never;
     }

@@ -1,7 +1,7 @@
-use Rattle.std.proofs.Common.{sym, subst, Vec, Global}
+use Rattle.std.proofs.Common.{refl, sym, subst, inl, Vec, Global}
 use Rattle.pg_relaxed.specs.declared.edge.Edge.{Edge}
 use Rattle.pg_relaxed.specs.declared.words.Words.{Words}
-use Rattle.pg_relaxed.specs.Supposed.{AreSure}
+use Rattle.pg_relaxed.specs.Supposed.{AreSure, AreDeduced}
 use Rattle.pg_relaxed.specs.Words.{AreWordsOf}
 use Rattle.pg_relaxed.proofs.deduced.deduce_around.Goals as goal
 use Rattle.pg_relaxed.proofs.deduced.deduce_around.Goals.{then-may_come_on_both_sides+in_ok-deduce, else-may_come_on_both_sides}
@@ -11,9 +11,12 @@ loop-write-preserved c = elim c.if-may_come_on_both_sides.branch [
   | then-may_come_on_both_sides+in_ok-deduce w ↦ record {
     words = subst (λ (v : Words). AreWordsOf c.args.run.now.events v.words.items) (sym w.words-is) w.in_ok-deduce.ensures.words;
     sure = λ i up sure. subst (λ (v : Vec Edge Global). AreSure c.args.run.now v.items i) (sym w.edges-is) (w.in_ok-deduce.ensures.sure i up (c.loop-write.invariant.sure i up sure));
+    deduced = λ sure are. subst (λ (v : Vec Edge Global). AreDeduced c.args.run.now v.items) (sym w.edges-is)
+        (w.in_ok-deduce.ensures.deduced (c.loop-write.invariant.sure c.args.access (inl refl) sure) (c.loop-write.invariant.deduced sure are));
   }
   | else-may_come_on_both_sides w ↦ record {
     words = subst (λ (v : Words). AreWordsOf c.args.run.now.events v.words.items) (sym w.words-is) c.loop-write.invariant.words;
     sure = λ i up sure. subst (λ (v : Vec Edge Global). AreSure c.args.run.now v.items i) (sym w.edges-is) (c.loop-write.invariant.sure i up sure);
+    deduced = λ sure are. subst (λ (v : Vec Edge Global). AreDeduced c.args.run.now v.items) (sym w.edges-is) (c.loop-write.invariant.deduced sure are);
   }
 ]

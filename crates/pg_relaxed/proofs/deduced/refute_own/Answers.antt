@@ -2,7 +2,8 @@ use Rattle.std.proofs.Common.{ℕ, ◌<◌, length, sym, subst, arith, inr, Vec,
 use Rattle.pg_spanned.specs.Orders.{Spanned}
 use Rattle.pg_relaxed.specs.declared.edge.Edge.{Edge}
 use Rattle.pg_relaxed.specs.declared.words.Words.{Words}
-use Rattle.pg_relaxed.specs.Supposed.{AreSure, NeverComesSo}
+use Rattle.pg_relaxed.specs.Memory.{IsOwn}
+use Rattle.pg_relaxed.specs.Supposed.{AreSure, AreDeduced, NeverComesSo}
 use Rattle.pg_relaxed.specs.Words.{AreWordsOf}
 use Rattle.pg_relaxed.proofs.Deducing.{never_so}
 use Rattle.pg_relaxed.proofs.Entering.{own_precedes}
@@ -16,7 +17,7 @@ returns-then-branch-clause-refuted c =
     let within : n < length s.events = omega (arith, c.loop-number-test.true, c.requires.within) in
     let sure : AreSure s c.loop-number.edges.items n = c.loop-number.invariant.sure n (omega arith) within (c.is_own_access.ensures c.if-is_own_access.true) in
     let never : NeverComesSo s c.loop-number.edges.items n = subst (λ es. NeverComesSo s es n) c.deref.ensures.value (c.in_ok-refute_so.ensures.never c.if-branch.true) in
-    record { within = within; never = never_so s c.loop-number.edges.items n sure never; sure = sure }
+    record { within = within; never = never_so s c.loop-number.edges.items n sure never; deduced = c.loop-number.invariant.deduced }
 
 pub loop-number-preserved : goal.loop-number-preserved
 loop-number-preserved c =
@@ -28,9 +29,15 @@ loop-number-preserved c =
         sure = λ i later within own. subst (λ (v : Vec Edge Global). AreSure s v.items i) (sym w.edges-is)
             (w.in_ok-deduce_around.ensures.sure i (inr (own_precedes s c.args.p n i (omega (arith, later)) within (c.is_own_access.ensures w.if-is_own_access.true) own))
             (c.loop-number.invariant.sure i (omega (arith, later)) within own));
+        deduced =
+            let own : IsOwn s.events c.args.p n = c.is_own_access.ensures w.if-is_own_access.true in
+            let within : n < length s.events = omega (arith, c.loop-number-test.true, c.requires.within) in
+            subst (λ (v : Vec Edge Global). AreDeduced s v.items) (sym w.edges-is)
+            (w.in_ok-deduce_around.ensures.deduced (c.loop-number.invariant.sure n (omega arith) within own) c.loop-number.invariant.deduced);
       }
       | else-is_own_access w ↦ record {
         words = subst (λ (v : Words). AreWordsOf s.events v.words.items) (sym w.words-is) c.loop-number.invariant.words;
         sure = λ i later within own. subst (λ (v : Vec Edge Global). AreSure s v.items i) (sym w.edges-is) (c.loop-number.invariant.sure i (omega (arith, later)) within own);
+        deduced = subst (λ (v : Vec Edge Global). AreDeduced s v.items) (sym w.edges-is) c.loop-number.invariant.deduced;
       }
     ]

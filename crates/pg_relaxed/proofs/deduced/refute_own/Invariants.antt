@@ -1,6 +1,6 @@
 use Rattle.std.proofs.Common.{ℕ, ◌<◌, ◌≤◌, length}
 use Rattle.pg_relaxed.specs.Memory.{IsOwn}
-use Rattle.pg_relaxed.specs.Supposed.{AreSure}
+use Rattle.pg_relaxed.specs.Supposed.{AreSure, AreDeduced}
 use Rattle.pg_relaxed.specs.Words.{AreWordsOf}
 use Rattle.pg_relaxed.proofs.deduced.refute_own.Given as goal
 
@@ -8,4 +8,5 @@ abbrev pub invariant-loop-number : goal.invariant-loop-number
 invariant-loop-number l = record {
   words : AreWordsOf l.run.events l.words.words.items;
   sure : (i : ℕ) → l.number ≤ i → i < length l.run.events → IsOwn l.run.events l.p i → AreSure l.run l.edges.items i;
+  deduced : AreDeduced l.run l.edges.items;
 }
