@@ -1,7 +1,7 @@
 //! The order that is being made, so far. A moment of it is the number of events before it.
 
 use crate::facts::{Facts, word_of};
-use crate::numbers::{NEVER, at, count_below, number};
+use crate::numbers::{NEVER, at, count_below_near_end, number};
 use pg_event::{Event, processor_of};
 use std::alloc::{AllocError, Global};
 
@@ -102,7 +102,7 @@ impl Made {
 
     /// The slot of a processor that a moment lies in.
     pub(crate) fn slot(&self, p: u16, moment: u32) -> u32 {
-        count_below(self.own(p), moment)
+        count_below_near_end(self.own(p), moment)
     }
 
     /// The first moment of a slot.

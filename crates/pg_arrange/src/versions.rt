@@ -2,7 +2,7 @@
 
 use crate::facts::Facts;
 use crate::made::Made;
-use crate::numbers::{NEVER, at, count_below, number};
+use crate::numbers::{NEAR_END, NEVER, at, count_below, number};
 use pg_event::Version as Format;
 use std::alloc::AllocError;
 
@@ -223,7 +223,13 @@ pub(crate) fn made_versions(
 ) -> Result<(), AllocError> {
     let values = made.values(word);
     let (first, last) = moments;
-    let count = number(values.partition_point(|value| value.place < last));
+    let near = values.len().saturating_sub(NEAR_END);
+    let count = match values.get(near) {
+        Some(value) if value.place < last => number(near).saturating_add(number(
+            values[near..].partition_point(|value| value.place < last),
+        )),
+        _ => number(values[..near].partition_point(|value| value.place < last)),
+    };
     let mut to = match values.get(count as usize) {
         Some(next) => next.place,
         None => NEVER - 1,

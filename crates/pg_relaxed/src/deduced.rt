@@ -15,7 +15,7 @@ use pg_spanned::SpannedRun;
 use std::alloc::{AllocError, Global};
 
 /// So much is looked at in all.
-const MOST_LOOKS: u64 = 1_000_000_000;
+const MOST_LOOKS: u64 = 100_000_000;
 
 /// So many events on each side of one are looked at.
 const MOST_NEAR: usize = 64;
