@@ -1,6 +1,6 @@
 ghost use Rattle.std.specs.Prelude.{◌≡◌, ◌+◌, ◌-◌, ◌<◌, ◌≤◌, ◌^◌, List, [], ◌∷◌, ◌++◌, length};
 ghost use Rattle.std.specs.Prelude.{not, true, ℕ};
-ghost use Rattle.std.specs.Prelude.{IfOk, IsOk, OnOk, OnErr};
+ghost use Rattle.std.specs.Prelude.{IfOk, IsOk, IsTrue, OnOk, OnErr};
 ghost use Rattle.std.specs.List.{AllByRecursion};
 ghost use Rattle.pg_event.specs.declared.event.Event.{Event};
 ghost use Rattle.pg_event.specs.Form.{processor_of};
@@ -18,7 +18,9 @@ ghost use Rattle.pg_chain.specs.Standing.{IsPast, InEachRun, IsNext, processor_c
 ghost use Rattle.pg_chain.specs.Standing.{changes_nothing};
 
 use pg_entry::{Cfg, Entry, Level, marked};
-use pg_event::{Control, Event, Header, MemoryChange, Outcome, Request, Version, processor_of};
+use pg_event::{
+    Control, Event, Header, MemoryChange, Outcome, Request, TranslationKey, Version, processor_of,
+};
 use pg_inval::Drops;
 use pg_moment::Versions;
 use pg_state::Controls;
@@ -181,6 +183,27 @@ impl Past {
         ensures root { result.root < 2 ^ 52 }
     {
         self.controls.control_at(p, moment)
+    }
+
+    /// The control registers of a processor at the event that comes next.
+    #[inline(always)]
+    pub fn latest_control(&self, p: u16) -> Control
+        requires { p < processor_count self.now }
+        ensures run { (moment : ℕ) → IsNext self.now moment → InEachRun self.now (λ head events.
+            result ≡ control_at head events p moment) }
+    {
+        self.controls.latest(p)
+    }
+
+    /// Whether no event from a moment on drops a translation of a processor, as far as is told
+    /// without a look into lists: it may also say no where none does.
+    #[inline(always)]
+    pub fn translation_outlasts(&self, p: u16, key: TranslationKey, from: u32) -> bool
+        requires { IsPageShift key.shift }
+        ensures run { IsTrue result → (to : ℕ) → InEachRun self.now (λ head events.
+            survives head events p (λ c e. must_drop_translation c e key) from to ≡ true) }
+    {
+        self.drops.translation_outlasts(p, key, from)
     }
 
     /// The same value, with the moments around this one at which it is the same.

@@ -151,6 +151,9 @@ impl<'a> Reader<'a> {
         ensures past { self.new ≡ self.old }
         ensures value { InEachRun self.old (λ head events. result ≡ mem_at events moment address) }
     {
+        if self.words.is_empty() {
+            return self.past.value_at(moment, address);
+        }
         let place = self.place_of(address);
         match self.known_value(place, moment, address) {
             Some(value) => value,
@@ -208,6 +211,9 @@ impl<'a> Reader<'a> {
         ensures run { InEachRun self.old (λ head events. result ≡ control_at head events p moment) }
         ensures root { result.root < 2 ^ 52 }
     {
+        if self.spells.is_empty() {
+            return self.past.control_at(p, moment);
+        }
         match self.known_control(p, moment) {
             Some(control) => control,
             None => {

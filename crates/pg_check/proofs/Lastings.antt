@@ -50,6 +50,31 @@ first_below test from to number m first =
           absurd (false≢true (sym first.2 ∙ not-not (any_from test from (m - from)) ∙ before))
     ])
 
+-- no number of two windows passes, where one begins at the end of the other
+none_joined : (test : ℕ → Bool) (from middle to : ℕ) → passes_in test from middle ≡ false → passes_in test middle to ≡ false → passes_in test from to ≡ false
+none_joined test from middle to before after =
+    not-not (any_from test from (to - from))
+    ∙ false_from_ne_true (any_from test from (to - from)) (λ passes.
+    let r = any_from-passes test from (to - from) passes in
+    let low : from ≤ r.at = r.low in
+    let high : r.at < from + (to - from) = r.high in
+    elim (cases_lt r.at middle) [
+      | inl lt ↦
+          let early : any_from test from (middle - from) ≡ true = any_from-at test from (middle - from) r.at low (omega arith) r.passes in
+          false≢true (sym before ∙ not-not (any_from test from (middle - from)) ∙ early)
+      | inr ge ↦
+          let late : any_from test middle (to - middle) ≡ true = any_from-at test middle (to - middle) r.at ge (omega arith) r.passes in
+          false≢true (sym after ∙ not-not (any_from test middle (to - middle)) ∙ late)
+    ])
+
+-- the first number that passes from a later one on is the first of all, where none before it passes
+pub first_joined : (test : ℕ → Bool) (from middle to : ℕ) (found : Option ℕ) → from ≤ middle → passes_in test from middle ≡ false →
+    IsFirstDrop (passes_in test) middle to found → IsFirstDrop (passes_in test) from to found
+first_joined test from middle to None le before first = none_joined test from middle to before first
+first_joined test from middle to (Some m) le before first =
+    let low : middle ≤ m = first.0 in
+    (omega arith, first.1, none_joined test from middle m before first.2, first.3)
+
 -- nothing is said of an end that gives no translation
 pub nothing_lasts : (head : Head) (events : List Event) (p la : ℕ) (l : Lasting) (k : Kind) →
     ((x : ℕ) × (k ≡ Table x)) ⊎ ((k ≡ Absent) ⊎ (k ≡ Reserved)) → LastsTo head events p la l k

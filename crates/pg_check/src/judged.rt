@@ -13,7 +13,7 @@ ghost use Rattle.pg_check.specs.Judging.{Awaits, IsFound, IsJudged, MayFollow};
 ghost use Rattle.pg_check.specs.Remembered.{HaveWalks};
 ghost use Rattle.pg_check.specs.Stretches.{IsStretch};
 
-use crate::judge::first_bad_of;
+use crate::tip::failing_next;
 use crate::memo::Memo;
 use crate::places::Kept;
 use crate::stretch::Stretch;
@@ -52,23 +52,6 @@ impl Model for Judged {
     ghost invariant = { λ j. IsHead j.header × HaveWalks j.past j.count j.kept.slots.items };
 }
 
-/// The first bad event of some, the first of which has this number, where `kept` are walks of the
-/// events before them; and the walks that are kept then.
-fn judge_by(past: &Past, kept: Kept, first: u64, events: &[Event]) -> (Option<(u64, Reason)>, Kept)
-    requires kept { HaveWalks past.now first kept.slots.items }
-    requires processors { AllByRecursion
-        (λ e. processor_of e < processor_count past.now) events.now }
-    requires count { first + length events.now < 2 ^ 32 }
-    ensures first { (head : Head) (all : List Event) → IsPast past.now head all →
-        result.0 ≡ first_bad_from head all first events.now }
-    ensures kept { HaveWalks past.now (first + length events.now) result.1.slots.items }
-{
-    let last = (first + events.len() as u64) as u32;
-    let mut memo = Memo::with_slots(past, kept, events.len(), last);
-    let found = first_bad_of(&mut memo, first, events);
-    (found, memo.into_slots(last))
-}
-
 impl Judged {
     /// A run with no event yet. Fails where memory is refused.
     pub fn new(alloc: Global, header: Header) -> Result<Judged, AllocError>
@@ -81,7 +64,7 @@ impl Judged {
             past,
             count: 0,
             first_bad: None,
-            kept: Kept::new(alloc),
+            kept: Kept { slots: crate::places::empty_slots(alloc, 4096), made: 0 },
         })
     }
 
@@ -153,15 +136,24 @@ impl Judged {
         ensures err { (head : Head) (before : List Event) → IsJudged self.old head before →
             OnErr result (IsJudged self.new head before) }
     {
-        self.note(events)?;
-        if self.first_bad.is_some() {
-            self.move_on(events, None);
-            return Ok(());
+        for event in events {
+            self.judge_next(event)?;
         }
-        let kept = mem::replace(&mut self.kept, Kept::new(self.past.alloc));
-        let (found, kept) = judge_by(&self.past, kept, self.count, events);
-        self.move_on(events, found);
-        self.kept = kept;
+        Ok(())
+    }
+
+    /// Judges the event that comes next by what stands now, and notes it.
+    fn judge_next(&mut self, event: &Event) -> Result<(), AllocError> {
+        let number = self.count as u32;
+        if self.first_bad.is_none() {
+            let found = failing_next(&self.past, &mut self.kept, number, event);
+            self.first_bad = match found {
+                Some(reason) => Some((self.count, reason)),
+                None => None,
+            };
+        }
+        self.past.note(number, event)?;
+        self.count += 1;
         Ok(())
     }
 

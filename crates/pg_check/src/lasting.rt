@@ -1,7 +1,7 @@
 //! Walks by moments, and how long the translations last that they give.
 
 ghost use Rattle.std.specs.Prelude.{◌≡◌, ◌&&◌, ◌<◌, ◌≤◌, ◌-◌, ◌^◌, ℕ, Bool, List};
-ghost use Rattle.std.specs.Prelude.{IfOk, IsTrue};
+ghost use Rattle.std.specs.Prelude.{IfOk, IsTrue, Option, None};
 ghost use Rattle.pg_event.specs.declared.event.Event.{Event};
 ghost use Rattle.pg_event.specs.Heads.{Head};
 ghost use Rattle.pg_event.specs.Values.{control_at};
@@ -81,6 +81,27 @@ fn if_below(first: Option<u32>, to: u32) -> Option<u32>
     }
 }
 
+/// The later of two moments: up to the first it was asked, and no event was found.
+fn later(asked: u32, moment: u32) -> u32
+    ensures { (test : ℕ → Bool) (to : ℕ) (first : Option ℕ) →
+        IsFirstToPass test moment asked None →
+        IsFirstToPass test result to first → IsFirstToPass test moment to first }
+{
+    if asked < moment { moment } else { asked }
+}
+
+/// From which moment on it is left to ask when the translation of a walk had to go.
+fn unasked(walk: Lasting) -> u32
+    ensures { (test : ℕ → Bool) (to : ℕ) (first : Option ℕ) → let moment = walk.chain.end.moment in
+        IsFirstToPass test moment walk.asked walk.dropped →
+        IsFirstToPass test result to first → IsFirstToPass test moment to first }
+{
+    match walk.dropped {
+        Some(_) => walk.chain.end.moment,
+        None => later(walk.asked, walk.chain.end.moment),
+    }
+}
+
 /// The first event at which the translation of a walk had to go, of those up to, not with, another.
 pub fn asked_up_to(reader: &mut Reader<'_>, p: u16, la: u64, walk: Lasting, to: u32) -> Lasting
     ensures past { reader.new ≡ reader.old }
@@ -92,9 +113,9 @@ pub fn asked_up_to(reader: &mut Reader<'_>, p: u16, la: u64, walk: Lasting, to: 
     let chain = walk.chain;
     match kind_at(reader.cfg(), chain.end) {
         Kind::Leaf { shift, .. } => {
-            let moment = chain.end.moment;
+            let from = unasked(walk);
             let global = walk.global;
-            let first = reader.first_drop_of_translation(p, chain.pcid, shift, la, global, moment);
+            let first = reader.first_drop_of_translation(p, chain.pcid, shift, la, global, from);
             Lasting {
                 chain,
                 global,

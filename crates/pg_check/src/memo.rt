@@ -15,8 +15,8 @@ use crate::places::{
     Kept, empty_slots, first_slots, most_slots, next_count, page_of, place_of, put_all, with_room,
 };
 use crate::walk::is_in_order;
-use pg_chain::{Chain, EntryRead, Past, Reader};
-use pg_entry::{Level, Rights};
+use pg_chain::{Chain, EntryRead, Past, Reader, kind_at};
+use pg_entry::{Kind, Level, Rights};
 use pg_event::{Control, Moments, Reason, Want};
 use std::marker::Model;
 
@@ -37,6 +37,9 @@ pub struct Slot {
     pub rights: Rights,
     pub tables: bool,
     pub global: bool,
+    /// The page that the leaf maps.
+    pub frame: u64,
+    pub shift: u8,
 }
 
 /// What the walk of a slot came to.
@@ -62,7 +65,7 @@ fn walk_in(slot: &Slot) -> Lasting
 }
 
 /// The slot of a walk.
-fn slot_of(p: u16, page: u64, moments: &Moments, walk: Lasting) -> Slot
+fn slot_of(p: u16, page: u64, moments: &Moments, walk: Lasting, frame: u64, shift: u8) -> Slot
     ensures names { (result.p ≡ p) × (result.page ≡ page) × (result.moments ≡ moments.now) }
     ensures walk { walk_in result ≡ walk }
 {
@@ -81,6 +84,8 @@ fn slot_of(p: u16, page: u64, moments: &Moments, walk: Lasting) -> Slot
         rights: end.rights,
         tables: walk.chain.tables,
         global: walk.global,
+        frame,
+        shift,
     }
 }
 
@@ -324,7 +329,10 @@ impl<'a> Memo<'a> {
         if place >= self.slots.len() {
             return;
         }
-        let slot = slot_of(p, page, moments, walk);
+        let Kind::Leaf { frame, shift, .. } = kind_at(self.reader.cfg(), walk.chain.end) else {
+            return;
+        };
+        let slot = slot_of(p, page, moments, walk, frame, shift);
         if is_within(&slot, self.limit) {
             self.slots[place] = Some(slot);
         }
@@ -383,7 +391,7 @@ impl<'a> Memo<'a> {
     }
 
     /// The walk of an access to a page by its moments, at an event with this number.
-    fn page_walk(
+    pub(crate) fn page_walk(
         &mut self,
         number: u32,
         first: usize,

@@ -1,7 +1,7 @@
 -- Whether a number in a window passes a test.
 use Rattle.std.proofs.Common.{◌≡◌, ℕ, suc, zero, ◌+◌, ◌-◌, ◌<◌, ◌≤◌, Bool, true, false, not, ◌&&◌, ◌||◌, nat_lt, nat_le, nat_eq, min, Option, Some, None, refl, ap, sym, ◌∙◌, arith, inl, inr}
-use Rattle.std.specs.Option.{IsSome, is_some}
-use Rattle.std.proofs.lemmas.Bool.{cases_eq, cases_lt, or_cases, or_left, or_right, and_parts, and_from, leb-true, le-leb, ltb-true, lt-ltb, le-ltb, eqb-true, eq-eqb, false≢true, false_from_ne_true}
+use Rattle.std.specs.Option.{is_some}
+use Rattle.std.proofs.lemmas.Bool.{cases_eq, or_cases, or_left, or_right, and_parts, and_from, leb-true, le-leb, ltb-true, lt-ltb, eqb-true, eq-eqb, false≢true, false_from_ne_true}
 use Rattle.pg_event.specs.Witness.{any_from}
 use Rattle.pg_timeline.specs.Timelines.{IsLeastFrom}
 use Rattle.pg_inval.specs.Lists.{IsFirstDrop}

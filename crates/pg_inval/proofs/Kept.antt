@@ -1,9 +1,7 @@
 -- What is known of drops, as a run grows or is cut.
-use Rattle.std.proofs.Common.{◌≡◌, ℕ, ◌+◌, ◌-◌, ◌<◌, ◌≤◌, Bool, true, false, ◌&&◌, ◌||◌, nat_lt, nat_le, nat_eq, cond, min, List, [], ◌∷◌, ◌++◌, length, length-append, Result, Ok, Err, refl, ap, sym, ◌∙◌, arith, inl, inr}
+use Rattle.std.proofs.Common.{◌≡◌, ℕ, ◌+◌, ◌-◌, ◌<◌, Bool, true, false, ◌&&◌, ◌||◌, nat_lt, nat_le, nat_eq, min, List, [], ◌∷◌, ◌++◌, length, length-append, Result, Ok, Err, refl, ap, sym, ◌∙◌, arith, inl, inr}
 use Rattle.std.specs.Result.{OnErr}
-use Rattle.std.proofs.lemmas.Bool.{cases_lt, false≢true, and_from, eq-eqb, lt-ltb, le-ltb, ltb-true}
-use Rattle.std.proofs.lemmas.List.Sums.{fold-append}
-use Rattle.std.proofs.lemmas.List.Folds.{list_any-append}
+use Rattle.std.proofs.lemmas.Bool.{false≢true, and_from, eq-eqb}
 use Rattle.pg_event.specs.declared.event.Event.{Event}
 use Rattle.pg_entry.specs.declared.Level.TheVariants.{Two}
 use Rattle.pg_event.specs.declared.invalidation.Invalidation.{Invalidation}
@@ -18,10 +16,10 @@ use Rattle.pg_event.specs.Invalidation.{structure_key, bits_from, must_drop_stru
 use Rattle.pg_event.specs.Meaning.{takes_structure, takes_translation}
 use Rattle.pg_timeline.specs.Keyed.{Keyed, AreCut}
 use Rattle.pg_inval.specs.declared.key.DropKey.{DropKey}
-use Rattle.pg_inval.specs.Keys.{is_same_key, has_key, dropped_keys}
+use Rattle.pg_inval.specs.Keys.{is_same_key, dropped_keys}
 use Rattle.pg_inval.specs.Lists.{has_among, ArePushed, AreSame}
 use Rattle.pg_entry.specs.Kinds.{IsPageShift}
-use Rattle.pg_inval.specs.Drops.{DropsNothing, CacheEntry, Structure, Translation, must_drop, drops_between, keys_of, is_dropped, next_moment, MayBeCached, IsNoted, IsSame, IsCutAt, StandsFor}
+use Rattle.pg_inval.specs.Drops.{DropsNothing, CacheEntry, Structure, Translation, must_drop, drops_between, keys_of, is_dropped, IsNoted, IsSame, IsCutAt, StandsFor}
 use Rattle.pg_inval.proofs.AnyFrom.{any_from-same, any_from-none, any_from-more, any_from-below, within}
 use Rattle.pg_inval.proofs.Pushes.{has_among-pushed, has_among-cut, has_among-same, has_among-none}
 use Rattle.pg_inval.proofs.Table.{is_hit, takes, entry_table}

@@ -1,5 +1,5 @@
 -- What is read of each key where some have one more moment, or all are cut.
-use Rattle.std.proofs.Common.{◌≡◌, ℕ, zero, suc, length, take, get_or, ◌+◌, ◌<◌, ◌≤◌, Bool, true, false, ◌&&◌, ◌||◌, nat_lt, nat_eq, cond, List, [], ◌∷◌, ◌++◌, Option, Some, None, refl, ap, sym, ◌∙◌, arith, inl, inr}
+use Rattle.std.proofs.Common.{◌≡◌, ℕ, zero, suc, length, take, get_or, ◌+◌, ◌<◌, ◌≤◌, Bool, true, false, ◌&&◌, ◌||◌, nat_lt, nat_eq, cond, List, [], ◌∷◌, ◌++◌, refl, ap, sym, ◌∙◌, arith, inl, inr}
 use Rattle.std.specs.List.{list_any}
 use Rattle.std.proofs.lemmas.Bool.{cases_Bool, cond_both, lt-ltb, le-ltb, false≢true}
 use Rattle.std.proofs.lemmas.List.{take_more}
@@ -17,7 +17,7 @@ use Rattle.pg_inval.specs.SameKey.{same_key}
 abbrev stamp : ℕ → Stamp Unit
 stamp moment = record { moment = moment; value = tt }
 
-abbrev at_key : Moments → DropKey → List (Stamp Unit)
+abbrev pub at_key : Moments → DropKey → List (Stamp Unit)
 at_key entries k = stamps_in is_same_key entries k
 
 or_false : (b : Bool) → (b || false) ≡ b
@@ -37,7 +37,7 @@ and_true false = refl
 pub ArePushed-none : (old : Moments) (moment : ℕ) → ArePushed old old [] moment
 ArePushed-none old moment = record { at = λ k. refl }
 
-has_key-more : (done : List DropKey) (key k : DropKey) → has_key (done ++ key ∷ []) k ≡ (has_key done k || is_same_key key k)
+pub has_key-more : (done : List DropKey) (key k : DropKey) → has_key (done ++ key ∷ []) k ≡ (has_key done k || is_same_key key k)
 has_key-more done key k =
     list_any-append (λ d. is_same_key d k) done (key ∷ []) ∙ ap (λ b. has_key done k || b) (or_false (is_same_key key k))
 
@@ -107,7 +107,7 @@ AreSame-cut old mid new done moment ends pushed cut = record {
 
 -- ---- what is read afterwards
 
-pushed_once : (h : Bool) (xs : List (Stamp Unit)) (moment j : ℕ) → has_moment (cond h (xs ++ stamp moment ∷ []) xs) j ≡ (has_moment xs j || (nat_eq moment j && h))
+pub pushed_once : (h : Bool) (xs : List (Stamp Unit)) (moment j : ℕ) → has_moment (cond h (xs ++ stamp moment ∷ []) xs) j ≡ (has_moment xs j || (nat_eq moment j && h))
 pushed_once true xs moment j = has_moment-push xs (stamp moment) j ∙ ap (λ b. has_moment xs j || b) (sym (and_true (nat_eq moment j)))
 pushed_once false xs moment j = sym (or_false (has_moment xs j)) ∙ ap (λ b. has_moment xs j || b) (sym (never (nat_eq moment j)))
 

@@ -1,6 +1,6 @@
 -- The events of a run that may drop cached entries, and which entries they drop.
-use Rattle.std.specs.Prelude.{◌≡◌, ℕ, ◌+◌, ◌≤◌, Bool, true, false, not, ◌&&◌, ◌||◌}
-use Rattle.std.specs.Prelude.{◌==◌, nat_lt, nat_le, min, if◌then◌else◌, List, length}
+use Rattle.std.specs.Prelude.{◌≡◌, ℕ, ◌+◌, ◌≤◌, Bool, false, not, ◌&&◌, ◌||◌}
+use Rattle.std.specs.Prelude.{◌==◌, nat_lt, nat_le, min, List, length}
 use Rattle.pg_entry.specs.declared.Level.{Level}
 use Rattle.pg_entry.specs.declared.Level.TheVariants.{Four, Three, Two, One}
 use Rattle.pg_entry.specs.Kinds.{IsPageShift}

@@ -1,5 +1,5 @@
 ghost use Rattle.std.specs.Prelude.{◌≡◌, ◌+◌, ◌<◌, ◌≤◌, not, List, [], ◌∷◌, ◌++◌, length};
-ghost use Rattle.std.specs.Prelude.{IsOk, OnOk, OnErr};
+ghost use Rattle.std.specs.Prelude.{IsOk, OnOk, OnErr, ℕ, IsTrue, false, true};
 ghost use Rattle.pg_event.specs.declared.event.Event.{Event};
 ghost use Rattle.pg_event.specs.Form.{processor_of};
 ghost use Rattle.pg_event.specs.Heads.{Head};
@@ -14,10 +14,11 @@ ghost use Rattle.pg_inval.specs.Drops.{StandsFor};
 ghost use Rattle.pg_inval.specs.Lists.{IsFirstDrop};
 
 use crate::dropped::dropped_keys;
-use crate::key::{DropKey, structure_keys, translation_keys};
+use crate::key::{DropKey, global_at, local_at, structure_keys, translation_keys};
+use crate::lasts::Lasts;
 use crate::lists::{cut_all, first_between, push_moments};
 use pg_entry::Level;
-use pg_event::{Control, Event, processor_of, structure_key, translation_key};
+use pg_event::{Control, Event, TranslationKey, processor_of, structure_key, translation_key};
 use pg_timeline::{Probes, Timeline};
 use std::alloc::{AllocError, Global};
 use std::collections::HashMap;
@@ -30,18 +31,21 @@ pub struct Drops {
     alloc: Global,
     next: u64,
     by_key: HashMap<DropKey, Timeline<()>>,
+    lasts: Lasts,
 }
 
 impl Model for Drops {
     ghost use Rattle.pg_timeline.specs.Keyed.{Keyed, EndsBefore};
     ghost use Rattle.pg_inval.specs.declared.key.DropKey.{DropKey};
     ghost use Rattle.pg_inval.specs.Keys.{is_same_key};
+    ghost use Rattle.pg_inval.specs.Lasts.{AreBounded};
 
     ghost Value = { Keyed DropKey Unit };
 
     ghost view = { λ a. record { entries = a.by_key.entries; next = a.next } };
 
-    ghost invariant = { λ a. EndsBefore is_same_key a.by_key.entries a.next };
+    ghost invariant = { λ a. EndsBefore is_same_key a.by_key.entries a.next
+        × AreBounded a.lasts a.by_key.entries };
 }
 
 impl Drops {
@@ -54,6 +58,7 @@ impl Drops {
             alloc,
             next: 0,
             by_key: HashMap::new(alloc),
+            lasts: Lasts::new(alloc),
         }
     }
 
@@ -85,10 +90,32 @@ impl Drops {
             before ≡ control_at head events (processor_of event.now) moment →
             OnOk result (StandsFor self.new head (events ++ event.now ∷ [])) }
     {
-        let keys = dropped_keys(processor_of(event), event.invalidation(before));
-        push_moments(&mut self.by_key, self.alloc, keys.as_slice(), moment)?;
+        let dropped = dropped_keys(processor_of(event), event.invalidation(before));
+        let keys = dropped.as_slice();
+        self.lasts.raise_all(keys, moment);
+        push_moments(&mut self.by_key, self.alloc, keys, moment)?;
         self.next = moment as u64 + 1;
         Ok(())
+    }
+
+    /// Whether no event from a moment on drops a translation of processor `p`, as the last moments
+    /// of its keys tell without a list. They may also say no where none does, since keys share them.
+    #[inline(always)]
+    pub fn translation_outlasts(&self, p: u16, key: TranslationKey, from: u32) -> bool
+        requires { IsPageShift key.shift }
+        ensures value { IsTrue result → (to : ℕ) →
+            is_dropped self.now p (Translation key) from to ≡ false }
+        ensures run { IsTrue result → (head : Head) (events : List Event) →
+            StandsFor self.now head events → (to : ℕ) →
+            survives head events p (λ c e. must_drop_translation c e key) from to ≡ true }
+    {
+        if key.global {
+            self.lasts.are_over(DropKey::Globals { p }, global_at(p, key), from)
+        } else {
+            let all = DropKey::NotGlobal { p };
+            let of_pcid = DropKey::LocalsOf { p, pcid: key.pcid };
+            self.lasts.is_over(all, from) && self.lasts.are_over(of_pcid, local_at(p, key), from)
+        }
     }
 
     /// Whether processor `p` had to drop the paging-structure-cache entry that level 4, 3 or 2 gave
@@ -159,7 +186,7 @@ impl Drops {
         ensures probes { (probes.old ≤ probes.new) × (probes.new ≤ probes.old + 102) }
     {
         let keys = structure_keys(p, structure_key(pcid, level, la));
-        first_between(&self.by_key, &keys, from, to, probes)
+        first_between(&self.by_key, &self.lasts, &keys, from, to, probes)
     }
 
     /// Whether processor `p` had to drop the translation of a linear address by a page of 2 to the
@@ -236,6 +263,6 @@ impl Drops {
         ensures probes { (probes.old ≤ probes.new) × (probes.new ≤ probes.old + 102) }
     {
         let keys = translation_keys(p, translation_key(pcid, shift, global, la));
-        first_between(&self.by_key, keys.as_slice(), from, to, probes)
+        first_between(&self.by_key, &self.lasts, keys.as_slice(), from, to, probes)
     }
 }

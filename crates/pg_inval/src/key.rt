@@ -1,6 +1,7 @@
 ghost use Rattle.std.specs.Prelude.{◌≡◌};
 ghost use Rattle.pg_inval.specs.Keys.{structure_at, local_at, global_at, structure_keys};
 ghost use Rattle.pg_inval.specs.Keys.{translation_keys};
+ghost use Rattle.pg_inval.specs.Lasts.{place_of};
 ghost use Rattle.pg_inval.specs.Hashed.{numbered, owner_of, number_of, hashed, hashed-alike};
 
 use arrayvec::ArrayVec;
@@ -53,6 +54,7 @@ pub(crate) enum DropKey {
 }
 
 /// A number of a kind of key, a PCID and a processor: each has its own where PCIDs are below 4,096.
+#[inline(always)]
 fn numbered(kind: u16, pcid: u16, p: u16) -> u64
     ensures { result ≡ numbered kind pcid p }
 {
@@ -61,6 +63,7 @@ fn numbered(kind: u16, pcid: u16, p: u16) -> u64
 
 impl DropKey {
     /// A number of its kind, its PCID and its processor.
+    #[inline(always)]
     fn owner(&self) -> u64
         ensures { result ≡ owner_of self.now }
     {
@@ -76,6 +79,7 @@ impl DropKey {
     }
 
     /// The number of its region or page.
+    #[inline(always)]
     fn number(&self) -> u64
         ensures { result ≡ number_of self.now }
     {
@@ -87,6 +91,16 @@ impl DropKey {
             DropKey::Structure { prefix, .. } => prefix,
             DropKey::Local { number, .. } | DropKey::Global { number, .. } => number,
         }
+    }
+
+    /// The place of its last moment. Keys that follow each other are spread evenly.
+    #[inline(always)]
+    pub(crate) fn place(&self) -> usize
+        ensures { result ≡ place_of self.now }
+    {
+        let number = self.number().wrapping_mul(0x9e37_79b9_7f4a_7c15);
+        let owner = self.owner().wrapping_mul(0xc2b2_ae3d_27d4_eb4f);
+        (number.wrapping_add(owner) / 0x2_0000_0000_0000) as usize
     }
 }
 

@@ -4,6 +4,7 @@
 mod dropped;
 mod drops;
 mod key;
+mod lasts;
 mod lists;
 
 pub use drops::Drops;

@@ -78,7 +78,7 @@ fn judge_rest<R: Source>(
     for _ in 0..MOST_CHUNKS {
         match reader.read_segment_in(room, source) {
             Ok(Some(events)) => {
-                take_in(judged, window, &events)?;
+                judged.judge(&events)?;
                 room = events;
             }
             Ok(None) => {

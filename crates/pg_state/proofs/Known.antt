@@ -265,6 +265,14 @@ StandsFor-none head = record {
       ∙ sym (control_at-after head [] p w (omega arith));
 }
 
+-- from the next moment on, the last change of a processor is what is read, else its start
+pub latest-read : (old now : Registers) (p w : ℕ) (found : Option Control) → old ≡ now → AreKept old.head old.changes old.next → next_moment now ≤ w →
+    (AreBelow w (changes_of old.changes p) → found ≡ last_before w (changes_of old.changes p)) → unwrap_or found (start_in now.head p) ≡ control_in now p w
+latest-read old now p w found same kept le is =
+    let here : next_moment old ≤ w = rw (ap next_moment same) le in
+    ap (λ o. unwrap_or o (start_in now.head p)) (is (AreBelow-weaker old.next w (changes_of old.changes p) here (kept.ends p)))
+    ∙ ap (λ (r : Registers). unwrap_or (last_before w (changes_of r.changes p)) (start_in now.head p)) same
+
 pub control_in-low : (r : Registers) (p w : ℕ) → AreKept r.head r.changes r.next → IsLow (control_in r p w)
 control_in-low r p w kept = last_before-low w (changes_of r.changes p) (start_in r.head p) (kept.roots p) (start-low r.head p (omega (arith, kept.low)) kept.high)
 

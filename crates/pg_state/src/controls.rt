@@ -1,5 +1,5 @@
 ghost use Rattle.std.specs.Prelude.{◌≡◌, ◌+◌, ◌<◌, ◌≤◌, ◌^◌, false, List, [], ◌∷◌, ◌++◌, map};
-ghost use Rattle.std.specs.Prelude.{length, replicate, slice_set, IsOk, IfOk, OnOk, OnErr};
+ghost use Rattle.std.specs.Prelude.{length, replicate, slice_set, IsOk, IfOk, OnOk, OnErr, ℕ};
 ghost use Rattle.pg_event.specs.declared.event.Event.{Event};
 ghost use Rattle.pg_event.specs.Form.{processor_of};
 ghost use Rattle.pg_event.specs.Heads.{Head};
@@ -209,6 +209,20 @@ impl Controls {
         ensures root { result.root < 2 ^ 52 }
     {
         self.control_at_counted(p, moment, &mut Probes::new())
+    }
+
+    /// The control registers of a processor after all events that were noted.
+    #[inline(always)]
+    pub fn latest(&self, p: u16) -> Control
+        requires { p < processor_count self.now }
+        ensures value { (w : ℕ) → next_moment self.now ≤ w → result ≡ control_in self.now p w }
+        ensures run { (head : Head) (events : List Event) → StandsFor self.now head events →
+            (w : ℕ) → next_moment self.now ≤ w → result ≡ control_at head events p w }
+    {
+        match changes_at(&self.by_processor, p).last() {
+            Some(control) => control,
+            None => self.start(p),
+        }
     }
 
     /// The physical address of the PML4 table of a processor just before the event with this

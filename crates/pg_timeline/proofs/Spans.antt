@@ -1,5 +1,5 @@
 -- The moments at which the same is read.
-use Rattle.std.proofs.Common.{◌≡◌, ℕ, ◌+◌, ◌<◌, ◌≤◌, List, Some, ◌∙◌, arith, inl, inr}
+use Rattle.std.proofs.Common.{◌≡◌, ℕ, ◌<◌, ◌≤◌, List, Some, ◌∙◌, arith, inl, inr}
 use Rattle.std.proofs.lemmas.Bool.{cases_lt}
 use Rattle.pg_timeline.specs.declared.timeline.Stamp.{Stamp}
 use Rattle.pg_timeline.specs.declared.timeline.Span.{Span}

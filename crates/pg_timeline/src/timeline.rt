@@ -3,6 +3,7 @@ ghost use Rattle.std.specs.Prelude.{length, Some, OnOk, OnErr};
 ghost use Rattle.std.specs.Option.{unwrap_or};
 ghost use Rattle.pg_timeline.specs.Timelines.{end_of, last_before, first_from, cut_at, count_below};
 ghost use Rattle.pg_timeline.specs.Timelines.{IsRising, IsLeastFrom, IsSpan, moment_in, has_moment};
+ghost use Rattle.pg_timeline.specs.Keyed.{AreBelow};
 
 use crate::probes::Probes;
 use smallvec::SmallVec;
@@ -193,6 +194,17 @@ impl<V: Copy + Default> Timeline<V> {
     {
         self.stamps.push(Stamp { moment, value })?;
         Ok(())
+    }
+
+    /// The value of the last stamp, which is what every moment after it reads.
+    #[inline(always)]
+    pub fn last(&self) -> Option<V>
+        ensures { (w : ℕ) → AreBelow w self.now → result ≡ last_before w self.now }
+    {
+        match self.stamps.as_slice().last() {
+            Some(stamp) => Some(stamp.value),
+            None => None,
+        }
     }
 
     /// The value of the last stamp below a moment.

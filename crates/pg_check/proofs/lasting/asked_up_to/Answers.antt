@@ -1,4 +1,4 @@
-use Rattle.std.proofs.Common.{◌≡◌, sym, ap, subst, ◌∙◌, refl, None}
+use Rattle.std.proofs.Common.{◌≡◌, ◌-◌, ◌^◌, sym, ap, subst, ◌∙◌, refl, None}
 use Rattle.pg_entry.specs.declared.Cfg.{Cfg}
 use Rattle.pg_entry.specs.declared.Kind.{Kind}
 use Rattle.pg_entry.specs.Kinds.{kind_of}
@@ -24,7 +24,8 @@ returns-in-Leaf-clause-lasting c = λ head events h lasts.
     subst (λ (k : Kind). LastsTo head events c.args.p c.args.la (record { chain = chain; global = walk.global; asked = c.args.to; dropped = c.if_below.result }) k)
     (sym c.in-Leaf.is ∙ kind) (
       was.0,
-      c.if_below.ensures (drops_at head events c.args.p key) chain.end.moment (c.first_drop_of_translation-first.ensures.run head events h),
+      c.if_below.ensures (drops_at head events c.args.p key) chain.end.moment
+          (c.unasked-from.ensures (drops_at head events c.args.p key) (2 ^ 32 - 1) c.first_drop_of_translation-first.result was.1 (c.first_drop_of_translation-first.ensures.run head events h)),
     )
 
 pub returns-in-Table : goal.returns-in-Table

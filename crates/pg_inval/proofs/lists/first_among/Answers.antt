@@ -1,7 +1,4 @@
-use Rattle.std.proofs.Common.{◌+◌, ◌*◌, ◌≤◌, ◌||◌, ℕ, take, slice_index_or, arith}
-use Rattle.pg_timeline.specs.Timelines.{has_moment}
-use Rattle.pg_timeline.specs.Keyed.{stamps_in}
-use Rattle.pg_inval.specs.Keys.{is_same_key}
+use Rattle.std.proofs.Common.{◌+◌, take, arith}
 use Rattle.pg_inval.specs.Lists.{has_among}
 use Rattle.pg_inval.proofs.AnyFrom.{IsLeastFrom-same}
 use Rattle.pg_inval.proofs.Pushes.{has_among-more}

@@ -1,7 +1,6 @@
-use Rattle.std.proofs.Common.{◌≡◌, ◌+◌, false, take, List, slice_index_or, sym, subst}
+use Rattle.std.proofs.Common.{take, List, sym, subst}
 use Rattle.std.proofs.lemmas.List.{take_more}
 use Rattle.pg_inval.specs.declared.key.DropKey.{DropKey}
-use Rattle.pg_inval.specs.Keys.{has_key}
 use Rattle.pg_inval.specs.Lists.{ArePushed}
 use Rattle.pg_inval.proofs.Pushes.{ArePushed-one, end_of-fresh, AreSame-cut, fresh_at}
 use Rattle.pg_inval.proofs.lists.push_moments.Goals as goal

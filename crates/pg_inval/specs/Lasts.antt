@@ -1,0 +1,29 @@
+-- Up to which moment keys may have been dropped.
+use Rattle.std.specs.Prelude.{◌≡◌, ℕ, ◌+◌, ◌*◌, ◌%◌, ◌/◌, ◌^◌, ◌<◌, ◌≤◌, true, List}
+use Rattle.std.specs.Prelude.{length, get_or}
+use Rattle.pg_timeline.specs.Timelines.{has_moment}
+use Rattle.pg_timeline.specs.Keyed.{stamps_in}
+use Rattle.pg_inval.specs.declared.key.DropKey.{DropKey}
+use Rattle.pg_inval.specs.Hashed.{owner_of, number_of}
+use Rattle.pg_inval.specs.Keys.{is_same_key, has_key}
+use Rattle.pg_inval.specs.Lists.{Moments}
+
+-- the place of a key, which others may have too
+abbrev pub place_of : DropKey → ℕ
+place_of k =
+    (number_of k * 11400714819323198485 % 2 ^ 64 + owner_of k * 14029467366897019727 % 2 ^ 64)
+    % 2 ^ 64 / 2 ^ 49
+
+-- a key may have a moment, as far as its place tells
+abbrev pub MayHave : List ℕ → DropKey → ℕ → Type 0
+MayHave lasts k m = place_of k < length lasts → m ≤ get_or lasts (place_of k) 0
+
+-- whatever a key may have had it may still have, and each of some keys a moment more
+pub record AreRaised (old new : List ℕ) (keys : List DropKey) (moment : ℕ) : Type 0 where
+  pub kept : (k : DropKey) (m : ℕ) → MayHave old k m → MayHave new k m
+  pub raised : (k : DropKey) → has_key keys k ≡ true → MayHave new k moment
+
+-- each key may have the moments that it has
+abbrev pub AreBounded : List ℕ → Moments → Type 0
+AreBounded lasts entries =
+    (k : DropKey) (m : ℕ) → has_moment (stamps_in is_same_key entries k) m ≡ true → MayHave lasts k m
