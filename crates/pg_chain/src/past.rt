@@ -80,6 +80,9 @@ impl Past {
             moment ≡ length events → OnErr result (IsPast self.new head events)) }
         ensures nothing { changes_nothing event.now ≡ true → IsOk result }
     {
+        if changes_nothing(event) {
+            return Ok(());
+        }
         match event.memory_change() {
             MemoryChange::Value { addr, value } => self.versions.note(moment, addr, value),
             MemoryChange::Flags { addr, dirty } => {
@@ -87,13 +90,7 @@ impl Past {
                 let after = marked(Entry(before), dirty);
                 self.versions.note(moment, addr, after.0)
             }
-            MemoryChange::Nothing => {
-                if changes_nothing(event) {
-                    Ok(())
-                } else {
-                    self.note_drop(moment, event)
-                }
-            }
+            MemoryChange::Nothing => self.note_drop(moment, event),
         }
     }
 

@@ -1,5 +1,6 @@
 -- What the first event that drops a translation says of an access.
-use Rattle.std.proofs.Common.{◌≡◌, ℕ, ◌+◌, ◌-◌, ◌<◌, ◌≤◌, Bool, true, false, not, nat_lt, List, Option, Some, None, MatchOption, ◌⊎◌, inl, inr, sym, ap, subst, ◌∙◌, arith}
+use Rattle.std.proofs.Common.{◌≡◌, ℕ, ◌+◌, ◌-◌, ◌<◌, ◌≤◌, Bool, true, false, not, nat_lt, List, Option, Some, None, MatchOption, ◌⊎◌, inl, inr, refl, sym, ap, subst, ◌∙◌, arith}
+use Rattle.std.specs.Option.{is_some}
 use Rattle.std.proofs.lemmas.Bool.{ltb-true, lt-ltb, false≢true, false_from_ne_true, cases_lt}
 use Rattle.pg_event.specs.declared.event.Event.{Event}
 use Rattle.pg_event.specs.Heads.{Head}
@@ -105,3 +106,13 @@ asked_so_far l number to h e = go l.dropped
     go : (found : Option ℕ) → MatchOption found (number ≤ l.asked) (λ first. Unit {0})
     go None = omega (arith, h, e)
     go (Some first) = tt
+
+-- nothing drops a translation up to a later number either, where it outlasts what is between
+pub lasts_on : (test : ℕ → Bool) (from middle to : ℕ) (found : Option ℕ) → found ≡ None → IsFirstDrop (passes_in test) from middle found → not (any_from test middle (to - middle)) ≡ true →
+    passes_in test from to ≡ false
+lasts_on test from middle to found none before stands =
+    none_joined test from middle to (subst (λ (d : Option ℕ). IsFirstDrop (passes_in test) from middle d) none before) (ap not stands)
+
+pub none_there : (found : Option ℕ) → is_some found ≡ false → found ≡ None
+none_there None h = refl
+none_there (Some m) h = absurd (false≢true (sym h))

@@ -1,5 +1,8 @@
 -- What a slot of a memo says of the walk that it names.
-use Rattle.std.proofs.Common.{◌≡◌, ℕ, suc, zero, ◌<◌, List, [], ◌∷◌, length, get_or, set, Option, Some, Ok, sym, subst, arith}
+use Rattle.std.proofs.Common.{◌≡◌, ℕ, suc, zero, ◌<◌, true, ◌&&◌, nat_eq, List, [], ◌∷◌, ◌++◌, length, take, get_or, set, Option, Some, Ok, ap, sym, subst, ◌∙◌, arith}
+use Rattle.std.specs.Cmp.Lexicographic.{pointwise, same_text}
+use Rattle.std.proofs.Math.Seq.{take-append_seam}
+use Rattle.std.proofs.lemmas.Bool.{and_parts, eqb-true}
 use Rattle.pg_event.specs.declared.event.Event.{Event}
 use Rattle.pg_event.specs.declared.event.Want.TheVariants as wants
 use Rattle.pg_event.specs.Heads.{Head}
@@ -41,3 +44,12 @@ made_slot past n s p page ws walk same e within is = (
       (subst (λ vs. IsWalk head events p page wants.Leaf vs (Ok (walk_in s))) (sym same.2)
       (subst (λ (l : Lasting). IsWalk head events p page wants.Leaf ws (Ok l)) (sym e) (is head events h)))),
 )
+
+-- moments that are the same as they are kept, with noughts behind them, are the same
+pub same_moments : (xs ys us vs : List ℕ) → (nat_eq (length xs) (length ys) && pointwise nat_eq (xs ++ us) (ys ++ vs)) ≡ true → xs ≡ ys
+same_moments xs ys us vs h =
+    let parts = and_parts (nat_eq (length xs) (length ys)) (pointwise nat_eq (xs ++ us) (ys ++ vs)) h in
+    sym (take-append_seam xs us)
+    ∙ ap (take (length xs)) (same_text (xs ++ us) (ys ++ vs) (sym parts.1))
+    ∙ ap (λ n. take n (ys ++ vs)) (eqb-true (length xs) (length ys) parts.0)
+    ∙ take-append_seam ys vs

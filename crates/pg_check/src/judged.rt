@@ -1,6 +1,7 @@
 //! A run that is judged as it is read.
 
-ghost use Rattle.std.specs.Prelude.{◌≡◌, ◌+◌, ◌<◌, ◌≤◌, ◌^◌, ◌++◌, List, [], length, Some, None};
+ghost use Rattle.std.specs.Prelude.{◌≡◌, ◌+◌, ◌<◌, ◌≤◌, ◌^◌, ◌++◌, ◌∷◌, List, [], length, Some};
+ghost use Rattle.std.specs.Prelude.{None};
 ghost use Rattle.std.specs.Prelude.{IfOk, OnOk, OnErr};
 ghost use Rattle.std.specs.List.{AllByRecursion};
 ghost use Rattle.pg_event.specs.Form.{processor_of};
@@ -8,20 +9,19 @@ ghost use Rattle.pg_chain.specs.Standing.{IsPast, processor_count};
 ghost use Rattle.pg_event.specs.declared.event.Event.{Event};
 ghost use Rattle.pg_event.specs.Heads.{Head};
 ghost use Rattle.pg_event.specs.Spelling.{IsHead, segment_count};
-ghost use Rattle.pg_event.specs.Witness.{first_bad, first_bad_from};
+ghost use Rattle.pg_event.specs.Witness.{first_bad, first_some};
 ghost use Rattle.pg_check.specs.Judging.{Awaits, IsFound, IsJudged, MayFollow};
 ghost use Rattle.pg_check.specs.Remembered.{HaveWalks};
 ghost use Rattle.pg_check.specs.Stretches.{IsStretch};
 
-use crate::tip::failing_next;
-use crate::memo::Memo;
 use crate::places::Kept;
 use crate::stretch::Stretch;
+use crate::tip::failing_next;
 use pg_chain::Past;
 use pg_event::{Event, Header, Reason};
 use std::alloc::{AllocError, Global};
 use std::marker::Model;
-use std::mem;
+use std::slice;
 
 /// What is known of a run so far, and its first bad event. The events themselves are let go once
 /// they are judged; those after a bad one are noted alone.
@@ -52,6 +52,17 @@ impl Model for Judged {
     ghost invariant = { λ j. IsHead j.header × HaveWalks j.past j.count j.kept.slots.items };
 }
 
+/// A reason that was found, if one was, with the number of its event.
+#[inline(always)]
+fn numbered(number: u64, found: Option<Reason>) -> Option<(u64, Reason)>
+    ensures { result ≡ first_some number found None }
+{
+    match found {
+        Some(reason) => Some((number, reason)),
+        None => None,
+    }
+}
+
 impl Judged {
     /// A run with no event yet. Fails where memory is refused.
     pub fn new(alloc: Global, header: Header) -> Result<Judged, AllocError>
@@ -64,7 +75,7 @@ impl Judged {
             past,
             count: 0,
             first_bad: None,
-            kept: Kept { slots: crate::places::empty_slots(alloc, 4096), made: 0 },
+            kept: Kept::new(alloc),
         })
     }
 
@@ -127,8 +138,8 @@ impl Judged {
         self.count += events.len() as u64;
     }
 
-    /// Notes the events that come next, and judges them, unless an event before them is bad. Fails
-    /// where memory is refused, and then they have not come.
+    /// Judges the events that come next, each by those before it, and notes them; one after a bad
+    /// event is noted alone. Fails where memory is refused, and then they have not come.
     pub fn judge(&mut self, events: &[Event]) -> Result<(), AllocError>
         requires { MayFollow self.old events.now }
         ensures ok { (head : Head) (before : List Event) → IsJudged self.old head before →
@@ -136,25 +147,62 @@ impl Judged {
         ensures err { (head : Head) (before : List Event) → IsJudged self.old head before →
             OnErr result (IsJudged self.new head before) }
     {
+        let count = self.count as u32;
+        let bad = self.first_bad;
         for event in events {
-            self.judge_next(event)?;
+            if let Err(refused) = self.judge_next(event) {
+                self.go_back(count, bad);
+                return Err(refused);
+            }
         }
         Ok(())
     }
 
-    /// Judges the event that comes next by what stands now, and notes it.
-    fn judge_next(&mut self, event: &Event) -> Result<(), AllocError> {
-        let number = self.count as u32;
-        if self.first_bad.is_none() {
-            let found = failing_next(&self.past, &mut self.kept, number, event);
-            self.first_bad = match found {
-                Some(reason) => Some((self.count, reason)),
-                None => None,
-            };
-        }
-        self.past.note(number, event)?;
-        self.count += 1;
+    /// Judges the event that comes next, unless one before it is bad, and notes it. Fails where
+    /// memory is refused, and then it has not come.
+    #[inline(always)]
+    fn judge_next(&mut self, event: &Event) -> Result<(), AllocError>
+        requires { MayFollow self.old (event.now ∷ []) }
+        ensures ok { (head : Head) (before : List Event) → IsJudged self.old head before →
+            OnOk result (IsJudged self.new head (before ++ event.now ∷ [])) }
+        ensures err { (head : Head) (before : List Event) → IsJudged self.old head before →
+            OnErr result (IsJudged self.new head before) }
+    {
+        let found = self.found_next(event);
+        let next = slice::from_ref(event);
+        self.note(next)?;
+        self.move_on(next, found);
         Ok(())
+    }
+
+    /// The event that comes next, where it is the first bad one, by the events before it.
+    #[inline(always)]
+    fn found_next(&mut self, event: &Event) -> Option<(u64, Reason)>
+        requires { MayFollow self.old (event.now ∷ []) }
+        ensures same { self.new ≡ self.old }
+        ensures found { (head : Head) (before : List Event) → IsJudged self.old head before →
+            IsFound result head before (event.now ∷ []) }
+    {
+        if self.first_bad.is_some() {
+            return None;
+        }
+        let number = self.count as u32;
+        let found = failing_next(&self.past, &mut self.kept, number, event);
+        numbered(self.count, found)
+    }
+
+    /// Goes back to the first so many events, the first bad one of which is at hand.
+    fn go_back(&mut self, count: u32, bad: Option<(u64, Reason)>)
+        requires { (head : Head) × (before : List Event) × (more : List Event)
+            × IsJudged self.old head (before ++ more) × (count ≡ length before) }
+        ensures { (head : Head) (before more : List Event) →
+            IsJudged self.old head (before ++ more) → count ≡ length before →
+            bad ≡ first_bad head before → IsJudged self.new head before }
+    {
+        self.past.forget_from(count);
+        self.kept = Kept::new(self.past.alloc);
+        self.first_bad = bad;
+        self.count = count as u64;
     }
 
     /// How many events were judged.

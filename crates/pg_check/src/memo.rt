@@ -1,10 +1,11 @@
 //! Walks that were made, kept so that they need not be made again.
 
-ghost use Rattle.std.specs.Prelude.{◌≡◌, ◌<◌, ℕ, List, Ok, IfOk, IfSome, IsTrue};
+ghost use Rattle.std.specs.Prelude.{◌≡◌, ◌<◌, ℕ, List, Ok, IfOk, IfSome, IsTrue, true};
 ghost use Rattle.pg_event.specs.declared.event.Event.{Event};
 ghost use Rattle.pg_event.specs.declared.event.Want.TheVariants.{Leaf};
 ghost use Rattle.pg_event.specs.Heads.{Head};
 ghost use Rattle.pg_event.specs.Values.{control_at};
+ghost use Rattle.pg_event.specs.Witness.{is_in_order};
 ghost use Rattle.pg_chain.specs.declared.past.Past.{Past};
 ghost use Rattle.pg_chain.specs.Standing.{IsPast, processor_count};
 ghost use Rattle.pg_check.specs.Lasting.{IsAsked, IsWalk};
@@ -12,11 +13,12 @@ ghost use Rattle.pg_check.specs.Remembered.{HasWalk, HaveWalks, IsWithin, walk_i
 
 use crate::lasting::{Lasting, asked_up_to, is_asked, lasting_walk};
 use crate::places::{
-    Kept, empty_slots, first_slots, most_slots, next_count, page_of, place_of, put_all, with_room,
+    Kept, empty_slots, first_slots, most_slots, next_count, page_of, place_of, put_all,
+    walks_before, with_room,
 };
 use crate::walk::is_in_order;
-use pg_chain::{Chain, EntryRead, Past, Reader, kind_at};
-use pg_entry::{Kind, Level, Rights};
+use pg_chain::{Chain, EntryRead, Past, Reader};
+use pg_entry::{Level, Rights};
 use pg_event::{Control, Moments, Reason, Want};
 use std::marker::Model;
 
@@ -37,12 +39,10 @@ pub struct Slot {
     pub rights: Rights,
     pub tables: bool,
     pub global: bool,
-    /// The page that the leaf maps.
-    pub frame: u64,
-    pub shift: u8,
 }
 
 /// What the walk of a slot came to.
+#[inline(always)]
 fn walk_in(slot: &Slot) -> Lasting
     ensures { result ≡ walk_in slot.now }
 {
@@ -65,7 +65,7 @@ fn walk_in(slot: &Slot) -> Lasting
 }
 
 /// The slot of a walk.
-fn slot_of(p: u16, page: u64, moments: &Moments, walk: Lasting, frame: u64, shift: u8) -> Slot
+fn slot_of(p: u16, page: u64, moments: &Moments, walk: Lasting) -> Slot
     ensures names { (result.p ≡ p) × (result.page ≡ page) × (result.moments ≡ moments.now) }
     ensures walk { walk_in result ≡ walk }
 {
@@ -84,8 +84,6 @@ fn slot_of(p: u16, page: u64, moments: &Moments, walk: Lasting, frame: u64, shif
         rights: end.rights,
         tables: walk.chain.tables,
         global: walk.global,
-        frame,
-        shift,
     }
 }
 
@@ -137,18 +135,53 @@ fn may_be_kept(want: Want) -> bool
     }
 }
 
+/// Whether a slot has a walk of a processor to a page.
+#[inline(always)]
+fn is_to(slot: &Slot, p: u16, page: u64) -> bool
+    ensures { IsTrue result → (slot.now.p ≡ p) × (slot.now.page ≡ page) }
+{
+    slot.p == p && slot.page == page
+}
+
 /// Whether a slot has the walk of a processor to a page by these moments.
+#[inline(always)]
 fn is_of(slot: &Slot, p: u16, page: u64, moments: &Moments) -> bool
     ensures { IsTrue result → (slot.now.p ≡ p) × (slot.now.page ≡ page)
         × (slot.now.moments ≡ moments.now) }
 {
-    slot.p == p && slot.page == page && slot.moments.as_slice() == moments.as_slice()
+    is_to(slot, p, page) && slot.moments == *moments
+}
+
+/// What a place of some slots has of a walk to a page. Each access asks it, so that a call would
+/// cost much.
+#[inline(always)]
+pub(crate) fn walk_at(
+    slots: &[Option<Slot>],
+    place: usize,
+    p: u16,
+    page: u64,
+    moments: &Moments,
+) -> Option<Lasting>
+    ensures ordered { (past : Past) (limit : ℕ) → HaveWalks past limit slots.now →
+        IfSome result (λ l. is_in_order moments.now limit ≡ true) }
+    ensures walk { (past : Past) (limit : ℕ) → HaveWalks past limit slots.now →
+        (head : Head) (events : List Event) → IsPast past head events →
+        IfSome result (λ l. IsWalk head events p page Leaf moments.now (Ok l)) }
+{
+    match slots.get(place)? {
+        Some(slot) => if is_of(slot, p, page, moments) {
+            Some(walk_in(slot))
+        } else {
+            None
+        },
+        None => None,
+    }
 }
 
 /// Whether a slot has a walk of a processor to a page under this PCID, by whatever moments.
 fn is_for(slot: Option<Slot>, p: u16, page: u64, pcid: u16) -> bool {
     match slot {
-        Some(slot) => slot.p == p && slot.page == page && slot.pcid == pcid,
+        Some(slot) => is_to(&slot, p, page) && slot.pcid == pcid,
         None => false,
     }
 }
@@ -169,17 +202,18 @@ impl<'a> Memo<'a> {
         }
     }
 
-    /// The walks that slots have, which rest on the first so many events of the run. There is room
-    /// for so many more, up to a limit.
-    pub(crate) fn with_slots(past: &'a Past, kept: Kept, walks: usize, limit: u32) -> Memo<'a>
-        requires { HaveWalks past.now limit kept.slots.items }
+    /// The walks that slots have, at the event that comes next, whose number this is: nothing that
+    /// is looked up is kept beside them, since it would not outlast the event.
+    pub(crate) fn at_tip(past: &'a Past, kept: Kept, number: u32) -> Memo<'a>
+        requires { HaveWalks past.now number kept.slots.items }
         ensures { result ≡ past.now }
     {
         let Kept { slots, made } = kept;
+        let count = first_slots(past, walks_before(number));
         Memo {
-            reader: Reader::new(past, walks),
-            slots: with_room(past.alloc, slots, first_slots(past, walks)),
-            limit,
+            reader: Reader::new(past, 0),
+            slots: with_room(past.alloc, slots, count),
+            limit: number,
             made,
             most: most_slots(past),
         }
@@ -226,20 +260,13 @@ impl<'a> Memo<'a> {
         self.reader.control_at(p, moment)
     }
 
-    /// What a place has of a walk to a page. Each access asks it, so that a call would cost much.
+    /// What a place has of a walk to a page.
     #[inline(always)]
     fn kept_at(&self, place: usize, p: u16, page: u64, moments: &Moments) -> Option<Lasting>
         ensures { (head : Head) (events : List Event) → IsPast self.now head events →
             IfSome result (λ l. IsWalk head events p page Leaf moments.now (Ok l)) }
     {
-        match self.slots.get(place)? {
-            Some(slot) => if is_of(slot, p, page, moments) {
-                Some(walk_in(slot))
-            } else {
-                None
-            },
-            None => None,
-        }
+        walk_at(self.slots.as_slice(), place, p, page, moments)
     }
 
     /// What was kept of a walk to a page at the first of its two places or at the other, and where.
@@ -329,10 +356,7 @@ impl<'a> Memo<'a> {
         if place >= self.slots.len() {
             return;
         }
-        let Kind::Leaf { frame, shift, .. } = kind_at(self.reader.cfg(), walk.chain.end) else {
-            return;
-        };
-        let slot = slot_of(p, page, moments, walk, frame, shift);
+        let slot = slot_of(p, page, moments, walk);
         if is_within(&slot, self.limit) {
             self.slots[place] = Some(slot);
         }
@@ -391,7 +415,7 @@ impl<'a> Memo<'a> {
     }
 
     /// The walk of an access to a page by its moments, at an event with this number.
-    pub(crate) fn page_walk(
+    fn page_walk(
         &mut self,
         number: u32,
         first: usize,

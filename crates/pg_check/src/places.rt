@@ -85,6 +85,16 @@ pub(crate) fn first_slots(past: &Past, walks: usize) -> usize {
     walks.min(all.max(FIRST_SLOTS).min(MOST_FIRST_SLOTS))
 }
 
+/// So many walks may have come before the event with this number, as a number that rarely grows:
+/// whenever it does, slots begin anew.
+pub(crate) fn walks_before(number: u32) -> usize {
+    match number {
+        0..256 => 256,
+        256..4096 => 4_096,
+        _ => usize::MAX,
+    }
+}
+
 /// So many slots at most outlive a window.
 pub(crate) fn most_slots(past: &Past) -> usize {
     let all = past.controls.processors().saturating_mul(MOST_FOR_EACH);

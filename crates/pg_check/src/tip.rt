@@ -1,110 +1,216 @@
-//! The event that comes next, judged by what stands now.
+//! The event that comes next, judged by what stands now: by a walk that was kept, where nothing
+//! dropped its translation since, as a processor uses its TLB.
 
-use crate::access::{failing_chain, failing_flags, failing_leaf, is_foreign};
+ghost use Rattle.std.specs.Prelude.{◌≡◌, ◌<◌, ◌≤◌, ℕ, List, length, Ok, IfSome, IsTrue, true};
+ghost use Rattle.pg_event.specs.declared.event.Event.{Event};
+ghost use Rattle.pg_event.specs.declared.event.Want.TheVariants.{Leaf};
+ghost use Rattle.pg_event.specs.Form.{processor_of};
+ghost use Rattle.pg_event.specs.Heads.{Head};
+ghost use Rattle.pg_event.specs.Wants.{want_of};
+ghost use Rattle.pg_event.specs.Values.{control_at};
+ghost use Rattle.pg_event.specs.Witness.{failing_access, failing_event, is_in_order};
+ghost use Rattle.pg_chain.specs.declared.past.Past.{Past};
+ghost use Rattle.pg_chain.specs.Standing.{InEachRun, IsNext, IsPast, processor_count};
+ghost use Rattle.pg_check.specs.Lasting.{IsAsked, IsWalk};
+ghost use Rattle.pg_check.specs.Remembered.{HaveWalks};
+
+use crate::access::failing_chain;
 use crate::judge::failing;
 use crate::lasting::Lasting;
-use crate::memo::{Memo, Slot};
+use crate::memo::{Memo, walk_at};
 use crate::places::{Kept, page_of, place_of};
-use crate::walk::is_in_order;
-use pg_chain::Past;
-use pg_entry::page_offset;
-use pg_event::{Claim, Event, Moments, Outcome, Reason, Request, Want, processor_of, translation_key, want_of};
+use pg_chain::{Past, kind_at};
+use pg_entry::Kind;
+use pg_event::{
+    Claim, Event, Moments, Reason, Request, Want, processor_of, translation_key, want_of,
+};
 use std::mem;
 
+/// A walk to a page that was kept, as it is known at the event with this number: where nothing
+/// dropped its translation since that was asked, which is told without a look into lists.
 #[inline(always)]
-fn slot_at<'a>(
-    slots: &'a [Option<Slot>],
-    place: usize,
-    p: u16,
-    page: u64,
-    moments: &Moments,
-) -> Option<&'a Slot>
+fn outlasting(past: &Past, number: u32, p: u16, page: u64, walk: Lasting) -> Option<Lasting>
+    ensures asked { IfSome result (IsAsked number) }
+    ensures walk { (head : Head) (events : List Event) → IsPast past.now head events →
+        (ws : List ℕ) → IsWalk head events p page Leaf ws (Ok walk) →
+        IfSome result (λ l. IsWalk head events p page Leaf ws (Ok l)) }
 {
-    match slots.get(place)? {
-        Some(slot) => if slot.p == p && slot.page == page && slot.moments == *moments {
-            Some(slot)
-        } else {
-            None
-        },
+    let Kind::Leaf { shift, .. } = kind_at(past.cfg(), walk.chain.end) else {
+        return None;
+    };
+    if walk.dropped.is_some() {
+        return None;
+    }
+    let key = translation_key(walk.chain.pcid, shift, walk.global, page);
+    if !past.translation_outlasts(p, key, walk.asked) {
+        return None;
+    }
+    Some(Lasting {
+        chain: walk.chain,
+        global: walk.global,
+        asked: number,
+        dropped: None,
+    })
+}
+
+/// The walk of an access to a page that the first of two places has, or else the other.
+#[inline(always)]
+fn kept_walk(kept: &Kept, first: usize, p: u16, page: u64, moments: &Moments) -> Option<Lasting>
+    ensures ordered { (past : Past) (limit : ℕ) → HaveWalks past limit kept.now.slots.items →
+        IfSome result (λ l. is_in_order moments.now limit ≡ true) }
+    ensures walk { (past : Past) (limit : ℕ) → HaveWalks past limit kept.now.slots.items →
+        (head : Head) (events : List Event) → IsPast past head events →
+        IfSome result (λ l. IsWalk head events p page Leaf moments.now (Ok l)) }
+{
+    let slots = kept.slots.as_slice();
+    match walk_at(slots, first, p, page, moments) {
+        Some(walk) => Some(walk),
+        None => walk_at(slots, first | 1, p, page, moments),
+    }
+}
+
+/// The walk of the access that comes next, where it was kept and stands. `current` is the PCID:
+/// walks are placed by it.
+#[inline(always)]
+fn standing_walk(
+    past: &Past,
+    kept: &Kept,
+    current: u16,
+    claim: &Claim,
+    moments: &Moments,
+) -> Option<Lasting>
+    requires { HaveWalks past.now claim.now.number kept.now.slots.items }
+    ensures some { 1 ≤ length moments.now }
+    ensures asked { IfSome result (IsAsked claim.now.number) }
+    ensures ordered { IfSome result (λ l. is_in_order moments.now claim.now.number ≡ true) }
+    ensures walk { (head : Head) (events : List Event) → IsPast past.now head events →
+        IfSome result (λ l. IsWalk head events claim.now.p claim.now.la Leaf moments.now (Ok l)) }
+{
+    let levels = moments.len();
+    let page = page_of(claim.la, levels);
+    let first = place_of(kept.slots.len(), claim.p, page, levels, current);
+    match kept_walk(kept, first, claim.p, page, moments) {
+        Some(walk) => outlasting(past, claim.number, claim.p, page, walk),
         None => None,
     }
 }
 
+/// What is known of the access that comes next by a walk that was kept and stands: the least reason
+/// that fails, if there is one. Only an access that asks for a leaf has a walk that is kept.
 #[inline(always)]
-fn is_standing(past: &Past, slot: &Slot) -> bool {
-    slot.dropped.is_none()
-        && past.drops.translation_outlasts(
-            slot.p,
-            translation_key(slot.pcid, slot.shift, slot.global, slot.page),
-            slot.asked,
-        )
+fn failing_standing(
+    past: &Past,
+    kept: &Kept,
+    claim: &Claim,
+    moments: &Moments,
+) -> Option<Option<Reason>>
+    requires next { IsNext past.now claim.now.number }
+    requires processor { claim.now.p < processor_count past.now }
+    requires walks { HaveWalks past.now claim.now.number kept.now.slots.items }
+    requires leaf { want_of claim.now.outcome ≡ Leaf }
+    ensures { InEachRun past.now (λ head events. IfSome result
+        (λ found. found ≡ failing_access head events claim.now moments.now)) }
+{
+    let current = past.latest_control(claim.p).pcid;
+    match standing_walk(past, kept, current, claim, moments) {
+        Some(walk) => Some(failing_chain(past, current, claim, walk)),
+        None => None,
+    }
 }
 
+/// Whether an access asks for a leaf.
 #[inline(always)]
-fn failing_by(past: &Past, current: u16, claim: &Claim, slot: &Slot) -> Option<Reason> {
-    if is_foreign(current, slot.pcid, slot.global) {
-        return Some(Reason::ForeignPcid);
-    }
-    let address = slot.frame + page_offset(claim.la, slot.shift);
-    match failing_leaf(past.cfg(), claim, slot.rights, address) {
-        Some(reason) => Some(reason),
-        None => failing_flags(past.version(), claim, slot.tables, slot.value),
+fn is_leaf(want: Want) -> bool
+    ensures { IsTrue result → want ≡ Leaf }
+{
+    match want {
+        Want::Leaf => true,
+        Want::Absent | Want::Reserved | Want::Present => false,
     }
 }
 
-
-/// The walk of the next access to a page, made anew or asked of the past.
-fn page_walk(past: &Past, kept: &mut Kept, first: usize, page: u64, claim: &Claim, moments: &Moments) -> Result<Lasting, Reason> {
+/// The least reason that fails for the event that comes next, by what the past says; a walk that is
+/// made for it is kept.
+#[inline(never)]
+fn failing_by_past(past: &Past, kept: &mut Kept, number: u32, event: &Event) -> Option<Reason>
+    requires processor { processor_of event.now < processor_count past.now }
+    requires walks { HaveWalks past.now number kept.old.slots.items }
+    ensures walks { HaveWalks past.now number kept.new.slots.items }
+    ensures failing { InEachRun past.now (λ head events.
+        result ≡ failing_event head events number event.now) }
+{
     let own = mem::replace(kept, Kept::new(past.alloc));
-    let mut memo = Memo::with_slots(past, own, 0, claim.number);
-    let walk = memo.page_walk(claim.number, first, claim.p, page, moments);
-    *kept = memo.into_slots(claim.number);
-    walk
+    let mut memo = Memo::at_tip(past, own, number);
+    let found = failing(&mut memo, number, event);
+    *kept = memo.into_slots(number);
+    found
 }
 
+/// The same for an access that asks for a leaf: a walk that was kept and stands is used before the
+/// past is asked.
 #[inline(always)]
-fn known(past: &Past, kept: &Kept, current: u16, first: usize, page: u64, claim: &Claim, moments: &Moments) -> Option<Option<Reason>> {
-    let slots = kept.slots.as_slice();
-    let slot = match slot_at(slots, first, claim.p, page, moments) {
-        Some(slot) => slot,
-        None => slot_at(slots, first | 1, claim.p, page, moments)?,
-    };
-    if is_standing(past, slot) {
-        Some(failing_by(past, current, claim, slot))
-    } else {
-        None
-    }
-}
-
-fn failing_page(past: &Past, kept: &mut Kept, claim: &Claim, moments: &Moments) -> Option<Reason> {
-    let current = past.controls.latest(claim.p).pcid;
-    let levels = moments.len();
-    let page = page_of(claim.la, levels);
-    let first = place_of(kept.slots.len(), claim.p, page, levels, current);
-    match known(past, kept, current, first, page, claim, moments) {
+fn failing_of_page(
+    past: &Past,
+    kept: &mut Kept,
+    claim: &Claim,
+    moments: &Moments,
+    event: &Event,
+) -> Option<Reason>
+    requires next { IsNext past.now claim.now.number }
+    requires processor { processor_of event.now < processor_count past.now }
+    requires walks { HaveWalks past.now claim.now.number kept.old.slots.items }
+    requires leaf { want_of claim.now.outcome ≡ Leaf }
+    requires same { claim.now.p ≡ processor_of event.now }
+    requires claim { (head : Head) (events : List Event) →
+        failing_event head events claim.now.number event.now
+        ≡ failing_access head events claim.now moments.now }
+    ensures walks { HaveWalks past.now claim.now.number kept.new.slots.items }
+    ensures failing { InEachRun past.now (λ head events.
+        result ≡ failing_event head events claim.now.number event.now) }
+{
+    match failing_standing(past, kept, claim, moments) {
         Some(found) => found,
-        None => {
-            if !is_in_order(moments.as_slice(), claim.number) {
-                return Some(Reason::Order);
-            }
-            match page_walk(past, kept, first, page, claim, moments) {
-                Ok(walk) => failing_chain(past, current, claim, walk),
-                Err(reason) => Some(reason),
-            }
-        }
+        None => failing_by_past(past, kept, claim.number, event),
     }
 }
 
-pub(crate) fn failing_next(past: &Past, kept: &mut Kept, number: u32, event: &Event) -> Option<Reason> {
-    match *event {
-        Event::Access { p, flags, la, outcome, ref moments } => {
-            let claim = Claim { number, p, kind: pg_event::access_kind(flags), la, outcome };
-            match want_of(outcome) {
-                Want::Leaf => failing_page(past, kept, &claim, moments),
-                _ => failing(&mut Memo::new(past, 0), number, event),
+/// The least reason that fails for the event that comes next, with this number, where `kept` are
+/// walks of the events before it. What is kept then is right still.
+#[inline(always)]
+pub(crate) fn failing_next(
+    past: &Past,
+    kept: &mut Kept,
+    number: u32,
+    event: &Event,
+) -> Option<Reason>
+    requires next { IsNext past.now number }
+    requires processor { processor_of event.now < processor_count past.now }
+    requires walks { HaveWalks past.now number kept.old.slots.items }
+    ensures walks { HaveWalks past.now number kept.new.slots.items }
+    ensures failing { InEachRun past.now (λ head events.
+        result ≡ failing_event head events number event.now) }
+{
+    let p = processor_of(event);
+    match event.request() {
+        Request::Nothing => None,
+        Request::Update { .. } => failing_by_past(past, kept, number, event),
+        Request::Access {
+            kind,
+            la,
+            outcome,
+            moments,
+        } => {
+            if !is_leaf(want_of(outcome)) {
+                return failing_by_past(past, kept, number, event);
             }
+            let claim = Claim {
+                number,
+                p,
+                kind,
+                la,
+                outcome,
+            };
+            failing_of_page(past, kept, &claim, &moments, event)
         }
-        Event::Assist { .. } => failing(&mut Memo::new(past, 0), number, event),
-        _ => None,
     }
 }

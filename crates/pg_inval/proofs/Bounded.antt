@@ -6,10 +6,11 @@ use Rattle.pg_timeline.specs.Timelines.{has_moment, IsLeastFrom}
 use Rattle.pg_timeline.specs.Keyed.{EndsBefore, AreCut}
 use Rattle.pg_timeline.proofs.Least.{has_moment-cut_at}
 use Rattle.pg_inval.specs.declared.key.DropKey.{DropKey}
+use Rattle.pg_event.specs.declared.keys.StructureKey.{StructureKey}
 use Rattle.pg_event.specs.declared.keys.TranslationKey.{TranslationKey}
 use Rattle.pg_event.specs.Witness.{any_from}
-use Rattle.pg_inval.specs.declared.key.DropKey.TheVariants.{NotGlobal, Globals, LocalsOf}
-use Rattle.pg_inval.specs.Keys.{is_same_key, has_key, global_at, local_at, translation_keys}
+use Rattle.pg_inval.specs.declared.key.DropKey.TheVariants.{NotGlobal, Globals, StructuresOf, LocalsOf}
+use Rattle.pg_inval.specs.Keys.{is_same_key, has_key, structure_at, global_at, local_at, structure_keys, translation_keys}
 use Rattle.pg_inval.specs.SameKey.{same_key}
 use Rattle.pg_inval.specs.Lists.{Moments, ArePushed, AreSame, has_among, has_between}
 use Rattle.pg_inval.specs.Lasts.{place_of, MayHave, AreRaised, AreBounded}
@@ -136,3 +137,12 @@ local-outlasts lasts entries p key from to bounded e all of_pcid own =
     (λ j le. neither _ _ (none-over lasts entries (NotGlobal p) from bounded all j le)
     (neither _ _ (none-over lasts entries (LocalsOf p key.pcid) from bounded of_pcid j le)
     (neither _ false (none-over lasts entries (local_at p key) from bounded own j le) refl)))
+
+pub structure-outlasts : (lasts : List ℕ) (entries : Moments) (p : ℕ) (key : StructureKey) (from to : ℕ) → AreBounded lasts entries →
+    IsOver lasts (NotGlobal p) from → IsOver lasts (StructuresOf p key.pcid) from → IsOver lasts (structure_at p key) from →
+    has_between entries (structure_keys p key) from to ≡ false
+structure-outlasts lasts entries p key from to bounded all of_pcid own =
+    nowhere (has_among entries (structure_keys p key)) from (to - from)
+    (λ j le. neither _ _ (none-over lasts entries (NotGlobal p) from bounded all j le)
+    (neither _ _ (none-over lasts entries (StructuresOf p key.pcid) from bounded of_pcid j le)
+    (neither _ false (none-over lasts entries (structure_at p key) from bounded own j le) refl)))

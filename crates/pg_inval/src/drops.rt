@@ -14,11 +14,15 @@ ghost use Rattle.pg_inval.specs.Drops.{StandsFor};
 ghost use Rattle.pg_inval.specs.Lists.{IsFirstDrop};
 
 use crate::dropped::dropped_keys;
-use crate::key::{DropKey, global_at, local_at, structure_keys, translation_keys};
+use crate::key::{
+    DropKey, global_at, local_at, structure_at, structure_keys, translation_keys,
+};
 use crate::lasts::Lasts;
 use crate::lists::{cut_all, first_between, push_moments};
 use pg_entry::Level;
-use pg_event::{Control, Event, TranslationKey, processor_of, structure_key, translation_key};
+use pg_event::{
+    Control, Event, StructureKey, TranslationKey, processor_of, structure_key, translation_key,
+};
 use pg_timeline::{Probes, Timeline};
 use std::alloc::{AllocError, Global};
 use std::collections::HashMap;
@@ -118,6 +122,21 @@ impl Drops {
         }
     }
 
+    /// The same of a paging-structure-cache entry.
+    #[inline(always)]
+    fn structure_outlasts(&self, p: u16, key: StructureKey, from: u32) -> bool
+        requires { IsTableLevel key.level }
+        ensures value { IsTrue result → (to : ℕ) →
+            is_dropped self.now p (Structure key) from to ≡ false }
+        ensures run { IsTrue result → (head : Head) (events : List Event) →
+            StandsFor self.now head events → (to : ℕ) →
+            survives head events p (λ c e. must_drop_structure c e key) from to ≡ true }
+    {
+        let all = DropKey::NotGlobal { p };
+        let of_pcid = DropKey::StructuresOf { p, pcid: key.pcid };
+        self.lasts.is_over(all, from) && self.lasts.are_over(of_pcid, structure_at(p, key), from)
+    }
+
     /// Whether processor `p` had to drop the paging-structure-cache entry that level 4, 3 or 2 gave
     /// for a linear address under a PCID, by an event from `from` up to, not with, `to`.
     pub fn structure_dropped(
@@ -185,8 +204,11 @@ impl Drops {
             from to result }
         ensures probes { (probes.old ≤ probes.new) × (probes.new ≤ probes.old + 102) }
     {
-        let keys = structure_keys(p, structure_key(pcid, level, la));
-        first_between(&self.by_key, &self.lasts, &keys, from, to, probes)
+        let key = structure_key(pcid, level, la);
+        if self.structure_outlasts(p, key, from) {
+            return None;
+        }
+        first_between(&self.by_key, &structure_keys(p, key), from, to, probes)
     }
 
     /// Whether processor `p` had to drop the translation of a linear address by a page of 2 to the
@@ -262,7 +284,11 @@ impl Drops {
             from to result }
         ensures probes { (probes.old ≤ probes.new) × (probes.new ≤ probes.old + 102) }
     {
-        let keys = translation_keys(p, translation_key(pcid, shift, global, la));
-        first_between(&self.by_key, &self.lasts, keys.as_slice(), from, to, probes)
+        let key = translation_key(pcid, shift, global, la);
+        if self.translation_outlasts(p, key, from) {
+            return None;
+        }
+        let keys = translation_keys(p, key);
+        first_between(&self.by_key, keys.as_slice(), from, to, probes)
     }
 }

@@ -7,10 +7,8 @@ ghost use Rattle.pg_timeline.specs.Keyed.{stamps_in, IsPushed, AreCut, EndsBefor
 ghost use Rattle.pg_inval.specs.Keys.{is_same_key};
 ghost use Rattle.pg_inval.specs.Lists.{AreDistinct, ArePushed, AreSame, has_among};
 ghost use Rattle.pg_inval.specs.Lists.{has_between, IsFirstDrop};
-ghost use Rattle.pg_inval.specs.Lasts.{AreBounded};
 
 use crate::key::DropKey;
-use crate::lasts::Lasts;
 use pg_timeline::{Probes, Timeline};
 use std::alloc::{AllocError, Global};
 use std::collections::HashMap;
@@ -73,23 +71,17 @@ pub(crate) fn push_moments(
     Ok(())
 }
 
-/// The least moment of a key from one on. Most keys have none so late, which the last moments tell
-/// without a look-up.
+/// The least moment of a key from one on.
 fn first_at(
     by_key: &HashMap<DropKey, Timeline<()>>,
-    lasts: &Lasts,
     key: DropKey,
     from: u32,
     probes: &mut Probes,
 ) -> Option<u32>
-    requires { AreBounded lasts.now by_key.now.entries }
     ensures least { IsLeastFrom
         (has_moment (stamps_in is_same_key by_key.now.entries key)) from result }
     ensures probes { (probes.old ≤ probes.new) × (probes.new ≤ probes.old + 34) }
 {
-    if lasts.is_over(key, from) {
-        return None;
-    }
     by_key.get(&key)?.first_from(from, probes)
 }
 
@@ -107,19 +99,17 @@ fn earliest(a: Option<u32>, b: Option<u32>) -> Option<u32>
 /// The least moment of some keys from one on.
 fn first_among(
     by_key: &HashMap<DropKey, Timeline<()>>,
-    lasts: &Lasts,
     keys: &[DropKey],
     from: u32,
     probes: &mut Probes,
 ) -> Option<u32>
-    requires { AreBounded lasts.now by_key.now.entries }
     ensures least { IsLeastFrom (has_among by_key.now.entries keys.now) from result }
     ensures probes { (probes.old ≤ probes.new)
         × (probes.new ≤ probes.old + 34 * length keys.now) }
 {
     let mut found = None;
     for key in keys {
-        found = earliest(found, first_at(by_key, lasts, *key, from, probes));
+        found = earliest(found, first_at(by_key, *key, from, probes));
     }
     found
 }
@@ -139,13 +129,11 @@ fn below(found: Option<u32>, to: u32) -> Option<u32>
 /// as between levels that were read at once, no list is searched.
 pub(crate) fn first_between(
     by_key: &HashMap<DropKey, Timeline<()>>,
-    lasts: &Lasts,
     keys: &[DropKey],
     from: u32,
     to: u32,
     probes: &mut Probes,
 ) -> Option<u32>
-    requires { AreBounded lasts.now by_key.now.entries }
     ensures first { IsFirstDrop (has_between by_key.now.entries keys.now) from to result }
     ensures probes { (probes.old ≤ probes.new)
         × (probes.new ≤ probes.old + 34 * length keys.now) }
@@ -153,5 +141,5 @@ pub(crate) fn first_between(
     if from >= to {
         return None;
     }
-    below(first_among(by_key, lasts, keys, from, probes), to)
+    below(first_among(by_key, keys, from, probes), to)
 }
