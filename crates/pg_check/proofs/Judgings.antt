@@ -1,5 +1,5 @@
 -- A run that is judged window by window.
-use Rattle.std.proofs.Common.{◌≡◌, ℕ, ◌+◌, List, ◌++◌, length, length-append, Option, sym, ap, ◌∙◌, arith, Result, OnOk, OnErr}
+use Rattle.std.proofs.Common.{◌≡◌, ℕ, ◌+◌, List, ◌++◌, length, length-append, Option, Some, None, refl, sym, ap, ◌∙◌, arith, Result, OnOk, OnErr}
 use Rattle.std.specs.Option.{option_or}
 use Rattle.std.proofs.lemmas.Result.{on_ok_weaker, on_err_weaker}
 use Rattle.pg_event.specs.declared.event.Event.{Event}
@@ -45,3 +45,7 @@ settled f head before more found a is = record {
   count = ap (λ n. n + length more) a.count ∙ sym (length-append before more);
   first_bad = ap (λ o. option_or o found) a.first_bad ∙ first_bad-found head before more found is;
 }
+
+pub or_none : (o : Option (ℕ × Reason)) → option_or o None ≡ o
+or_none None = refl
+or_none (Some x) = refl

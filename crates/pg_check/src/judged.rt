@@ -21,7 +21,6 @@ use pg_chain::Past;
 use pg_event::{Event, Header, Reason};
 use std::alloc::{AllocError, Global};
 use std::marker::Model;
-use std::slice;
 
 /// What is known of a run so far, and its first bad event. The events themselves are let go once
 /// they are judged; those after a bad one are noted alone.
@@ -50,17 +49,6 @@ impl Model for Judged {
     } };
 
     ghost invariant = { λ j. IsHead j.header × HaveWalks j.past j.count j.kept.slots.items };
-}
-
-/// A reason that was found, if one was, with the number of its event.
-#[inline(always)]
-fn numbered(number: u64, found: Option<Reason>) -> Option<(u64, Reason)>
-    ensures { result ≡ first_some number found None }
-{
-    match found {
-        Some(reason) => Some((number, reason)),
-        None => None,
-    }
 }
 
 impl Judged {
@@ -169,26 +157,56 @@ impl Judged {
             OnErr result (IsJudged self.new head before) }
     {
         let found = self.found_next(event);
-        let next = slice::from_ref(event);
-        self.note(next)?;
-        self.move_on(next, found);
+        self.note_next(event)?;
+        self.settle_next(found);
         Ok(())
     }
 
-    /// The event that comes next, where it is the first bad one, by the events before it.
+    /// Notes the event that comes next, which then waits to be judged. Fails where memory is
+    /// refused, and then it has not come.
     #[inline(always)]
-    fn found_next(&mut self, event: &Event) -> Option<(u64, Reason)>
+    fn note_next(&mut self, event: &Event) -> Result<(), AllocError>
+        requires { MayFollow self.old (event.now ∷ []) }
+        ensures ok { (head : Head) (before : List Event) → IsJudged self.old head before →
+            OnOk result (Awaits self.new head before (event.now ∷ [])) }
+        ensures err { (head : Head) (before : List Event) → IsJudged self.old head before →
+            OnErr result (IsJudged self.new head before) }
+    {
+        self.past.note(self.count as u32, event)
+    }
+
+    /// The least reason that fails for the event that comes next, by the events before it. It is not
+    /// asked for where one of those is bad.
+    #[inline(always)]
+    fn found_next(&mut self, event: &Event) -> Option<Reason>
         requires { MayFollow self.old (event.now ∷ []) }
         ensures same { self.new ≡ self.old }
         ensures found { (head : Head) (before : List Event) → IsJudged self.old head before →
-            IsFound result head before (event.now ∷ []) }
+            IsFound (first_some self.old.count result None) head before (event.now ∷ []) }
     {
         if self.first_bad.is_some() {
             return None;
         }
-        let number = self.count as u32;
-        let found = failing_next(&self.past, &mut self.kept, number, event);
-        numbered(self.count, found)
+        failing_next(&self.past, &mut self.kept, self.count as u32, event)
+    }
+
+    /// Takes the least reason that fails for the event that waits.
+    #[inline(always)]
+    fn settle_next(&mut self, found: Option<Reason>)
+        requires { (head : Head) × (before : List Event) × (event : Event)
+            × Awaits self.old head before (event ∷ []) }
+        ensures { (head : Head) (before : List Event) (event : Event) →
+            Awaits self.old head before (event ∷ []) →
+            IsFound (first_some self.old.count found None) head before (event ∷ []) →
+            IsJudged self.new head (before ++ event ∷ []) }
+    {
+        match found {
+            Some(reason) => {
+                self.first_bad = self.first_bad.or(Some((self.count, reason)));
+            }
+            None => {}
+        }
+        self.count += 1;
     }
 
     /// Goes back to the first so many events, the first bad one of which is at hand.

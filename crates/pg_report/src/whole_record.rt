@@ -1,48 +1,19 @@
 //! Whole records, judged as they are read.
 
-ghost use Rattle.std.specs.Prelude.{◌≢◌, ◌<◌, ◌^◌, ℕ, ◌++◌, List, Option, length, Err, OnOk};
-ghost use Rattle.pg_event.specs.declared.event.Event.{Event};
-ghost use Rattle.pg_event.specs.Heads.{Head};
-ghost use Rattle.pg_check.specs.Judging.{IsJudged, MayFollow};
-ghost use Rattle.pg_check.specs.Kept.{AreWellFormed};
+ghost use Rattle.std.specs.Prelude.{◌≢◌, ℕ, List, [], Option, Err};
 ghost use Rattle.pg_report.specs.Changes.{drawn};
 ghost use Rattle.pg_codec.specs.Streams.{FailsWithDevice};
 ghost use Rattle.pg_report.specs.Going.{IsJudging};
 ghost use Rattle.pg_report.specs.Intake.{TellsDevice, is_device};
-ghost use Rattle.pg_report.specs.Judging.{BeginsSegment, IsMovedOn, IsReportOf, JudgesRecord};
+ghost use Rattle.pg_report.specs.Judging.{IsReportOf, JudgesRecord};
 
 use crate::error::AuditError;
 use crate::intake::{MOST_CHUNKS, audit_error, read_header_up_to};
 use crate::report::{Report, verdict_of};
 use pg_check::Judged;
 use pg_codec::{RecordReader, Source};
-use pg_event::{Event, Version};
-use std::alloc::{AllocError, Global};
-
-/// Events are judged once so many wait, and then let go; the last segment may bring more.
-const WINDOW: usize = 1 << 16;
-
-/// Puts a segment into a window, and judges the window and lets it go once its events are many.
-fn take_in(
-    judged: &mut Judged,
-    window: &mut Vec<Event>,
-    segment: &[Event],
-) -> Result<(), AllocError>
-    requires next { MayFollow judged.old (window.old.items ++ segment.now) }
-    requires whole { BeginsSegment judged.old (window.old.items ++ segment.now) }
-    ensures few { OnOk result (length window.new.items < 2 ^ 16) }
-    ensures whole { OnOk result (BeginsSegment judged.new window.new.items) }
-    ensures moved { (head : Head) (before : List Event) → IsJudged judged.old head before →
-        AreWellFormed head (window.old.items ++ segment.now) → OnOk result
-        (IsMovedOn judged.new head (before ++ (window.old.items ++ segment.now)) window.new.items) }
-{
-    window.extend_from_slice(segment)?;
-    if window.len() >= WINDOW {
-        judged.judge(window.as_slice())?;
-        window.clear();
-    }
-    Ok(())
-}
+use pg_event::Version;
+use std::alloc::Global;
 
 /// The report of a run that was judged.
 pub fn report_of_judged(judged: &Judged) -> Report
@@ -56,22 +27,21 @@ pub fn report_of_judged(judged: &Judged) -> Report
 }
 
 /// Reads what is left of a record behind its header, and judges it as it is read: no more events
-/// are kept than wait to be judged, and those of the segment that was read last.
+/// are kept than those of a segment.
 fn judge_rest<R: Source>(
     alloc: Global,
     reader: &mut RecordReader,
     source: &mut R,
     judged: &mut Judged,
-    window: &mut Vec<Event>,
 ) -> Result<Report, AuditError>
     requires going { (start : Option (List ℕ)) × (f : ℕ) × IsJudging R.Source start f
-        (reader.old.unread, source.old) reader.old.stage judged.old window.old.items 0 }
+        (reader.old.unread, source.old) reader.old.stage judged.old [] 0 }
     ensures judges { (start : Option (List ℕ)) (f : ℕ) → IsJudging R.Source start f
-        (reader.old.unread, source.old) reader.old.stage judged.old window.old.items 0 →
+        (reader.old.unread, source.old) reader.old.stage judged.old [] 0 →
         JudgesRecord start result }
     ensures alone { result ≢ Err AuditError.Thread }
     ensures device { (start : Option (List ℕ)) (f : ℕ) → IsJudging R.Source start f
-        (reader.old.unread, source.old) reader.old.stage judged.old window.old.items 0 →
+        (reader.old.unread, source.old) reader.old.stage judged.old [] 0 →
         FailsWithDevice is_device f (R.failed source.new) result }
 {
     let mut room = Vec::new(alloc);
@@ -81,10 +51,7 @@ fn judge_rest<R: Source>(
                 judged.judge(&events)?;
                 room = events;
             }
-            Ok(None) => {
-                judged.judge(window)?;
-                return Ok(report_of_judged(judged));
-            }
+            Ok(None) => return Ok(report_of_judged(judged)),
             Err(error) => return Err(audit_error(error)),
         }
     }
@@ -103,6 +70,5 @@ pub fn judge_record<R: Source>(alloc: Global, source: &mut R) -> Result<Report, 
         Err(error) => return Err(audit_error(error)),
     };
     let mut judged = Judged::new(alloc, header)?;
-    let mut window = Vec::new(alloc);
-    judge_rest(alloc, &mut reader, source, &mut judged, &mut window)
+    judge_rest(alloc, &mut reader, source, &mut judged)
 }

@@ -18,9 +18,8 @@ judge_rest-requires g c =
       going = (
         g.R.Source.left c.args.source.now,
         g.R.Source.failed c.args.source.now,
-        rw c.new-window.ensures.items
-            (judging_at_start g.R.Source _ _ _ _ c.in_ok-judged.judged c.in-Ok.header c.in_ok-judged.ensures
-            (going_from_fresh g.R.Source Two c.in_ok-reader.reader _ _ c.in_ok-reader.ensures c.in-Ok.header _ read.pulls read.stage r refl)),
+        judging_at_start g.R.Source _ _ _ _ c.in_ok-judged.judged c.in-Ok.header c.in_ok-judged.ensures
+            (going_from_fresh g.R.Source Two c.in_ok-reader.reader _ _ c.in_ok-reader.ensures c.in-Ok.header _ read.pulls read.stage r refl),
       );
     }
 
@@ -28,14 +27,12 @@ pub returns-clause-judges : goal.returns-clause-judges
 returns-clause-judges g c =
     let read = c.in-Ok.ensures in
     let r : Recorded = record { head = c.in-Ok.header; events = [] } in
-    c.judge_rest.ensures.judges (g.R.Source.left c.args.source.now) (g.R.Source.failed c.args.source.now) (rw c.new-window.ensures.items
-    (judging_at_start g.R.Source _ _ _ _ c.in_ok-judged.judged c.in-Ok.header c.in_ok-judged.ensures
+    c.judge_rest.ensures.judges (g.R.Source.left c.args.source.now) (g.R.Source.failed c.args.source.now) ((judging_at_start g.R.Source _ _ _ _ c.in_ok-judged.judged c.in-Ok.header c.in_ok-judged.ensures
     (going_from_fresh g.R.Source Two c.in_ok-reader.reader _ _ c.in_ok-reader.ensures c.in-Ok.header _ read.pulls read.stage r refl)))
 
 pub returns-clause-device : goal.returns-clause-device
 returns-clause-device g c =
     let read = c.in-Ok.ensures in
     let r : Recorded = record { head = c.in-Ok.header; events = [] } in
-    c.judge_rest.ensures.device (g.R.Source.left c.args.source.now) (g.R.Source.failed c.args.source.now) (rw c.new-window.ensures.items
-    (judging_at_start g.R.Source _ _ _ _ c.in_ok-judged.judged c.in-Ok.header c.in_ok-judged.ensures
+    c.judge_rest.ensures.device (g.R.Source.left c.args.source.now) (g.R.Source.failed c.args.source.now) ((judging_at_start g.R.Source _ _ _ _ c.in_ok-judged.judged c.in-Ok.header c.in_ok-judged.ensures
     (going_from_fresh g.R.Source Two c.in_ok-reader.reader _ _ c.in_ok-reader.ensures c.in-Ok.header _ read.pulls read.stage r refl)))

@@ -1,5 +1,6 @@
-use Rattle.std.proofs.Common.{◌+◌, ◌++◌, List, ℕ, Option}
+use Rattle.std.proofs.Common.{◌≡◌, ◌+◌, [], ◌++◌, append-nil, List, ℕ, Option, inl, refl, sym, subst}
 use Rattle.std.proofs.lemmas.Result.{err_from_is_err_and}
+use Rattle.pg_event.specs.declared.event.Event.{Event}
 use Rattle.pg_event.specs.declared.version.Version.TheVariants.{Two}
 use Rattle.pg_event.specs.Spelling.{Recorded}
 use Rattle.pg_check.specs.Judging.{IsJudged}
@@ -8,38 +9,26 @@ use Rattle.pg_report.proofs.Continuing.{going_ends, going_fails, end_counts, fai
 use Rattle.pg_report.proofs.Windows.{error_judges, may_follow, longer, moved_on}
 use Rattle.pg_report.proofs.whole_record.judge_rest.Goals as goal
 
-pub take_in-requires-clause-next : goal.take_in-requires-clause-next
-take_in-requires-clause-next g c =
+pub judge-requires : goal.judge-requires
+judge-requires g c =
     let read = c.in-Ok-Some.ensures in
-    let on = longer g.R.Source _ _ _ c.loop.reader.stage c.loop.judged c.loop.window.items c.loop.counter c.loop.invariant.0.2 _ c.in-Ok-Some.events.items _
+    let on = longer g.R.Source _ _ _ c.loop.reader.stage c.loop.judged [] c.loop.counter c.loop.invariant.0.2 _ c.in-Ok-Some.events.items _
     (rw c.in-Ok-Some.field-0-is at read.pulls) (rw c.in-Ok-Some.field-0-is at read.next) (rw c.in-Ok-Some.field-0-is at read.stage) in
     rw c.deref.ensures.value (may_follow g.R.Source _ _ _ _ c.loop.judged _ _ on)
 
-pub take_in-requires-clause-whole : goal.take_in-requires-clause-whole
-take_in-requires-clause-whole g c =
+pub returns-in_err-judge-in-Ok-Some-clause-device : goal.returns-in_err-judge-in-Ok-Some-clause-device
+returns-in_err-judge-in-Ok-Some-clause-device g c = λ start f h.
     let read = c.in-Ok-Some.ensures in
-    let on = longer g.R.Source _ _ _ c.loop.reader.stage c.loop.judged c.loop.window.items c.loop.counter c.loop.invariant.0.2 _ c.in-Ok-Some.events.items _
-    (rw c.in-Ok-Some.field-0-is at read.pulls) (rw c.in-Ok-Some.field-0-is at read.next) (rw c.in-Ok-Some.field-0-is at read.stage) in
-    rw c.deref.ensures.value on.whole
-
-pub returns-in_err-take_in-in-Ok-Some-clause-device : goal.returns-in_err-take_in-in-Ok-Some-clause-device
-returns-in_err-take_in-in-Ok-Some-clause-device g c = λ start f h.
-    let read = c.in-Ok-Some.ensures in
-    let on = longer g.R.Source start f _ c.loop.reader.stage c.loop.judged c.loop.window.items c.loop.counter (c.loop.invariant.1 start f h) _ c.in-Ok-Some.events.items _
+    let on = longer g.R.Source start f _ c.loop.reader.stage c.loop.judged [] c.loop.counter (c.loop.invariant.1 start f h) _ c.in-Ok-Some.events.items _
     (rw c.in-Ok-Some.field-0-is at read.pulls) (rw c.in-Ok-Some.field-0-is at read.next) (rw c.in-Ok-Some.field-0-is at read.stage) in
     let p = err_from_is_err_and c.from_residual.result c.from_residual.ensures.1 in
     rw (p.1, p.2) on.going.failed
 
-pub returns-in_err-judge-in-Ok-None-clause-device : goal.returns-in_err-judge-in-Ok-None-clause-device
-returns-in_err-judge-in-Ok-None-clause-device g c = λ start f h.
-    let p = err_from_is_err_and c.from_residual-in_err-judge-in-Ok-None.result c.from_residual-in_err-judge-in-Ok-None.ensures.1 in
-    rw (p.1, p.2) (end_counts g.R.Source Two _ _ _ _ _ _ _ (c.loop.invariant.1 start f h).going (rw c.in-Ok-None.field-0-is at c.in-Ok-None.ensures.pulls))
-
 pub returns-in-Ok-None-clause-judges : goal.returns-in-Ok-None-clause-judges
 returns-in-Ok-None-clause-judges g c = λ start f h.
     let was = c.loop.invariant.1 start f h in
-    let r : Recorded = record { head = c.loop.judged.head; events = was.before ++ c.loop.window.items } in
-    let judged : IsJudged c.judge.new.self r.head r.events = rw (← c.deref-in-Ok-None.ensures.value) (c.in_ok-judge-in-Ok-None.ensures.ok c.loop.judged.head was.before was.judges) in
+    let r : Recorded = record { head = c.loop.judged.head; events = was.before ++ [] } in
+    let judged : IsJudged c.loop.judged r.head r.events = subst (λ (es : List Event). IsJudged c.loop.judged c.loop.judged.head es) (sym (append-nil was.before)) was.judges in
     (r, c.report_of_judged.ensures r.head r.events judged, going_ends g.R.Source Two _ _ _ _ c.loop.reader.stage r c.loop.counter was.going (rw c.in-Ok-None.field-0-is at c.in-Ok-None.ensures.pulls))
 
 pub returns-in-Ok-None-clause-device : goal.returns-in-Ok-None-clause-device
@@ -49,26 +38,31 @@ returns-in-Ok-None-clause-device g c = λ start f h.
 pub returns-in-Err-clause-judges : goal.returns-in-Err-clause-judges
 returns-in-Err-clause-judges g c = λ start f h.
     let was = c.loop.invariant.1 start f h in
-    let r : Recorded = record { head = c.loop.judged.head; events = was.before ++ c.loop.window.items } in
+    let r : Recorded = record { head = c.loop.judged.head; events = was.before ++ [] } in
     error_judges _ c.in-Err.error c.audit_error.result c.audit_error.ensures
     (going_fails g.R.Source Two _ _ _ _ c.loop.reader.stage r c.loop.counter was.going c.in-Err.error c.audit_error.result c.audit_error.ensures c.in-Err.ensures.pulls)
 
 pub returns-in-Err-clause-device : goal.returns-in-Err-clause-device
 returns-in-Err-clause-device g c = λ start f h.
     let was = c.loop.invariant.1 start f h in
-    let r : Recorded = record { head = c.loop.judged.head; events = was.before ++ c.loop.window.items } in
+    let r : Recorded = record { head = c.loop.judged.head; events = was.before ++ [] } in
     failure_counts g.R.Source Two _ _ _ _ c.loop.reader.stage r c.loop.counter was.going c.in-Err.error c.audit_error.result c.audit_error.ensures c.in-Err.ensures.pulls
 
 pub loop-preserved : goal.loop-preserved
 loop-preserved g c =
     let read = c.in-Ok-Some.ensures in
-    let step : (start : Option (List ℕ)) (f : ℕ) → IsJudging g.R.Source start f (c.loop.reader.unread, c.loop.source) c.loop.reader.stage c.loop.judged c.loop.window.items c.loop.counter
-    → IsJudging g.R.Source start f (c.read_segment_in.new.self.unread, c.read_segment_in.new.source) c.read_segment_in.new.self.stage c.take_in.new.judged c.take_in.new.window.items (c.loop.counter + 1) =
+    let step : (start : Option (List ℕ)) (f : ℕ) → IsJudging g.R.Source start f (c.loop.reader.unread, c.loop.source) c.loop.reader.stage c.loop.judged [] c.loop.counter
+    → IsJudging g.R.Source start f (c.read_segment_in.new.self.unread, c.read_segment_in.new.source) c.read_segment_in.new.self.stage c.judge.new.self [] (c.loop.counter + 1) =
     (λ start f was.
-    let on = longer g.R.Source start f _ c.loop.reader.stage c.loop.judged c.loop.window.items c.loop.counter was _ c.in-Ok-Some.events.items _
+    let on = longer g.R.Source start f _ c.loop.reader.stage c.loop.judged [] c.loop.counter was _ c.in-Ok-Some.events.items _
     (rw c.in-Ok-Some.field-0-is at read.pulls) (rw c.in-Ok-Some.field-0-is at read.next) (rw c.in-Ok-Some.field-0-is at read.stage) in
-    let segment : IsJudging g.R.Source start f (c.read_segment_in.new.self.unread, c.read_segment_in.new.source) c.read_segment_in.new.self.stage c.loop.judged (c.loop.window.items ++ c.deref.result.now) (c.loop.counter + 1) = rw c.deref.ensures.value on in
-    moved_on g.R.Source start f _ _ c.loop.judged (c.loop.window.items ++ c.deref.result.now) _ segment c.take_in.new.judged c.take_in.new.window.items
-    (c.in_ok-take_in-in-Ok-Some.ensures.moved c.loop.judged.head segment.before segment.judges segment.well) c.in_ok-take_in-in-Ok-Some.ensures.whole) in
+    let segment : IsJudging g.R.Source start f (c.read_segment_in.new.self.unread, c.read_segment_in.new.source) c.read_segment_in.new.self.stage c.loop.judged c.deref.result.now (c.loop.counter + 1) = rw c.deref.ensures.value on in
+    moved_on g.R.Source start f _ _ c.loop.judged c.deref.result.now _ segment c.judge.new.self []
+    (record {
+      before = segment.before ++ c.deref.result.now;
+      judged = c.in_ok-judge-in-Ok-Some.ensures.ok c.loop.judged.head segment.before segment.judges;
+      all = sym (append-nil (segment.before ++ c.deref.result.now));
+      well = tt;
+    }) (inl refl)) in
     let was = c.loop.invariant in
     ((was.0.0, was.0.1, step was.0.0 was.0.1 was.0.2), λ start f h. step start f (was.1 start f h))

@@ -13,9 +13,8 @@ returns-clause-found c = λ head before judged none.
     let f : Findings = findings s.header s.past s.count s.first_bad in
     let was : IsJudged f head before = subst (λ (x : Findings). IsJudged x head before) (sym c.self.view_is) judged in
     let count : s.count ≡ length before = was.count in
-    c.numbered.ensures
-    ∙ ap (λ n. first_some n c.failing_next-found.result None) count
+    ap (λ n. first_some n c.failing_next.result None) judged.count
     ∙ ap (λ o. first_some (length before) o None)
-    (c.failing_next-found.ensures.failing head before was.past
+    (c.failing_next.ensures.failing head before was.past
     ∙ ap (λ n. failing_event head before n e) count
     ∙ sym (same_judged head (before ++ e ∷ []) before (length before) e (take-append-le (length before) before (e ∷ []) (omega arith))))
