@@ -1,7 +1,7 @@
 //! Fields at the front of a slice. Each answers its value and the bytes after it.
 
 ghost use Rattle.std.specs.Prelude.{◌≡◌, ◌+◌, ◌≤◌, length};
-ghost use Rattle.std.specs.Int.{w16, w32, w64};
+ghost use Rattle.std.specs.Int.{w16, w32, w64, from_le_bytes};
 ghost use Rattle.pg_event.specs.Reading.{byte_at, number_at, processor_at, outcome_at, moments_at};
 ghost use Rattle.pg_event.specs.Reading.{numbers_at};
 ghost use Rattle.pg_codec.specs.Reads.{Gives};
@@ -9,6 +9,7 @@ ghost use Rattle.pg_codec.specs.Parts.{with_front};
 
 use pg_event::{Moments, Outcome, Refusal, Version};
 
+#[inline(always)]
 pub(crate) fn byte_of(bytes: &[u8]) -> Result<(u8, &[u8]), Refusal>
     ensures { Gives (λ x. (x.0, x.1.now)) result (byte_at bytes.now) }
 {
@@ -18,6 +19,33 @@ pub(crate) fn byte_of(bytes: &[u8]) -> Result<(u8, &[u8]), Refusal>
     }
 }
 
+// A number is put together in a function of its own with no hint: LLVM makes one load of its bytes
+// before the rest of the decoder stands around it, and in one function with that it often can't.
+
+fn u16_in(bytes: &[u8]) -> u16
+    requires { length bytes.now ≡ 2 }
+    ensures { result ≡ from_le_bytes w16 bytes.now }
+{
+    u16::from_le_bytes([bytes[0], bytes[1]])
+}
+
+fn u32_in(bytes: &[u8]) -> u32
+    requires { length bytes.now ≡ 4 }
+    ensures { result ≡ from_le_bytes w32 bytes.now }
+{
+    u32::from_le_bytes([bytes[0], bytes[1], bytes[2], bytes[3]])
+}
+
+fn u64_in(bytes: &[u8]) -> u64
+    requires { length bytes.now ≡ 8 }
+    ensures { result ≡ from_le_bytes w64 bytes.now }
+{
+    u64::from_le_bytes([
+        bytes[0], bytes[1], bytes[2], bytes[3], bytes[4], bytes[5], bytes[6], bytes[7],
+    ])
+}
+
+#[inline(always)]
 pub(crate) fn u16_of(bytes: &[u8]) -> Result<(u16, &[u8]), Refusal>
     ensures { Gives (λ x. (x.0, x.1.now)) result (number_at w16 bytes.now) }
 {
@@ -25,9 +53,10 @@ pub(crate) fn u16_of(bytes: &[u8]) -> Result<(u16, &[u8]), Refusal>
         return Err(Refusal::Truncated);
     }
     let (front, rest) = bytes.split_at(2);
-    Ok((u16::from_le_bytes([front[0], front[1]]), rest))
+    Ok((u16_in(front), rest))
 }
 
+#[inline(always)]
 pub(crate) fn u32_of(bytes: &[u8]) -> Result<(u32, &[u8]), Refusal>
     ensures { Gives (λ x. (x.0, x.1.now)) result (number_at w32 bytes.now) }
 {
@@ -35,10 +64,10 @@ pub(crate) fn u32_of(bytes: &[u8]) -> Result<(u32, &[u8]), Refusal>
         return Err(Refusal::Truncated);
     }
     let (front, rest) = bytes.split_at(4);
-    let number = u32::from_le_bytes([front[0], front[1], front[2], front[3]]);
-    Ok((number, rest))
+    Ok((u32_in(front), rest))
 }
 
+#[inline(always)]
 pub(crate) fn u64_of(bytes: &[u8]) -> Result<(u64, &[u8]), Refusal>
     ensures { Gives (λ x. (x.0, x.1.now)) result (number_at w64 bytes.now) }
 {
@@ -46,13 +75,11 @@ pub(crate) fn u64_of(bytes: &[u8]) -> Result<(u64, &[u8]), Refusal>
         return Err(Refusal::Truncated);
     }
     let (front, rest) = bytes.split_at(8);
-    let number = u64::from_le_bytes([
-        front[0], front[1], front[2], front[3], front[4], front[5], front[6], front[7],
-    ]);
-    Ok((number, rest))
+    Ok((u64_in(front), rest))
 }
 
 /// The number of a processor, or how many there are.
+#[inline(always)]
 #[tactic(auto, unfolding(pg_event::specs::Reading::processor_at))]
 pub(crate) fn processor_number(version: Version, bytes: &[u8]) -> Result<(u16, &[u8]), Refusal>
     ensures { Gives (λ x. (x.0, x.1.now)) result (processor_at version bytes.now) }
@@ -67,6 +94,7 @@ pub(crate) fn processor_number(version: Version, bytes: &[u8]) -> Result<(u16, &
 }
 
 /// A page or a code, by the tag.
+#[inline(always)]
 #[tactic(auto, unfolding(pg_event::specs::Reading::outcome_at))]
 pub(crate) fn outcome_of(bytes: &[u8]) -> Result<(Outcome, &[u8]), Refusal>
     ensures { Gives (λ x. (x.0, x.1.now)) result (outcome_at bytes.now) }
@@ -112,6 +140,7 @@ fn three_more(front: Moments, bytes: &[u8]) -> Result<(Moments, &[u8]), Refusal>
     two_more(front.with(moment).unwrap(), rest)
 }
 
+#[inline(always)]
 /// So many moments, behind the first.
 fn more_moments(front: Moments, count: u8, bytes: &[u8]) -> Result<(Moments, &[u8]), Refusal>
     requires room { length front + count ≤ 4 }
@@ -126,6 +155,7 @@ fn more_moments(front: Moments, count: u8, bytes: &[u8]) -> Result<(Moments, &[u
     }
 }
 
+#[inline(always)]
 fn numbers_of(count: u8, bytes: &[u8]) -> Result<(Moments, &[u8]), Refusal>
     requires some { 1 ≤ count }
     requires few { count ≤ 4 }
@@ -135,6 +165,7 @@ fn numbers_of(count: u8, bytes: &[u8]) -> Result<(Moments, &[u8]), Refusal>
     more_moments(Moments::first(first), count - 1, rest)
 }
 
+#[inline(always)]
 #[tactic(auto, unfolding(pg_event::specs::Reading::moments_at))]
 pub(crate) fn moments_of(bytes: &[u8]) -> Result<(Moments, &[u8]), Refusal>
     ensures { Gives (λ x. (x.0, x.1.now)) result (moments_at bytes.now) }
