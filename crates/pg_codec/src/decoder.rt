@@ -180,10 +180,27 @@ fn add(
     Some(rest.len())
 }
 
-/// Adds an event by its fields after its tag and processor. Each arm adds its own: if one event of
-/// any tag came out of the arms, all its fields would go through memory first.
+/// Adds an event of any tag. It is what the tags share that records have few of.
+#[inline(never)]
+fn add_any(
+    header: &Header,
+    tag: u8,
+    p: u16,
+    bytes: &[u8],
+    events: &mut Vec<Event>,
+) -> Option<usize>
+    requires address { header.now.cfg.m ≤ 52 }
+    requires room { vec_len events.old < vec_capacity events.old }
+    ensures added { Adds events.old.items events.new.items result
+        (λ i. judged header.now i (fields_at tag p bytes.now)) }
+    ensures kept { IfNone result (events.new ≡ events.old) }
+{
+    add(header, &fields_of(tag, p, bytes), events)
+}
+
+/// Adds an event by its fields after its tag and processor. The tags that fill a record have an arm
+/// each: in one for all, each event's fields would go through memory, and its tag be asked again.
 #[inline(always)]
-#[tactic(auto, unfolding(pg_event::specs::Reading::fields_at))]
 fn add_fields(
     header: &Header,
     tag: u8,
@@ -200,11 +217,8 @@ fn add_fields(
     match tag {
         0x10 => add(header, &write_of(p, bytes), events),
         0x11 => add(header, &access_of(p, bytes), events),
-        0x12 => add(header, &mov_cr3_of(p, bytes), events),
-        0x13 => add(header, &invlpg_of(p, bytes), events),
-        0x14 => add(header, &invpcid_of(p, bytes), events),
-        0x15 => add(header, &mov_cr4_pge_of(p, bytes), events),
-        _ => add(header, &assist_of(p, bytes), events),
+        0x16 => add(header, &assist_of(p, bytes), events),
+        _ => add_any(header, tag, p, bytes, events),
     }
 }
 
