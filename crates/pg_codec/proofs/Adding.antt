@@ -1,5 +1,5 @@
 -- An event that is read and added, with no refusal told.
-use Rattle.std.proofs.Common.{◌≡◌, ℕ, ◌-◌, ◌≤◌, ◌<◌, Bool, true, false, List, [], ◌∷◌, ◌++◌, length, drop, Option, Some, None, Result, Ok, Err, refl, sym, ap, ◌∙◌, subst, arith}
+use Rattle.std.proofs.Common.{◌≡◌, ℕ, ◌-◌, ◌≤◌, true, false, List, [], ◌∷◌, ◌++◌, length, drop, Option, Some, None, Result, Ok, Err, refl, sym, ap, ◌∙◌, subst, arith}
 use Rattle.std.proofs.lemmas.Bool.Decides.{nat_tests}
 use Rattle.std.proofs.KnownBytes.{Keeps-refl}
 use Rattle.std.specs.Prelude.{MatchResult, is_err}
@@ -10,7 +10,7 @@ use Rattle.pg_event.specs.declared.refusal.Refusal.TheVariants as refusals
 use Rattle.pg_event.specs.Form.{broken_rule}
 use Rattle.pg_event.specs.Heads.{Head}
 use Rattle.pg_event.specs.Laws.{AreBytes}
-use Rattle.pg_event.specs.Reading.{◌>>=◌, Part, passing, is_between, last_tag, byte_at, processor_at, fields_at, well_formed_at, event_at}
+use Rattle.pg_event.specs.Reading.{Part, passing, is_between, last_tag, byte_at, processor_at, fields_at, well_formed_at, event_at}
 use Rattle.pg_codec.specs.declared.error.ReadError.{ReadError}
 use Rattle.pg_codec.specs.declared.stream.Source.{Ghosts}
 use Rattle.pg_codec.specs.Reads.{Gives, seen, judged, Adds, Pulls, Prepares}
@@ -77,4 +77,3 @@ pub front_pulls : {R : Type 0} (g : Ghosts R) (head : Head) (i : ℕ) (bytes res
 front_pulls g head i bytes rest source left x enough fits e h is =
     let done : Prepares {X = Unit {0}} {E = ReadError} g (bytes, source) (bytes, source) (Ok tt) = record { kept = Keeps-refl _; enough = λ lt. absurd (omega arith); failures = refl } in
     next_pulls 38 (event_at head i) (event_local head i) (omega arith) g (λ y. y) bytes bytes rest source source (tt {0}) done (Ok x) (Ok (x.0, length x.1)) (Ok x.0) fits e refl (is ∙ ap (λ n. drop (length bytes - n) bytes) (sym h), refl)
-

@@ -86,11 +86,11 @@ unfolding numbers_at
 no_more front bytes = ap (λ xs. Ok (xs, bytes)) (append-nil front)
 
 -- numbers that are cut
-pub numbers_cut : (n : ℕ) (bytes : List ℕ) → length bytes < 4 * n → numbers_at n bytes ≡ Err refusals.Truncated
+pub cut : (n : ℕ) (bytes : List ℕ) → length bytes < 4 * n → numbers_at n bytes ≡ Err refusals.Truncated
 unfolding numbers_at
-numbers_cut zero bytes h = absurd (omega arith)
-numbers_cut (suc n) bytes h =
+cut zero bytes h = absurd (omega arith)
+cut (suc n) bytes h =
     elim (cases_lt (length bytes) 4) [
       | inl lt ↦ let short : ltb (length bytes) 4 ≡ true = lt-ltb _ _ lt in rw short refl
-      | inr le ↦ let enough : ltb (length bytes) 4 ≡ false = le-ltb _ _ le in rw (enough, numbers_cut n (drop 4 bytes) (omega (arith, length-drop 4 bytes))) refl
+      | inr le ↦ let enough : ltb (length bytes) 4 ≡ false = le-ltb _ _ le in rw (enough, cut n (drop 4 bytes) (omega (arith, length-drop 4 bytes))) refl
     ]

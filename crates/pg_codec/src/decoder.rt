@@ -180,15 +180,9 @@ fn add(
     Some(rest.len())
 }
 
-/// Adds an event of any tag. It is what the tags share that records have few of.
+/// Adds an event of any tag.
 #[inline(never)]
-fn add_any(
-    header: &Header,
-    tag: u8,
-    p: u16,
-    bytes: &[u8],
-    events: &mut Vec<Event>,
-) -> Option<usize>
+fn add_any(header: &Header, tag: u8, p: u16, bytes: &[u8], events: &mut Vec<Event>) -> Option<usize>
     requires address { header.now.cfg.m ≤ 52 }
     requires room { vec_len events.old < vec_capacity events.old }
     ensures added { Adds events.old.items events.new.items result
@@ -198,8 +192,8 @@ fn add_any(
     add(header, &fields_of(tag, p, bytes), events)
 }
 
-/// Adds an event by its fields after its tag and processor. The tags that fill a record have an arm
-/// each: in one for all, each event's fields would go through memory, and its tag be asked again.
+/// Adds an event by its fields after its tag and processor. The tags of which records have many have
+/// an arm each: in one for all, the fields would go through memory and the tag be asked again.
 #[inline(always)]
 fn add_fields(
     header: &Header,
@@ -222,8 +216,8 @@ fn add_fields(
     }
 }
 
-/// Adds the event at the front, and answers how many bytes it leaves; or adds none where it is
-/// refused, and says nothing of why. With no refusal to make there is little but loads and stores.
+/// Adds the event at the front, and answers how many bytes it leaves; or adds none, and does not say
+/// why. A result that holds an event or a refusal would go through memory at each step.
 #[inline(always)]
 #[tactic(auto, unfolding(pg_event::specs::Reading::event_at))]
 pub(crate) fn add_event(header: &Header, bytes: &[u8], events: &mut Vec<Event>) -> Option<usize>

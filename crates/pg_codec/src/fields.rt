@@ -19,8 +19,8 @@ pub(crate) fn byte_of(bytes: &[u8]) -> Result<(u8, &[u8]), Refusal>
     }
 }
 
-// A number is put together in a function of its own with no hint: LLVM makes one load of its bytes
-// before the rest of the decoder stands around it, and in one function with that it often can't.
+// What reads an event is inlined into one loop, but what puts a number together has no hint: so LLVM
+// makes one load of its bytes while it stands alone. Behind a test of some of its bits it can't.
 
 fn u16_in(bytes: &[u8]) -> u16
     requires { length bytes.now ≡ 2 }
@@ -181,7 +181,7 @@ fn numbers_of(count: u8, bytes: &[u8]) -> (Moments, &[u8])
 }
 
 #[inline(always)]
-#[tactic(auto, unfolding(pg_event::specs::Reading::moments_at), using(crate::proofs::Many::numbers_cut))]
+#[tactic(auto, unfolding(pg_event::specs::Reading::moments_at), using(crate::proofs::Many::cut))]
 pub(crate) fn moments_of(bytes: &[u8]) -> Result<(Moments, &[u8]), Refusal>
     ensures { Gives (λ x. (x.0, x.1.now)) result (moments_at bytes.now) }
 {

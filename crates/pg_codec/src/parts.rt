@@ -104,7 +104,7 @@ fn next_event<R: Source>(
     taken(buffer, part)
 }
 
-/// Adds event number `i`, whatever is at hand of it. It refuses what is to be refused.
+/// Adds event number `i`, or says its refusal, however few of its bytes are at hand.
 #[cold]
 #[inline(never)]
 fn add_other<R: Source>(
@@ -124,7 +124,8 @@ fn add_other<R: Source>(
     Ok(())
 }
 
-/// Adds event number `i`.
+/// Adds event number `i`. Where the longest event is at hand it is read with no refusal to tell; what
+/// that does not take is read anew.
 #[inline(always)]
 pub(crate) fn add_next<R: Source>(
     buffer: &mut Buffer,

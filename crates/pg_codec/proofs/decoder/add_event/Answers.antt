@@ -1,4 +1,4 @@
-use Rattle.std.proofs.Common.{◌≡◌, ℕ, Ok, ◌∙◌, ap, subst, arith}
+use Rattle.std.proofs.Common.{◌≡◌, Ok, ◌∙◌, ap, subst, arith}
 use Rattle.pg_event.specs.Heads.{Head}
 use Rattle.pg_event.specs.Reading.{last_tag, processor_at}
 use Rattle.pg_event.specs.declared.version.Version.{Version}

@@ -1,5 +1,3 @@
-use Rattle.std.proofs.Common.{◌≡◌, ◌≤◌, ap, sym, subst, List, ℕ, length}
-use Rattle.pg_event.specs.Reading.{event_at}
 use Rattle.pg_codec.proofs.Adding.{left_fits, front_pulls, event_well}
 use Rattle.pg_codec.proofs.parts.add_next.Goals as goal
 
