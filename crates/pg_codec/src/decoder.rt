@@ -192,8 +192,8 @@ fn add_any(header: &Header, tag: u8, p: u16, bytes: &[u8], events: &mut Vec<Even
     add(header, &fields_of(tag, p, bytes), events)
 }
 
-/// Adds an event by its fields after its tag and processor. The tags of which records have many have
-/// an arm each: in one for all, the fields would go through memory and the tag be asked again.
+/// Adds an event by its fields after its tag and processor. The tags of which records have many
+/// have an arm each: in one for all, fields would go through memory and the tag be asked again.
 #[inline(always)]
 fn add_fields(
     header: &Header,
@@ -216,8 +216,8 @@ fn add_fields(
     }
 }
 
-/// Adds the event at the front, and answers how many bytes it leaves; or adds none, and does not say
-/// why. A result that holds an event or a refusal would go through memory at each step.
+/// Adds the event at the front, and answers how many bytes it leaves; or adds none, and does not
+/// say why. A result that holds an event or a refusal would go through memory at each step.
 #[inline(always)]
 #[tactic(auto, unfolding(pg_event::specs::Reading::event_at))]
 pub(crate) fn add_event(header: &Header, bytes: &[u8], events: &mut Vec<Event>) -> Option<usize>

@@ -19,8 +19,8 @@ pub(crate) fn byte_of(bytes: &[u8]) -> Result<(u8, &[u8]), Refusal>
     }
 }
 
-// What reads an event is inlined into one loop, but what puts a number together has no hint: so LLVM
-// makes one load of its bytes while it stands alone. Behind a test of some of its bits it can't.
+// What reads an event is inlined into one loop, but what puts a number together has no hint: LLVM
+// makes one load of its bytes while it stands alone. Beside a test of some of its bits it can't.
 
 fn u16_in(bytes: &[u8]) -> u16
     requires { length bytes.now ≡ 2 }

@@ -124,8 +124,8 @@ fn add_other<R: Source>(
     Ok(())
 }
 
-/// Adds event number `i`. Where the longest event is at hand it is read with no refusal to tell; what
-/// that does not take is read anew.
+/// Adds event number `i`. Where the longest event is at hand it is read with no refusal to tell;
+/// what that does not take is read anew.
 #[inline(always)]
 pub(crate) fn add_next<R: Source>(
     buffer: &mut Buffer,
