@@ -1,9 +1,11 @@
 -- Reading parts one after the other, as a loop does.
-use Rattle.std.proofs.Common.{◌≡◌, ℕ, suc, ◌-◌, ◌+◌, ◌≤◌, ◌<◌, List, [], ◌∷◌, ◌++◌, Ok, Err, refl, sym, ap, ◌∙◌, append_assoc, arith}
+use Rattle.std.proofs.Common.{◌≡◌, ℕ, suc, ◌-◌, ◌+◌, ◌≤◌, ◌<◌, List, [], ◌∷◌, ◌++◌, Ok, Err, refl, sym, ap, ◌∙◌, append_assoc, arith, zero, ◌*◌, ltb, true, false, length, drop, length-drop, inl, inr}
 use Rattle.std.proofs.lemmas.List.{append-nil}
 use Rattle.std.specs.Int.{w32}
+use Rattle.std.proofs.lemmas.Bool.{cases_lt, lt-ltb, le-ltb}
 use Rattle.pg_event.specs.declared.refusal.Refusal.{Refusal}
 use Rattle.pg_event.specs.Heads.{Head}
+use Rattle.pg_event.specs.declared.refusal.Refusal.TheVariants as refusals
 use Rattle.pg_event.specs.Reading.{◌>>=◌, Part, number_at, numbers_at, start_at, starts_at, event_at, events_at}
 use Rattle.pg_codec.specs.Parts.{with_front}
 
@@ -82,3 +84,13 @@ first_refused front n bytes e h = one_by_one front n bytes ∙ ap (λ r. r >>= �
 pub no_more : (front : List ℕ) (bytes : List ℕ) → with_front front (numbers_at 0 bytes) ≡ Ok (front, bytes)
 unfolding numbers_at
 no_more front bytes = ap (λ xs. Ok (xs, bytes)) (append-nil front)
+
+-- numbers that are cut
+pub cut : (n : ℕ) (bytes : List ℕ) → length bytes < 4 * n → numbers_at n bytes ≡ Err refusals.Truncated
+unfolding numbers_at
+cut zero bytes h = absurd (omega arith)
+cut (suc n) bytes h =
+    elim (cases_lt (length bytes) 4) [
+      | inl lt ↦ let short : ltb (length bytes) 4 ≡ true = lt-ltb _ _ lt in rw short refl
+      | inr le ↦ let enough : ltb (length bytes) 4 ≡ false = le-ltb _ _ le in rw (enough, cut n (drop 4 bytes) (omega (arith, length-drop 4 bytes))) refl
+    ]

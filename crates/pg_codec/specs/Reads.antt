@@ -1,10 +1,14 @@
 -- What a call that reads answers, against the reading function on lists.
-use Rattle.std.specs.Prelude.{◌≡◌, ◌≢◌, ◌<◌, ℕ, Bool, true, false, List, ◌++◌, length, drop, ◌-◌}
+use Rattle.std.specs.Prelude.{◌≡◌, ◌≢◌, ◌<◌, ℕ, Bool, true, false, List, [], ◌∷◌, ◌++◌, length}
+use Rattle.std.specs.Prelude.{drop, ◌-◌}
 use Rattle.std.specs.Prelude.{Option}
 use Rattle.std.specs.Prelude.{Some, None, Result, Ok, Err, OnOk, IfOk, IfSome, ◌==◌}
 use Rattle.std.specs.Io.KnownBytes.{prepend_known, Keeps, IsAtEnd}
 use Rattle.pg_event.specs.declared.refusal.Refusal.{Refusal}
-use Rattle.pg_event.specs.Reading.{Part}
+use Rattle.pg_event.specs.declared.event.Event.{Event}
+use Rattle.pg_event.specs.Form.{broken_rule}
+use Rattle.pg_event.specs.Heads.{Head}
+use Rattle.pg_event.specs.Reading.{◌>>=◌, Part, well_formed_at, event_at}
 use Rattle.pg_event.specs.Laws.{AreBytes}
 use Rattle.pg_codec.specs.declared.error.ReadError.{ReadError}
 use Rattle.pg_codec.specs.declared.error.ReadError.TheVariants as errors
@@ -98,3 +102,22 @@ pub record Finds {R E : Type 0} (g : Ghosts R) (test : List ℕ → Bool) (old n
 -- whether nothing is left
 abbrev pub FindsEnd : {R E : Type 0} → Ghosts R → List ℕ × R → List ℕ × R → Result Bool E → Type 0
 FindsEnd g old new result = Finds g (λ bytes. length bytes == 0) old new result
+
+-- an event that was read has to be well formed
+abbrev pub judged : Head → ℕ → Part Event → Part Event
+judged head i part = part >>= λ e. well_formed_at i (broken_rule head e.0) e
+
+-- an event was read, whatever its number, and added, and so many bytes are left
+abbrev pub Adds : List Event → List Event → Option ℕ → (ℕ → Part Event) → Type 0
+Adds old new (Some left) part =
+    (i : ℕ) → (x : Event × List ℕ) × (part i ≡ Ok x) × (length x.1 ≡ left) × (new ≡ old ++ x.0 ∷ [])
+Adds old new None part = Unit {0}
+
+-- a call pulls a well-formed event and adds it
+abbrev pub PullsEvent : {R : Type 0} → Ghosts R → Head → ℕ → List ℕ × R → List ℕ × R →
+    List Event → List Event → Result (Unit {0}) ReadError → Type 0
+PullsEvent g head i old new before after (Ok done) =
+    (e : Event) × Pulls g (event_at head i) old new (Ok e) × (after ≡ before ++ e ∷ [])
+    × (broken_rule head e ≡ None)
+PullsEvent g head i old new before after (Err e) =
+    Pulls {A = Event} g (event_at head i) old new (Err e)

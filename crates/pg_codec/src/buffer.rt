@@ -104,7 +104,6 @@ impl Buffer {
     }
 
     /// Has the bytes of the longest part at hand, or all that the source has left.
-    #[inline(always)]
     pub(crate) fn prepare<R: Source>(&mut self, source: &mut R) -> Result<(), Failed>
         ensures { Prepares R.Source (self.old, source.old) (self.new, source.new) result }
     {

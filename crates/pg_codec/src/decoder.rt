@@ -1,14 +1,15 @@
 //! Events at the front of a slice.
 
-ghost use Rattle.std.specs.Prelude.{◌≡◌, ◌≤◌, None, IfOk};
+ghost use Rattle.std.specs.Prelude.{◌≡◌, ◌≤◌, ◌<◌, None, IfOk, IfNone, vec_len, vec_capacity};
 ghost use Rattle.pg_event.specs.Form.{broken_rule};
 ghost use Rattle.pg_event.specs.Reading.{write_at, access_at, mov_cr3_at, invlpg_at, invpcid_at};
 ghost use Rattle.pg_event.specs.Reading.{mov_cr4_pge_at, assist_at, fields_at, last_tag, event_at};
-ghost use Rattle.pg_codec.specs.Reads.{Gives};
+ghost use Rattle.pg_codec.specs.Reads.{Gives, Adds, judged, seen};
 
 use crate::fields::{byte_of, moments_of, outcome_of, processor_number, u16_of, u64_of};
 use pg_event::{Event, Header, Refusal, Version, well_formed};
 
+#[inline(always)]
 #[tactic(auto, unfolding(pg_event::specs::Reading::write_at))]
 fn write_of(p: u16, bytes: &[u8]) -> Result<(Event, &[u8]), Refusal>
     ensures { Gives (λ x. (x.0, x.1.now)) result (write_at p bytes.now) }
@@ -18,6 +19,7 @@ fn write_of(p: u16, bytes: &[u8]) -> Result<(Event, &[u8]), Refusal>
     Ok((Event::Write { p, addr, value }, rest))
 }
 
+#[inline(always)]
 #[tactic(auto, unfolding(pg_event::specs::Reading::access_at))]
 fn access_of(p: u16, bytes: &[u8]) -> Result<(Event, &[u8]), Refusal>
     ensures { Gives (λ x. (x.0, x.1.now)) result (access_at p bytes.now) }
@@ -40,6 +42,7 @@ fn access_of(p: u16, bytes: &[u8]) -> Result<(Event, &[u8]), Refusal>
     }
 }
 
+#[inline(always)]
 #[tactic(auto, unfolding(pg_event::specs::Reading::mov_cr3_at))]
 fn mov_cr3_of(p: u16, bytes: &[u8]) -> Result<(Event, &[u8]), Refusal>
     ensures { Gives (λ x. (x.0, x.1.now)) result (mov_cr3_at p bytes.now) }
@@ -48,6 +51,7 @@ fn mov_cr3_of(p: u16, bytes: &[u8]) -> Result<(Event, &[u8]), Refusal>
     Ok((Event::MovCr3 { p, operand }, rest))
 }
 
+#[inline(always)]
 #[tactic(auto, unfolding(pg_event::specs::Reading::invlpg_at))]
 fn invlpg_of(p: u16, bytes: &[u8]) -> Result<(Event, &[u8]), Refusal>
     ensures { Gives (λ x. (x.0, x.1.now)) result (invlpg_at p bytes.now) }
@@ -56,6 +60,7 @@ fn invlpg_of(p: u16, bytes: &[u8]) -> Result<(Event, &[u8]), Refusal>
     Ok((Event::Invlpg { p, la }, rest))
 }
 
+#[inline(always)]
 #[tactic(auto, unfolding(pg_event::specs::Reading::invpcid_at))]
 fn invpcid_of(p: u16, bytes: &[u8]) -> Result<(Event, &[u8]), Refusal>
     ensures { Gives (λ x. (x.0, x.1.now)) result (invpcid_at p bytes.now) }
@@ -66,6 +71,7 @@ fn invpcid_of(p: u16, bytes: &[u8]) -> Result<(Event, &[u8]), Refusal>
     Ok((Event::Invpcid { p, kind, pcid, la }, rest))
 }
 
+#[inline(always)]
 #[tactic(auto, unfolding(pg_event::specs::Reading::mov_cr4_pge_at))]
 fn mov_cr4_pge_of(p: u16, bytes: &[u8]) -> Result<(Event, &[u8]), Refusal>
     ensures { Gives (λ x. (x.0, x.1.now)) result (mov_cr4_pge_at p bytes.now) }
@@ -77,6 +83,7 @@ fn mov_cr4_pge_of(p: u16, bytes: &[u8]) -> Result<(Event, &[u8]), Refusal>
     Ok((Event::MovCr4Pge { p, on: on == 1 }, rest))
 }
 
+#[inline(always)]
 #[tactic(auto, unfolding(pg_event::specs::Reading::assist_at))]
 fn assist_of(p: u16, bytes: &[u8]) -> Result<(Event, &[u8]), Refusal>
     ensures { Gives (λ x. (x.0, x.1.now)) result (assist_at p bytes.now) }
@@ -148,4 +155,86 @@ pub(crate) fn event_of<'a>(
             Err(rule) => Err(Refusal::Malformed { event: i, rule }),
         },
     }
+}
+
+/// Adds an event that was read and is well formed, and answers how many bytes it leaves.
+#[inline(always)]
+fn add(
+    header: &Header,
+    part: &Result<(Event, &[u8]), Refusal>,
+    events: &mut Vec<Event>,
+) -> Option<usize>
+    requires address { header.now.cfg.m ≤ 52 }
+    requires room { vec_len events.old < vec_capacity events.old }
+    ensures added { Adds events.old.items events.new.items result
+        (λ i. judged header.now i (seen (λ x. (x.0, x.1.now)) part.now)) }
+    ensures kept { IfNone result (events.new ≡ events.old) }
+{
+    let Ok((event, rest)) = *part else {
+        return None;
+    };
+    if well_formed(header, &event).is_err() {
+        return None;
+    }
+    events.push_reserved(event);
+    Some(rest.len())
+}
+
+/// Adds an event of any tag.
+#[inline(never)]
+fn add_any(header: &Header, tag: u8, p: u16, bytes: &[u8], events: &mut Vec<Event>) -> Option<usize>
+    requires address { header.now.cfg.m ≤ 52 }
+    requires room { vec_len events.old < vec_capacity events.old }
+    ensures added { Adds events.old.items events.new.items result
+        (λ i. judged header.now i (fields_at tag p bytes.now)) }
+    ensures kept { IfNone result (events.new ≡ events.old) }
+{
+    add(header, &fields_of(tag, p, bytes), events)
+}
+
+/// Adds an event by its fields after its tag and processor. The tags of which records have many
+/// have an arm each: in one for all, fields would go through memory and the tag be asked again.
+#[inline(always)]
+fn add_fields(
+    header: &Header,
+    tag: u8,
+    p: u16,
+    bytes: &[u8],
+    events: &mut Vec<Event>,
+) -> Option<usize>
+    requires address { header.now.cfg.m ≤ 52 }
+    requires room { vec_len events.old < vec_capacity events.old }
+    ensures added { Adds events.old.items events.new.items result
+        (λ i. judged header.now i (fields_at tag p bytes.now)) }
+    ensures kept { IfNone result (events.new ≡ events.old) }
+{
+    match tag {
+        0x10 => add(header, &write_of(p, bytes), events),
+        0x11 => add(header, &access_of(p, bytes), events),
+        0x16 => add(header, &assist_of(p, bytes), events),
+        _ => add_any(header, tag, p, bytes, events),
+    }
+}
+
+/// Adds the event at the front, and answers how many bytes it leaves; or adds none, and does not
+/// say why. A result that holds an event or a refusal would go through memory at each step.
+#[inline(always)]
+#[tactic(auto, unfolding(pg_event::specs::Reading::event_at))]
+pub(crate) fn add_event(header: &Header, bytes: &[u8], events: &mut Vec<Event>) -> Option<usize>
+    requires address { header.now.cfg.m ≤ 52 }
+    requires room { vec_len events.old < vec_capacity events.old }
+    ensures added { Adds events.old.items events.new.items result
+        (λ i. event_at header.now i bytes.now) }
+    ensures kept { IfNone result (events.new ≡ events.old) }
+{
+    let Ok((tag, rest)) = byte_of(bytes) else {
+        return None;
+    };
+    if tag < 0x10 || tag > last_tag(header.version) {
+        return None;
+    }
+    let Ok((p, rest)) = processor_number(header.version, rest) else {
+        return None;
+    };
+    add_fields(header, tag, p, rest, events)
 }

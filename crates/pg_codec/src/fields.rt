@@ -1,7 +1,7 @@
 //! Fields at the front of a slice. Each answers its value and the bytes after it.
 
-ghost use Rattle.std.specs.Prelude.{◌≡◌, ◌+◌, ◌≤◌, length};
-ghost use Rattle.std.specs.Int.{w16, w32, w64};
+ghost use Rattle.std.specs.Prelude.{◌≡◌, ◌+◌, ◌*◌, ◌≤◌, length, Ok};
+ghost use Rattle.std.specs.Int.{w16, w32, w64, from_le_bytes};
 ghost use Rattle.pg_event.specs.Reading.{byte_at, number_at, processor_at, outcome_at, moments_at};
 ghost use Rattle.pg_event.specs.Reading.{numbers_at};
 ghost use Rattle.pg_codec.specs.Reads.{Gives};
@@ -9,6 +9,7 @@ ghost use Rattle.pg_codec.specs.Parts.{with_front};
 
 use pg_event::{Moments, Outcome, Refusal, Version};
 
+#[inline(always)]
 pub(crate) fn byte_of(bytes: &[u8]) -> Result<(u8, &[u8]), Refusal>
     ensures { Gives (λ x. (x.0, x.1.now)) result (byte_at bytes.now) }
 {
@@ -18,6 +19,33 @@ pub(crate) fn byte_of(bytes: &[u8]) -> Result<(u8, &[u8]), Refusal>
     }
 }
 
+// What reads an event is inlined into one loop, but what puts a number together has no hint: LLVM
+// makes one load of its bytes while it stands alone. Beside a test of some of its bits it can't.
+
+fn u16_in(bytes: &[u8]) -> u16
+    requires { length bytes.now ≡ 2 }
+    ensures { result ≡ from_le_bytes w16 bytes.now }
+{
+    u16::from_le_bytes([bytes[0], bytes[1]])
+}
+
+fn u32_in(bytes: &[u8]) -> u32
+    requires { length bytes.now ≡ 4 }
+    ensures { result ≡ from_le_bytes w32 bytes.now }
+{
+    u32::from_le_bytes([bytes[0], bytes[1], bytes[2], bytes[3]])
+}
+
+fn u64_in(bytes: &[u8]) -> u64
+    requires { length bytes.now ≡ 8 }
+    ensures { result ≡ from_le_bytes w64 bytes.now }
+{
+    u64::from_le_bytes([
+        bytes[0], bytes[1], bytes[2], bytes[3], bytes[4], bytes[5], bytes[6], bytes[7],
+    ])
+}
+
+#[inline(always)]
 pub(crate) fn u16_of(bytes: &[u8]) -> Result<(u16, &[u8]), Refusal>
     ensures { Gives (λ x. (x.0, x.1.now)) result (number_at w16 bytes.now) }
 {
@@ -25,20 +53,30 @@ pub(crate) fn u16_of(bytes: &[u8]) -> Result<(u16, &[u8]), Refusal>
         return Err(Refusal::Truncated);
     }
     let (front, rest) = bytes.split_at(2);
-    Ok((u16::from_le_bytes([front[0], front[1]]), rest))
+    Ok((u16_in(front), rest))
 }
 
+#[inline(always)]
+fn u32_front(bytes: &[u8]) -> (u32, &[u8])
+    requires { 4 ≤ length bytes.now }
+    ensures value { number_at w32 bytes.now ≡ Ok (result.0, result.1.now) }
+    ensures rest { length result.1.now + 4 ≡ length bytes.now }
+{
+    let (front, rest) = bytes.split_at(4);
+    (u32_in(front), rest)
+}
+
+#[inline(always)]
 pub(crate) fn u32_of(bytes: &[u8]) -> Result<(u32, &[u8]), Refusal>
     ensures { Gives (λ x. (x.0, x.1.now)) result (number_at w32 bytes.now) }
 {
     if bytes.len() < 4 {
         return Err(Refusal::Truncated);
     }
-    let (front, rest) = bytes.split_at(4);
-    let number = u32::from_le_bytes([front[0], front[1], front[2], front[3]]);
-    Ok((number, rest))
+    Ok(u32_front(bytes))
 }
 
+#[inline(always)]
 pub(crate) fn u64_of(bytes: &[u8]) -> Result<(u64, &[u8]), Refusal>
     ensures { Gives (λ x. (x.0, x.1.now)) result (number_at w64 bytes.now) }
 {
@@ -46,13 +84,11 @@ pub(crate) fn u64_of(bytes: &[u8]) -> Result<(u64, &[u8]), Refusal>
         return Err(Refusal::Truncated);
     }
     let (front, rest) = bytes.split_at(8);
-    let number = u64::from_le_bytes([
-        front[0], front[1], front[2], front[3], front[4], front[5], front[6], front[7],
-    ]);
-    Ok((number, rest))
+    Ok((u64_in(front), rest))
 }
 
 /// The number of a processor, or how many there are.
+#[inline(always)]
 #[tactic(auto, unfolding(pg_event::specs::Reading::processor_at))]
 pub(crate) fn processor_number(version: Version, bytes: &[u8]) -> Result<(u16, &[u8]), Refusal>
     ensures { Gives (λ x. (x.0, x.1.now)) result (processor_at version bytes.now) }
@@ -67,6 +103,7 @@ pub(crate) fn processor_number(version: Version, bytes: &[u8]) -> Result<(u16, &
 }
 
 /// A page or a code, by the tag.
+#[inline(always)]
 #[tactic(auto, unfolding(pg_event::specs::Reading::outcome_at))]
 pub(crate) fn outcome_of(bytes: &[u8]) -> Result<(Outcome, &[u8]), Refusal>
     ensures { Gives (λ x. (x.0, x.1.now)) result (outcome_at bytes.now) }
@@ -86,56 +123,65 @@ pub(crate) fn outcome_of(bytes: &[u8]) -> Result<(Outcome, &[u8]), Refusal>
 /// One moment more, behind those that were read. A call, or a loop, would have the list of moments
 /// written to memory and read again for each of them.
 #[inline(always)]
-fn one_more(front: Moments, bytes: &[u8]) -> Result<(Moments, &[u8]), Refusal>
-    requires { length front + 1 ≤ 4 }
-    ensures { Gives (λ x. (x.0, x.1.now)) result (with_front front (numbers_at 1 bytes.now)) }
+fn one_more(front: Moments, bytes: &[u8]) -> (Moments, &[u8])
+    requires room { length front + 1 ≤ 4 }
+    requires enough { 4 ≤ length bytes.now }
+    ensures { with_front front (numbers_at 1 bytes.now) ≡ Ok (result.0, result.1.now) }
 {
-    let (moment, rest) = u32_of(bytes)?;
-    Ok((front.with(moment).unwrap(), rest))
+    let (moment, rest) = u32_front(bytes);
+    (front.with(moment).unwrap(), rest)
 }
 
 #[inline(always)]
-fn two_more(front: Moments, bytes: &[u8]) -> Result<(Moments, &[u8]), Refusal>
-    requires { length front + 2 ≤ 4 }
-    ensures { Gives (λ x. (x.0, x.1.now)) result (with_front front (numbers_at 2 bytes.now)) }
+fn two_more(front: Moments, bytes: &[u8]) -> (Moments, &[u8])
+    requires room { length front + 2 ≤ 4 }
+    requires enough { 8 ≤ length bytes.now }
+    ensures { with_front front (numbers_at 2 bytes.now) ≡ Ok (result.0, result.1.now) }
 {
-    let (moment, rest) = u32_of(bytes)?;
+    let (moment, rest) = u32_front(bytes);
     one_more(front.with(moment).unwrap(), rest)
 }
 
 #[inline(always)]
-fn three_more(front: Moments, bytes: &[u8]) -> Result<(Moments, &[u8]), Refusal>
-    requires { length front + 3 ≤ 4 }
-    ensures { Gives (λ x. (x.0, x.1.now)) result (with_front front (numbers_at 3 bytes.now)) }
+fn three_more(front: Moments, bytes: &[u8]) -> (Moments, &[u8])
+    requires room { length front + 3 ≤ 4 }
+    requires enough { 12 ≤ length bytes.now }
+    ensures { with_front front (numbers_at 3 bytes.now) ≡ Ok (result.0, result.1.now) }
 {
-    let (moment, rest) = u32_of(bytes)?;
+    let (moment, rest) = u32_front(bytes);
     two_more(front.with(moment).unwrap(), rest)
 }
 
 /// So many moments, behind the first.
-fn more_moments(front: Moments, count: u8, bytes: &[u8]) -> Result<(Moments, &[u8]), Refusal>
+#[inline(always)]
+fn more_moments(front: Moments, count: u8, bytes: &[u8]) -> (Moments, &[u8])
     requires room { length front + count ≤ 4 }
     requires few { count ≤ 3 }
-    ensures { Gives (λ x. (x.0, x.1.now)) result (with_front front (numbers_at count bytes.now)) }
+    requires enough { 4 * count ≤ length bytes.now }
+    ensures { with_front front (numbers_at count bytes.now) ≡ Ok (result.0, result.1.now) }
 {
     match count {
-        0 => Ok((front, bytes)),
+        0 => (front, bytes),
         1 => one_more(front, bytes),
         2 => two_more(front, bytes),
         _ => three_more(front, bytes),
     }
 }
 
-fn numbers_of(count: u8, bytes: &[u8]) -> Result<(Moments, &[u8]), Refusal>
+/// So many moments, whose bytes are there: one test of the length stands before all of them.
+#[inline(always)]
+fn numbers_of(count: u8, bytes: &[u8]) -> (Moments, &[u8])
     requires some { 1 ≤ count }
     requires few { count ≤ 4 }
-    ensures { Gives (λ x. (x.0, x.1.now)) result (numbers_at count bytes.now) }
+    requires enough { 4 * count ≤ length bytes.now }
+    ensures { numbers_at count bytes.now ≡ Ok (result.0, result.1.now) }
 {
-    let (first, rest) = u32_of(bytes)?;
+    let (first, rest) = u32_front(bytes);
     more_moments(Moments::first(first), count - 1, rest)
 }
 
-#[tactic(auto, unfolding(pg_event::specs::Reading::moments_at))]
+#[inline(always)]
+#[tactic(auto, unfolding(pg_event::specs::Reading::moments_at), using(crate::proofs::Many::cut))]
 pub(crate) fn moments_of(bytes: &[u8]) -> Result<(Moments, &[u8]), Refusal>
     ensures { Gives (λ x. (x.0, x.1.now)) result (moments_at bytes.now) }
 {
@@ -143,5 +189,8 @@ pub(crate) fn moments_of(bytes: &[u8]) -> Result<(Moments, &[u8]), Refusal>
     if count < 1 || count > 4 {
         return Err(Refusal::Tag);
     }
-    numbers_of(count, rest)
+    if rest.len() < 4 * count as usize {
+        return Err(Refusal::Truncated);
+    }
+    Ok(numbers_of(count, rest))
 }

@@ -1,18 +1,20 @@
 //! The next part of a record, from a buffer over a source.
 
-ghost use Rattle.std.specs.Prelude.{◌≡◌, ◌≤◌, ◌<◌, ◌^◌, None, IfOk, length};
+ghost use Rattle.std.specs.Prelude.{◌≡◌, ◌≤◌, ◌<◌, ◌^◌, None, IfOk, length, vec_len};
+ghost use Rattle.std.specs.Prelude.{vec_capacity};
 ghost use Rattle.std.specs.Int.{w32};
 ghost use Rattle.pg_event.specs.Form.{broken_rule};
 ghost use Rattle.pg_event.specs.Reading.{byte_at, number_at, start_at, event_at};
-ghost use Rattle.pg_codec.specs.Reads.{seen, Takes, Pulls};
+ghost use Rattle.pg_codec.specs.Reads.{seen, Takes, Pulls, PullsEvent};
 ghost use Rattle.pg_codec.specs.Parts.{settings_at, AreSettings};
 
 use crate::buffer::Buffer;
-use crate::decoder::event_of;
+use crate::decoder::{add_event, event_of};
 use crate::error::ReadError;
 use crate::fields::{byte_of, u32_of};
 use crate::front::{settings_of, start_of};
 use crate::settings::Settings;
+use crate::spelling::LONGEST_PART;
 use crate::stream::Source;
 use pg_event::{Event, Header, Refusal};
 
@@ -86,7 +88,7 @@ pub(crate) fn next_start<R: Source>(
 }
 
 /// Event number `i`.
-pub(crate) fn next_event<R: Source>(
+fn next_event<R: Source>(
     buffer: &mut Buffer,
     source: &mut R,
     header: &Header,
@@ -100,4 +102,49 @@ pub(crate) fn next_event<R: Source>(
     buffer.prepare(source)?;
     let part = counted(&event_of(header, i, buffer.unread()));
     taken(buffer, part)
+}
+
+/// Adds event number `i`, or says its refusal, however few of its bytes are at hand.
+#[cold]
+#[inline(never)]
+fn add_other<R: Source>(
+    buffer: &mut Buffer,
+    source: &mut R,
+    header: &Header,
+    i: u64,
+    events: &mut Vec<Event>,
+) -> Result<(), ReadError>
+    requires address { header.now.cfg.m ≤ 52 }
+    requires room { vec_len events.old < vec_capacity events.old }
+    ensures { PullsEvent R.Source header.now i (buffer.old, source.old) (buffer.new, source.new)
+        events.old.items events.new.items result }
+{
+    let event = next_event(buffer, source, header, i)?;
+    events.push_reserved(event);
+    Ok(())
+}
+
+/// Adds event number `i`. Where the longest event is at hand it is read with no refusal to tell;
+/// what that does not take is read anew.
+#[inline(always)]
+pub(crate) fn add_next<R: Source>(
+    buffer: &mut Buffer,
+    source: &mut R,
+    header: &Header,
+    i: u64,
+    events: &mut Vec<Event>,
+) -> Result<(), ReadError>
+    requires address { header.now.cfg.m ≤ 52 }
+    requires room { vec_len events.old < vec_capacity events.old }
+    ensures { PullsEvent R.Source header.now i (buffer.old, source.old) (buffer.new, source.new)
+        events.old.items events.new.items result }
+{
+    let bytes = buffer.unread();
+    if bytes.len() >= LONGEST_PART {
+        if let Some(left) = add_event(header, bytes, events) {
+            buffer.keep_last(left);
+            return Ok(());
+        }
+    }
+    add_other(buffer, source, header, i, events)
 }

@@ -8,7 +8,7 @@ ghost use Rattle.pg_codec.specs.Reads.{seen, Pulls};
 
 use crate::buffer::Buffer;
 use crate::error::ReadError;
-use crate::parts::{next_event, next_start};
+use crate::parts::{add_next, next_start};
 use crate::stream::Source;
 use pg_event::{Event, Header};
 use std::alloc::Global;
@@ -60,8 +60,8 @@ pub(crate) fn next_events<R: Source>(
     events.clear();
     events.reserve(count.min(AHEAD) as usize)?;
     for i in 0..count {
-        let event = next_event(buffer, source, header, (before + i) as u64)?;
-        events.push(event)?;
+        events.reserve(1)?;
+        add_next(buffer, source, header, (before + i) as u64, &mut events)?;
     }
     Ok(events)
 }
