@@ -5,7 +5,7 @@ ghost use Rattle.pg_event.specs.Form.{processor_of};
 ghost use Rattle.pg_search.specs.Law.{names_moments};
 
 use crate::pcids::Pcids;
-use pg_event::{Event, Outcome, uses_last, want_of};
+use pg_event::{Event, Outcome, Request, processor_of, uses_last, want_of};
 use pg_search::Seen;
 
 /// What an event asks of its processor for an address: a page, the word that an assist names, or
@@ -44,15 +44,12 @@ pub(crate) fn case_of(seen: &Seen<'_>, pcids: &mut Pcids, i: u32, event: &Event)
     ensures names { MatchOption result (names_moments event.now ≡ false)
         (λ case. names_moments event.now ≡ true) }
 {
-    let (p, la, asks) = match *event {
-        Event::Access { p, la, outcome, .. } => (p, la, asks_of(outcome)),
-        Event::Assist { p, la, word, .. } => (p, la, Asks::Word(word)),
-        Event::Write { .. }
-        | Event::MovCr3 { .. }
-        | Event::Invlpg { .. }
-        | Event::Invpcid { .. }
-        | Event::MovCr4Pge { .. } => return None,
+    let (la, asks) = match event.request() {
+        Request::Access { la, outcome, .. } => (la, asks_of(outcome)),
+        Request::Update { la, word, .. } => (la, Asks::Word(word)),
+        Request::Nothing => return None,
     };
+    let p = processor_of(event);
     let pcid = pcids.at(seen, p, i);
     Some(Case {
         i,

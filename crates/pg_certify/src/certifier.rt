@@ -15,7 +15,7 @@ use crate::pcids::Pcids;
 use crate::walk::{Walk, address_by, first_moments, is_global, last_of, tables_up_to, walk_by};
 use pg_check::{Memo, failing};
 use pg_entry::has_bit;
-use pg_event::{Event, Moments, Outcome, Reason};
+use pg_event::{Event, Moments, Outcome, Reason, Request};
 use pg_reach::any_moments;
 use pg_search::{Seen, with_moments};
 use std::alloc::{AllocError, Global};
@@ -115,25 +115,22 @@ enum Under {
     Any,
 }
 
-/// Whether an address that a walk gives may be what an event was served by.
-fn may_serve(event: &Event, address: Option<u64>) -> bool {
-    match *event {
-        Event::Access {
-            outcome: Outcome::Page(page),
-            ..
-        } => address == Some(page),
-        _ => address.is_some(),
+/// The physical address that an access came to, if it was done.
+fn page_of(event: &Event) -> Option<u64> {
+    match event.request() {
+        Request::Access { outcome, .. } => match outcome {
+            Outcome::Page(page) => Some(page),
+            Outcome::Fault(_) => None,
+        },
+        Request::Update { .. } | Request::Nothing => None,
     }
 }
 
-/// The physical address that an access came to, if it was done.
-fn page_of(event: &Event) -> Option<u64> {
-    match *event {
-        Event::Access {
-            outcome: Outcome::Page(page),
-            ..
-        } => Some(page),
-        _ => None,
+/// Whether an address that a walk gives may be what an event was served by.
+fn may_serve(event: &Event, address: Option<u64>) -> bool {
+    match page_of(event) {
+        Some(page) => address == Some(page),
+        None => address.is_some(),
     }
 }
 

@@ -7,7 +7,7 @@ ghost use Rattle.pg_check.specs.Kept.{AreWellFormed};
 ghost use Rattle.pg_search.specs.Bare.{bare};
 ghost use Rattle.pg_search.specs.Thinned.{changes_something, thinned};
 
-use pg_event::{Event, Outcome};
+use pg_event::{Event, Outcome, Request};
 use pg_search::KeptRun;
 use std::alloc::AllocError;
 
@@ -16,17 +16,12 @@ use std::alloc::AllocError;
 pub(crate) fn changes_something(event: &Event) -> bool
     ensures { result ≡ changes_something event.now }
 {
-    match *event {
-        Event::Access { outcome, .. } => match outcome {
+    match event.request() {
+        Request::Access { outcome, .. } => match outcome {
             Outcome::Page(_) => false,
             Outcome::Fault(_) => true,
         },
-        Event::Write { .. }
-        | Event::Assist { .. }
-        | Event::MovCr3 { .. }
-        | Event::Invlpg { .. }
-        | Event::Invpcid { .. }
-        | Event::MovCr4Pge { .. } => true,
+        Request::Update { .. } | Request::Nothing => true,
     }
 }
 

@@ -8,7 +8,7 @@ ghost use Rattle.pg_search.specs.Bare.{bare};
 
 use crate::flags::Flags;
 use crate::keeping::changes_something;
-use pg_event::{Event, Moments, Outcome};
+use pg_event::{Event, Moments, Outcome, Request};
 use pg_search::bare;
 use std::alloc::{AllocError, Global};
 use std::marker::Model;
@@ -55,21 +55,17 @@ fn is_placeholder(moments: &Moments) -> bool
 fn is_named(event: &Event) -> bool
     ensures { result ≡ is_named event.now }
 {
-    match event {
-        Event::Access {
+    match event.request() {
+        Request::Access {
             outcome,
             moments,
             ..
-        } => match *outcome {
+        } => match outcome {
             Outcome::Page(_) => false,
-            Outcome::Fault(_) => !is_placeholder(moments),
+            Outcome::Fault(_) => !is_placeholder(&moments),
         },
-        Event::Assist { moments, .. } => !is_placeholder(moments),
-        Event::Write { .. }
-        | Event::MovCr3 { .. }
-        | Event::Invlpg { .. }
-        | Event::Invpcid { .. }
-        | Event::MovCr4Pge { .. } => false,
+        Request::Update { moments, .. } => !is_placeholder(&moments),
+        Request::Nothing => false,
     }
 }
 

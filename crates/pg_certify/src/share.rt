@@ -3,7 +3,7 @@
 ghost use Rattle.std.specs.Prelude.{◌≡◌, ◌<◌, ◌==◌};
 ghost use Rattle.pg_certify.specs.Shares.{dealt_to};
 
-use pg_event::Event;
+use pg_event::{Event, Request, processor_of};
 
 /// Which events are dealt to one of so many checkers.
 #[derive(Clone, Copy, Drop)]
@@ -27,15 +27,12 @@ impl Share {
     pub(crate) fn has(self, event: &Event) -> bool
         ensures { result ≡ (dealt_to self.checkers event.now == self.number) }
     {
-        match *event {
-            Event::Access { p, la, .. } | Event::Assist { p, la, .. } => {
+        match event.request() {
+            Request::Access { la, .. } | Request::Update { la, .. } => {
+                let p = processor_of(event);
                 (la / 4096 + p as u64) % self.checkers as u64 == self.number as u64
             }
-            Event::Write { .. }
-            | Event::MovCr3 { .. }
-            | Event::Invlpg { .. }
-            | Event::Invpcid { .. }
-            | Event::MovCr4Pge { .. } => self.number == 0,
+            Request::Nothing => self.number == 0,
         }
     }
 

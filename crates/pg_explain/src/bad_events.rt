@@ -13,7 +13,7 @@ ghost use Rattle.pg_explain.specs.Text.{explanation_text};
 use crate::explainer::explain;
 use crate::text::push_explained;
 use pg_check::{History, check_event};
-use pg_event::{Event, Reason, processor_of};
+use pg_event::{Event, Reason, Request, processor_of};
 use std::alloc::{AllocError, Global};
 
 /// An event that its moments do not prove.
@@ -33,13 +33,9 @@ pub struct Bad {
 fn address_of(event: &Event) -> u64
     ensures { result ≡ address_of event.now }
 {
-    match *event {
-        Event::Access { la, .. } | Event::Assist { la, .. } => la,
-        Event::Write { .. }
-        | Event::MovCr3 { .. }
-        | Event::Invlpg { .. }
-        | Event::Invpcid { .. }
-        | Event::MovCr4Pge { .. } => 0,
+    match event.request() {
+        Request::Access { la, .. } | Request::Update { la, .. } => la,
+        Request::Nothing => 0,
     }
 }
 

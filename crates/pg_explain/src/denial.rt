@@ -4,13 +4,15 @@ ghost use Rattle.std.specs.Prelude.{◌≡◌, ◌<◌, true, List, ◌∷◌, [
 ghost use Rattle.pg_event.specs.Form.{processor_of};
 ghost use Rattle.pg_search.specs.Law.{names_moments};
 ghost use Rattle.pg_explain.specs.Denied.{IsDenialOf, IsWalkNow};
-ghost use Rattle.pg_explain.specs.Given.{given_now, given_then};
+ghost use Rattle.pg_explain.specs.Given.{given_by, given_now};
+ghost use Rattle.pg_explain.specs.Findings.{readings_by};
 ghost use Rattle.pg_explain.specs.Walk.{IsWalk};
 
 use crate::entry::{WalkEntry, read_steps, tell};
 use crate::given::given_by;
 use pg_check::History;
-use pg_event::{Event, Outcome, access_kind};
+use pg_entry::AccessKind;
+use pg_event::{Event, Outcome, Request, processor_of};
 use pg_reach::last_moments;
 use pg_search::Last;
 use std::alloc::{AllocError, Global};
@@ -36,13 +38,12 @@ struct Now {
     given: Option<Outcome>,
 }
 
-/// What processor `p` would read at an event for an access by its flags to a linear address, and
-/// get.
+/// What processor `p` would read at an event for an access of a kind to a linear address, and get.
 fn walk_of(
     alloc: Global,
     history: &History,
     p: u16,
-    flags: u8,
+    kind: AccessKind,
     la: u64,
     number: u32,
 ) -> Result<Now, AllocError>
@@ -50,10 +51,11 @@ fn walk_of(
     ensures walk { IfOk result (λ now. IsWalk history.now.head history.now.events p la
         (number ∷ number ∷ number ∷ number ∷ []) now.walk.items) }
     ensures given { IfOk result (λ now. now.given
-        ≡ given_then history.now.head history.now.events p flags la number) }
+        ≡ given_by history.now.head.cfg kind la (readings_by history.now.head history.now.events p
+        la (number ∷ number ∷ number ∷ number ∷ []))) }
 {
     let steps = read_steps(alloc, history, p, la, &[number; 4])?;
-    let given = given_by(history.header().cfg, access_kind(flags), la, &steps);
+    let given = given_by(history.header().cfg, kind, la, &steps);
     let walk = tell(alloc, history, p, &steps)?;
     Ok(Now { walk, given })
 }
@@ -66,14 +68,11 @@ fn walk_now(alloc: Global, history: &History, number: u32, event: &Event) -> Res
     ensures given { IfOk result (λ now. now.given
         ≡ given_now history.now.head history.now.events number event.now) }
 {
-    match *event {
-        Event::Access { p, flags, la, .. } => walk_of(alloc, history, p, flags, la, number),
-        Event::Assist { p, flags, la, .. } => walk_of(alloc, history, p, flags, la, number),
-        Event::Write { .. }
-        | Event::MovCr3 { .. }
-        | Event::Invlpg { .. }
-        | Event::Invpcid { .. }
-        | Event::MovCr4Pge { .. } => Ok(Now {
+    match event.request() {
+        Request::Access { kind, la, .. } | Request::Update { kind, la, .. } => {
+            walk_of(alloc, history, processor_of(event), kind, la, number)
+        }
+        Request::Nothing => Ok(Now {
             walk: Vec::new(alloc),
             given: None,
         }),

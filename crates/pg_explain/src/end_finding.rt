@@ -161,26 +161,32 @@ fn is_global(history: &History, p: u16, moment: u32, global_bit: bool) -> bool
     global_bit && control.pge
 }
 
+/// A leaf: the page that it maps, of 2 to the power of `shift` bytes, and its bit 8.
+#[derive(Clone, Copy)]
+struct Leaf {
+    frame: u64,
+    shift: u8,
+    global_bit: bool,
+}
+
 /// What stands behind the reasons by the translation that a leaf gives.
 fn page_finding(
     history: &History,
     claim: &Claim,
     pcid: u16,
     step: EntryRead,
-    frame: u64,
-    shift: u8,
-    global_bit: bool,
+    leaf: Leaf,
 ) -> Option<Finding>
     requires processor { claim.now.p < length history.now.head.processors }
-    requires frame { frame < 2 ^ 52 }
-    requires shift { IsPageShift shift }
+    requires frame { leaf.frame < 2 ^ 52 }
+    requires shift { IsPageShift leaf.shift }
     ensures { result ≡ end_finding history.now.head history.now.events claim.now pcid
-        (reading_of step) (kinds.Leaf frame shift global_bit) }
+        (reading_of step) (kinds.Leaf leaf.frame leaf.shift leaf.global_bit) }
 {
     let Claim { number, p, la, .. } = *claim;
     let moment = step.moment;
-    let global = is_global(history, p, moment, global_bit);
-    let key = CacheKey::Translation(translation_key(pcid, shift, global, la));
+    let global = is_global(history, p, moment, leaf.global_bit);
+    let key = CacheKey::Translation(translation_key(pcid, leaf.shift, global, la));
     let at = first_drop(history, p, key, moment, number);
     if let Some(found) = translation_drop(step, at) {
         return Some(found);
@@ -189,7 +195,7 @@ fn page_finding(
     if let Some(found) = foreign_finding(read, tagged(history, p, number), global) {
         return Some(found);
     }
-    let address = frame + page_offset(la, shift);
+    let address = leaf.frame + page_offset(la, leaf.shift);
     leaf_finding(history.header().cfg, claim, step.rights, address)
 }
 
@@ -210,7 +216,14 @@ pub(crate) fn end_finding(
             frame,
             shift,
             global_bit,
-        } => page_finding(history, claim, pcid, step, frame, shift, global_bit),
+        } => {
+            let leaf = Leaf {
+                frame,
+                shift,
+                global_bit,
+            };
+            page_finding(history, claim, pcid, step, leaf)
+        }
         Kind::Absent => fault_finding(history, claim, Cause::Absent, kind, step),
         Kind::Reserved => fault_finding(history, claim, Cause::Reserved, kind, step),
         Kind::Table { .. } => Some(Finding::Entry {

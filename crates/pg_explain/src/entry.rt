@@ -11,7 +11,7 @@ ghost use Rattle.pg_explain.specs.Walk.{writes, IsWriter, IsTold, reading_at};
 use pg_chain::{EntryRead, kind_at};
 use pg_check::History;
 use pg_entry::{Entry, Kind, Level, combine, table_of};
-use pg_event::{Event, Parent, below, entry_address, root_of};
+use pg_event::{Event, MemoryChange, Parent, below, entry_address, root_of};
 use std::alloc::{AllocError, Global};
 
 /// An entry that the moments of an event name, as the walk reads it.
@@ -84,14 +84,9 @@ pub(crate) fn read_steps(
 pub(crate) fn writes(address: u64, event: &Event) -> bool
     ensures { result ≡ writes address event.now }
 {
-    match *event {
-        Event::Write { addr, .. } => addr == address,
-        Event::Assist { word, .. } => word == address,
-        Event::Access { .. }
-        | Event::MovCr3 { .. }
-        | Event::Invlpg { .. }
-        | Event::Invpcid { .. }
-        | Event::MovCr4Pge { .. } => false,
+    match event.memory_change() {
+        MemoryChange::Value { addr, .. } | MemoryChange::Flags { addr, .. } => addr == address,
+        MemoryChange::Nothing => false,
     }
 }
 

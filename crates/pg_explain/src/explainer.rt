@@ -20,7 +20,7 @@ use crate::flag_finding::{accessed_finding, flag_finding, update_finding};
 use crate::walk_finding::{Asked, tagged, walk_finding};
 use pg_chain::EntryRead;
 use pg_check::History;
-use pg_event::{Claim, Event, Moments, Update, Want, claim_of, update_of, want_of};
+use pg_event::{Claim, Event, Moments, Request, Update, Want, processor_of, want_of};
 use pg_reach::{freshest_moments, last_moments};
 use pg_search::Last;
 use std::alloc::{AllocError, Global};
@@ -193,32 +193,41 @@ fn tell_event(
         (event_finding history.now.head history.now.events number event.now)
         (IsWalkOf history.now.head history.now.events event.now)) }
 {
-    match *event {
-        Event::Access {
-            p,
-            flags,
+    let p = processor_of(event);
+    match event.request() {
+        Request::Nothing => Ok(None),
+        Request::Access {
+            kind,
             la,
             outcome,
             moments,
         } => {
-            let claim = claim_of(number, p, flags, la, outcome);
+            let claim = Claim {
+                number,
+                p,
+                kind,
+                la,
+                outcome,
+            };
             tell_access(alloc, history, &claim, moments.as_slice())
         }
-        Event::Assist {
-            p,
-            flags,
+        Request::Update {
+            kind,
             la,
             word,
+            dirty,
             moments,
         } => {
-            let update = update_of(number, p, flags, la, word);
+            let update = Update {
+                number,
+                p,
+                kind,
+                la,
+                word,
+                dirty,
+            };
             tell_assist(alloc, history, &update, moments.as_slice())
         }
-        Event::Write { .. }
-        | Event::MovCr3 { .. }
-        | Event::Invlpg { .. }
-        | Event::Invpcid { .. }
-        | Event::MovCr4Pge { .. } => Ok(None),
     }
 }
 

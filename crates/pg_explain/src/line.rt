@@ -8,7 +8,7 @@ ghost use Rattle.pg_explain.specs.Line.{switch_text, event_text, claim_text, nam
 ghost use Rattle.pg_explain.specs.Line.{event_line, line_at};
 
 use pg_entry::{AccessKind, Op, has_bit};
-use pg_event::{Event, Moments, Outcome, access_kind, processor_of, says_dirty};
+use pg_event::{Event, Moments, Outcome, Request, access_kind, processor_of, says_dirty};
 use std::alloc::AllocError;
 
 fn mode_name(kind: AccessKind) -> &'static str
@@ -220,15 +220,11 @@ fn push_named(text: &mut String, event: &Event) -> Result<(), AllocError>
     ensures { OnOk result
         (string_bytes text.new ≡ string_bytes text.old ++ named_text event.now) }
 {
-    match *event {
-        Event::Access { moments, .. } | Event::Assist { moments, .. } => {
+    match event.request() {
+        Request::Access { moments, .. } | Request::Update { moments, .. } => {
             push_moments(text, &moments)
         }
-        Event::Write { .. }
-        | Event::MovCr3 { .. }
-        | Event::Invlpg { .. }
-        | Event::Invpcid { .. }
-        | Event::MovCr4Pge { .. } => Ok(()),
+        Request::Nothing => Ok(()),
     }
 }
 

@@ -10,7 +10,7 @@ use crate::finding_text::{push_finding, push_numbered};
 use crate::last_lines::push_taken;
 use crate::line::{event_at, push_numbers};
 use crate::walk_text::push_walk;
-use pg_event::{Event, Moments};
+use pg_event::{Event, Moments, Request};
 use pg_search::Last;
 use std::alloc::{AllocError, Global};
 
@@ -19,16 +19,12 @@ pub fn deed_name(events: &[Event], number: u32) -> &'static str
     ensures { result.now ≡ deed_name (slice_get events.now number) }
 {
     match event_at(events, number) {
-        Some(Event::Access { .. }) => "access",
-        Some(Event::Assist { .. }) => "assist",
-        Some(
-            Event::Write { .. }
-            | Event::MovCr3 { .. }
-            | Event::Invlpg { .. }
-            | Event::Invpcid { .. }
-            | Event::MovCr4Pge { .. },
-        )
-        | None => "event",
+        Some(event) => match event.request() {
+            Request::Access { .. } => "access",
+            Request::Update { .. } => "assist",
+            Request::Nothing => "event",
+        },
+        None => "event",
     }
 }
 

@@ -9,7 +9,8 @@ ghost use Rattle.pg_order.specs.Trying.{NoneBelow, IsTrying, IsTried};
 
 use crate::in_order::first_denied_in;
 use pg_certify::denied_events_have_no_run;
-use pg_event::{Event, processor_of};
+use pg_event::processor_of;
+use pg_search::names_moments;
 use pg_spanned::SpannedRun;
 use std::alloc::{AllocError, Global};
 
@@ -68,18 +69,6 @@ fn lacks_own(run: &SpannedRun, numbers: &[u32], number: u32) -> bool
     false
 }
 
-/// Whether an event names moments, so that it may be one that none witness.
-fn names_moments(event: &Event) -> bool {
-    match event {
-        Event::Access { .. } | Event::Assist { .. } => true,
-        Event::Write { .. }
-        | Event::MovCr3 { .. }
-        | Event::Invlpg { .. }
-        | Event::Invpcid { .. }
-        | Event::MovCr4Pge { .. } => false,
-    }
-}
-
 /// Whether no moments witness one of these events behind those before it.
 fn are_denied(alloc: Global, run: &SpannedRun, numbers: &[u32]) -> Result<bool, AllocError>
     requires { AreNumbers run.now numbers.now }
@@ -105,6 +94,7 @@ fn is_last_denied(
     ensures { IfOk result (λ denied. IsTrue denied → NoneBegins run.now numbers.now) }
 {
     let events = run.events();
+    // An event that names no moments is never denied.
     Ok(names_moments(&events[last as usize]) && are_denied(alloc, run, numbers)?)
 }
 

@@ -1,5 +1,5 @@
 //! A round from its start to its verdicts.
-ghost use Rattle.std.specs.Prelude.{◌≡◌, ◌≢◌, ◌-◌, ◌≤◌, ◌<◌, All, IfOk, IfErr, OnOk, length, map};
+ghost use Rattle.std.specs.Prelude.{◌≡◌, ◌≢◌, ◌-◌, ◌≤◌, ◌<◌, All, IfOk, IfErr, map};
 ghost use Rattle.std.specs.Prelude.{vec_len};
 ghost use Rattle.pg_pool.specs.Rounds.{AreCheckers};
 ghost use Rattle.pg_pool.specs.Verdicts.{Found, verdicts_of};
@@ -32,8 +32,8 @@ fn seats_of(alloc: Global, done: Vec<Done>) -> Result<Vec<Seat>, AllocError>
     done.into_iter().map(|one| one.into_seat()).collect(alloc)
 }
 
-/// Puts all verdicts of a round to their places: those that its checkers gave, and those of the
-/// segments that none of them took, which it judges as the worker with the number given.
+/// All verdicts of a round at their places: those that its checkers gave, and those of the segments
+/// that none of them took, which it judges as the worker with the number given.
 fn gather<J: Judge, G: Gate>(
     alloc: Global,
     judge: &J,
@@ -41,20 +41,20 @@ fn gather<J: Judge, G: Gate>(
     round: Round,
     worker: u32,
     done: Vec<Done>,
-    verdicts: &mut [SegmentVerdict],
-) -> Result<(), AllocError>
+) -> Result<Vec<SegmentVerdict>, AllocError>
     requires ordered { round.first ≤ round.last }
     requires round { round ≡ J.round judge.now }
-    requires room { length verdicts.old ≡ round.last - round.first }
     requires some { 0 < vec_len done }
     requires done { All (IsDone (J.finds judge.now) round) done.items }
     ensures { (found : Found) → J.finds judge.now found →
-        OnOk result (verdicts.new ≡ verdicts_of found round) }
+        IfOk result (λ verdicts. verdicts.items ≡ verdicts_of found round) }
 {
-    place_done(verdicts, round.first, &done);
+    let count = (round.last - round.first) as usize;
+    let mut verdicts = Vec::from_elem(alloc, NO_VERDICT, count)?;
+    place_done(&mut verdicts, round.first, &done);
     let left = close_round(alloc, seats_of(alloc, done)?)?;
-    judge_left(judge, gate, worker, verdicts, round.first, &left);
-    Ok(())
+    judge_left(judge, gate, worker, &mut verdicts, round.first, &left);
+    Ok(verdicts)
 }
 
 /// The verdicts of a round's segments, in order, by so many checkers. The calling thread judges
@@ -74,10 +74,7 @@ pub(crate) fn judge_round<R: Threads + Wait + Sync, J: Judge, G: Gate>(
         IfOk result (λ verdicts. verdicts.items ≡ verdicts_of found round) }
     ensures err { IfErr result (λ e. e ≢ PoolError.Checkers) }
 {
-    let count = (round.last - round.first) as usize;
-    let mut verdicts = Vec::from_elem(alloc, NO_VERDICT, count)?;
     let seats = open_round(alloc, round.first, round.last, checkers)?;
     let done = run_checkers(rt, alloc, judge, gate, round, seats)?;
-    gather(alloc, judge, gate, round, checkers, done, &mut verdicts)?;
-    Ok(verdicts)
+    Ok(gather(alloc, judge, gate, round, checkers, done)?)
 }

@@ -1,5 +1,5 @@
 -- When a processor has a PCID.
-use Rattle.std.specs.Prelude.{◌≡◌, ℕ, ◌%◌, ◌<◌, ◌≤◌, ◌^◌, List, Option, MatchOption}
+use Rattle.std.specs.Prelude.{◌≡◌, ℕ, ◌<◌, ◌≤◌, ◌^◌, List, Option, MatchOption}
 use Rattle.std.specs.Prelude.{length, slice_index_or}
 use Rattle.std.specs.List.{All, Contains}
 use Rattle.pg_event.specs.declared.control.Control.{Control}

@@ -22,49 +22,48 @@ use crate::view::View;
 use crate::walker::{Walker, want_by};
 use pg_check::{History, Memo};
 use pg_entry::Level;
-use pg_event::{Event, Moments, uses_last};
+use pg_event::{Event, Moments, Request, processor_of, uses_last};
 use pg_search::{Seen, unwitnessed_events_have_no_run};
 use std::alloc::{AllocError, Global};
 
 /// How many walks the memo of a search in a history has room for.
 pub(crate) const WALKS: usize = 64;
 
-/// Moments under the walker's PCID that witness an event, of which the last is not before the bound
-/// of level 1, or those that were found before, where these are enough.
+/// Moments under the walker's PCID that witness the view's event, of which the last is not before
+/// the bound of level 1, or those that were found before, where these are enough.
 fn search_under(
     alloc: Global,
     view: &View<'_>,
     memo: &mut Memo<'_>,
-    event: &Event,
     bounds: Bounds,
     found: Option<Moments>,
 ) -> Result<Option<Moments>, AllocError>
     requires past { IsPast memo.old view.now.run.head view.now.run.events }
-    requires well { broken_rule view.now.run.head event.now ≡ None }
-    requires asks { Asks view.now.walker event.now }
+    requires well { broken_rule view.now.run.head view.now.event ≡ None }
+    requires asks { Asks view.now.walker view.now.event }
     requires within { view.now.walker.number ≤ length view.now.run.events }
     requires small { view.now.walker.number < 2 ^ 32 }
     requires bounds { AreBounds view.now.run view.now.walker bounds.one bounds }
     requires low { view.now.low ≡ bounds.four }
     requires some { IfSome found (AreWitness view.now.run.head view.now.run.events
-        view.now.walker.number event.now) }
+        view.now.walker.number view.now.event) }
     ensures memo { memo.new ≡ memo.old }
     ensures some { IfOk result (λ r. IfSome r (AreWitness view.now.run.head view.now.run.events
-        view.now.walker.number event.now)) }
+        view.now.walker.number view.now.event)) }
     ensures fresher { IfOk result (λ r. (ws : List ℕ) →
         IsFresher view.now.walker.freshest found ws →
         IsFresher view.now.walker.freshest r ws) }
-    ensures all { IfOk result (AreUnder view.now.run view.now.walker bounds.one event.now) }
+    ensures all { IfOk result (AreUnder view.now.run view.now.walker bounds.one view.now.event) }
 {
     let fours = view.roots(alloc)?;
     let threes = view.tables_below(alloc, Level::Four, bounds.four, fours.as_slice())?;
     let twos = view.tables_below(alloc, Level::Three, bounds.three, threes.as_slice())?;
     let ones = view.tables_below(alloc, Level::Two, bounds.two, twos.as_slice())?;
     let since = bounds.one;
-    let one = view.end_among(memo, event, Level::One, since, ones.as_slice(), found);
-    let two = view.end_among(memo, event, Level::Two, since, twos.as_slice(), one);
-    let three = view.end_among(memo, event, Level::Three, since, threes.as_slice(), two);
-    let four = view.end_among(memo, event, Level::Four, since, fours.as_slice(), three);
+    let one = view.end_among(memo, Level::One, since, ones.as_slice(), found);
+    let two = view.end_among(memo, Level::Two, since, twos.as_slice(), one);
+    let three = view.end_among(memo, Level::Three, since, threes.as_slice(), two);
+    let four = view.end_among(memo, Level::Four, since, fours.as_slice(), three);
     Ok(four)
 }
 
@@ -101,8 +100,8 @@ fn search_own(
     };
     let bounds = bounds_from(seen, &walker, since);
     let spans = spans_of(alloc, seen, walker.p, bounds.four, walker.number)?;
-    let view = View::new(alloc, seen, walker, bounds.four, &spans)?;
-    search_under(alloc, &view, memo, event, bounds, None)
+    let view = View::new(alloc, seen, event, walker, bounds.four, &spans)?;
+    search_under(alloc, &view, memo, bounds, None)
 }
 
 /// Moments that witness an event by a global translation, under any PCID, or those that were found
@@ -145,8 +144,15 @@ fn search_globals(
             ..walker
         };
         let bounds = bounds_from(seen, &other, page_since(seen, &other, true));
-        let view = View::new(alloc, seen, other, bounds.four, part_of(&parts, *pcid))?;
-        let fresher = search_under(alloc, &view, memo, event, bounds, best)?;
+        let view = View::new(
+            alloc,
+            seen,
+            event,
+            other,
+            bounds.four,
+            part_of(&parts, *pcid),
+        )?;
+        let fresher = search_under(alloc, &view, memo, bounds, best)?;
         best = fresher;
     }
     Ok(best)
@@ -156,13 +162,11 @@ fn search_globals(
 pub(crate) fn walk_of(event: &Event) -> Option<(u16, u64)>
     ensures { IsWalkOf event.now result }
 {
-    match *event {
-        Event::Access { p, la, .. } | Event::Assist { p, la, .. } => Some((p, la)),
-        Event::Write { .. }
-        | Event::MovCr3 { .. }
-        | Event::Invlpg { .. }
-        | Event::Invpcid { .. }
-        | Event::MovCr4Pge { .. } => None,
+    match event.request() {
+        Request::Access { la, .. } | Request::Update { la, .. } => {
+            Some((processor_of(event), la))
+        }
+        Request::Nothing => None,
     }
 }
 

@@ -84,10 +84,10 @@ impl View<'_> {
         bit && self.seen.control_at(self.walker.p, read).pge
     }
 
-    /// The last number, up to the walker's, at which an event may use an entry of a level that was
+    /// The last number, up to the walker's, at which the event may use an entry of a level that was
     /// read at a moment: that moment, or where a page is wanted, the last to which its translation
     /// survives and at which it may be used (Intel SDM, vol. 3, 4.10.2.4).
-    fn last_use(&self, event: &Event, level: Level, entry: Entry, read: u32) -> u32
+    fn last_use(&self, level: Level, entry: Entry, read: u32) -> u32
         requires processor { self.now.walker.p < length self.now.run.head.processors }
         requires low { self.now.low ≤ read }
         requires order { read ≤ self.now.walker.number }
@@ -95,7 +95,7 @@ impl View<'_> {
         requires under { IsUnder self.now.run self.now.walker read }
         ensures order { read ≤ result }
         ensures within { result ≤ self.now.walker.number }
-        ensures last { IsLastUse self.now.run self.now.walker event.now
+        ensures last { IsLastUse self.now.run self.now.walker self.now.event
             (kind_of self.now.run.head.cfg level entry.0) read result }
     {
         let kind = classify(self.seen.header().cfg, level, entry);
@@ -107,14 +107,13 @@ impl View<'_> {
         else {
             return read;
         };
-        if !uses_last(want_by(event)) {
+        if !uses_last(want_by(self.event)) {
             return read;
         }
-        let Walker { p, pcid, la, .. } = self.walker;
         let global = self.is_global(global_bit, read);
         let end = self
             .seen
-            .translation_end(p, pcid, shift, la, global, read)
+            .translation_end(self.walker.lookup(), shift, global, read)
             .min(self.walker.number);
         if global {
             return end;
@@ -125,47 +124,46 @@ impl View<'_> {
         }
     }
 
-    /// The last number, up to the walker's, at which an event is witnessed that reads a piece of
+    /// The last number, up to the walker's, at which the event is witnessed that reads a piece of
     /// the table of a reach last, or the later one that was found before.
     fn last_by(
         &self,
         memo: &mut Memo<'_>,
-        event: &Event,
         level: Level,
         x: &Reach,
         piece: &Piece,
         found: Option<u32>,
     ) -> Option<u32>
         requires past { IsPast memo.old self.now.run.head self.now.run.events }
-        requires well { broken_rule self.now.run.head event.now ≡ None }
-        requires asks { Asks self.now.walker event.now }
+        requires well { broken_rule self.now.run.head self.now.event ≡ None }
+        requires asks { Asks self.now.walker self.now.event }
         requires low { self.now.low ≡ 0 }
         requires small { self.now.walker.number < 2 ^ 32 }
         requires reach { IsReach self.now.run self.now.walker level x.now }
         requires read { IfSome piece.now.read
             (IsReadIn self.now.run self.now.walker level x.now piece.now) }
         requires some { IfSome found
-            (HasWitness self.now.run event.now self.now.walker.number) }
+            (HasWitness self.now.run self.now.event self.now.walker.number) }
         ensures memo { memo.new ≡ memo.old }
         ensures some { IfSome result
-            (HasWitness self.now.run event.now self.now.walker.number) }
+            (HasWitness self.now.run self.now.event self.now.walker.number) }
         ensures later { (j : ℕ) → IsUpTo found j → IsUpTo result j }
-        ensures passed { IsPassedBy self.now.run self.now.walker event.now level x.now piece.now
-            result }
+        ensures passed { IsPassedBy self.now.run self.now.walker self.now.event level x.now
+            piece.now result }
     {
         let Some(read) = piece.read else {
             return found;
         };
         let kind = classify(self.seen.header().cfg, level, Entry(piece.entry));
-        if !is_wanted(want_by(event), kind) {
+        if !is_wanted(want_by(self.event), kind) {
             return found;
         }
-        let number = self.last_use(event, level, Entry(piece.entry), read);
+        let number = self.last_use(level, Entry(piece.entry), read);
         if is_up_to(found, number) {
             return found;
         }
         let moments = up_to(read, &x.latest);
-        if is_witness(self.seen, memo, event, number, moments) {
+        if is_witness(self.seen, memo, self.event, number, moments) {
             later(found, number)
         } else {
             found
@@ -176,24 +174,23 @@ impl View<'_> {
     fn last_in(
         &self,
         memo: &mut Memo<'_>,
-        event: &Event,
         level: Level,
         x: &Reach,
         found: Option<u32>,
     ) -> Option<u32>
         requires past { IsPast memo.old self.now.run.head self.now.run.events }
-        requires well { broken_rule self.now.run.head event.now ≡ None }
-        requires asks { Asks self.now.walker event.now }
+        requires well { broken_rule self.now.run.head self.now.event ≡ None }
+        requires asks { Asks self.now.walker self.now.event }
         requires low { self.now.low ≡ 0 }
         requires small { self.now.walker.number < 2 ^ 32 }
         requires reach { IsReach self.now.run self.now.walker level x.now }
         requires some { IfSome found
-            (HasWitness self.now.run event.now self.now.walker.number) }
+            (HasWitness self.now.run self.now.event self.now.walker.number) }
         ensures memo { memo.new ≡ memo.old }
         ensures some { IfSome result
-            (HasWitness self.now.run event.now self.now.walker.number) }
+            (HasWitness self.now.run self.now.event self.now.walker.number) }
         ensures later { (j : ℕ) → IsUpTo found j → IsUpTo result j }
-        ensures passed { ArePassed self.now.run self.now.walker event.now level
+        ensures passed { ArePassed self.now.run self.now.walker self.now.event level
             (max x.now.from 0) (min x.now.to self.now.walker.number + 1) x.now result }
     {
         let end = x.to.min(self.walker.number);
@@ -201,7 +198,7 @@ impl View<'_> {
         let mut at = x.from;
         while at <= end {
             let piece = self.piece_at(level, x.table, at, end);
-            last = self.last_by(memo, event, level, x, &piece, last);
+            last = self.last_by(memo, level, x, &piece, last);
             match piece.to.checked_add(1) {
                 Some(next) => at = next,
                 None => return last,
@@ -214,64 +211,62 @@ impl View<'_> {
     fn last_among(
         &self,
         memo: &mut Memo<'_>,
-        event: &Event,
         level: Level,
         reaches: &[Reach],
         found: Option<u32>,
     ) -> Option<u32>
         requires past { IsPast memo.old self.now.run.head self.now.run.events }
-        requires well { broken_rule self.now.run.head event.now ≡ None }
-        requires asks { Asks self.now.walker event.now }
+        requires well { broken_rule self.now.run.head self.now.event ≡ None }
+        requires asks { Asks self.now.walker self.now.event }
         requires low { self.now.low ≡ 0 }
         requires small { self.now.walker.number < 2 ^ 32 }
         requires each { All (IsReach self.now.run self.now.walker level) reaches.now }
         requires some { IfSome found
-            (HasWitness self.now.run event.now self.now.walker.number) }
+            (HasWitness self.now.run self.now.event self.now.walker.number) }
         ensures memo { memo.new ≡ memo.old }
         ensures some { IfSome result
-            (HasWitness self.now.run event.now self.now.walker.number) }
+            (HasWitness self.now.run self.now.event self.now.walker.number) }
         ensures later { (j : ℕ) → IsUpTo found j → IsUpTo result j }
-        ensures passed { All (λ x. ArePassed self.now.run self.now.walker event.now level
+        ensures passed { All (λ x. ArePassed self.now.run self.now.walker self.now.event level
             (max x.from 0) (min x.to self.now.walker.number + 1) x result) reaches.now }
     {
         let mut last = found;
         for x in reaches {
-            last = self.last_in(memo, event, level, x, last);
+            last = self.last_in(memo, level, x, last);
         }
         last
     }
 
-    /// The last number, up to the walker's, at which moments under its PCID witness an event, or
+    /// The last number, up to the walker's, at which moments under its PCID witness the event, or
     /// the later one that was found before.
     fn last_under(
         &self,
         alloc: Global,
         memo: &mut Memo<'_>,
-        event: &Event,
         found: Option<u32>,
     ) -> Result<Option<u32>, AllocError>
         requires past { IsPast memo.old self.now.run.head self.now.run.events }
-        requires well { broken_rule self.now.run.head event.now ≡ None }
-        requires asks { Asks self.now.walker event.now }
+        requires well { broken_rule self.now.run.head self.now.event ≡ None }
+        requires asks { Asks self.now.walker self.now.event }
         requires low { self.now.low ≡ 0 }
         requires within { self.now.walker.number ≤ length self.now.run.events }
         requires small { self.now.walker.number < 2 ^ 32 }
         requires some { IfSome found
-            (HasWitness self.now.run event.now self.now.walker.number) }
+            (HasWitness self.now.run self.now.event self.now.walker.number) }
         ensures memo { memo.new ≡ memo.old }
         ensures some { IfOk result (λ r. IfSome r
-            (HasWitness self.now.run event.now self.now.walker.number)) }
+            (HasWitness self.now.run self.now.event self.now.walker.number)) }
         ensures later { IfOk result (λ r. (j : ℕ) → IsUpTo found j → IsUpTo r j) }
-        ensures all { IfOk result (AreUpTo self.now.run self.now.walker event.now) }
+        ensures all { IfOk result (AreUpTo self.now.run self.now.walker self.now.event) }
     {
         let fours = self.roots(alloc)?;
         let threes = self.tables_below(alloc, Level::Four, 0, fours.as_slice())?;
         let twos = self.tables_below(alloc, Level::Three, 0, threes.as_slice())?;
         let ones = self.tables_below(alloc, Level::Two, 0, twos.as_slice())?;
-        let one = self.last_among(memo, event, Level::One, ones.as_slice(), found);
-        let two = self.last_among(memo, event, Level::Two, twos.as_slice(), one);
-        let three = self.last_among(memo, event, Level::Three, threes.as_slice(), two);
-        let four = self.last_among(memo, event, Level::Four, fours.as_slice(), three);
+        let one = self.last_among(memo, Level::One, ones.as_slice(), found);
+        let two = self.last_among(memo, Level::Two, twos.as_slice(), one);
+        let three = self.last_among(memo, Level::Three, threes.as_slice(), two);
+        let four = self.last_among(memo, Level::Four, fours.as_slice(), three);
         Ok(four)
     }
 }
@@ -301,8 +296,8 @@ fn last_number(
             pcid: *pcid,
             ..walker
         };
-        let view = View::new(alloc, seen, other, 0, part_of(&parts, *pcid))?;
-        let later = view.last_under(alloc, &mut memo, event, last)?;
+        let view = View::new(alloc, seen, event, other, 0, part_of(&parts, *pcid))?;
+        let later = view.last_under(alloc, &mut memo, last)?;
         last = later;
     }
     Ok(last)

@@ -18,7 +18,7 @@ fn structure_since(seen: &Seen<'_>, walker: &Walker, level: Level, to: u32) -> u
     let (mut low, mut high) = (0, to);
     while low < high {
         let middle = low + (high - low) / 2;
-        if seen.structure_survives(walker.p, walker.pcid, level, walker.la, middle, to) {
+        if seen.structure_survives(walker.lookup(), level, middle, to) {
             high = middle;
         } else {
             low = middle + 1;
@@ -38,8 +38,7 @@ fn translation_since(seen: &Seen<'_>, walker: &Walker, shift: u8, global: bool) 
     let (mut low, mut high) = (0, to);
     while low < high {
         let middle = low + (high - low) / 2;
-        let (p, pcid, la) = (walker.p, walker.pcid, walker.la);
-        if seen.translation_survives(p, pcid, shift, la, global, middle, to) {
+        if seen.translation_survives(walker.lookup(), shift, global, middle, to) {
             high = middle;
         } else {
             low = middle + 1;

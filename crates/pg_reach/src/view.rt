@@ -41,10 +41,12 @@ pub(crate) struct Piece {
     pub read: Option<u32>,
 }
 
-/// A run, who walks in it, and when its processor has the PCID from a moment on.
+/// A run, who walks in it and for which event, and when its processor has the PCID from a moment
+/// on.
 #[derive(Drop)]
 pub(crate) struct View<'a> {
     pub seen: &'a Seen<'a>,
+    pub event: &'a Event,
     pub walker: Walker,
     low: u32,
     pub stays: Vec<Span<Control>>,
@@ -57,7 +59,12 @@ impl<'a> Model for View<'a> {
 
     ghost Value = { Viewed };
 
-    ghost view = { λ v. record { run = v.seen.now; walker = v.walker; low = v.low } };
+    ghost view = { λ v. record {
+      run = v.seen.now;
+      event = v.event.now;
+      walker = v.walker;
+      low = v.low;
+    } };
 
     ghost invariant = { λ v. AreStays v.seen.now v.walker v.low v.stays.items };
 }
@@ -73,21 +80,28 @@ fn leads_on(header: &Header, level: Level, entry: Entry) -> bool
 }
 
 impl<'a> View<'a> {
-    /// That of a walker, by the control registers of its processor at the moments from one on, or
-    /// at those of them at which it has the PCID.
+    /// That of a walker for an event, by the control registers of its processor at the moments from
+    /// one on, or at those of them at which it has the PCID.
     pub(crate) fn new(
         alloc: Global,
         seen: &'a Seen<'a>,
+        event: &'a Event,
         walker: Walker,
         low: u32,
         spans: &[Span<Control>],
     ) -> Result<View<'a>, AllocError>
         requires { AreSpansUnder seen.now walker low spans.now }
-        ensures { IfOk result (λ v. v ≡ record { run = seen.now; walker = walker; low = low }) }
+        ensures { IfOk result (λ v. v ≡ record {
+          run = seen.now;
+          event = event.now;
+          walker = walker;
+          low = low;
+        }) }
     {
         let stays = stays_of(alloc, spans, walker.pcid)?;
         Ok(View {
             seen,
+            event,
             walker,
             low,
             stays,
@@ -126,13 +140,10 @@ impl<'a> View<'a> {
         if !leads_on(header, level, entry) {
             return None;
         }
-        let walker = &self.walker;
         let latest = up_to(read, &x.latest);
         Some(Reach {
             from,
-            to: self
-                .seen
-                .structure_end(walker.p, walker.pcid, level, walker.la, read),
+            to: self.seen.structure_end(self.walker.lookup(), level, read),
             table: Parent {
                 table: table_of(header.cfg.m, entry),
                 rights: combine(x.table.rights, entry),
@@ -232,70 +243,68 @@ impl<'a> View<'a> {
         Ok(roots)
     }
 
-    /// The moments with which an event is witnessed that reads a piece of the table of a reach
+    /// The moments with which the event is witnessed that reads a piece of the table of a reach
     /// last, or those that were found before, where these are enough.
     fn end_by(
         &self,
         memo: &mut Memo<'_>,
-        event: &Event,
         level: Level,
         x: &Reach,
         piece: &Piece,
         found: Option<Moments>,
     ) -> Option<Moments>
         requires past { IsPast memo.old self.now.run.head self.now.run.events }
-        requires well { broken_rule self.now.run.head event.now ≡ None }
+        requires well { broken_rule self.now.run.head self.now.event ≡ None }
         requires some { IfSome found (AreWitness self.now.run.head self.now.run.events
-            self.now.walker.number event.now) }
+            self.now.walker.number self.now.event) }
         ensures memo { memo.new ≡ memo.old }
         ensures some { IfSome result (AreWitness self.now.run.head self.now.run.events
-            self.now.walker.number event.now) }
+            self.now.walker.number self.now.event) }
         ensures fresher { (ws : List ℕ) → IsFresher self.now.walker.freshest found ws →
             IsFresher self.now.walker.freshest result ws }
-        ensures none { IsNoEnd self.now.run self.now.walker event.now level x.now piece.now
+        ensures none { IsNoEnd self.now.run self.now.walker self.now.event level x.now piece.now
             result }
     {
         let Some(read) = piece.read else {
             return found;
         };
         let kind = classify(self.seen.header().cfg, level, Entry(piece.entry));
-        if !is_wanted(want_by(event), kind) {
+        if !is_wanted(want_by(self.event), kind) {
             return found;
         }
         let moments = up_to(read, &x.latest);
         if is_enough(self.walker.freshest, &found, &moments) {
             return found;
         }
-        match failing(memo, self.walker.number, &with_moments(event, moments)) {
+        match failing(memo, self.walker.number, &with_moments(self.event, moments)) {
             None => Some(moments),
             Some(_) => found,
         }
     }
 
-    /// The moments with which an event is witnessed that reads the table of a reach last, from a
+    /// The moments with which the event is witnessed that reads the table of a reach last, from a
     /// moment on, or those that were found before, where these are enough.
     fn end_in(
         &self,
         memo: &mut Memo<'_>,
-        event: &Event,
         level: Level,
         since: u32,
         x: &Reach,
         found: Option<Moments>,
     ) -> Option<Moments>
         requires past { IsPast memo.old self.now.run.head self.now.run.events }
-        requires well { broken_rule self.now.run.head event.now ≡ None }
+        requires well { broken_rule self.now.run.head self.now.event ≡ None }
         requires low { self.now.low ≤ since }
         requires within { x.now.table.table < 2 ^ 52 }
         requires small { self.now.walker.number < 2 ^ 32 }
         requires some { IfSome found (AreWitness self.now.run.head self.now.run.events
-            self.now.walker.number event.now) }
+            self.now.walker.number self.now.event) }
         ensures memo { memo.new ≡ memo.old }
         ensures some { IfSome result (AreWitness self.now.run.head self.now.run.events
-            self.now.walker.number event.now) }
+            self.now.walker.number self.now.event) }
         ensures fresher { (ws : List ℕ) → IsFresher self.now.walker.freshest found ws →
             IsFresher self.now.walker.freshest result ws }
-        ensures none { AreRefused self.now.run self.now.walker event.now level
+        ensures none { AreRefused self.now.run self.now.walker self.now.event level
             (max x.now.from since) (min x.now.to self.now.walker.number + 1) x.now result }
     {
         let last = x.to.min(self.walker.number);
@@ -307,7 +316,7 @@ impl<'a> View<'a> {
                 return best;
             }
             let piece = self.piece_at(level, x.table, at, last);
-            best = self.end_by(memo, event, level, x, &piece, best);
+            best = self.end_by(memo, level, x, &piece, best);
             match piece.to.checked_add(1) {
                 Some(next) => at = next,
                 None => return best,
@@ -316,35 +325,34 @@ impl<'a> View<'a> {
         best
     }
 
-    /// The moments with which an event is witnessed that reads the table of one of some reaches
+    /// The moments with which the event is witnessed that reads the table of one of some reaches
     /// last, from a moment on, or those that were found before, where these are enough.
     pub(crate) fn end_among(
         &self,
         memo: &mut Memo<'_>,
-        event: &Event,
         level: Level,
         since: u32,
         reaches: &[Reach],
         found: Option<Moments>,
     ) -> Option<Moments>
         requires past { IsPast memo.old self.now.run.head self.now.run.events }
-        requires well { broken_rule self.now.run.head event.now ≡ None }
+        requires well { broken_rule self.now.run.head self.now.event ≡ None }
         requires low { self.now.low ≤ since }
         requires each { All (IsReach self.now.run self.now.walker level) reaches.now }
         requires small { self.now.walker.number < 2 ^ 32 }
         requires some { IfSome found (AreWitness self.now.run.head self.now.run.events
-            self.now.walker.number event.now) }
+            self.now.walker.number self.now.event) }
         ensures memo { memo.new ≡ memo.old }
         ensures some { IfSome result (AreWitness self.now.run.head self.now.run.events
-            self.now.walker.number event.now) }
+            self.now.walker.number self.now.event) }
         ensures fresher { (ws : List ℕ) → IsFresher self.now.walker.freshest found ws →
             IsFresher self.now.walker.freshest result ws }
-        ensures none { All (λ x. AreRefused self.now.run self.now.walker event.now level
+        ensures none { All (λ x. AreRefused self.now.run self.now.walker self.now.event level
             (max x.from since) (min x.to self.now.walker.number + 1) x result) reaches.now }
     {
         let mut best = found;
         for x in reaches {
-            best = self.end_in(memo, event, level, since, x, best);
+            best = self.end_in(memo, level, since, x, best);
         }
         best
     }

@@ -173,7 +173,6 @@ impl Caches {
     /// What each entry gives that a table may have in a slot. Says no where too much was looked at.
     fn take_from(
         &mut self,
-        alloc: Global,
         run: &SpannedRun,
         words: &mut Words,
         slot: Slot<'_>,
@@ -189,7 +188,7 @@ impl Caches {
             IsTaken run.now.head.cfg la (known_of self.new) table entry) }
     {
         let address = entry_address(table.from.table, table.level, la);
-        if !words.look(alloc, run, slot, address)? {
+        if !words.look(run, slot, address)? {
             return Ok(false);
         }
         let cfg = run.header().cfg;
@@ -200,7 +199,6 @@ impl Caches {
     /// All that walks may cache in a slot. Says no where too much was looked at.
     pub(crate) fn fill(
         &mut self,
-        alloc: Global,
         run: &SpannedRun,
         words: &mut Words,
         slot: Slot<'_>,
@@ -225,7 +223,7 @@ impl Caches {
                 return Ok(true);
             }
             let table = self.tables[place].get();
-            if table.pcid == pcid && !self.take_from(alloc, run, words, slot, la, table)? {
+            if table.pcid == pcid && !self.take_from(run, words, slot, la, table)? {
                 return Ok(false);
             }
         }

@@ -31,7 +31,6 @@ pub struct Refuted {
 
 /// Adds that an event comes before an access, where no run comes to the access the other way round.
 fn deduce(
-    alloc: Global,
     run: &SpannedRun,
     words: &mut Words,
     edges: &mut Vec<Edge>,
@@ -49,7 +48,7 @@ fn deduce(
         first: edge.second,
         second: edge.first,
     })?;
-    let is_sure = refute_so(alloc, run, words, edges, edge.second)?;
+    let is_sure = refute_so(run, words, edges, edge.second)?;
     edges.pop();
     if is_sure {
         edges.push(edge)?;
@@ -71,7 +70,6 @@ fn may_come_on_both_sides(run: &SpannedRun, access: u32, write: u32) -> bool
 
 /// Adds what is sure of the writes around an access.
 fn deduce_around(
-    alloc: Global,
     run: &SpannedRun,
     words: &mut Words,
     edges: &mut Vec<Edge>,
@@ -92,7 +90,7 @@ fn deduce_around(
                 first: write,
                 second: access,
             };
-            deduce(alloc, run, words, edges, edge)?;
+            deduce(run, words, edges, edge)?;
         }
     }
     Ok(())
@@ -108,7 +106,6 @@ fn is_own_access(run: &SpannedRun, p: u16, number: u32) -> bool
 
 /// The first access of a processor among these events to which no run comes, as far as is seen.
 fn refute_own(
-    alloc: Global,
     run: &SpannedRun,
     words: &mut Words,
     p: u16,
@@ -120,13 +117,13 @@ fn refute_own(
     ensures words { OnOk result (AreWordsOf run.now.events words.new.words.items) }
     ensures refuted { IfOk result (λ found. IfSome found (IsRefuted run.now)) }
 {
-    let mut edges = Vec::new(alloc);
+    let mut edges = Vec::new(words.alloc);
     for number in from..to {
         if is_own_access(run, p, number) {
-            if refute_so(alloc, run, words, &edges, number)? {
+            if refute_so(run, words, &edges, number)? {
                 return Ok(Some(Refuted { number, edges }));
             }
-            deduce_around(alloc, run, words, &mut edges, number)?;
+            deduce_around(run, words, &mut edges, number)?;
         }
     }
     Ok(None)
@@ -150,7 +147,7 @@ pub fn refute_near(
     let from = number.saturating_sub(MOST_NEAR as u32);
     let mut words = Words::new(alloc, MOST_LOOKS);
     for p in 0..run.header().processors.len() {
-        if let Some(refuted) = refute_own(alloc, run, &mut words, p as u16, from, to)? {
+        if let Some(refuted) = refute_own(run, &mut words, p as u16, from, to)? {
             return Ok(Some(refuted));
         }
     }

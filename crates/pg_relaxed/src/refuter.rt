@@ -22,7 +22,7 @@ use crate::table::Table;
 use crate::words::Words;
 use pg_entry::{AccessKind, Cause, Entry, Kind, allowed, classify, error_code, page_offset};
 use pg_event::{
-    Control, Event, Header, Outcome, Want, access_kind, entry_address, loaded, processor_of,
+    Control, Header, Outcome, Request, Want, entry_address, loaded, processor_of,
     translation_matches, want_of,
 };
 use pg_machine::Translation;
@@ -37,7 +37,7 @@ const MOST_LOOKS: u64 = 100_000_000;
 struct Asked {
     number: u32,
     p: u16,
-    flags: u8,
+    kind: AccessKind,
     la: u64,
     outcome: Outcome,
 }
@@ -95,15 +95,14 @@ fn gives(
 /// Whether no translation gives an access its outcome.
 fn has_no_answer(header: &Header, caches: &Caches, asked: Asked) -> bool
     ensures { IsTrue result → HasNoAnswer header.now asked.la (known_of caches.now)
-        (access_kind asked.flags) asked.outcome }
+        asked.kind asked.outcome }
 {
-    let access = access_kind(asked.flags);
     for held in &caches.translations {
         if gives(
             header,
             caches.control,
             asked.la,
-            access,
+            asked.kind,
             asked.outcome,
             &held.get(),
         ) {
@@ -140,7 +139,6 @@ fn none_faults(header: &Header, table: Table, entries: &[u64], cause: Cause) -> 
 
 /// Whether no entry that a table may have in a slot makes an access fault by this cause.
 fn table_faults_not(
-    alloc: Global,
     run: &SpannedRun,
     words: &mut Words,
     slot: Slot<'_>,
@@ -156,7 +154,7 @@ fn table_faults_not(
         kind_of run.now.head.cfg table.level entry ≡ kind_for cause → ⊥) }
 {
     let address = entry_address(table.from.table, table.level, la);
-    if !words.look(alloc, run, slot, address)? {
+    if !words.look(run, slot, address)? {
         return Ok(false);
     }
     Ok(none_faults(run.header(), table, words.values.as_slice(), cause))
@@ -164,7 +162,6 @@ fn table_faults_not(
 
 /// Whether no table that is known makes an access fault by this cause.
 fn has_no_fault(
-    alloc: Global,
     run: &SpannedRun,
     words: &mut Words,
     caches: &Caches,
@@ -175,12 +172,12 @@ fn has_no_fault(
     requires words { AreWordsOf run.now.events words.old.words.items }
     ensures words { OnOk result (AreWordsOf run.now.events words.new.words.items) }
     ensures none { IfOk result (λ none. IsTrue none → HasNoFault run.now slot.entry asked.la
-        (known_of caches.now) (access_kind asked.flags) asked.outcome (kind_for cause) cause) }
+        (known_of caches.now) asked.kind asked.outcome (kind_for cause) cause) }
 {
     for held in &caches.tables {
         let table = held.get();
         if table.pcid == caches.control.pcid
-            && !table_faults_not(alloc, run, words, slot, asked.la, table, cause)?
+            && !table_faults_not(run, words, slot, asked.la, table, cause)?
         {
             return Ok(false);
         }
@@ -190,7 +187,6 @@ fn has_no_fault(
 
 /// Whether nothing that is known gives an access its outcome.
 fn cannot_come(
-    alloc: Global,
     run: &SpannedRun,
     words: &mut Words,
     caches: &Caches,
@@ -200,26 +196,25 @@ fn cannot_come(
     requires words { AreWordsOf run.now.events words.old.words.items }
     ensures words { OnOk result (AreWordsOf run.now.events words.new.words.items) }
     ensures cannot { IfOk result (λ cannot. IsTrue cannot → CannotCome run.now slot.entry asked.la
-        (known_of caches.now) (access_kind asked.flags) asked.outcome (want_of asked.outcome)) }
+        (known_of caches.now) asked.kind asked.outcome (want_of asked.outcome)) }
 {
     match want_of(asked.outcome) {
         Want::Leaf => Ok(has_no_answer(run.header(), caches, asked)),
-        Want::Absent => has_no_fault(alloc, run, words, caches, slot, asked, Cause::Absent),
-        Want::Reserved => has_no_fault(alloc, run, words, caches, slot, asked, Cause::Reserved),
+        Want::Absent => has_no_fault(run, words, caches, slot, asked, Cause::Absent),
+        Want::Reserved => has_no_fault(run, words, caches, slot, asked, Cause::Reserved),
         Want::Present => Ok(false),
     }
 }
 
 /// Whether no order of a run that is as supposed can witness an access.
 fn refute_access(
-    alloc: Global,
     run: &SpannedRun,
     words: &mut Words,
     edges: &[Edge],
     asked: Asked,
 ) -> Result<bool, AllocError>
-    requires there { IsAccess run.now.events asked.number asked.p asked.flags asked.la
-        asked.outcome }
+    requires there { (flags : ℕ) × (access_kind flags ≡ asked.kind)
+        × IsAccess run.now.events asked.number asked.p flags asked.la asked.outcome }
     requires count { asked.number < length run.now.events }
     requires words { AreWordsOf run.now.events words.old.words.items }
     ensures words { OnOk result (AreWordsOf run.now.events words.new.words.items) }
@@ -232,7 +227,7 @@ fn refute_access(
     }
     let header = run.header();
     let events = run.events();
-    let mut caches = Caches::new(alloc, started(header, p));
+    let mut caches = Caches::new(words.alloc, started(header, p));
     let mut ended = 0;
     for next in 0..number {
         let event = &events[next as usize];
@@ -243,7 +238,7 @@ fn refute_access(
                 ended,
                 edges,
             };
-            if !caches.fill(alloc, run, words, slot, la)? {
+            if !caches.fill(run, words, slot, la)? {
                 return Ok(false);
             }
             caches.pass(header.cfg.m, la, event);
@@ -256,7 +251,7 @@ fn refute_access(
         ended,
         edges,
     };
-    if !caches.fill(alloc, run, words, slot, la)? {
+    if !caches.fill(run, words, slot, la)? {
         return Ok(false);
     }
     let at_event = Slot {
@@ -265,13 +260,12 @@ fn refute_access(
         ended: ended.max(ended_before(run, number)),
         edges,
     };
-    cannot_come(alloc, run, words, &caches, at_event, asked)
+    cannot_come(run, words, &caches, at_event, asked)
 }
 
 /// Whether in no order of its events that is as supposed a run of the machine comes to this event,
 /// by its number. A no says nothing.
 pub(crate) fn refute_so(
-    alloc: Global,
     run: &SpannedRun,
     words: &mut Words,
     edges: &[Edge],
@@ -286,29 +280,24 @@ pub(crate) fn refute_so(
     if number as usize >= run.len() {
         return Ok(false);
     }
-    match run.events()[number as usize] {
-        Event::Access {
-            p,
-            flags,
+    let event = &run.events()[number as usize];
+    match event.request() {
+        Request::Access {
+            kind,
             la,
             outcome,
             ..
         } => {
             let asked = Asked {
                 number,
-                p,
-                flags,
+                p: processor_of(event),
+                kind,
                 la,
                 outcome,
             };
-            refute_access(alloc, run, words, edges, asked)
+            refute_access(run, words, edges, asked)
         }
-        Event::Write { .. }
-        | Event::Assist { .. }
-        | Event::MovCr3 { .. }
-        | Event::Invlpg { .. }
-        | Event::Invpcid { .. }
-        | Event::MovCr4Pge { .. } => Ok(false),
+        Request::Update { .. } | Request::Nothing => Ok(false),
     }
 }
 
@@ -323,5 +312,5 @@ pub fn refute(alloc: Global, run: &SpannedRun, number: u32) -> Result<bool, Allo
     ensures never { IfOk result (λ refuted. IsTrue refuted → NeverComes run.now number) }
 {
     let mut words = Words::new(alloc, MOST_LOOKS);
-    refute_so(alloc, run, &mut words, &[], number)
+    refute_so(run, &mut words, &[], number)
 }

@@ -10,7 +10,7 @@ ghost use Rattle.pg_relaxed.specs.Words.{WritesValue, AreBelow, IsPlaceOf, AreAl
 use crate::precede::{ended_before, must_precede};
 use crate::slot::{Slot, is_past, is_to_come};
 use pg_entry::{Entry, marked};
-use pg_event::Event;
+use pg_event::{Event, MemoryChange};
 use pg_spanned::SpannedRun;
 use std::alloc::{AllocError, Global};
 
@@ -38,6 +38,7 @@ pub(crate) struct Word {
 /// The words that were looked at, and what the last of them may hold.
 #[derive(Drop)]
 pub(crate) struct Words {
+    pub alloc: Global,
     pub words: Vec<Word>,
     /// What the last write may have left.
     left_there: Vec<u64>,
@@ -51,14 +52,9 @@ fn value_written(event: &Event, address: u64) -> Option<u64>
     ensures some { IfSome result (λ value. WritesValue address value event.now) }
     ensures none { IfNone result ((value : ℕ) → WritesValue address value event.now → ⊥) }
 {
-    match *event {
-        Event::Write { addr, value, .. } => { if addr == address { Some(value) } else { None } }
-        Event::Access { .. }
-        | Event::Assist { .. }
-        | Event::MovCr3 { .. }
-        | Event::Invlpg { .. }
-        | Event::Invpcid { .. }
-        | Event::MovCr4Pge { .. } => None,
+    match event.memory_change() {
+        MemoryChange::Value { addr, value } => { if addr == address { Some(value) } else { None } }
+        MemoryChange::Flags { .. } | MemoryChange::Nothing => None,
     }
 }
 
@@ -203,6 +199,7 @@ impl Words {
         ensures { result.words.items ≡ [] }
     {
         Words {
+            alloc,
             words: Vec::new(alloc),
             left_there: Vec::new(alloc),
             values: Vec::new(alloc),
@@ -222,12 +219,7 @@ impl Words {
     }
 
     /// The place of a word among those that were looked at, with its writes if it is new.
-    fn place_of(
-        &mut self,
-        alloc: Global,
-        events: &[Event],
-        address: u64,
-    ) -> Result<usize, AllocError>
+    fn place_of(&mut self, events: &[Event], address: u64) -> Result<usize, AllocError>
         requires count { length events.now < 2 ^ 32 }
         requires words { AreWordsOf events.now self.old.words.items }
         ensures { IfOk result (λ place. AreWordsOf events.now self.new.words.items
@@ -237,7 +229,7 @@ impl Words {
             return Ok(place);
         }
         let place = self.words.len();
-        let writes = writes_to(alloc, events, address)?;
+        let writes = writes_to(self.alloc, events, address)?;
         self.words.push(Word { address, writes })?;
         Ok(place)
     }
@@ -246,7 +238,6 @@ impl Words {
     /// looked at, and then they are not all there.
     pub(crate) fn look(
         &mut self,
-        alloc: Global,
         run: &SpannedRun,
         slot: Slot<'_>,
         address: u64,
@@ -256,7 +247,7 @@ impl Words {
         ensures values { IfOk result (λ whole. IsTrue whole → (value : ℕ) →
             MayHold run.now slot.entry address value → IsIn value self.new.values.items) }
     {
-        let place = self.place_of(alloc, run.events(), address)?;
+        let place = self.place_of(run.events(), address)?;
         self.left_there.clear();
         self.values.clear();
         let word = &self.words[place];

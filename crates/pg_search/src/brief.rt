@@ -5,19 +5,15 @@ ghost use Rattle.pg_search.specs.Law.{names_moments, with_moments};
 ghost use Rattle.pg_search.specs.Bare.{bare};
 ghost use Rattle.pg_search.specs.Briefs.{event_by, IsLeft};
 
-use pg_event::{Event, Moments, Outcome};
+use pg_event::{Event, Moments, Outcome, Request};
 
 /// Whether an event names moments: accesses and assists do.
 pub fn names_moments(event: &Event) -> bool
     ensures { result ≡ names_moments event.now }
 {
-    match event {
-        Event::Access { .. } | Event::Assist { .. } => true,
-        Event::Write { .. }
-        | Event::MovCr3 { .. }
-        | Event::Invlpg { .. }
-        | Event::Invpcid { .. }
-        | Event::MovCr4Pge { .. } => false,
+    match event.request() {
+        Request::Access { .. } | Request::Update { .. } => true,
+        Request::Nothing => false,
     }
 }
 

@@ -7,6 +7,7 @@ mod fresh;
 mod kept_run;
 mod last;
 mod laws;
+mod lookup;
 mod places;
 mod seen;
 
@@ -18,4 +19,5 @@ pub use laws::{
     freshest_among_changes, last_among_changes, numbers_put_back, unwitnessed_events_have_no_run,
     witnessed_alike, witnessed_among_changes,
 };
+pub use lookup::Lookup;
 pub use seen::Seen;

@@ -13,6 +13,7 @@ ghost use Rattle.pg_chain.specs.Standing.{IsPast};
 ghost use Rattle.pg_search.specs.Lasts.{IsEnd};
 
 use crate::kept_run::KeptRun;
+use crate::lookup::Lookup;
 use pg_chain::Past;
 use pg_check::{History, Memo, Stretch};
 use pg_entry::Level;
@@ -104,33 +105,27 @@ impl<'a> Seen<'a> {
         self.past.control_span(p, moment, &mut Probes::new())
     }
 
-    /// Whether the paging-structure-cache entry that a level gives for an address under a PCID
-    /// survives on a processor from one moment up to, not with, another.
-    pub fn structure_survives(
-        &self,
-        p: u16,
-        pcid: u16,
-        level: Level,
-        la: u64,
-        from: u32,
-        to: u32,
-    ) -> bool
+    /// Whether the paging-structure-cache entry that a level gives for a lookup survives on its
+    /// processor from one moment up to, not with, another.
+    pub fn structure_survives(&self, lookup: Lookup, level: Level, from: u32, to: u32) -> bool
         requires { IsTableLevel level }
-        ensures { let key = structure_key pcid level la in
-            result ≡ survives self.now.head self.now.events p (λ c e. must_drop_structure c e key)
-            from to }
+        ensures { let key = structure_key lookup.pcid level lookup.la in
+            result ≡ survives self.now.head self.now.events lookup.p
+            (λ c e. must_drop_structure c e key) from to }
     {
+        let Lookup { p, pcid, la } = lookup;
         self.past.structure_survives(p, pcid, level, la, from, to)
     }
 
     /// The last moment, from this one on, up to which that entry survives; the greatest of all
     /// where no event drops it.
-    pub fn structure_end(&self, p: u16, pcid: u16, level: Level, la: u64, from: u32) -> u32
+    pub fn structure_end(&self, lookup: Lookup, level: Level, from: u32) -> u32
         requires { IsTableLevel level }
-        ensures { let key = structure_key pcid level la in
-            IsEnd (λ w. survives self.now.head self.now.events p
+        ensures { let key = structure_key lookup.pcid level lookup.la in
+            IsEnd (λ w. survives self.now.head self.now.events lookup.p
             (λ c e. must_drop_structure c e key) from w) from result }
     {
+        let Lookup { p, pcid, la } = lookup;
         let mut probes = Probes::new();
         let past = self.past;
         match past.first_drop_of_structure(p, pcid, level, la, from, &mut probes) {
@@ -139,24 +134,23 @@ impl<'a> Seen<'a> {
         }
     }
 
-    /// Whether a translation of an address survives on a processor from one moment up to, not with,
-    /// another.
+    /// Whether a translation by a page of 2 to the power of `shift` bytes that serves a lookup
+    /// survives on its processor from one moment up to, not with, another.
     pub fn translation_survives(
         &self,
-        p: u16,
-        pcid: u16,
+        lookup: Lookup,
         shift: u8,
-        la: u64,
         global: bool,
         from: u32,
         to: u32,
     ) -> bool
         requires shift { IsPageShift shift }
         requires order { from ≤ to }
-        ensures { let key = translation_key pcid shift global la in
-            result ≡ survives self.now.head self.now.events p (λ c e. must_drop_translation c e key)
-            from to }
+        ensures { let key = translation_key lookup.pcid shift global lookup.la in
+            result ≡ survives self.now.head self.now.events lookup.p
+            (λ c e. must_drop_translation c e key) from to }
     {
+        let Lookup { p, pcid, la } = lookup;
         let mut probes = Probes::new();
         let past = self.past;
         match past.first_drop_of_translation(p, pcid, shift, la, global, from, &mut probes) {
@@ -165,22 +159,15 @@ impl<'a> Seen<'a> {
         }
     }
 
-    /// The last moment, from this one on, up to which a translation of an address survives; the
-    /// greatest of all where no event drops it.
-    pub fn translation_end(
-        &self,
-        p: u16,
-        pcid: u16,
-        shift: u8,
-        la: u64,
-        global: bool,
-        from: u32,
-    ) -> u32
+    /// The last moment, from this one on, up to which such a translation survives; the greatest of
+    /// all where no event drops it.
+    pub fn translation_end(&self, lookup: Lookup, shift: u8, global: bool, from: u32) -> u32
         requires { IsPageShift shift }
-        ensures { let key = translation_key pcid shift global la in
-            IsEnd (λ w. survives self.now.head self.now.events p
+        ensures { let key = translation_key lookup.pcid shift global lookup.la in
+            IsEnd (λ w. survives self.now.head self.now.events lookup.p
             (λ c e. must_drop_translation c e key) from w) from result }
     {
+        let Lookup { p, pcid, la } = lookup;
         let mut probes = Probes::new();
         let past = self.past;
         match past.first_drop_of_translation(p, pcid, shift, la, global, from, &mut probes) {

@@ -14,7 +14,7 @@ use crate::lookout::Lookout;
 use crate::processor_threads::run_processors;
 use pg_board::Board;
 use pg_pool::{Gate, OpenGate};
-use pg_progress::{Nobody, Onlooker, Progress, Publisher};
+use pg_progress::{Nobody, Onlooker, Progress};
 use pg_report::Crew;
 use pg_runner::{RunError, RunResult};
 use pg_script::Script;
@@ -27,22 +27,19 @@ fn nothing_judged(alloc: Global, script: &Script) -> Result<LiveJudging, AllocEr
     LiveJudging::new(alloc, script.header().clone()?)
 }
 
-/// A run whose progress was opened.
-fn run_seen<'a, R: Threads + Wait + Sync, G: Gate, H: Gate, O: Onlooker>(
+/// The run on a board that was opened for it.
+fn run_on<R: Threads + Wait + Sync, G: Gate, H: Gate, O: Onlooker>(
     crew: &Crew<'_, R, H>,
     script: &Script,
     gate: &G,
-    progress: &'a Progress,
-    publisher: Publisher,
-    lookout: &mut Lookout<'a, O>,
+    board: Board<'_>,
+    lookout: &mut Lookout<'_, O>,
     judging: &mut LiveJudging,
 ) -> Result<RunResult, RunError>
-    requires { publisher.word ≡ progress.now }
     ensures ok { IfOk result (λ run. IsGuestRun script.now run) }
     ensures formed { IfOk result (λ run. IsRecord (record_of run.trace)) }
     ensures err { IfErr result IsWant }
 {
-    let board = Board::new(crew.alloc, script, publisher, progress)?;
     let shared = Mutex::new(board);
     match run_processors(crew, &shared, script, gate, lookout, judging) {
         Ok(()) => ended(crew, script, shared.into_inner(), judging),
@@ -68,15 +65,8 @@ fn run_by<R: Threads + Wait + Sync, G: Gate, H: Gate, O: Onlooker + Drop>(
         unreachable!()
     };
     let mut lookout = Lookout::new(&progress, seat, onlooker);
-    run_seen(
-        crew,
-        script,
-        gate,
-        &progress,
-        publisher,
-        &mut lookout,
-        &mut judging,
-    )
+    let board = Board::new(crew.alloc, script, publisher, &progress)?;
+    run_on(crew, script, gate, board, &mut lookout, &mut judging)
 }
 
 /// Runs a script, each processor in a thread of its own, and has its segments judged by checkers

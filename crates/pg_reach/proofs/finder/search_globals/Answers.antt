@@ -12,7 +12,7 @@ use Rattle.pg_reach.specs.declared.walker.Walker.{Walker}
 use Rattle.pg_reach.specs.declared.since.Bounds.{Bounds}
 use Rattle.pg_reach.specs.Views.{Viewed}
 use Rattle.pg_reach.proofs.Refusals.{IsBetter}
-use Rattle.pg_reach.specs.Stays.{IsSteady, AreSpans, ArePcids}
+use Rattle.pg_reach.specs.Stays.{IsSteady, ArePcids}
 use Rattle.pg_reach.specs.Asking.{under, AreUnder, AreGlobal}
 use Rattle.pg_reach.specs.Parts.{ArePart, AreParts}
 use Rattle.pg_reach.proofs.Spans.{part_under}
@@ -38,8 +38,8 @@ loop-pcid-preserved c =
     let better : Option (List ℕ) = c.in_ok-fresher.fresher in
     let bounds : Bounds = c.bounds_from-bounds.result in
     let fresher : IsBetter v.freshest c.loop-pcid.best better = subst (λ (w : Viewed). IsBetter w.walker.freshest c.loop-pcid.best better) c.in_ok-view.ensures c.in_ok-fresher.ensures.fresher in
-    let some : IfSome better (AreWitness r.head r.events v.number e) = subst (λ (w : Viewed). IfSome better (AreWitness w.run.head w.run.events w.walker.number e)) c.in_ok-view.ensures c.in_ok-fresher.ensures.some in
-    let mine : AreUnder r v bounds.one e better = subst (λ (w : Viewed). AreUnder w.run w.walker bounds.one e better) c.in_ok-view.ensures c.in_ok-fresher.ensures.all in
+    let some : IfSome better (AreWitness r.head r.events v.number e) = subst (λ (w : Viewed). IfSome better (AreWitness w.run.head w.run.events w.walker.number w.event)) c.in_ok-view.ensures c.in_ok-fresher.ensures.some in
+    let mine : AreUnder r v bounds.one e better = subst (λ (w : Viewed). AreUnder w.run w.walker bounds.one w.event better) c.in_ok-view.ensures c.in_ok-fresher.ensures.all in
     let since : AreUnder r v c.page_since.result e better = subst (λ since. AreUnder r v since e better) c.bounds_from-bounds.ensures.one mine in
     let all : Option (List ℕ) → ℕ → Type 0 = λ found pcid. AreGlobal r (under c.args.walker pcid) e found in
     record {

@@ -26,7 +26,7 @@ returns-clause-all c =
     let v : Walker = c.args.walker in
     let e : Event = c.args.event.now in
     let bounds : Bounds = c.bounds_from-bounds.result in
-    let mine : IfOk c.search_under.result (AreUnder r v bounds.one e) = subst (λ (w : Viewed). IfOk c.search_under.result (AreUnder w.run w.walker bounds.one e)) c.in_ok-view.ensures c.search_under.ensures.all in
+    let mine : IfOk c.search_under.result (AreUnder r v bounds.one e) = subst (λ (w : Viewed). IfOk c.search_under.result (AreUnder w.run w.walker bounds.one w.event)) c.in_ok-view.ensures c.search_under.ensures.all in
     let under : IfOk c.search_under.result (AreUnder r v c.if-wants_page.since e) = subst (λ since. IfOk c.search_under.result (AreUnder r v since e)) c.bounds_from-bounds.ensures.one mine in
     elim c.if-wants_page.branch as (λ _. IfOk c.search_under.result (AreLate r v e)) [
       | then-wants_page b ↦ IfOk-weaker c.search_under.result _ _ (λ found h. late_page r v b.page_since-since.result e found b.page_since-since.ensures.within b.page_since-since.ensures.since h)

@@ -9,7 +9,7 @@ use Rattle.pg_event.specs.Spelling.{Recorded}
 use Rattle.pg_chain.specs.Standing.{IsPast}
 use Rattle.pg_timeline.specs.declared.timeline.Span.{Span}
 use Rattle.pg_reach.specs.Views.{Viewed}
-use Rattle.pg_reach.specs.Stays.{IsSteady, AreSpans, ArePcids}
+use Rattle.pg_reach.specs.Stays.{IsSteady, ArePcids}
 use Rattle.pg_reach.specs.Asking.{under}
 use Rattle.pg_reach.specs.Lasting.{HasWitness, AreUpTo}
 use Rattle.pg_reach.proofs.Pieces.{IsLater}
@@ -34,8 +34,8 @@ loop-pcid-preserved c =
     let pcid : ℕ = get_or xs i 0 in
     let found : Option ℕ = c.in_ok-later.later in
     let on : IsLater c.loop-pcid.last found = c.in_ok-later.ensures.later in
-    let some : IfSome found (HasWitness r e c.args.walker.number) = subst (λ (w : Viewed). IfSome found (HasWitness w.run e w.walker.number)) c.in_ok-view.ensures c.in_ok-later.ensures.some in
-    let mine : AreUpTo r (under c.args.walker pcid) e found = subst (λ (w : Viewed). AreUpTo w.run w.walker e found) c.in_ok-view.ensures c.in_ok-later.ensures.all in
+    let some : IfSome found (HasWitness r e c.args.walker.number) = subst (λ (w : Viewed). IfSome found (HasWitness w.run w.event w.walker.number)) c.in_ok-view.ensures c.in_ok-later.ensures.some in
+    let mine : AreUpTo r (under c.args.walker pcid) e found = subst (λ (w : Viewed). AreUpTo w.run w.walker w.event found) c.in_ok-view.ensures c.in_ok-later.ensures.all in
     let all : Option ℕ → ℕ → Type 0 = λ last pcid. AreUpTo r (under c.args.walker pcid) e last in
     record {
       past = subst (λ m. IsPast m r.head r.events) (sym c.last_under.ensures.memo) c.loop-pcid.invariant.past;

@@ -1,7 +1,7 @@
 use Rattle.std.proofs.Common.{◌+◌, ℕ, List, take, sym, subst, arith}
 use Rattle.pg_event.specs.declared.control.Control.{Control}
 use Rattle.pg_timeline.specs.declared.timeline.Span.{Span}
-use Rattle.pg_reach.specs.Parts.{part_at, ArePart, AreParts}
+use Rattle.pg_reach.specs.Parts.{part_at, ArePart}
 use Rattle.pg_reach.proofs.Parted.{part_more}
 use Rattle.pg_reach.proofs.parts.parts_of.Goals as goal
 

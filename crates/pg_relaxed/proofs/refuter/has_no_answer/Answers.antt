@@ -1,6 +1,4 @@
-use Rattle.std.proofs.Common.{◌≡◌, ◌<◌, true, List, length, get_or, sym, ap, subst, ◌∙◌}
-use Rattle.pg_entry.specs.declared.AccessKind.{AccessKind}
-use Rattle.pg_event.specs.Form.{access_kind}
+use Rattle.std.proofs.Common.{◌≡◌, ◌<◌, true, List, length, get_or, ap, subst, ◌∙◌}
 use Rattle.pg_machine.specs.declared.step.Translation.{Translation}
 use Rattle.pg_machine.specs.Machine.{Answers, is_usable}
 use Rattle.pg_relaxed.proofs.Taken.{one_more}
@@ -12,10 +10,10 @@ loop-held-preserved c =
     let same : c.deref-held-items.result.now ≡ xs = c.deref-held-items.ensures.value in
     let lt : c.loop-held.held-index < length xs = subst (λ (ys : List Translation). c.loop-held.held-index < length ys) same c.loop-held-test.true in
     let is : c.held-item.result ≡ get_or xs c.loop-held.held-index c.held-item.result = c.held-item.is ∙ ap (λ (ys : List Translation). get_or ys c.loop-held.held-index c.held-item.result) same in
-    let here : is_usable c.args.caches.now.control c.args.asked.la c.get.result ≡ true → Answers c.args.header.now (access_kind c.args.asked.flags) c.args.asked.la c.get.result c.args.asked.outcome → ⊥ =
+    let here : is_usable c.args.caches.now.control c.args.asked.la c.get.result ≡ true → Answers c.args.header.now c.args.asked.kind c.args.asked.la c.get.result c.args.asked.outcome → ⊥ =
     λ usable answers. c.gives.ensures c.if-gives.false usable
-    (subst (λ (a : AccessKind). Answers c.args.header.now a c.args.asked.la c.get.result c.args.asked.outcome) (sym c.access_kind-access.ensures) answers) in
-    one_more (λ (x : Translation). is_usable c.args.caches.now.control c.args.asked.la x ≡ true → Answers c.args.header.now (access_kind c.args.asked.flags) c.args.asked.la x c.args.asked.outcome → ⊥)
+    answers in
+    one_more (λ (x : Translation). is_usable c.args.caches.now.control c.args.asked.la x ≡ true → Answers c.args.header.now c.args.asked.kind c.args.asked.la x c.args.asked.outcome → ⊥)
     xs c.loop-held.held-index c.held-item.result lt is c.loop-held.invariant
-    (subst (λ (x : Translation). is_usable c.args.caches.now.control c.args.asked.la x ≡ true → Answers c.args.header.now (access_kind c.args.asked.flags) c.args.asked.la x c.args.asked.outcome → ⊥)
+    (subst (λ (x : Translation). is_usable c.args.caches.now.control c.args.asked.la x ≡ true → Answers c.args.header.now c.args.asked.kind c.args.asked.la x c.args.asked.outcome → ⊥)
     c.get.ensures.value here)

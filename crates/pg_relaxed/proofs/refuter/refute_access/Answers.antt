@@ -2,7 +2,10 @@ use Rattle.std.proofs.Common.{◌≡◌, ◌+◌, ◌<◌, ◌≤◌, ◌^◌, �
 use Rattle.std.specs.Prelude.{IfOk, IsTrue, slice_get}
 use Rattle.std.proofs.lemmas.Option.{slice_get-get_or}
 use Rattle.pg_event.specs.declared.control.Control.{Control}
+use Rattle.pg_entry.specs.declared.AccessKind.{AccessKind}
 use Rattle.pg_event.specs.declared.event.Event.{Event}
+use Rattle.pg_event.specs.declared.event.Outcome.{Outcome}
+use Rattle.pg_relaxed.specs.declared.slot.Slot.{Slot}
 use Rattle.pg_event.specs.Form.{processor_of, access_kind}
 use Rattle.pg_event.specs.Heads.{Head}
 use Rattle.pg_event.specs.Values.{controlled, started}
@@ -23,6 +26,10 @@ use Rattle.pg_relaxed.proofs.refuter.refute_access.Goals.{then-processor_of-p+in
 if_ok : {E : Type 0} (P Q : Bool → Type 0) → ((b : Bool) → P b → Q b) → (r : Result Bool E) → IfOk r P → IfOk r Q
 if_ok P Q f (Ok b) h = f b h
 if_ok P Q f (Err e) h = tt
+
+-- the kind of the access that its flags say
+by_flags : (s : Spanned) (slot : Slot) (la : ℕ) (f : Known) (flags : ℕ) (kind : AccessKind) (outcome : Outcome) → access_kind flags ≡ kind → CannotCome s slot la f kind outcome (want_of outcome) → CannotCome s slot la f (access_kind flags) outcome (want_of outcome)
+by_flags s slot la f flags kind outcome says h = subst (λ (k : AccessKind). CannotCome s slot la f k outcome (want_of outcome)) (sym says) h
 
 pub loop-next-init : goal.loop-next-init
 loop-next-init c =
@@ -92,8 +99,10 @@ returns-clause-never c =
     let before : Known = known_of c.loop-next.caches in
     let filled : Known = known_of c.fill-2.new.self in
     let later : c.max.result ≡ max c.loop-next.ended (ended_before s i) = c.max.ensures ∙ ap (max c.loop-next.ended) c.ended_before-2.ensures.count in
-    let yes_means : (b : Bool) → (IsTrue b → CannotCome s _ la filled (access_kind c.args.asked.flags) c.args.asked.outcome (want_of c.args.asked.outcome)) → IsTrue b → NeverComesSo s c.args.edges.now i =
-    λ b h yes. cannot_run s la filled _ (c.in_ok-fill-2.ensures.filled c.if-not-branch-2.false) c.args.asked.flags c.args.asked.outcome _ (h yes) refl refl refl before c.requires.there c.requires.count
+    let outcome : Outcome = c.args.asked.outcome in
+    let access = c.requires.there in
+    let yes_means : (b : Bool) → (IsTrue b → CannotCome s _ la filled c.args.asked.kind outcome (want_of outcome)) → IsTrue b → NeverComesSo s c.args.edges.now i =
+    λ b h yes. cannot_run s la filled _ (c.in_ok-fill-2.ensures.filled c.if-not-branch-2.false) access.0 outcome _ (by_flags s _ la filled access.0 c.args.asked.kind outcome access.1 (h yes)) refl refl refl before access.2 c.requires.count
     (subst (λ (k : ℕ). Enters s c.args.edges.now p la k c.loop-next.ended before) end c.loop-next.invariant.enters)
     (c.in_ok-fill-2.ensures.grows c.if-not-branch-2.false) later in
     if_ok _ (λ refuted. IsTrue refuted → NeverComesSo s c.args.edges.now i) yes_means c.cannot_come.result c.cannot_come.ensures.cannot

@@ -9,9 +9,9 @@ abbrev pub invariant-loop-at : goal.invariant-loop-at
 invariant-loop-at l = record {
   order : max l.x.from l.since ≤ l.at;
   memo : l.memo ≡ l.fn.memo;
-  some : IfSome l.best (AreWitness l.self.run.head l.self.run.events l.self.walker.number l.event);
+  some : IfSome l.best (AreWitness l.self.run.head l.self.run.events l.self.walker.number l.self.event);
   fresher : (ws : List ℕ) → IsFresher l.self.walker.freshest l.fn.found ws → IsFresher l.self.walker.freshest l.best ws;
-  none : AreRefused l.self.run l.self.walker l.event l.level (max l.x.from l.since) l.at l.x l.best;
+  none : AreRefused l.self.run l.self.walker l.self.event l.level (max l.x.from l.since) l.at l.x l.best;
 }
 
 abbrev pub decreases-loop-at : goal.decreases-loop-at

@@ -47,40 +47,40 @@ witness_there r e most n found (Some k) old new (inl a) = subst (HasWitness r e 
 witness_there r e most n found (Some k) old new (inr b) = subst (λ o. IfSome o (HasWitness r e most)) b old
 
 pub last_use-number-requires-clause-processor : goal.last_use-number-requires-clause-processor
-last_use-number-requires-clause-processor c = processor_there c.args.self.now.run.head c.args.self.now.walker c.args.event.now c.requires.asks c.requires.well
+last_use-number-requires-clause-processor c = processor_there c.args.self.now.run.head c.args.self.now.walker c.args.self.now.event c.requires.asks c.requires.well
 
 pub returns-then-is_up_to-clause-passed : goal.returns-then-is_up_to-clause-passed
 returns-then-is_up_to-clause-passed c =
     let r : Recorded = c.args.self.now.run in
     let v : Walker = c.args.self.now.walker in
-    none_later r v c.args.event.now c.args.level c.args.x.now c.args.piece.now c.last_use-number.result c.args.found c.requires.asks
-    (λ m. used r v c.args.event.now c.args.level c.args.x.now c.args.piece.now c.in-Some.read c.last_use-number.result m c.requires.reach c.requires.read c.in-Some.is c.last_use-number.ensures.order c.last_use-number.ensures.last)
+    none_later r v c.args.self.now.event c.args.level c.args.x.now c.args.piece.now c.last_use-number.result c.args.found c.requires.asks
+    (λ m. used r v c.args.self.now.event c.args.level c.args.x.now c.args.piece.now c.in-Some.read c.last_use-number.result m c.requires.reach c.requires.read c.in-Some.is c.last_use-number.ensures.order c.last_use-number.ensures.last)
     (λ m read good. c.is_up_to.ensures c.if-is_up_to.true)
 
 pub returns-then-is_witness-clause-some : goal.returns-then-is_witness-clause-some
 returns-then-is_witness-clause-some c =
     let r : Recorded = c.args.self.now.run in
-    let e : Event = c.args.event.now in
+    let e : Event = c.args.self.now.event in
     let n : ℕ = c.last_use-number.result in
-    let witness : AreWitness r.head r.events n e c.up_to-moments.result = subst (λ (v : Viewed). AreWitness v.run.head v.run.events n e c.up_to-moments.result) c.self.view_is (c.is_witness.ensures.some c.if-is_witness.true) in
+    let witness : AreWitness r.head r.events n e c.up_to-moments.result = subst (λ (v : Viewed). AreWitness v.run.head v.run.events n v.event c.up_to-moments.result) c.self.view_is (c.is_witness.ensures.some c.if-is_witness.true) in
     witness_there r e c.args.self.now.walker.number n c.args.found c.later.result c.requires.some (c.last_use-number.ensures.within, (c.up_to-moments.result, witness)) c.later.ensures.either
 
 pub returns-then-is_witness-clause-passed : goal.returns-then-is_witness-clause-passed
 returns-then-is_witness-clause-passed c =
     let r : Recorded = c.args.self.now.run in
     let v : Walker = c.args.self.now.walker in
-    none_later r v c.args.event.now c.args.level c.args.x.now c.args.piece.now c.last_use-number.result c.later.result c.requires.asks
-    (λ m. used r v c.args.event.now c.args.level c.args.x.now c.args.piece.now c.in-Some.read c.last_use-number.result m c.requires.reach c.requires.read c.in-Some.is c.last_use-number.ensures.order c.last_use-number.ensures.last)
+    none_later r v c.args.self.now.event c.args.level c.args.x.now c.args.piece.now c.last_use-number.result c.later.result c.requires.asks
+    (λ m. used r v c.args.self.now.event c.args.level c.args.x.now c.args.piece.now c.in-Some.read c.last_use-number.result m c.requires.reach c.requires.read c.in-Some.is c.last_use-number.ensures.order c.last_use-number.ensures.last)
     (λ m read good. c.later.ensures.new)
 
 pub returns-else-is_witness-clause-passed : goal.returns-else-is_witness-clause-passed
 returns-else-is_witness-clause-passed c =
     let r : Recorded = c.args.self.now.run in
     let v : Walker = c.args.self.now.walker in
-    let e : Event = c.args.event.now in
+    let e : Event = c.args.self.now.event in
     let n : ℕ = c.last_use-number.result in
     let none : failing_event r.head r.events n (with_moments c.up_to-moments.result e) ≡ None → ⊥ =
-    subst (λ (v : Viewed). failing_event v.run.head v.run.events n (with_moments c.up_to-moments.result e) ≡ None → ⊥) c.self.view_is (c.is_witness.ensures.none c.if-is_witness.false) in
+    subst (λ (v : Viewed). failing_event v.run.head v.run.events n (with_moments c.up_to-moments.result v.event) ≡ None → ⊥) c.self.view_is (c.is_witness.ensures.none c.if-is_witness.false) in
     none_later r v e c.args.level c.args.x.now c.args.piece.now n c.args.found c.requires.asks
     (λ m. used r v e c.args.level c.args.x.now c.args.piece.now c.in-Some.read n m c.requires.reach c.requires.read c.in-Some.is c.last_use-number.ensures.order c.last_use-number.ensures.last)
     (λ m read good.

@@ -7,9 +7,9 @@ abbrev pub invariant-loop-at : goal.invariant-loop-at
 invariant-loop-at l = record {
   order : max l.x.from 0 ≤ l.at;
   memo : l.memo ≡ l.fn.memo;
-  some : IfSome l.last (HasWitness l.self.run l.event l.self.walker.number);
+  some : IfSome l.last (HasWitness l.self.run l.self.event l.self.walker.number);
   later : (j : ℕ) → IsUpTo l.fn.found j → IsUpTo l.last j;
-  passed : ArePassed l.self.run l.self.walker l.event l.level (max l.x.from 0) l.at l.x l.last;
+  passed : ArePassed l.self.run l.self.walker l.self.event l.level (max l.x.from 0) l.at l.x l.last;
 }
 
 abbrev pub decreases-loop-at : goal.decreases-loop-at

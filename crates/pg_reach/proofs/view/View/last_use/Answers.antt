@@ -8,6 +8,9 @@ use Rattle.pg_event.specs.Heads.{Head}
 use Rattle.pg_event.specs.Spelling.{Recorded}
 use Rattle.pg_event.specs.Values.{control_at}
 use Rattle.pg_event.specs.Wants.{uses_last}
+use Rattle.pg_event.specs.Invalidation.{translation_key, must_drop_translation}
+use Rattle.pg_event.specs.Witness.{survives}
+use Rattle.pg_search.specs.declared.lookup.Lookup.{Lookup}
 use Rattle.pg_search.specs.Lasts.{IsEnd}
 use Rattle.pg_timeline.specs.declared.timeline.Span.{Span}
 use Rattle.pg_reach.specs.declared.walker.Walker.{Walker}
@@ -32,15 +35,17 @@ leaf_there c =
     ap (λ (g : Cfg). kind_of g c.args.level c.args.entry.0) (sym cfg) ∙ sym c.classify-kind.ensures.kind ∙ c.in-Leaf.is
 
 -- a page is wanted
-wants_page : (c : After-translation_end) → uses_last (want_by c.args.event.now) ≡ true
-wants_page c = ap uses_last (sym c.want_by.ensures) ∙ sym c.uses_last.ensures ∙ c.if-not-uses_last.false
+wants_page : (c : After-translation_end) → uses_last (want_by c.args.self.now.event) ≡ true
+wants_page c = ap (λ (w : Viewed). uses_last (want_by w.event)) (sym c.self.view_is) ∙ ap uses_last (sym c.want_by.ensures) ∙ sym c.uses_last.ensures ∙ c.if-not-uses_last.false
 
 -- up to when its translation survives
 ends_there : (c : After-translation_end) → IsEnd (λ w. translation_lasts c.args.self.now.run c.args.self.now.walker c.in-Leaf.shift
     (c.in-Leaf.global_bit && (control_at c.args.self.now.run.head c.args.self.now.run.events c.args.self.now.walker.p c.args.read).pge) c.args.read w) c.args.read c.translation_end.result
 ends_there c =
+    let here : IsEnd (λ u. translation_lasts c.self.inside.seen.now c.self.inside.walker c.in-Leaf.shift c.is_global-global.result c.args.read u) c.args.read c.translation_end.result =
+    subst (λ (k : Lookup). IsEnd (λ u. survives c.self.inside.seen.now.head c.self.inside.seen.now.events k.p (λ d e. must_drop_translation d e (translation_key k.pcid c.in-Leaf.shift c.is_global-global.result k.la)) c.args.read u) c.args.read c.translation_end.result) c.lookup.ensures c.translation_end.ensures in
     let ends : IsEnd (λ u. translation_lasts c.args.self.now.run c.args.self.now.walker c.in-Leaf.shift c.is_global-global.result c.args.read u) c.args.read c.translation_end.result =
-    subst (λ (w : Viewed). IsEnd (λ u. translation_lasts w.run w.walker c.in-Leaf.shift c.is_global-global.result c.args.read u) c.args.read c.translation_end.result) c.self.view_is c.translation_end.ensures in
+    subst (λ (w : Viewed). IsEnd (λ u. translation_lasts w.run w.walker c.in-Leaf.shift c.is_global-global.result c.args.read u) c.args.read c.translation_end.result) c.self.view_is here in
     subst (λ (g : Bool). IsEnd (λ u. translation_lasts c.args.self.now.run c.args.self.now.walker c.in-Leaf.shift g c.args.read u) c.args.read c.translation_end.result) c.is_global-global.ensures ends
 
 -- the latest moment under the PCID, up to then
@@ -61,8 +66,8 @@ returns-then-global-clause-last c =
     let at : After-translation_end = (goal.at.returns-then-global-clause-last c).After-translation_end in
     let number : c.self.inside.walker.number ≡ v.number = ap (λ (w : Viewed). w.walker.number) c.self.view_is in
     let end : c.min-end.result ≡ min c.translation_end.result v.number = c.min-end.ensures ∙ ap (min c.translation_end.result) number in
-    subst (λ k. IsLastUse r v c.args.event.now k c.args.read c.min-end.result) (sym (leaf_there at))
-    (use_global r v c.args.event.now c.in-Leaf.frame c.in-Leaf.shift c.in-Leaf.global_bit c.args.read c.min-end.result c.translation_end.result (wants_page at) c.requires.order end (ends_there at) (sym c.is_global-global.ensures ∙ c.if-global.true) c.requires.small)
+    subst (λ k. IsLastUse r v c.args.self.now.event k c.args.read c.min-end.result) (sym (leaf_there at))
+    (use_global r v c.args.self.now.event c.in-Leaf.frame c.in-Leaf.shift c.in-Leaf.global_bit c.args.read c.min-end.result c.translation_end.result (wants_page at) c.requires.order end (ends_there at) (sym c.is_global-global.ensures ∙ c.if-global.true) c.requires.small)
 
 pub returns-in-Some-clause-last : goal.returns-in-Some-clause-last
 returns-in-Some-clause-last c =
@@ -71,8 +76,8 @@ returns-in-Some-clause-last c =
     let at : After-translation_end = (goal.at.returns-in-Some-clause-last c).After-translation_end in
     let read : IsLastRead r v c.args.read (min c.translation_end.result v.number) (Some c.in-Some.number) =
     subst (IsLastRead r v c.args.read (min c.translation_end.result v.number)) c.in-Some.is (latest_there (goal.at.returns-in-Some-clause-last c).After-latest_of) in
-    subst (λ k. IsLastUse r v c.args.event.now k c.args.read c.in-Some.number) (sym (leaf_there at))
-    (use_own r v c.args.event.now c.in-Leaf.frame c.in-Leaf.shift c.in-Leaf.global_bit c.args.read c.in-Some.number c.translation_end.result (wants_page at) (ends_there at) (sym c.is_global-global.ensures ∙ c.if-global.false) read c.requires.small)
+    subst (λ k. IsLastUse r v c.args.self.now.event k c.args.read c.in-Some.number) (sym (leaf_there at))
+    (use_own r v c.args.self.now.event c.in-Leaf.frame c.in-Leaf.shift c.in-Leaf.global_bit c.args.read c.in-Some.number c.translation_end.result (wants_page at) (ends_there at) (sym c.is_global-global.ensures ∙ c.if-global.false) read c.requires.small)
 
 pub returns-in-None-clause-last : goal.returns-in-None-clause-last
 returns-in-None-clause-last c =

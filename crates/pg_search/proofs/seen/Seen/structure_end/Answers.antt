@@ -24,14 +24,14 @@ pub returns-in-Some : goal.returns-in-Some
 returns-in-Some c =
     let head : Head = c.args.self.now.head in
     let events : List Event = c.args.self.now.events in
-    let drop : Control → Event → Bool = λ d e. must_drop_structure d e (structure_key c.args.pcid c.args.level c.args.la) in
+    let drop : Control → Event → Bool = λ d e. must_drop_structure d e (structure_key c.args.lookup.pcid c.args.level c.args.lookup.la) in
     let stands : IsPast c.self.inside.past.now head events = subst (λ (r : Recorded). IsPast c.self.inside.past.now r.head r.events) c.self.view_is c.self.invariant.stands in
     let first = c.in-Some.ensures.run head events stands in
     record {
       order = first.0;
       lasts = not_false _ first.2;
       most = λ w fits lasts. elim (cases_lt c.in-Some.first w) as (λ _. w ≤ c.in-Some.first) [
-        | inl lt ↦ absurd (apart lasts (dropped_at head events c.args.p drop c.args.from c.in-Some.first w first.0 lt (not_true _ first.3)))
+        | inl lt ↦ absurd (apart lasts (dropped_at head events c.args.lookup.p drop c.args.from c.in-Some.first w first.0 lt (not_true _ first.3)))
         | inr le ↦ le
       ];
     }
