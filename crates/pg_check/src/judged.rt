@@ -175,8 +175,8 @@ impl Judged {
         self.past.note(self.count as u32, event)
     }
 
-    /// The least reason that fails for the event that comes next, by the events before it. It is not
-    /// asked for where one of those is bad.
+    /// The least reason that fails for the event that comes next, by the events before it. It is
+    /// not asked for where one of those is bad.
     #[inline(always)]
     fn found_next(&mut self, event: &Event) -> Option<Reason>
         requires { MayFollow self.old (event.now ∷ []) }

@@ -26,4 +26,5 @@ pub record AreRaised (old new : List ℕ) (keys : List DropKey) (moment : ℕ) :
 -- each key may have the moments that it has
 abbrev pub AreBounded : List ℕ → Moments → Type 0
 AreBounded lasts entries =
-    (k : DropKey) (m : ℕ) → has_moment (stamps_in is_same_key entries k) m ≡ true → MayHave lasts k m
+    (k : DropKey) (m : ℕ) → has_moment (stamps_in is_same_key entries k) m ≡ true →
+    MayHave lasts k m

@@ -14,9 +14,7 @@ ghost use Rattle.pg_inval.specs.Drops.{StandsFor};
 ghost use Rattle.pg_inval.specs.Lists.{IsFirstDrop};
 
 use crate::dropped::dropped_keys;
-use crate::key::{
-    DropKey, global_at, local_at, structure_at, structure_keys, translation_keys,
-};
+use crate::key::{DropKey, global_at, local_at, structure_at, structure_keys, translation_keys};
 use crate::lasts::Lasts;
 use crate::lists::{cut_all, first_between, push_moments};
 use pg_entry::Level;
@@ -103,7 +101,8 @@ impl Drops {
     }
 
     /// Whether no event from a moment on drops a translation of processor `p`, as the last moments
-    /// of its keys tell without a list. They may also say no where none does, since keys share them.
+    /// of its keys tell without a list. They may also say no where none does, since keys share
+    /// them.
     #[inline(always)]
     pub fn translation_outlasts(&self, p: u16, key: TranslationKey, from: u32) -> bool
         requires { IsPageShift key.shift }
@@ -114,7 +113,8 @@ impl Drops {
             survives head events p (λ c e. must_drop_translation c e key) from to ≡ true }
     {
         if key.global {
-            self.lasts.are_over(DropKey::Globals { p }, global_at(p, key), from)
+            self.lasts
+                .are_over(DropKey::Globals { p }, global_at(p, key), from)
         } else {
             let all = DropKey::NotGlobal { p };
             let of_pcid = DropKey::LocalsOf { p, pcid: key.pcid };

@@ -21,6 +21,8 @@ returns-clause-walk c = λ head events h ws is.
     let next : Lasting = record { chain = chain; global = walk.global; asked = c.args.number; dropped = None } in
     let stands : survives head events c.args.p (λ d e. must_drop_translation d e key) walk.asked c.args.number ≡ true =
     subst (λ (k : TranslationKey). survives head events c.args.p (λ d e. must_drop_translation d e k) walk.asked c.args.number ≡ true) c.translation_key-key.ensures
-    (c.if-not-translation_outlasts.ensures.run refl c.args.number head events h) in
-    (is.0, subst (λ (k : Kind). LastsTo head events c.args.p c.args.page next k) (sym c.in-Leaf.is ∙ kind)
-    (was.0, lasts_on (drops_at head events c.args.p key) chain.end.moment walk.asked c.args.number walk.dropped (none_there walk.dropped (sym c.is_some.ensures ∙ c.if-is_some.false)) was.1 stands))
+    (c.if-not-translation_outlasts.ensures.run refl c.args.number head events h) in (
+      is.0,
+      subst (λ (k : Kind). LastsTo head events c.args.p c.args.page next k) (sym c.in-Leaf.is ∙ kind)
+          (was.0, lasts_on (drops_at head events c.args.p key) chain.end.moment walk.asked c.args.number walk.dropped (none_there walk.dropped (sym c.is_some.ensures ∙ c.if-is_some.false)) was.1 stands),
+    )
