@@ -1,9 +1,10 @@
 //! pcid-audit: the program over the standard streams.
 #![tactic(auto)]
 
-use pg_auditing::{NoWords, arguments, tell_no_words, words_of};
+use pg_auditing::tell_no_words;
 use pg_codec::Watched;
 use pg_follow::{Followed, Teller};
+use pg_plan::{NoWords, arguments, words_of};
 use pg_span_codec::Peeked;
 use pg_tool::{Followers, pcid_audit_followed, plan};
 use std::cell::Cell;

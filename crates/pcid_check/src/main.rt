@@ -4,11 +4,11 @@
 ghost use Rattle.pg_pool.specs.Rounds.{AreCheckers};
 
 use pg_auditing::{
-    MEMORY, NoWords, REFUSED, UNOPENED, USAGE, arguments, check, tell, tell_memory, tell_no_words,
-    tell_spans, tell_text, tell_unopened, words_of,
+    MEMORY, REFUSED, UNOPENED, USAGE, check, tell, tell_memory, tell_no_words, tell_spans,
+    tell_text, tell_unopened,
 };
 use pg_codec::{Sink, Source, Watched};
-use pg_plan::{Command, Plan, Telling, Usage, plan};
+use pg_plan::{Command, NoWords, Plan, Telling, Usage, arguments, plan, words_of};
 use pg_report::AuditError;
 use pg_span_codec::Peeked;
 use std::alloc::AllocGlobal;

@@ -17,4 +17,4 @@ pub use refusals::{
 pub use statuses::{
     MEMORY, NO, REFUSED, UNOPENED, USAGE, YES, error_status, status_of, verdict_status,
 };
-pub use words::{NoWords, arguments, tell_no_words, words_of};
+pub use words::tell_no_words;

@@ -2,10 +2,10 @@ ghost use Rattle.std.specs.Prelude.{◌≡◌};
 
 use crate::processors::{ANSWERED, TWO};
 use crate::written::{receipt_of, script_of};
-use pg_board::Board;
 use pg_guest::Advance;
 use pg_progress::{Counts, Progress, Publisher};
 use pg_script::Script;
+use pg_threads::Board;
 use std::alloc::{AllocError, Global};
 use std::test::Fail;
 

@@ -1,10 +1,10 @@
 use crate::written::script_of;
-use pg_board::Board;
 use pg_check::{History, check_event};
 use pg_event::{Event, well_formed};
 use pg_guest::Advance;
 use pg_progress::Progress;
 use pg_script::Script;
+use pg_threads::Board;
 use std::alloc::Global;
 use std::test::Fail;
 

@@ -8,7 +8,7 @@ use Rattle.pg_home.specs.CoreRun.{IsCoreRun}
 use Rattle.pg_home.specs.Turn.{Processor}
 use Rattle.pg_home.proofs.Runs.{set_other}
 use Rattle.pg_world.specs.Recording.{Recording}
-use Rattle.pg_board.specs.Boards.{HasToldAll}
+use Rattle.pg_threads.specs.Boards.{HasToldAll}
 use Rattle.pg_threads.specs.Guests.{HaveToldAll, StayBut}
 
 -- ---- the other processors

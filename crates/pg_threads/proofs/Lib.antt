@@ -1,4 +1,7 @@
 mod AfterTurns
+mod GoesOn
+mod OfScripts
 mod SameEvents
+mod Untaken
 mod WholeRuns
 mod WholeSegments

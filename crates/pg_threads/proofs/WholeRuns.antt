@@ -20,7 +20,7 @@ use Rattle.pg_runner.specs.Lines.{IsSingleRun}
 use Rattle.pg_runner.specs.Runs.{IsRunOfScript, RunsTo, record_of}
 use Rattle.pg_runner.proofs.Started.{quiet_of, told_of, head_of, count_of, instructions_are}
 use Rattle.pg_runner.proofs.Whole.{all_within, transcripts_seen, whose}
-use Rattle.pg_board.specs.Boards.{IsRunOf, untaken}
+use Rattle.pg_threads.specs.Boards.{IsRunOf, untaken}
 use Rattle.pg_threads.specs.Guests.{HaveToldAll, IsGuestRun}
 use Rattle.pg_threads.specs.Live.{IsWant}
 

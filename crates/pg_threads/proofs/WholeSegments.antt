@@ -7,7 +7,7 @@ use Rattle.pg_check.specs.Judging.{Findings, IsJudged, MayFollow}
 use Rattle.pg_check.specs.Kept.{AreWellFormed}
 use Rattle.std.specs.declared.alloc.Global.{Global}
 use Rattle.std.specs.declared.vec.Vec.{Vec}
-use Rattle.pg_board.specs.Boards.{Desk, after_take}
+use Rattle.pg_threads.specs.Boards.{Desk, after_take}
 use Rattle.pg_event.proofs.Chunks.{all_append}
 use Rattle.pg_event.specs.declared.event.Event.{Event}
 use Rattle.pg_event.specs.Heads.{Head}

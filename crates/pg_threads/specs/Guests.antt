@@ -1,6 +1,6 @@
 -- Runs of guest scripts whose processors carry their instructions out in threads.
 use Rattle.std.specs.Prelude.{◌≡◌, ◌≢◌, ℕ, List, map, slice_get}
-use Rattle.pg_board.specs.Boards.{HasToldAll}
+use Rattle.pg_threads.specs.Boards.{HasToldAll}
 use Rattle.pg_home.specs.Turn.{Processor}
 use Rattle.pg_report.specs.declared.report.Verdict.TheVariants.{Yes}
 use Rattle.pg_report.specs.Text.{report_of}

@@ -2,15 +2,16 @@
 
 ghost use Rattle.std.specs.Prelude.{◌≡◌, ◌≢◌, ◌<◌, ℕ, length, map, IfOk, IfErr, IsTrue};
 ghost use Rattle.std.specs.Prelude.{slice_get};
-ghost use Rattle.pg_board.specs.Boards.{HasToldAll, IsRunOf};
+ghost use Rattle.pg_threads.specs.Boards.{HasToldAll, IsRunOf};
 ghost use Rattle.pg_guest.specs.Held.{seen};
 ghost use Rattle.pg_event.specs.Spelling.{IsRecord};
 ghost use Rattle.pg_runner.specs.Runs.{record_of};
 ghost use Rattle.pg_threads.specs.Live.{IsWant};
 ghost use Rattle.pg_threads.specs.Guests.{IsGuestRun, HaveToldAll, StayBut};
 
+use crate::board::Board;
+use crate::finished::Finished;
 use crate::live_judging::LiveJudging;
-use pg_board::{Board, Finished};
 use pg_guest::Advance;
 use pg_home::Stop;
 use pg_pool::Gate;

@@ -8,11 +8,11 @@ ghost use Rattle.pg_runner.specs.Runs.{record_of};
 ghost use Rattle.pg_threads.specs.Guests.{IsGuestRun};
 ghost use Rattle.pg_threads.specs.Live.{IsWant};
 
+use crate::board::Board;
 use crate::ending::ended;
 use crate::live_judging::LiveJudging;
 use crate::lookout::Lookout;
 use crate::processor_threads::run_processors;
-use pg_board::Board;
 use pg_pool::{Gate, OpenGate};
 use pg_progress::{Nobody, Onlooker, Progress};
 use pg_report::Crew;

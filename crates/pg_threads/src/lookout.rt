@@ -4,10 +4,10 @@ ghost use Rattle.std.specs.Prelude.{◌≡◌, IfErr};
 ghost use Rattle.pg_progress.specs.Seats.{IsNotBelow};
 ghost use Rattle.pg_threads.specs.Live.{IsWant};
 
+use crate::board::Board;
 use crate::live_judging::LiveJudging;
 use crate::segments::take_segments;
 use crossbeam_utils::Backoff;
-use pg_board::Board;
 use pg_pool::Gate;
 use pg_progress::{Counts, Onlooker, Progress, ReadSeat};
 use pg_report::Crew;

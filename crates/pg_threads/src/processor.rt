@@ -2,7 +2,7 @@
 
 ghost use Rattle.std.specs.Prelude.{◌≢◌};
 
-use pg_board::Board;
+use crate::board::Board;
 use pg_guest::Advance;
 use pg_home::Stop;
 use pg_pool::Gate;

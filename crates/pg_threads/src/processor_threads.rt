@@ -3,10 +3,10 @@
 ghost use Rattle.std.specs.Prelude.{◌≡◌, ◌≢◌, ◌⊎◌, ◌↔◌, true, Err, IfErr, length};
 ghost use Rattle.pg_threads.specs.Live.{IsWant};
 
+use crate::board::Board;
 use crate::live_judging::LiveJudging;
 use crate::lookout::{Lookout, watch};
 use crate::processor::run_processor;
-use pg_board::Board;
 use pg_pool::Gate;
 use pg_progress::Onlooker;
 use pg_report::Crew;

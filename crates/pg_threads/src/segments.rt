@@ -4,7 +4,7 @@ ghost use Rattle.std.specs.Prelude.{◌≡◌, ◌%◌, length, IfOk};
 ghost use Rattle.pg_check.specs.Kept.{AreWellFormed};
 ghost use Rattle.pg_threads.specs.Live.{AreSegments};
 
-use pg_board::Board;
+use crate::board::Board;
 use pg_event::{Event, Header};
 use std::alloc::{AllocError, Global};
 use std::sync::{Mutex, Wait};

@@ -3,7 +3,7 @@ use Rattle.std.proofs.lemmas.List.{length-map}
 use Rattle.pg_event.specs.Heads.{Head}
 use Rattle.pg_guest.specs.Held.{seen}
 use Rattle.pg_runner.proofs.Started.{count_of}
-use Rattle.pg_board.specs.Boards.{untaken}
+use Rattle.pg_threads.specs.Boards.{untaken}
 use Rattle.pg_threads.proofs.AfterTurns.{all_told}
 use Rattle.pg_threads.proofs.ending.end_all.Goals as goal
 

@@ -1,6 +1,6 @@
 use Rattle.std.proofs.Common.{◌≡◌, ℕ, ◌<◌, length, map}
 use Rattle.pg_guest.specs.Held.{seen}
-use Rattle.pg_board.specs.Boards.{HasToldAll, IsRunOf}
+use Rattle.pg_threads.specs.Boards.{HasToldAll, IsRunOf}
 use Rattle.pg_threads.proofs.ending.end_all.Given as goal
 
 abbrev pub invariant-loop-p : goal.invariant-loop-p

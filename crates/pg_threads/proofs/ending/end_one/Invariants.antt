@@ -1,6 +1,6 @@
 use Rattle.std.proofs.Common.{◌≡◌, length, map}
 use Rattle.pg_guest.specs.Held.{seen}
-use Rattle.pg_board.specs.Boards.{IsRunOf}
+use Rattle.pg_threads.specs.Boards.{IsRunOf}
 use Rattle.pg_threads.specs.Guests.{StayBut}
 use Rattle.pg_threads.proofs.ending.end_one.Given as goal
 

@@ -17,7 +17,7 @@ use Rattle.pg_home.specs.declared.advance.Advance.{Advance}
 use Rattle.pg_home.specs.declared.advance.Advance.TheVariants as answers
 use Rattle.pg_home.specs.declared.advance.Stop.{Stop}
 use Rattle.pg_home.specs.Turn.{Processor, Turned, from_root, from_table, keeps, after_read, goes_on, begun, turned_by, turned, refused_by, MayStop, IsTurn}
-use Rattle.pg_board.specs.Boards.{untaken}
+use Rattle.pg_threads.specs.Boards.{untaken}
 
 abbrev pub untake : Turned → Turned
 untake t = record t { world = untaken t.world }

@@ -1,5 +1,5 @@
-use Rattle.pg_board.proofs.OfScripts.{after_taking}
-use Rattle.pg_board.proofs.board.Board.take_sealed.Goals as goal
+use Rattle.pg_threads.proofs.OfScripts.{after_taking}
+use Rattle.pg_threads.proofs.board.Board.take_sealed.Goals as goal
 
 pub invariant_of-self : goal.invariant_of-self
 invariant_of-self c = (

@@ -27,8 +27,8 @@ use Rattle.pg_world.specs.Recording.{Recording, with_taken}
 use Rattle.pg_runner.specs.Runs.{AreStarted, RunsTo}
 use Rattle.pg_runner.proofs.Started.{quiet_of, told_of, head_of, open_of, instructions_are, left_of, one_turn_more}
 use Rattle.pg_runner.proofs.Whole.{none_carried}
-use Rattle.pg_board.specs.Boards.{HasToldAll, IsBoard, IsRunOf, untaken}
-use Rattle.pg_board.proofs.Untaken.{untake, turn_untaken}
+use Rattle.pg_threads.specs.Boards.{HasToldAll, IsBoard, IsRunOf, untaken}
+use Rattle.pg_threads.proofs.Untaken.{untake, turn_untaken}
 
 -- ---- before the first turn
 

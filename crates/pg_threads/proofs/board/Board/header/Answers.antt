@@ -1,10 +1,10 @@
 use Rattle.std.proofs.Common.{map, subst}
-use Rattle.pg_board.specs.Boards.{Desk}
+use Rattle.pg_threads.specs.Boards.{Desk}
 use Rattle.pg_guest.specs.Held.{seen}
 use Rattle.pg_home.specs.Laws.{IsQuiet}
 use Rattle.pg_home.specs.Transcripts.{AreTold}
-use Rattle.pg_board.proofs.OfScripts.{board_quiet, board_told, board_open}
-use Rattle.pg_board.proofs.board.Board.header.Goals as goal
+use Rattle.pg_threads.proofs.OfScripts.{board_quiet, board_told, board_open}
+use Rattle.pg_threads.proofs.board.Board.header.Goals as goal
 
 pub returns-clause-quiet : goal.returns-clause-quiet
 returns-clause-quiet c = subst (λ (d : Desk). IsQuiet d.world (map seen d.processors)) c.self.view_is (board_quiet _ _ c.self.invariant.0)

@@ -1,7 +1,7 @@
 use Rattle.std.proofs.Common.{◌∙◌, ap}
 use Rattle.pg_home.specs.CoreRun.{unwritten}
-use Rattle.pg_board.proofs.OfScripts.{new_board}
-use Rattle.pg_board.proofs.board.Board.new.Goals as goal
+use Rattle.pg_threads.proofs.OfScripts.{new_board}
+use Rattle.pg_threads.proofs.board.Board.new.Goals as goal
 
 pub invariant_of-result : goal.invariant_of-result
 invariant_of-result c = (

@@ -4,10 +4,10 @@ use Rattle.pg_guest.specs.Runs.{ArePlaced}
 use Rattle.pg_home.specs.CoreRun.{IsCoreRun}
 use Rattle.pg_progress.specs.Seats.{Seated}
 use Rattle.pg_runner.proofs.Whole.{front}
-use Rattle.pg_board.specs.Boards.{Desk, HasToldAll, IsBoard, IsRunOf}
-use Rattle.pg_board.proofs.GoesOn.{goes_on}
-use Rattle.pg_board.proofs.OfScripts.{board_open, turned_board, ended_told, script_kept}
-use Rattle.pg_board.proofs.board.Board.turn.Goals as goal
+use Rattle.pg_threads.specs.Boards.{Desk, HasToldAll, IsBoard, IsRunOf}
+use Rattle.pg_threads.proofs.GoesOn.{goes_on}
+use Rattle.pg_threads.proofs.OfScripts.{board_open, turned_board, ended_told, script_kept}
+use Rattle.pg_threads.proofs.board.Board.turn.Goals as goal
 
 pub turn-answer-requires-clause-placed : goal.turn-answer-requires-clause-placed
 turn-answer-requires-clause-placed c =

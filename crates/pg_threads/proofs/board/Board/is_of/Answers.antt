@@ -1,8 +1,8 @@
 use Rattle.std.proofs.Common.{◌≡◌, ◌∙◌, ◌<◌, length, Some, slice_get, refl, ap, sym, subst, arith}
 use Rattle.std.proofs.lemmas.Option.{slice_get_read, slice_get_within}
-use Rattle.pg_board.specs.Boards.{Desk, IsRunOf}
-use Rattle.pg_board.proofs.OfScripts.{run_of_same, same_of_run, own_one_more, HaveInstructionsOf}
-use Rattle.pg_board.proofs.board.Board.is_of.Goals as goal
+use Rattle.pg_threads.specs.Boards.{Desk, IsRunOf}
+use Rattle.pg_threads.proofs.OfScripts.{run_of_same, same_of_run, own_one_more, HaveInstructionsOf}
+use Rattle.pg_threads.proofs.board.Board.is_of.Goals as goal
 
 pub returns-then-not-is_same : goal.returns-then-not-is_same
 returns-then-not-is_same c = (

@@ -10,8 +10,8 @@ ghost use Rattle.pg_script.specs.Tasks.{instructions_of};
 ghost use Rattle.pg_world.specs.Kept.{IsSegment};
 ghost use Rattle.pg_world.specs.Recording.{sealed_count, segment_of};
 ghost use Rattle.pg_progress.specs.Seats.{IsPair};
-ghost use Rattle.pg_board.specs.Boards.{HasToldAll, IsBoard, IsRunOf, after_take, counts_of};
-ghost use Rattle.pg_board.specs.Boards.{stored_after};
+ghost use Rattle.pg_threads.specs.Boards.{HasToldAll, IsBoard, IsRunOf, after_take, counts_of};
+ghost use Rattle.pg_threads.specs.Boards.{stored_after};
 
 use crate::finished::Finished;
 use pg_event::{Event, Header};
@@ -37,7 +37,7 @@ pub struct Board<'a> {
 
 impl<'a> Model for Board<'a> {
     ghost use Rattle.std.specs.Prelude.{◌≡◌};
-    ghost use Rattle.pg_board.specs.Boards.{Desk, IsBoard};
+    ghost use Rattle.pg_threads.specs.Boards.{Desk, IsBoard};
 
     ghost Value = { Desk };
 

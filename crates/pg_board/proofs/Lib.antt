@@ -1,3 +1,0 @@
-mod GoesOn
-mod Untaken
-mod OfScripts
