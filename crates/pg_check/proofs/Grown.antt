@@ -9,7 +9,7 @@ use Rattle.pg_chain.specs.Standing.{IsPast}
 use Rattle.pg_chain.specs.Walked.{chain_of}
 use Rattle.pg_check.specs.declared.memo.Slot.{Slot}
 use Rattle.pg_check.specs.Lasting.{IsLasting}
-use Rattle.pg_check.specs.Remembered.{HasWalk, HaveWalks, IsWithin, walk_in}
+use Rattle.pg_check.specs.Remembered.{HasWalk, HaveWalks, IsWithin, IsLeaf, walk_in}
 use Rattle.pg_check.proofs.Alike.{AreAlike, alike-next, alike-past, alike-longer, same-head, alike_chain, alike_lasts, in_order-later}
 use Rattle.pg_check.proofs.Pages.{kind_paged}
 
@@ -33,6 +33,7 @@ walk_stays old new n head xs ys (Some s) was is alike has = (
       let here : IsPast new head events = subst (λ (h : Head). IsPast new h events) (sym same) stands in
       subst (λ (h : Head). Says s h events) same
       (says_alike n head xs events s (alike-next n head xs ys events alike (alike-past new n head ys events is here)) has.0 (has.1 head xs was)),
+  λ other events stands. subst (λ (h : Head). IsLeaf h s) (same-head new head other ys events is stands) (has.2 head xs was),
 )
 
 walks_stay : (old new : Past) (n : ℕ) (head : Head) (xs ys : List Event) (slots : List (Option Slot)) → IsPast old head xs → IsPast new head ys → AreAlike n head xs ys → HaveWalks old n slots → HaveWalks new n slots
@@ -57,8 +58,11 @@ walk_later past n m (Some s) le has =
         ordered = in_order-later s.moments n m le within.ordered;
         read = omega (arith, le, read);
         asked = omega (arith, le, asked);
+        frame = within.frame;
+        shift = within.shift;
       },
       has.1,
+      has.2,
     )
 
 pub walks_later : (past : Past) (n m : ℕ) (slots : List (Option Slot)) → n ≤ m → HaveWalks past n slots → HaveWalks past m slots

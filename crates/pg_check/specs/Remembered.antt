@@ -1,6 +1,9 @@
 -- What a memo of walks keeps true.
-use Rattle.std.specs.Prelude.{◌≡◌, ℕ, ◌-◌, ◌%◌, ◌^◌, ◌≤◌, ◌==◌, true, if◌then◌else◌, List, length, Option, Some, None, Ok}
+use Rattle.std.specs.Prelude.{◌≡◌, ℕ, ◌-◌, ◌%◌, ◌^◌, ◌<◌, ◌≤◌, ◌==◌, Bool, true, if◌then◌else◌}
+use Rattle.std.specs.Prelude.{List, length, Option, Some, None, Ok}
 use Rattle.std.specs.List.{AllByRecursion}
+use Rattle.pg_entry.specs.declared.Kind.TheVariants as kinds
+use Rattle.pg_entry.specs.Kinds.{kind_of, IsPageShift}
 use Rattle.pg_event.specs.declared.event.Event.{Event}
 use Rattle.pg_event.specs.declared.event.Want.TheVariants as wants
 use Rattle.pg_event.specs.Heads.{Head}
@@ -40,12 +43,28 @@ walk_in s = record {
   dropped = s.dropped;
 }
 
+-- the same walk, of which it is known that nothing drops its translation before a number
+abbrev pub lasting_to : ℕ → Slot → Lasting
+lasting_to number s = record {
+  chain = (walk_in s).chain;
+  global = s.global;
+  asked = number;
+  dropped = None;
+}
+
+-- the walk of a slot ends with a leaf, which maps the page that the slot names
+pub record IsLeaf (head : Head) (s : Slot) : Type 0 where
+  pub global_bit : Bool
+  pub kind : kind_of head.cfg s.level s.value ≡ kinds.Leaf s.frame s.shift global_bit
+
 -- what a slot says rests on the first so many events alone
 pub record IsWithin (limit : ℕ) (s : Slot) : Type 0 where
   pub few : length s.moments ≤ 4
   pub ordered : is_in_order s.moments limit ≡ true
   pub read : s.moment ≤ limit
   pub asked : s.asked ≤ limit
+  pub frame : s.frame < 2 ^ 52
+  pub shift : IsPageShift s.shift
 
 -- a slot has what the walk comes to that it names, of every run that the past stands for, and goes
 -- on having it while events are added
@@ -56,6 +75,7 @@ HasWalk past limit (Some s) =
     × ((head : Head) (events : List Event) → IsPast past head events →
     (chain_of head events s.p s.page s.moments wants.Leaf ≡ Ok (walk_in s).chain)
     × IsLasting head events s.p s.page (walk_in s))
+    × ((head : Head) (events : List Event) → IsPast past head events → IsLeaf head s)
 
 abbrev pub HaveWalks : Past → ℕ → List (Option Slot) → Type 0
 HaveWalks past limit slots = AllByRecursion (HasWalk past limit) slots

@@ -1,13 +1,13 @@
 //! Walks that were made, kept so that they need not be made again.
 
-ghost use Rattle.std.specs.Prelude.{◌≡◌, ◌<◌, ℕ, List, Ok, IfOk, IfSome, IsTrue, true};
+ghost use Rattle.std.specs.Prelude.{◌≡◌, ◌<◌, ◌^◌, ℕ, List, Ok, Some, IfOk, IfSome, IsTrue};
 ghost use Rattle.pg_event.specs.declared.event.Event.{Event};
 ghost use Rattle.pg_event.specs.declared.event.Want.TheVariants.{Leaf};
 ghost use Rattle.pg_event.specs.Heads.{Head};
 ghost use Rattle.pg_event.specs.Values.{control_at};
-ghost use Rattle.pg_event.specs.Witness.{is_in_order};
 ghost use Rattle.pg_chain.specs.declared.past.Past.{Past};
 ghost use Rattle.pg_chain.specs.Standing.{IsPast, processor_count};
+ghost use Rattle.pg_entry.specs.Kinds.{IsPageShift};
 ghost use Rattle.pg_check.specs.Lasting.{IsAsked, IsWalk};
 ghost use Rattle.pg_check.specs.Remembered.{HasWalk, HaveWalks, IsWithin, walk_in};
 
@@ -17,8 +17,8 @@ use crate::places::{
     walks_before, with_room,
 };
 use crate::walk::is_in_order;
-use pg_chain::{Chain, EntryRead, Past, Reader};
-use pg_entry::{Level, Rights};
+use pg_chain::{Chain, EntryRead, Past, Reader, kind_at};
+use pg_entry::{Kind, Level, Rights};
 use pg_event::{Control, Moments, Reason, Want};
 use std::marker::Model;
 
@@ -39,11 +39,15 @@ pub struct Slot {
     pub rights: Rights,
     pub tables: bool,
     pub global: bool,
+    /// The binary logarithm of the size of the page that the leaf maps.
+    pub shift: u8,
+    /// Its first physical address.
+    pub frame: u64,
 }
 
 /// What the walk of a slot came to.
 #[inline(always)]
-fn walk_in(slot: &Slot) -> Lasting
+pub(crate) fn walk_in(slot: &Slot) -> Lasting
     ensures { result ≡ walk_in slot.now }
 {
     Lasting {
@@ -64,9 +68,10 @@ fn walk_in(slot: &Slot) -> Lasting
     }
 }
 
-/// The slot of a walk.
-fn slot_of(p: u16, page: u64, moments: &Moments, walk: Lasting) -> Slot
+/// The slot of a walk that ends with a leaf, which maps a page of 2 to the power of `shift` bytes.
+fn slot_of(p: u16, page: u64, moments: &Moments, walk: Lasting, frame: u64, shift: u8) -> Slot
     ensures names { (result.p ≡ p) × (result.page ≡ page) × (result.moments ≡ moments.now) }
+    ensures leaf { (result.frame ≡ frame) × (result.shift ≡ shift) }
     ensures walk { walk_in result ≡ walk }
 {
     let end = walk.chain.end;
@@ -84,11 +89,15 @@ fn slot_of(p: u16, page: u64, moments: &Moments, walk: Lasting) -> Slot
         rights: end.rights,
         tables: walk.chain.tables,
         global: walk.global,
+        shift,
+        frame,
     }
 }
 
 /// Whether what a slot says rests on the first so many events alone, so that later ones leave it.
 fn is_within(slot: &Slot, limit: u32) -> bool
+    requires frame { slot.now.frame < 2 ^ 52 }
+    requires shift { IsPageShift slot.now.shift }
     ensures { IsTrue result → IsWithin limit slot.now }
 {
     slot.moment <= limit && slot.asked <= limit && is_in_order(slot.moments.as_slice(), limit)
@@ -155,22 +164,21 @@ fn is_of(slot: &Slot, p: u16, page: u64, moments: &Moments) -> bool
 /// What a place of some slots has of a walk to a page. Each access asks it, so that a call would
 /// cost much.
 #[inline(always)]
-pub(crate) fn walk_at(
+pub(crate) fn slot_at(
     slots: &[Option<Slot>],
     place: usize,
     p: u16,
     page: u64,
     moments: &Moments,
-) -> Option<Lasting>
-    ensures ordered { (past : Past) (limit : ℕ) → HaveWalks past limit slots.now →
-        IfSome result (λ l. is_in_order moments.now limit ≡ true) }
+) -> Option<Slot>
+    ensures names { IfSome result
+        (λ s. (s.p ≡ p) × (s.page ≡ page) × (s.moments ≡ moments.now)) }
     ensures walk { (past : Past) (limit : ℕ) → HaveWalks past limit slots.now →
-        (head : Head) (events : List Event) → IsPast past head events →
-        IfSome result (λ l. IsWalk head events p page Leaf moments.now (Ok l)) }
+        IfSome result (λ s. HasWalk past limit (Some s)) }
 {
     match slots.get(place)? {
         Some(slot) => if is_of(slot, p, page, moments) {
-            Some(walk_in(slot))
+            Some(*slot)
         } else {
             None
         },
@@ -266,7 +274,10 @@ impl<'a> Memo<'a> {
         ensures { (head : Head) (events : List Event) → IsPast self.now head events →
             IfSome result (λ l. IsWalk head events p page Leaf moments.now (Ok l)) }
     {
-        walk_at(self.slots.as_slice(), place, p, page, moments)
+        match slot_at(self.slots.as_slice(), place, p, page, moments) {
+            Some(slot) => Some(walk_in(&slot)),
+            None => None,
+        }
     }
 
     /// What was kept of a walk to a page at the first of its two places or at the other, and where.
@@ -356,7 +367,10 @@ impl<'a> Memo<'a> {
         if place >= self.slots.len() {
             return;
         }
-        let slot = slot_of(p, page, moments, walk);
+        let Kind::Leaf { frame, shift, .. } = kind_at(self.reader.cfg(), walk.chain.end) else {
+            return;
+        };
+        let slot = slot_of(p, page, moments, walk, frame, shift);
         if is_within(&slot, self.limit) {
             self.slots[place] = Some(slot);
         }

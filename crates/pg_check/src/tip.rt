@@ -1,97 +1,106 @@
 //! The event that comes next, judged by what stands now: by a walk that was kept, where nothing
 //! dropped its translation since, as a processor uses its TLB.
 
-ghost use Rattle.std.specs.Prelude.{◌≡◌, ◌<◌, ◌≤◌, ℕ, List, length, Ok, IfSome, IsTrue, true};
+ghost use Rattle.std.specs.Prelude.{◌≡◌, ◌<◌, ◌≤◌, ℕ, List, length, Ok, Some, None, IfSome};
+ghost use Rattle.std.specs.Prelude.{IsTrue, true};
+ghost use Rattle.pg_entry.specs.Kinds.{IsPageShift};
 ghost use Rattle.pg_event.specs.declared.event.Event.{Event};
 ghost use Rattle.pg_event.specs.declared.event.Want.TheVariants.{Leaf};
 ghost use Rattle.pg_event.specs.Form.{processor_of};
 ghost use Rattle.pg_event.specs.Heads.{Head};
 ghost use Rattle.pg_event.specs.Wants.{want_of};
-ghost use Rattle.pg_event.specs.Values.{control_at};
-ghost use Rattle.pg_event.specs.Witness.{failing_access, failing_event, is_in_order};
+ghost use Rattle.pg_event.specs.Invalidation.{translation_key, must_drop_translation};
+ghost use Rattle.pg_event.specs.Witness.{failing_access, failing_event, survives};
 ghost use Rattle.pg_chain.specs.declared.past.Past.{Past};
-ghost use Rattle.pg_chain.specs.Standing.{InEachRun, IsNext, IsPast, processor_count};
-ghost use Rattle.pg_check.specs.Lasting.{IsAsked, IsWalk};
-ghost use Rattle.pg_check.specs.Remembered.{HaveWalks};
+ghost use Rattle.pg_chain.specs.Standing.{InEachRun, IsNext, processor_count};
+ghost use Rattle.pg_check.specs.Lasting.{IsWalk};
+ghost use Rattle.pg_check.specs.Remembered.{HasWalk, HaveWalks, IsLeaf, IsWithin, lasting_to};
 
-use crate::access::failing_chain;
+use crate::access::failing_leaf_chain;
 use crate::judge::failing;
 use crate::lasting::Lasting;
-use crate::memo::{Memo, walk_at};
+use crate::memo::{Memo, Slot, slot_at, walk_in};
 use crate::places::{Kept, page_of, place_of};
-use pg_chain::{Past, kind_at};
-use pg_entry::Kind;
+use pg_chain::Past;
 use pg_event::{
     Claim, Event, Moments, Reason, Request, Want, processor_of, translation_key, want_of,
 };
 use std::mem;
 
-/// A walk to a page that was kept, as it is known at the event with this number: where nothing
-/// dropped its translation since that was asked, which is told without a look into lists.
+/// Whether nothing dropped the translation of a slot since that was asked, as is told without a look
+/// into lists.
 #[inline(always)]
-fn outlasting(past: &Past, number: u32, p: u16, page: u64, walk: Lasting) -> Option<Lasting>
-    ensures asked { IfSome result (IsAsked number) }
-    ensures walk { (head : Head) (events : List Event) → IsPast past.now head events →
-        (ws : List ℕ) → IsWalk head events p page Leaf ws (Ok walk) →
-        IfSome result (λ l. IsWalk head events p page Leaf ws (Ok l)) }
+fn outlasts(past: &Past, slot: &Slot) -> bool
+    requires { IsPageShift slot.now.shift }
+    ensures found { IsTrue result → slot.now.dropped ≡ None }
+    ensures run { IsTrue result → let s = slot.now in
+        let key = translation_key s.pcid s.shift s.global s.page in
+        (to : ℕ) → InEachRun past.now (λ head events.
+        survives head events s.p (λ c e. must_drop_translation c e key) s.asked to ≡ true) }
 {
-    let Kind::Leaf { shift, .. } = kind_at(past.cfg(), walk.chain.end) else {
-        return None;
-    };
-    if walk.dropped.is_some() {
-        return None;
-    }
-    let key = translation_key(walk.chain.pcid, shift, walk.global, page);
-    if !past.translation_outlasts(p, key, walk.asked) {
-        return None;
-    }
-    Some(Lasting {
-        chain: walk.chain,
-        global: walk.global,
-        asked: number,
-        dropped: None,
-    })
+    let key = translation_key(slot.pcid, slot.shift, slot.global, slot.page);
+    slot.dropped.is_none() && past.translation_outlasts(slot.p, key, slot.asked)
 }
 
-/// The walk of an access to a page that the first of two places has, or else the other.
+/// The slot of an access to a page that the first of two places has, or else the other.
 #[inline(always)]
-fn kept_walk(kept: &Kept, first: usize, p: u16, page: u64, moments: &Moments) -> Option<Lasting>
-    ensures ordered { (past : Past) (limit : ℕ) → HaveWalks past limit kept.now.slots.items →
-        IfSome result (λ l. is_in_order moments.now limit ≡ true) }
+fn kept_slot(kept: &Kept, first: usize, p: u16, page: u64, moments: &Moments) -> Option<Slot>
+    ensures names { IfSome result
+        (λ s. (s.p ≡ p) × (s.page ≡ page) × (s.moments ≡ moments.now)) }
     ensures walk { (past : Past) (limit : ℕ) → HaveWalks past limit kept.now.slots.items →
-        (head : Head) (events : List Event) → IsPast past head events →
-        IfSome result (λ l. IsWalk head events p page Leaf moments.now (Ok l)) }
+        IfSome result (λ s. HasWalk past limit (Some s)) }
 {
     let slots = kept.slots.as_slice();
-    match walk_at(slots, first, p, page, moments) {
-        Some(walk) => Some(walk),
-        None => walk_at(slots, first | 1, p, page, moments),
+    match slot_at(slots, first, p, page, moments) {
+        Some(slot) => Some(slot),
+        None => slot_at(slots, first | 1, p, page, moments),
     }
 }
 
-/// The walk of the access that comes next, where it was kept and stands. `current` is the PCID:
+/// The slot with the walk of the access that comes next, where it stands. `current` is the PCID:
 /// walks are placed by it.
 #[inline(always)]
-fn standing_walk(
+fn standing_slot(
     past: &Past,
     kept: &Kept,
     current: u16,
     claim: &Claim,
     moments: &Moments,
-) -> Option<Lasting>
+) -> Option<Slot>
     requires { HaveWalks past.now claim.now.number kept.now.slots.items }
     ensures some { 1 ≤ length moments.now }
-    ensures asked { IfSome result (IsAsked claim.now.number) }
-    ensures ordered { IfSome result (λ l. is_in_order moments.now claim.now.number ≡ true) }
-    ensures walk { (head : Head) (events : List Event) → IsPast past.now head events →
-        IfSome result (λ l. IsWalk head events claim.now.p claim.now.la Leaf moments.now (Ok l)) }
+    ensures within { IfSome result (λ s. IsWithin claim.now.number s
+        × (s.moments ≡ moments.now)) }
+    ensures leaf { InEachRun past.now (λ head events. IfSome result (IsLeaf head)) }
+    ensures walk { InEachRun past.now (λ head events. IfSome result
+        (λ s. IsWalk head events claim.now.p claim.now.la Leaf moments.now
+        (Ok (lasting_to claim.now.number s)))) }
 {
     let levels = moments.len();
     let page = page_of(claim.la, levels);
     let first = place_of(kept.slots.len(), claim.p, page, levels, current);
-    match kept_walk(kept, first, claim.p, page, moments) {
-        Some(walk) => outlasting(past, claim.number, claim.p, page, walk),
+    match kept_slot(kept, first, claim.p, page, moments) {
+        Some(slot) => if outlasts(past, &slot) {
+            Some(slot)
+        } else {
+            None
+        },
         None => None,
+    }
+}
+
+/// The walk of a slot, of which it is known that nothing drops its translation before the event with
+/// this number.
+#[inline(always)]
+fn lasting_to(number: u32, slot: &Slot) -> Lasting
+    ensures { result ≡ lasting_to number slot.now }
+{
+    let walk = walk_in(slot);
+    Lasting {
+        chain: walk.chain,
+        global: walk.global,
+        asked: number,
+        dropped: None,
     }
 }
 
@@ -112,8 +121,12 @@ fn failing_standing(
         (λ found. found ≡ failing_access head events claim.now moments.now)) }
 {
     let current = past.latest_control(claim.p).pcid;
-    match standing_walk(past, kept, current, claim, moments) {
-        Some(walk) => Some(failing_chain(past, current, claim, walk)),
+    match standing_slot(past, kept, current, claim, moments) {
+        Some(slot) => {
+            let walk = lasting_to(claim.number, &slot);
+            let Slot { frame, shift, .. } = slot;
+            Some(failing_leaf_chain(past, current, claim, walk, frame, shift))
+        }
         None => None,
     }
 }
