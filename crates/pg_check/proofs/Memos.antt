@@ -65,9 +65,11 @@ pub lasts_to : (past : Past) (n : ℕ) (s : Slot) (number : ℕ) → HasWalk pas
 lasts_to past n s number has none head events h stands =
     let is = has.1 head events h in
     let leaf : IsLeaf head s = has.2 head events h in
-    let was : LastsTo head events s.p s.page (walk_in s) (Leaf s.frame s.shift leaf.global_bit) = subst (λ (k : Kind). LastsTo head events s.p s.page (walk_in s) k) leaf.kind is.1 in
-    (is.0, subst (λ (k : Kind). LastsTo head events s.p s.page (lasting_to number s) k) (sym leaf.kind)
-    (was.0, lasts_on (drops_at head events s.p (translation_key s.pcid s.shift s.global s.page)) s.moment s.asked number s.dropped none was.1 stands))
+    let was : LastsTo head events s.p s.page (walk_in s) (Leaf s.frame s.shift leaf.global_bit) = subst (λ (k : Kind). LastsTo head events s.p s.page (walk_in s) k) leaf.kind is.1 in (
+      is.0,
+      subst (λ (k : Kind). LastsTo head events s.p s.page (lasting_to number s) k) (sym leaf.kind)
+          (was.0, lasts_on (drops_at head events s.p (translation_key s.pcid s.shift s.global s.page)) s.moment s.asked number s.dropped none was.1 stands),
+    )
 
 -- moments that are the same as they are kept, with noughts behind them, are the same
 pub same_moments : (xs ys us vs : List ℕ) → (nat_eq (length xs) (length ys) && pointwise nat_eq (xs ++ us) (ys ++ vs)) ≡ true → xs ≡ ys
