@@ -27,8 +27,8 @@ use pg_event::{
 };
 use std::mem;
 
-/// Whether nothing dropped the translation of a slot since that was asked, as is told without a look
-/// into lists.
+/// Whether nothing dropped the translation of a slot since that was asked, as is told without a
+/// look into lists.
 #[inline(always)]
 fn outlasts(past: &Past, slot: &Slot) -> bool
     requires { IsPageShift slot.now.shift }
@@ -89,8 +89,8 @@ fn standing_slot(
     }
 }
 
-/// The walk of a slot, of which it is known that nothing drops its translation before the event with
-/// this number.
+/// The walk of a slot, of which it is known that nothing drops its translation before the event
+/// with this number.
 #[inline(always)]
 fn lasting_to(number: u32, slot: &Slot) -> Lasting
     ensures { result ≡ lasting_to number slot.now }
