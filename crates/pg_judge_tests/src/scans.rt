@@ -77,12 +77,11 @@ fn moments_read(alloc: Global) -> Result<(u64, u64), Fail> {
     Ok((without, with))
 }
 
-/// Where no walk is kept, each of 10,240 reads looks up three tables and when its translation had
-/// to go; else that is looked up once for each of 512 pages.
+/// Where walks are kept, when a translation had to go is looked up in lists at most once for each
+/// of 512 pages, and not for each of 10,240 reads.
 #[test]
 fn pages_read_again(rt: HostRuntime) -> Result<(), Fail> {
     let (without, with) = moments_read(rt.alloc())?;
-    let is_few = with >= 512 && with <= without / 10;
-    assert!(rt; without >= 40_960 && is_few, "{without}, {with}");
+    assert!(rt; with <= 512, "{without}, {with}");
     Ok(())
 }
