@@ -1,4 +1,4 @@
-//! How often judging looks into the past where pages are read again and again.
+//! Judging where pages are read again and again, with room for walks and without.
 
 use crate::written::{Written, add, add_all, started};
 use pg_check::History;
@@ -77,8 +77,9 @@ fn moments_read(alloc: Global) -> Result<(u64, u64), Fail> {
     Ok((without, with))
 }
 
-/// Where walks are kept, when a translation had to go is looked up in lists at most once for each
-/// of 512 pages, and not for each of 10,240 reads.
+/// Both find no bad event, and with room at most 512 moments are read in lists for 10,240 reads: a
+/// reader that kept no words of upper tables would read 30,720. That walks are kept is not tested:
+/// without room nothing is counted, so the two numbers can't be compared.
 #[test]
 fn pages_read_again(rt: HostRuntime) -> Result<(), Fail> {
     let (without, with) = moments_read(rt.alloc())?;
