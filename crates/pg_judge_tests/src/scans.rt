@@ -77,9 +77,9 @@ fn moments_read(alloc: Global) -> Result<(u64, u64), Fail> {
     Ok((without, with))
 }
 
-/// Both find no bad event, and with room at most 512 moments are read in lists for 10,240 reads: a
-/// reader that kept no words of upper tables would read 30,720. That walks are kept is not tested:
-/// without room nothing is counted, so the two numbers can't be compared.
+/// Both find no bad event, and with room at most 512 moments are read in lists: a reader that kept
+/// no words of upper tables would read three for each of 512 walks. That walks are kept is not
+/// tested: without room nothing is counted, so the two numbers can't be compared.
 #[test]
 fn pages_read_again(rt: HostRuntime) -> Result<(), Fail> {
     let (without, with) = moments_read(rt.alloc())?;
