@@ -1,10 +1,10 @@
 -- Up to which moment keys may have been dropped, as a run grows or is cut.
 use Rattle.std.proofs.Common.{◌≡◌, ℕ, suc, zero, ◌+◌, ◌-◌, ◌<◌, ◌≤◌, Bool, true, false, not, cond, ◌&&◌, ◌||◌, nat_eq, nat_lt, List, [], ◌∷◌, ◌++◌, length, get_or, set, None, refl, ap, sym, subst, ◌∙◌, arith, inl, inr}
-use Rattle.std.proofs.lemmas.Bool.{cases_Bool, cases_eq, and_parts, eqb-true, false≢true}
+use Rattle.std.proofs.lemmas.List.Folds.{list_any-append}
+use Rattle.std.proofs.lemmas.Bool.{cases_Bool, or_cases, cases_eq, and_parts, eqb-true, false≢true}
 use Rattle.std.proofs.lemmas.List.{length-set, get_or-set_same, get_or-set_other}
-use Rattle.pg_timeline.specs.Timelines.{has_moment, IsLeastFrom}
-use Rattle.pg_timeline.specs.Keyed.{EndsBefore, AreCut}
-use Rattle.pg_timeline.proofs.Least.{has_moment-cut_at}
+use Rattle.pg_timeline.specs.Timelines.{IsLeastFrom}
+use Rattle.pg_inval.specs.declared.log.LogEntry.{LogEntry}
 use Rattle.pg_inval.specs.declared.key.DropKey.{DropKey}
 use Rattle.pg_event.specs.declared.keys.StructureKey.{StructureKey}
 use Rattle.pg_event.specs.declared.keys.TranslationKey.{TranslationKey}
@@ -12,9 +12,10 @@ use Rattle.pg_event.specs.Witness.{any_from}
 use Rattle.pg_inval.specs.declared.key.DropKey.TheVariants.{NotGlobal, Globals, StructuresOf, LocalsOf}
 use Rattle.pg_inval.specs.Keys.{is_same_key, has_key, structure_at, global_at, local_at, structure_keys, translation_keys}
 use Rattle.pg_inval.specs.SameKey.{same_key}
-use Rattle.pg_inval.specs.Lists.{Moments, ArePushed, AreSame, has_among, has_between}
+use Rattle.pg_inval.specs.Lists.{has_drop, has_among, has_between, cut_log}
 use Rattle.pg_inval.specs.Lasts.{place_of, MayHave, AreRaised, AreBounded}
-use Rattle.pg_inval.proofs.Pushes.{at_key, has_key-more, pushed_once}
+use Rattle.pg_inval.proofs.Logs.{keys_at, has_drop-push, has_drop-cut}
+use Rattle.pg_inval.proofs.Pushes.{has_key-more}
 
 -- ---- one place
 
@@ -62,42 +63,44 @@ AreRaised-one old mid new done key moment before kept own = record {
       ];
 }
 
+pub AreRaised-two : (a b c : List ℕ) (one two : List DropKey) (moment : ℕ) → AreRaised a b one moment → AreRaised b c two moment → AreRaised a c (one ++ two) moment
+AreRaised-two a b c one two moment first second = record {
+  kept = λ k m may. second.kept k m (first.kept k m may);
+  raised = λ k has.
+      elim (or_cases (has_key one k) (has_key two k) (sym (list_any-append (λ d. is_same_key d k) one two) ∙ has)) [
+        | inl was ↦ second.kept k moment (first.raised k was)
+        | inr own ↦ second.raised k own
+      ];
+}
+
+pub AreRaised-own : (old new : List ℕ) (key : DropKey) (moment : ℕ) → ((k : DropKey) (m : ℕ) → MayHave old k m → MayHave new k m) → MayHave new key moment → AreRaised old new (key ∷ []) moment
+AreRaised-own old new key moment kept own = AreRaised-one old old new [] key moment (AreRaised-none old moment) kept own
+
 -- ---- all keys
 
 pub AreBounded-empty : (lasts : List ℕ) → AreBounded lasts []
 AreBounded-empty lasts = λ k m has. absurd (false≢true has)
 
-pub AreBounded-pushed : (old new : List ℕ) (keys : List DropKey) (moment : ℕ) (before after : Moments) → AreRaised old new keys moment → AreBounded old before →
-    ArePushed before after keys moment → AreBounded new after
-AreBounded-pushed old new keys moment before after raised bounded pushed = λ k m has.
-    let more : (has_moment (at_key before k) m || (nat_eq moment m && has_key keys k)) ≡ true
-    = sym (ap (λ xs. has_moment xs m) (pushed.at k) ∙ pushed_once (has_key keys k) (at_key before k) moment m) ∙ has in
-    elim (cases_Bool (has_moment (at_key before k) m)) [
+pub AreBounded-pushed : (old new : List ℕ) (log : List LogEntry) (e : LogEntry) → AreRaised old new (keys_at e) e.moment → AreBounded old log → AreBounded new (log ++ e ∷ [])
+AreBounded-pushed old new log e raised bounded = λ k m has.
+    let more : (has_drop log k m || (nat_eq e.moment m && has_key (keys_at e) k)) ≡ true = sym (has_drop-push log e k m) ∙ has in
+    elim (cases_Bool (has_drop log k m)) [
       | inl was ↦ raised.kept k m (bounded k m was)
       | inr fresh ↦
-          let parts = and_parts (nat_eq moment m) (has_key keys k) (ap (λ b. b || (nat_eq moment m && has_key keys k)) (sym fresh) ∙ more) in
-          subst (λ (n : ℕ). MayHave new k n) (eqb-true moment m parts.0) (raised.raised k parts.1)
+          let parts = and_parts (nat_eq e.moment m) (has_key (keys_at e) k) (ap (λ b. b || (nat_eq e.moment m && has_key (keys_at e) k)) (sym fresh) ∙ more) in
+          subst (λ (n : ℕ). MayHave new k n) (eqb-true e.moment m parts.0) (raised.raised k parts.1)
     ]
 
-pub AreBounded-same : (old new : List ℕ) (keys : List DropKey) (moment : ℕ) (before after : Moments) → AreRaised old new keys moment → AreBounded old before →
-    AreSame before after → AreBounded new after
-AreBounded-same old new keys moment before after raised bounded same = λ k m has.
-    raised.kept k m (bounded k m (ap (λ xs. has_moment xs m) (sym (same.at k)) ∙ has))
-
-pub AreBounded-cut : (lasts : List ℕ) (before after : Moments) (moment : ℕ) → AreBounded lasts before → AreCut is_same_key before after moment → AreBounded lasts after
-AreBounded-cut lasts before after moment bounded cut = λ k m has.
-    let both : (has_moment (at_key before k) m && nat_lt m moment) ≡ true = sym (ap (λ xs. has_moment xs m) (cut.at k) ∙ has_moment-cut_at moment (at_key before k) m) ∙ has in
-    bounded k m (and_parts (has_moment (at_key before k) m) (nat_lt m moment) both).0
-
-pub EndsBefore-same : (before after : Moments) (n : ℕ) → EndsBefore is_same_key before n → AreSame before after → EndsBefore is_same_key after n
-EndsBefore-same before after n ends same = record { below = λ k. rw (same.at k) (ends.below k) }
+pub AreBounded-cut : (lasts : List ℕ) (log : List LogEntry) (w : ℕ) → AreBounded lasts log → AreBounded lasts (cut_log w log)
+AreBounded-cut lasts log w bounded = λ k m has.
+    bounded k m (and_parts (has_drop log k m) (nat_lt m w) (sym (has_drop-cut log w k m) ∙ has)).0
 
 -- ---- a key that has none
 
-pub none-over : (lasts : List ℕ) (entries : Moments) (key : DropKey) (from : ℕ) → AreBounded lasts entries → ((m : ℕ) → MayHave lasts key m → m < from) →
-    IsLeastFrom (has_moment (at_key entries key)) from None
-none-over lasts entries key from bounded over = λ j le.
-    elim (cases_Bool (has_moment (at_key entries key) j)) [
+pub none-over : (lasts : List ℕ) (log : List LogEntry) (key : DropKey) (from : ℕ) → AreBounded lasts log → ((m : ℕ) → MayHave lasts key m → m < from) →
+    IsLeastFrom (has_drop log key) from None
+none-over lasts log key from bounded over = λ j le.
+    elim (cases_Bool (has_drop log key j)) [
       | inl has ↦ let below : j < from = over j (bounded key j has) in absurd (omega (arith, le, below))
       | inr none ↦ none
     ]
@@ -120,29 +123,29 @@ not_false false h = sym h
 abbrev pub IsOver : List ℕ → DropKey → ℕ → Type 0
 IsOver lasts key from = (m : ℕ) → MayHave lasts key m → m < from
 
-pub global-outlasts : (lasts : List ℕ) (entries : Moments) (p : ℕ) (key : TranslationKey) (from to : ℕ) → AreBounded lasts entries → key.global ≡ true →
-    IsOver lasts (Globals p) from → IsOver lasts (global_at p key) from → has_between entries (translation_keys p key) from to ≡ false
-global-outlasts lasts entries p key from to bounded e all own =
-    ap (λ b. has_between entries (cond b (Globals p ∷ global_at p key ∷ []) (NotGlobal p ∷ LocalsOf p key.pcid ∷ local_at p key ∷ [])) from to) e
-    ∙ nowhere (has_among entries (Globals p ∷ global_at p key ∷ [])) from (to - from)
-    (λ j le. neither _ _ (none-over lasts entries (Globals p) from bounded all j le)
-    (neither _ false (none-over lasts entries (global_at p key) from bounded own j le) refl))
+pub global-outlasts : (lasts : List ℕ) (log : List LogEntry) (p : ℕ) (key : TranslationKey) (from to : ℕ) → AreBounded lasts log → key.global ≡ true →
+    IsOver lasts (Globals p) from → IsOver lasts (global_at p key) from → has_between log (translation_keys p key) from to ≡ false
+global-outlasts lasts log p key from to bounded e all own =
+    ap (λ b. has_between log (cond b (Globals p ∷ global_at p key ∷ []) (NotGlobal p ∷ LocalsOf p key.pcid ∷ local_at p key ∷ [])) from to) e
+    ∙ nowhere (has_among log (Globals p ∷ global_at p key ∷ [])) from (to - from)
+    (λ j le. neither _ _ (none-over lasts log (Globals p) from bounded all j le)
+    (neither _ false (none-over lasts log (global_at p key) from bounded own j le) refl))
 
-pub local-outlasts : (lasts : List ℕ) (entries : Moments) (p : ℕ) (key : TranslationKey) (from to : ℕ) → AreBounded lasts entries → key.global ≡ false →
+pub local-outlasts : (lasts : List ℕ) (log : List LogEntry) (p : ℕ) (key : TranslationKey) (from to : ℕ) → AreBounded lasts log → key.global ≡ false →
     IsOver lasts (NotGlobal p) from → IsOver lasts (LocalsOf p key.pcid) from → IsOver lasts (local_at p key) from →
-    has_between entries (translation_keys p key) from to ≡ false
-local-outlasts lasts entries p key from to bounded e all of_pcid own =
-    ap (λ b. has_between entries (cond b (Globals p ∷ global_at p key ∷ []) (NotGlobal p ∷ LocalsOf p key.pcid ∷ local_at p key ∷ [])) from to) e
-    ∙ nowhere (has_among entries (NotGlobal p ∷ LocalsOf p key.pcid ∷ local_at p key ∷ [])) from (to - from)
-    (λ j le. neither _ _ (none-over lasts entries (NotGlobal p) from bounded all j le)
-    (neither _ _ (none-over lasts entries (LocalsOf p key.pcid) from bounded of_pcid j le)
-    (neither _ false (none-over lasts entries (local_at p key) from bounded own j le) refl)))
+    has_between log (translation_keys p key) from to ≡ false
+local-outlasts lasts log p key from to bounded e all of_pcid own =
+    ap (λ b. has_between log (cond b (Globals p ∷ global_at p key ∷ []) (NotGlobal p ∷ LocalsOf p key.pcid ∷ local_at p key ∷ [])) from to) e
+    ∙ nowhere (has_among log (NotGlobal p ∷ LocalsOf p key.pcid ∷ local_at p key ∷ [])) from (to - from)
+    (λ j le. neither _ _ (none-over lasts log (NotGlobal p) from bounded all j le)
+    (neither _ _ (none-over lasts log (LocalsOf p key.pcid) from bounded of_pcid j le)
+    (neither _ false (none-over lasts log (local_at p key) from bounded own j le) refl)))
 
-pub structure-outlasts : (lasts : List ℕ) (entries : Moments) (p : ℕ) (key : StructureKey) (from to : ℕ) → AreBounded lasts entries →
+pub structure-outlasts : (lasts : List ℕ) (log : List LogEntry) (p : ℕ) (key : StructureKey) (from to : ℕ) → AreBounded lasts log →
     IsOver lasts (NotGlobal p) from → IsOver lasts (StructuresOf p key.pcid) from → IsOver lasts (structure_at p key) from →
-    has_between entries (structure_keys p key) from to ≡ false
-structure-outlasts lasts entries p key from to bounded all of_pcid own =
-    nowhere (has_among entries (structure_keys p key)) from (to - from)
-    (λ j le. neither _ _ (none-over lasts entries (NotGlobal p) from bounded all j le)
-    (neither _ _ (none-over lasts entries (StructuresOf p key.pcid) from bounded of_pcid j le)
-    (neither _ false (none-over lasts entries (structure_at p key) from bounded own j le) refl)))
+    has_between log (structure_keys p key) from to ≡ false
+structure-outlasts lasts log p key from to bounded all of_pcid own =
+    nowhere (has_among log (structure_keys p key)) from (to - from)
+    (λ j le. neither _ _ (none-over lasts log (NotGlobal p) from bounded all j le)
+    (neither _ _ (none-over lasts log (StructuresOf p key.pcid) from bounded of_pcid j le)
+    (neither _ false (none-over lasts log (structure_at p key) from bounded own j le) refl)))

@@ -1,5 +1,5 @@
 -- What is known of drops, as a run grows or is cut.
-use Rattle.std.proofs.Common.{◌≡◌, ℕ, ◌+◌, ◌-◌, ◌<◌, Bool, true, false, ◌&&◌, ◌||◌, nat_lt, nat_le, nat_eq, min, List, [], ◌∷◌, ◌++◌, length, length-append, Result, Ok, Err, refl, ap, sym, ◌∙◌, arith, inl, inr}
+use Rattle.std.proofs.Common.{◌≡◌, ℕ, ◌+◌, ◌-◌, ◌<◌, ◌≤◌, Bool, true, false, not, ◌&&◌, ◌||◌, nat_lt, nat_le, nat_eq, min, List, [], ◌∷◌, ◌++◌, length, length-append, Option, Result, Ok, Err, refl, ap, sym, ◌∙◌, arith, inl, inr}
 use Rattle.std.specs.Result.{OnErr}
 use Rattle.std.proofs.lemmas.Bool.{false≢true, and_from, eq-eqb}
 use Rattle.pg_event.specs.declared.event.Event.{Event}
@@ -14,14 +14,15 @@ use Rattle.pg_event.specs.Form.{processor_of}
 use Rattle.pg_event.specs.Values.{control_at}
 use Rattle.pg_event.specs.Invalidation.{structure_key, bits_from, must_drop_structure, must_drop_translation}
 use Rattle.pg_event.specs.Meaning.{takes_structure, takes_translation}
-use Rattle.pg_timeline.specs.Keyed.{Keyed, AreCut}
-use Rattle.pg_inval.specs.declared.key.DropKey.{DropKey}
-use Rattle.pg_inval.specs.Keys.{is_same_key, dropped_keys}
-use Rattle.pg_inval.specs.Lists.{has_among, ArePushed, AreSame}
+use Rattle.pg_event.specs.Witness.{any_from, survives}
+use Rattle.pg_inval.specs.declared.packed.Packed.{Packed}
+use Rattle.pg_inval.specs.Keys.{dropped_keys}
+use Rattle.pg_inval.specs.Packed.{invalidation_of}
+use Rattle.pg_inval.specs.Lists.{Log, has_among, has_between, cut_log, IsFirstDrop}
 use Rattle.pg_entry.specs.Kinds.{IsPageShift}
-use Rattle.pg_inval.specs.Drops.{DropsNothing, CacheEntry, Structure, Translation, must_drop, drops_between, keys_of, is_dropped, IsNoted, IsSame, IsCutAt, StandsFor}
-use Rattle.pg_inval.proofs.AnyFrom.{any_from-same, any_from-none, any_from-more, any_from-below, within}
-use Rattle.pg_inval.proofs.Pushes.{has_among-pushed, has_among-cut, has_among-same, has_among-none}
+use Rattle.pg_inval.specs.Drops.{DropsNothing, CacheEntry, Structure, Translation, MayBeCached, must_drop, drops_between, keys_of, is_dropped, IsNoted, IsSame, IsCutAt, StandsFor}
+use Rattle.pg_inval.proofs.AnyFrom.{any_from-same, any_from-none, any_from-more, any_from-below, within, IsFirstDrop-same}
+use Rattle.pg_inval.proofs.Logs.{has_among-push, has_among-cut, has_among-none}
 use Rattle.pg_inval.proofs.Table.{is_hit, takes, entry_table}
 use Rattle.pg_inval.proofs.Windows.{is_taken, is_taken-survives, is_taken-none, is_taken-push, is_taken-cut}
 
@@ -31,7 +32,7 @@ shift-small shift (inr (inl e)) = omega arith
 shift-small shift (inr (inr e)) = omega arith
 
 -- whether p had to drop an entry at a moment
-abbrev is_dropped_at : Keyed DropKey Unit → ℕ → CacheEntry → ℕ → Bool
+abbrev is_dropped_at : Log → ℕ → CacheEntry → ℕ → Bool
 is_dropped_at drops p entry j = has_among drops.entries (keys_of p entry) j
 
 -- ---- one more event
@@ -53,14 +54,15 @@ takes-must : (x : CacheEntry) (i : Invalidation) (c : Control) (e : Event) → (
 takes-must (Structure key) i c e structures translations = structures key
 takes-must (Translation key) i c e structures translations = translations key
 
-pub IsNoted-pushed : (old new : Keyed DropKey Unit) (moment : ℕ) (e : Event) (before : Control) (q : ℕ) (i : Invalidation) → q ≡ processor_of e →
+pub IsNoted-pushed : (old new : Log) (moment : ℕ) (e : Event) (before : Control) (q : ℕ) (i : Invalidation) (d : Packed) → invalidation_of d ≡ i → q ≡ processor_of e →
     ((key : StructureKey) → takes_structure i key ≡ must_drop_structure before e key) → ((key : TranslationKey) → takes_translation i key ≡ must_drop_translation before e key) →
-    new.next ≡ moment + 1 → ArePushed old.entries new.entries (dropped_keys q i) moment → IsNoted old new moment e before
-IsNoted-pushed old new moment e before q i own structures translations next pushed = record {
+    new.next ≡ moment + 1 → new.entries ≡ old.entries ++ record { moment = moment; p = q; packed = d } ∷ [] → IsNoted old new moment e before
+IsNoted-pushed old new moment e before q i d same own structures translations next pushed = record {
   next = next;
   drops = λ p x from to cached.
       any_from-same (is_dropped_at new p x) (λ j. is_dropped_at old p x j || (nat_eq moment j && is_hit (dropped_keys q i) (keys_of p x))) from (to - from)
-      (has_among-pushed old.entries new.entries (dropped_keys q i) moment pushed (keys_of p x))
+      (λ j. ap (λ es. has_among es (keys_of p x) j) pushed ∙ has_among-push old.entries (record { moment = moment; p = q; packed = d }) (keys_of p x) j
+      ∙ ap (λ v. is_dropped_at old p x j || (nat_eq moment j && is_hit (dropped_keys q v) (keys_of p x))) same)
       ∙ any_from-more (is_dropped_at old p x) moment (is_hit (dropped_keys q i) (keys_of p x)) from to
       ∙ ap (λ b. is_dropped old p x from to || (within from to moment && b)) (entry_table i q p x cached)
       ∙ ap (λ b. is_dropped old p x from to || (within from to moment && (nat_eq q p && b))) (takes-must x i before e structures translations)
@@ -68,46 +70,69 @@ IsNoted-pushed old new moment e before q i own structures translations next push
       ∙ ap (λ b. is_dropped old p x from to || b) (together (within from to moment) (nat_eq (processor_of e) p) (must_drop x before e));
 }
 
--- an event that drops nothing has no key
-takes_something : (x : CacheEntry) (i : Invalidation) (keys : List DropKey) → ((y : CacheEntry) → takes y i ≡ false) → takes x i ≡ true → keys ≡ []
-takes_something x i keys none some = absurd (false≢true (sym (none x) ∙ some))
+-- an event that drops nothing has the invalidation that takes nothing
+takes_something : (x : CacheEntry) (i : Invalidation) → ((y : CacheEntry) → takes y i ≡ false) → takes x i ≡ true → i ≡ Nothing
+takes_something x i none some = absurd (false≢true (sym (none x) ∙ some))
 
-no_keys : (q : ℕ) (i : Invalidation) → ((x : CacheEntry) → takes x i ≡ false) → dropped_keys q i ≡ []
-no_keys q Nothing none = refl
-no_keys q (Address pcid la globals) none =
-    takes_something (Structure (structure_key pcid Two la)) (Address pcid la globals) (dropped_keys q (Address pcid la globals)) none
+takes_nothing : (i : Invalidation) → ((x : CacheEntry) → takes x i ≡ false) → i ≡ Nothing
+takes_nothing Nothing none = refl
+takes_nothing (Address pcid la globals) none =
+    takes_something (Structure (structure_key pcid Two la)) (Address pcid la globals) none
     (and_from (nat_eq pcid pcid) (nat_eq (bits_from 21 la) (bits_from 21 la)) (eq-eqb pcid pcid refl) (eq-eqb (bits_from 21 la) (bits_from 21 la) refl))
-no_keys q (Page pcid la) none =
-    takes_something (Structure (structure_key pcid Two la)) (Page pcid la) (dropped_keys q (Page pcid la)) none (eq-eqb pcid pcid refl)
-no_keys q (Pcid pcid) none =
-    takes_something (Structure (structure_key pcid Two 0)) (Pcid pcid) (dropped_keys q (Pcid pcid)) none (eq-eqb pcid pcid refl)
-no_keys q (Everything globals) none =
-    takes_something (Structure (structure_key 0 Two 0)) (Everything globals) (dropped_keys q (Everything globals)) none refl
+takes_nothing (Page pcid la) none = takes_something (Structure (structure_key pcid Two la)) (Page pcid la) none (eq-eqb pcid pcid refl)
+takes_nothing (Pcid pcid) none = takes_something (Structure (structure_key pcid Two 0)) (Pcid pcid) none (eq-eqb pcid pcid refl)
+takes_nothing (Everything globals) none = takes_something (Structure (structure_key 0 Two 0)) (Everything globals) none refl
 
-pub dropped_keys-none : (q : ℕ) (i : Invalidation) (c : Control) (e : Event) → ((key : StructureKey) → takes_structure i key ≡ must_drop_structure c e key) →
-    ((key : TranslationKey) → takes_translation i key ≡ must_drop_translation c e key) → DropsNothing c e → dropped_keys q i ≡ []
-dropped_keys-none q i c e structures translations none = no_keys q i (λ x. takes-must x i c e structures translations ∙ none x)
+pub DropsNothing-none : (i : Invalidation) (c : Control) (e : Event) → ((key : StructureKey) → takes_structure i key ≡ must_drop_structure c e key) →
+    ((key : TranslationKey) → takes_translation i key ≡ must_drop_translation c e key) → DropsNothing c e → i ≡ Nothing
+DropsNothing-none i c e structures translations none = takes_nothing i (λ x. takes-must x i c e structures translations ∙ none x)
 
 drops_between-never : (m : ℕ) (e : Event) (c : Control) (p : ℕ) (x : CacheEntry) (from to : ℕ) → must_drop x c e ≡ false → drops_between m e c p x from to ≡ false
 drops_between-never m e c p x from to h =
     ap (λ b. nat_le from m && nat_lt m to && nat_eq (processor_of e) p && b) h
     ∙ never (nat_le from m && nat_lt m to && nat_eq (processor_of e) p)
 
-pub IsSame-same : (old new : Keyed DropKey Unit) → new.next ≡ old.next → AreSame old.entries new.entries → IsSame old new
-IsSame-same old new next same = record {
+nothing_taken : (x : CacheEntry) → takes x Nothing ≡ false
+nothing_taken (Structure key) = refl
+nothing_taken (Translation key) = refl
+
+pub IsNoted-nothing : (old new : Log) (moment : ℕ) (e : Event) (before : Control) →
+    ((key : StructureKey) → takes_structure Nothing key ≡ must_drop_structure before e key) → ((key : TranslationKey) → takes_translation Nothing key ≡ must_drop_translation before e key) →
+    new.next ≡ moment + 1 → new.entries ≡ old.entries → IsNoted old new moment e before
+IsNoted-nothing old new moment e before structures translations next same = record {
   next = next;
-  drops = λ p x from to _. any_from-same (is_dropped_at new p x) (is_dropped_at old p x) from (to - from) (has_among-same old.entries new.entries same (keys_of p x));
+  drops = λ p x from to _.
+      ap (λ es. has_between es (keys_of p x) from to) same
+      ∙ sym (or_false (is_dropped old p x from to))
+      ∙ ap (λ b. is_dropped old p x from to || b) (sym (drops_between-never moment e before p x from to (sym (takes-must x Nothing before e structures translations) ∙ nothing_taken x)));
 }
+
+pub IsSame-refl : (d : Log) → IsSame d d
+IsSame-refl d = record { next = refl; drops = λ p x from to _. refl }
 
 -- ---- a cut
 
-pub IsCutAt-cut : (old new : Keyed DropKey Unit) (moment : ℕ) → new.next ≡ min old.next moment → AreCut is_same_key old.entries new.entries moment → IsCutAt old new moment
+pub IsCutAt-cut : (old new : Log) (moment : ℕ) → new.next ≡ min old.next moment → new.entries ≡ cut_log moment old.entries → IsCutAt old new moment
 IsCutAt-cut old new moment next cut = record {
   next = omega arith;
   drops = λ p x from to _.
-      any_from-same (is_dropped_at new p x) (λ j. is_dropped_at old p x j && nat_lt j moment) from (to - from) (has_among-cut old.entries new.entries moment cut (keys_of p x))
+      any_from-same (is_dropped_at new p x) (λ j. is_dropped_at old p x j && nat_lt j moment) from (to - from)
+      (λ j. ap (λ es. has_among es (keys_of p x) j) cut ∙ has_among-cut old.entries moment (keys_of p x) j)
       ∙ any_from-below (is_dropped_at old p x) moment from to;
 }
+
+-- ---- a window
+
+pub is_dropped-never : (d : Log) (p : ℕ) (x : CacheEntry) (from to : ℕ) → to ≤ from → is_dropped d p x from to ≡ false
+is_dropped-never d p x from to le =
+    let none : to - from ≡ 0 = omega arith in
+    ap (any_from (is_dropped_at d p x) from) none
+
+-- the first drop that is noted is the first of the run
+pub IsFirstDrop-survives : (d : Log) (head : Head) (events : List Event) (p : ℕ) (x : CacheEntry) (from to : ℕ) (found : Option ℕ) → StandsFor d head events → MayBeCached x →
+    IsFirstDrop (is_dropped d p x) from to found → IsFirstDrop (λ a b. not (survives head events p (must_drop x) a b)) from to found
+IsFirstDrop-survives d head events p x from to found stands may first =
+    IsFirstDrop-same (is_dropped d p x) (λ a b. not (survives head events p (must_drop x) a b)) from to found (λ a b. stands.drops p x a b may) first
 
 -- ---- what drops stand for
 
@@ -120,7 +145,7 @@ StandsFor-start head = record {
       ∙ is_taken-none head p (must_drop x) from to ∙ is_taken-survives head [] p (must_drop x) from to;
 }
 
-pub StandsFor-cut : (old new : Keyed DropKey Unit) (head : Head) (before more : List Event) → StandsFor old head (before ++ more) → IsCutAt old new (length before) → StandsFor new head before
+pub StandsFor-cut : (old new : Log) (head : Head) (before more : List Event) → StandsFor old head (before ++ more) → IsCutAt old new (length before) → StandsFor new head before
 StandsFor-cut old new head before more stands cut = record {
   next = omega (arith, cut.next);
   drops = λ p x from to may.
@@ -131,7 +156,7 @@ StandsFor-cut old new head before more stands cut = record {
       ∙ is_taken-survives head before p (must_drop x) from to;
 }
 
-pub StandsFor-noted : (old new : Keyed DropKey Unit) (head : Head) (events : List Event) (moment : ℕ) (e : Event) (before : Control) → StandsFor old head events → moment ≡ length events → before ≡ control_at head events (processor_of e) moment → IsNoted old new moment e before → StandsFor new head (events ++ e ∷ [])
+pub StandsFor-noted : (old new : Log) (head : Head) (events : List Event) (moment : ℕ) (e : Event) (before : Control) → StandsFor old head events → moment ≡ length events → before ≡ control_at head events (processor_of e) moment → IsNoted old new moment e before → StandsFor new head (events ++ e ∷ [])
 StandsFor-noted old new head events moment e before stands count read noted =
     let more : length (events ++ e ∷ []) ≡ length events + 1 = length-append events (e ∷ []) in
     let n : ℕ = length events in
@@ -148,14 +173,14 @@ StandsFor-noted old new head events moment e before stands count read noted =
           ∙ is_taken-survives head (events ++ e ∷ []) p (must_drop x) from to;
     }
 
-pub StandsFor-same : (old new : Keyed DropKey Unit) (head : Head) (events : List Event) → StandsFor old head events → IsSame old new → StandsFor new head events
+pub StandsFor-same : (old new : Log) (head : Head) (events : List Event) → StandsFor old head events → IsSame old new → StandsFor new head events
 StandsFor-same old new head events stands same = record {
   next = omega (arith, stands.next, same.next);
   drops = λ p x from to may. same.drops p x from to may ∙ stands.drops p x from to may;
 }
 
 -- an event that drops nothing
-pub StandsFor-other : (d : Keyed DropKey Unit) (head : Head) (events : List Event) (e : Event) → StandsFor d head events → ((c : Control) → DropsNothing c e) → StandsFor d head (events ++ e ∷ [])
+pub StandsFor-other : (d : Log) (head : Head) (events : List Event) (e : Event) → StandsFor d head events → ((c : Control) → DropsNothing c e) → StandsFor d head (events ++ e ∷ [])
 StandsFor-other d head events e stands none =
     let more : length (events ++ e ∷ []) ≡ length events + 1 = length-append events (e ∷ []) in
     let n : ℕ = length events in

@@ -1,17 +1,15 @@
--- What is read of each key where some have one more moment, or all are cut.
-use Rattle.std.proofs.Common.{◌≡◌, ℕ, zero, suc, length, take, get_or, ◌+◌, ◌<◌, ◌≤◌, Bool, true, false, ◌&&◌, ◌||◌, nat_lt, nat_eq, cond, List, [], ◌∷◌, ◌++◌, refl, ap, sym, ◌∙◌, arith, inl, inr}
+-- The moments of each key where some have one more.
+use Rattle.std.proofs.Common.{◌≡◌, ℕ, zero, suc, length, take, get_or, ◌<◌, ◌≤◌, Bool, true, false, ◌||◌, cond, List, [], ◌∷◌, ◌++◌, refl, ap, sym, ◌∙◌, arith, inl, inr}
 use Rattle.std.specs.List.{list_any}
 use Rattle.std.proofs.lemmas.Bool.{cases_Bool, cond_both, lt-ltb, le-ltb, false≢true}
-use Rattle.std.proofs.lemmas.List.{take_more}
 use Rattle.std.proofs.lemmas.List.Folds.{list_any-append}
 use Rattle.pg_timeline.specs.declared.timeline.Stamp.{Stamp}
-use Rattle.pg_timeline.specs.Timelines.{end_of, cut_at, has_moment}
+use Rattle.pg_timeline.specs.Timelines.{end_of, cut_at}
 use Rattle.pg_timeline.specs.Keyed.{stamps_in, AreBelow, EndsBefore, IsPushed, AreCut}
-use Rattle.pg_timeline.proofs.Least.{has_moment-push, has_moment-cut_at}
-use Rattle.pg_timeline.proofs.Timelines.{AreBelow-push, AreBelow-weaker, end_of-below}
+use Rattle.pg_timeline.proofs.Timelines.{end_of-below}
 use Rattle.pg_inval.specs.declared.key.DropKey.{DropKey}
 use Rattle.pg_inval.specs.Keys.{is_same_key, has_key}
-use Rattle.pg_inval.specs.Lists.{Moments, has_among, AreDistinct, ArePushed, AreSame}
+use Rattle.pg_inval.specs.Lists.{Moments, AreDistinct, ArePushed, AreSame}
 use Rattle.pg_inval.specs.SameKey.{same_key}
 
 abbrev stamp : ℕ → Stamp Unit
@@ -23,14 +21,6 @@ at_key entries k = stamps_in is_same_key entries k
 or_false : (b : Bool) → (b || false) ≡ b
 or_false true = refl
 or_false false = refl
-
-never : (b : Bool) → (b && false) ≡ false
-never true = refl
-never false = refl
-
-and_true : (b : Bool) → (b && true) ≡ b
-and_true true = refl
-and_true false = refl
 
 -- ---- keys pushed one after another
 
@@ -77,16 +67,6 @@ pub end_of-fresh : (old mid : Moments) (done : List DropKey) (key : DropKey) (mo
 end_of-fresh old mid done key moment ends before fresh =
     rw (before.at key, fresh) (end_of-below moment (at_key old key) (ends.below key))
 
-pub EndsBefore-pushed : (old new : Moments) (keys : List DropKey) (n moment : ℕ) → EndsBefore is_same_key old n → n ≤ moment → ArePushed old new keys moment → EndsBefore is_same_key new (moment + 1)
-EndsBefore-pushed old new keys n moment ends le pushed = record {
-  below = λ k. rw (pushed.at k) (cond_both (has_key keys k) (at_key old k ++ stamp moment ∷ []) (at_key old k) (AreBelow (moment + 1))
-      (λ _. AreBelow-push n (moment + 1) (at_key old k) (stamp moment) (omega arith) (ends.below k) (omega arith))
-      (λ _. AreBelow-weaker n (moment + 1) (at_key old k) (omega arith) (ends.below k)));
-}
-
-pub EndsBefore-weaker : (entries : Moments) (n m : ℕ) → n ≤ m → EndsBefore is_same_key entries n → EndsBefore is_same_key entries m
-EndsBefore-weaker entries n m h ends = record { below = λ k. AreBelow-weaker n m (at_key entries k) h (ends.below k) }
-
 -- ---- a cut takes back what was pushed
 
 cut_below : (w : ℕ) (xs : List (Stamp Unit)) → AreBelow w xs → cut_at w xs ≡ xs
@@ -105,51 +85,6 @@ AreSame-cut old mid new done moment ends pushed cut = record {
       (λ _. cut_below moment (at_key old k) (ends.below k));
 }
 
--- ---- what is read afterwards
-
-pub pushed_once : (h : Bool) (xs : List (Stamp Unit)) (moment j : ℕ) → has_moment (cond h (xs ++ stamp moment ∷ []) xs) j ≡ (has_moment xs j || (nat_eq moment j && h))
-pushed_once true xs moment j = has_moment-push xs (stamp moment) j ∙ ap (λ b. has_moment xs j || b) (sym (and_true (nat_eq moment j)))
-pushed_once false xs moment j = sym (or_false (has_moment xs j)) ∙ ap (λ b. has_moment xs j || b) (sym (never (nat_eq moment j)))
-
-spread : (a h r t e : Bool) → (a || (e && h) || (r || (e && t))) ≡ (a || r || (e && (h || t)))
-spread true h r t e = refl
-spread false h r t false = refl
-spread false true true t true = refl
-spread false true false t true = refl
-spread false false r t true = refl
-
-pub has_among-pushed : (old new : Moments) (keys : List DropKey) (moment : ℕ) → ArePushed old new keys moment → (ks : List DropKey) (j : ℕ) →
-    has_among new ks j ≡ (has_among old ks j || (nat_eq moment j && list_any (has_key keys) ks))
-has_among-pushed old new keys moment pushed [] j = sym (never (nat_eq moment j))
-has_among-pushed old new keys moment pushed (k ∷ ks) j =
-    ap (λ xs. has_moment xs j || has_among new ks j) (pushed.at k)
-    ∙ ap (λ b. b || has_among new ks j) (pushed_once (has_key keys k) (at_key old k) moment j)
-    ∙ ap (λ b. (has_moment (at_key old k) j || (nat_eq moment j && has_key keys k)) || b) (has_among-pushed old new keys moment pushed ks j)
-    ∙ spread (has_moment (at_key old k) j) (has_key keys k) (has_among old ks j) (list_any (has_key keys) ks) (nat_eq moment j)
-
-both_below : (a r c : Bool) → ((a && c) || (r && c)) ≡ ((a || r) && c)
-both_below true r true = refl
-both_below true r false = never r
-both_below false r c = refl
-
-pub has_among-cut : (old new : Moments) (moment : ℕ) → AreCut is_same_key old new moment → (ks : List DropKey) (j : ℕ) →
-    has_among new ks j ≡ (has_among old ks j && nat_lt j moment)
-has_among-cut old new moment cut [] j = refl
-has_among-cut old new moment cut (k ∷ ks) j =
-    ap (λ xs. has_moment xs j || has_among new ks j) (cut.at k)
-    ∙ ap (λ b. b || has_among new ks j) (has_moment-cut_at moment (at_key old k) j)
-    ∙ ap (λ b. (has_moment (at_key old k) j && nat_lt j moment) || b) (has_among-cut old new moment cut ks j)
-    ∙ both_below (has_moment (at_key old k) j) (has_among old ks j) (nat_lt j moment)
-
-pub has_among-same : (old new : Moments) → AreSame old new → (ks : List DropKey) (j : ℕ) → has_among new ks j ≡ has_among old ks j
-has_among-same old new same [] j = refl
-has_among-same old new same (k ∷ ks) j =
-    ap (λ xs. has_moment xs j || has_among new ks j) (same.at k) ∙ ap (λ b. has_moment (at_key old k) j || b) (has_among-same old new same ks j)
-
-pub has_among-none : (ks : List DropKey) (j : ℕ) → has_among [] ks j ≡ false
-has_among-none [] j = refl
-has_among-none (k ∷ ks) j = has_among-none ks j
-
 -- ---- the keys of a list, one after another
 
 or_none : (b c : Bool) → (b || c) ≡ false → (b ≡ false) × (c ≡ false)
@@ -167,12 +102,3 @@ fresh_at [] i d h lt = absurd (omega arith)
 fresh_at (k ∷ ks) zero d h lt = refl
 fresh_at (k ∷ ks) (suc i) d h lt =
     ap (λ b. b || has_key (take i ks) (get_or ks i d)) (none_at (is_same_key k) ks i d h.0 (omega arith)) ∙ fresh_at ks i d h.1 (omega arith)
-
--- what one key more brings
-pub has_among-more : (entries : Moments) (ks : List DropKey) (i : ℕ) (d : DropKey) (j : ℕ) → i < length ks →
-    (has_among entries (take i ks) j || has_moment (at_key entries (get_or ks i d)) j) ≡ has_among entries (take (i + 1) ks) j
-has_among-more entries ks i d j h =
-    let test : DropKey → Bool = λ k. has_moment (at_key entries k) j in
-    sym (ap (λ zs. has_among entries zs j) (take_more ks i d h)
-    ∙ list_any-append test (take i ks) (get_or ks i d ∷ [])
-    ∙ ap (λ b. has_among entries (take i ks) j || b) (or_false (has_moment (at_key entries (get_or ks i d)) j)))

@@ -31,7 +31,7 @@ and_true : (b : Bool) → (b && true) ≡ b
 and_true true = refl
 and_true false = refl
 
-flip : (x y : ℕ) → nat_eq x y ≡ nat_eq y x
+pub flip : (x y : ℕ) → nat_eq x y ≡ nat_eq y x
 flip x y =
     elim (cases_Bool (nat_eq x y)) [
       | inl same ↦ same ∙ sym (eq-eqb y x (sym (eqb-true x y same)))

@@ -12,11 +12,9 @@ use Rattle.pg_event.specs.Heads.{Head}
 use Rattle.pg_event.specs.Form.{processor_of}
 use Rattle.pg_event.specs.Invalidation.{must_drop_structure, must_drop_translation}
 use Rattle.pg_event.specs.Witness.{survives}
-use Rattle.pg_timeline.specs.Keyed as keyed
-use Rattle.pg_timeline.specs.Keyed.{Keyed}
 use Rattle.pg_inval.specs.declared.key.DropKey.{DropKey}
 use Rattle.pg_inval.specs.Keys.{structure_keys, translation_keys}
-use Rattle.pg_inval.specs.Lists.{has_between}
+use Rattle.pg_inval.specs.Lists.{Log, has_between}
 
 -- an entry of a cache, by its key
 pub data CacheEntry : Type 0 where
@@ -56,15 +54,15 @@ keys_of p (Structure key) = structure_keys p key
 keys_of p (Translation key) = translation_keys p key
 
 -- whether p had to drop an entry from one moment up to, not with, another
-abbrev pub is_dropped : Keyed DropKey Unit → ℕ → CacheEntry → ℕ → ℕ → Bool
+abbrev pub is_dropped : Log → ℕ → CacheEntry → ℕ → ℕ → Bool
 is_dropped drops p entry from to = has_between drops.entries (keys_of p entry) from to
 
 -- the least moment that a further event may have
-abbrev pub next_moment : Keyed DropKey Unit → ℕ
-next_moment drops = keyed.next_moment drops
+abbrev pub next_moment : Log → ℕ
+next_moment drops = drops.next
 
 -- one more event is known, with the control registers of its processor before it
-pub record IsNoted (old new : Keyed DropKey Unit) (moment : ℕ) (event : Event) (before : Control) :
+pub record IsNoted (old new : Log) (moment : ℕ) (event : Event) (before : Control) :
     Type 0 where
   pub next : next_moment new ≡ moment + 1
   pub drops : (p : ℕ) (entry : CacheEntry) (from to : ℕ) → MayBeCached entry →
@@ -72,19 +70,19 @@ pub record IsNoted (old new : Keyed DropKey Unit) (moment : ℕ) (event : Event)
       ≡ (is_dropped old p entry from to || drops_between moment event before p entry from to)
 
 -- the same is known
-pub record IsSame (old new : Keyed DropKey Unit) : Type 0 where
+pub record IsSame (old new : Log) : Type 0 where
   pub next : next_moment new ≡ next_moment old
   pub drops : (p : ℕ) (entry : CacheEntry) (from to : ℕ) → MayBeCached entry →
       is_dropped new p entry from to ≡ is_dropped old p entry from to
 
 -- what is known of the moments up to one
-pub record IsCutAt (old new : Keyed DropKey Unit) (moment : ℕ) : Type 0 where
+pub record IsCutAt (old new : Log) (moment : ℕ) : Type 0 where
   pub next : next_moment new ≤ min (next_moment old) moment
   pub drops : (p : ℕ) (entry : CacheEntry) (from to : ℕ) → MayBeCached entry →
       is_dropped new p entry from to ≡ is_dropped old p entry from (min to moment)
 
 -- what is dropped is what the events of a run drop
-pub record StandsFor (d : Keyed DropKey Unit) (head : Head) (events : List Event) : Type 0 where
+pub record StandsFor (d : Log) (head : Head) (events : List Event) : Type 0 where
   pub next : next_moment d ≤ length events
   pub drops : (p : ℕ) (entry : CacheEntry) (from to : ℕ) → MayBeCached entry →
       is_dropped d p entry from to ≡ not (survives head events p (must_drop entry) from to)

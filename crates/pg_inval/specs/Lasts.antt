@@ -1,12 +1,11 @@
 -- Up to which moment keys may have been dropped.
 use Rattle.std.specs.Prelude.{◌≡◌, ℕ, ◌+◌, ◌*◌, ◌%◌, ◌/◌, ◌^◌, ◌<◌, ◌≤◌, true, List}
 use Rattle.std.specs.Prelude.{length, get_or}
-use Rattle.pg_timeline.specs.Timelines.{has_moment}
-use Rattle.pg_timeline.specs.Keyed.{stamps_in}
 use Rattle.pg_inval.specs.declared.key.DropKey.{DropKey}
+use Rattle.pg_inval.specs.declared.log.LogEntry.{LogEntry}
 use Rattle.pg_inval.specs.Hashed.{owner_of, number_of}
-use Rattle.pg_inval.specs.Keys.{is_same_key, has_key}
-use Rattle.pg_inval.specs.Lists.{Moments}
+use Rattle.pg_inval.specs.Keys.{has_key}
+use Rattle.pg_inval.specs.Lists.{has_drop}
 
 -- the place of a key, which others may have too
 abbrev pub place_of : DropKey → ℕ
@@ -23,8 +22,6 @@ pub record AreRaised (old new : List ℕ) (keys : List DropKey) (moment : ℕ) :
   pub kept : (k : DropKey) (m : ℕ) → MayHave old k m → MayHave new k m
   pub raised : (k : DropKey) → has_key keys k ≡ true → MayHave new k moment
 
--- each key may have the moments that it has
-abbrev pub AreBounded : List ℕ → Moments → Type 0
-AreBounded lasts entries =
-    (k : DropKey) (m : ℕ) → has_moment (stamps_in is_same_key entries k) m ≡ true →
-    MayHave lasts k m
+-- each key may have the moments that a log has of it
+abbrev pub AreBounded : List ℕ → List LogEntry → Type 0
+AreBounded lasts log = (k : DropKey) (m : ℕ) → has_drop log k m ≡ true → MayHave lasts k m

@@ -13,41 +13,45 @@ ghost use Rattle.pg_inval.specs.Drops.{next_moment, is_dropped, IsNoted, IsSame,
 ghost use Rattle.pg_inval.specs.Drops.{StandsFor};
 ghost use Rattle.pg_inval.specs.Lists.{IsFirstDrop};
 
-use crate::dropped::dropped_keys;
+use crate::class::{Class, class_of};
 use crate::key::{DropKey, global_at, local_at, structure_at, structure_keys, translation_keys};
 use crate::lasts::Lasts;
-use crate::lists::{cut_all, first_between, push_moments};
+use crate::listed::Listed;
+use crate::log::{LogEntry, forget_entries};
+use crate::packed::pack;
 use pg_entry::Level;
 use pg_event::{
-    Control, Event, StructureKey, TranslationKey, processor_of, structure_key, translation_key,
+    Control, Event, Invalidation, StructureKey, TranslationKey, processor_of, structure_key,
+    translation_key,
 };
-use pg_timeline::{Probes, Timeline};
+use pg_timeline::Probes;
 use std::alloc::{AllocError, Global};
-use std::collections::HashMap;
 use std::marker::Model;
 
-/// What a run's events dropped from the caches of their processors, as far as they were noted: for
-/// each key, the moments of its events.
+/// What a run's events dropped from the caches of their processors, as far as they were noted: a
+/// log of them, and for each key the moments of its events. The lists of a class of keys are made
+/// from the log when one of them is asked for.
 #[derive(Drop)]
 pub struct Drops {
     alloc: Global,
     next: u64,
-    by_key: HashMap<DropKey, Timeline<()>>,
+    log: Vec<LogEntry>,
+    listed: Listed,
     lasts: Lasts,
 }
 
 impl Model for Drops {
-    ghost use Rattle.pg_timeline.specs.Keyed.{Keyed, EndsBefore};
-    ghost use Rattle.pg_inval.specs.declared.key.DropKey.{DropKey};
-    ghost use Rattle.pg_inval.specs.Keys.{is_same_key};
+    ghost use Rattle.pg_inval.specs.Lists.{Log, IsRisingFrom, AreBefore};
     ghost use Rattle.pg_inval.specs.Lasts.{AreBounded};
 
-    ghost Value = { Keyed DropKey Unit };
+    ghost Value = { Log };
 
-    ghost view = { λ a. record { entries = a.by_key.entries; next = a.next } };
+    ghost view = { λ a. record { entries = a.log.items; next = a.next } };
 
-    ghost invariant = { λ a. EndsBefore is_same_key a.by_key.entries a.next
-        × AreBounded a.lasts a.by_key.entries };
+    ghost use Rattle.pg_inval.specs.Listed.{AreListed};
+
+    ghost invariant = { λ a. IsRisingFrom 0 a.log.items × AreBefore a.next a.log.items
+        × AreListed a.log.items a.listed × AreBounded a.lasts a.log.items };
 }
 
 impl Drops {
@@ -59,7 +63,8 @@ impl Drops {
         Drops {
             alloc,
             next: 0,
-            by_key: HashMap::new(alloc),
+            log: Vec::new(alloc),
+            listed: Listed::new(alloc),
             lasts: Lasts::new(alloc),
         }
     }
@@ -68,7 +73,8 @@ impl Drops {
     pub fn forget_from(&mut self, moment: u32)
         ensures { IsCutAt self.old self.new moment }
     {
-        cut_all(&mut self.by_key, moment);
+        forget_entries(&mut self.log, moment);
+        self.listed.forget_from(moment, self.log.as_slice().len());
         self.next = self.next.min(moment as u64);
     }
 
@@ -81,7 +87,7 @@ impl Drops {
 
     /// Notes the event with this number, where `before` are the control registers of its processor
     /// just before it; one that drops nothing takes no memory. Fails where memory is refused, and
-    /// then nothing is noted.
+    /// then nothing is noted. All lists are made up to it, so that look-ups need go through no log.
     pub fn note(&mut self, moment: u32, event: &Event, before: Control) -> Result<(), AllocError>
         requires { next_moment self.old ≤ moment }
         ensures ok { OnOk result (IsNoted self.old self.new moment event.now before) }
@@ -92,12 +98,63 @@ impl Drops {
             before ≡ control_at head events (processor_of event.now) moment →
             OnOk result (StandsFor self.new head (events ++ event.now ∷ [])) }
     {
-        let dropped = dropped_keys(processor_of(event), event.invalidation(before));
-        let keys = dropped.as_slice();
-        self.lasts.raise_all(keys, moment);
-        push_moments(&mut self.by_key, self.alloc, keys, moment)?;
-        self.next = moment as u64 + 1;
+        let noted = self.note_later(moment, event, before);
+        self.catch_up();
+        noted
+    }
+
+    /// The same, and makes no list: the event stands in the log alone until `catch_up`. Until then
+    /// look-ups that the last moments do not answer go through that part of the log each time.
+    pub fn note_later(
+        &mut self,
+        moment: u32,
+        event: &Event,
+        before: Control,
+    ) -> Result<(), AllocError>
+        requires { next_moment self.old ≤ moment }
+        ensures ok { OnOk result (IsNoted self.old self.new moment event.now before) }
+        ensures err { OnErr result (IsSame self.old self.new) }
+        ensures none { DropsNothing before event.now → IsOk result }
+        ensures run { (head : Head) (events : List Event) → StandsFor self.old head events →
+            moment ≡ length events →
+            before ≡ control_at head events (processor_of event.now) moment →
+            OnOk result (StandsFor self.new head (events ++ event.now ∷ [])) }
+    {
+        let next = moment as u64 + 1;
+        let p = processor_of(event);
+        let invalidation = event.invalidation(before);
+        if let Invalidation::Nothing = invalidation {
+            self.next = next;
+            return Ok(());
+        }
+        let entry = LogEntry {
+            moment,
+            p,
+            packed: pack(invalidation),
+        };
+        self.log.push(entry)?;
+        self.lasts.raise_for(p, invalidation, moment);
+        self.next = next;
         Ok(())
+    }
+
+    /// Makes all lists up to the last event that was noted. Where memory is refused, those of a
+    /// class stay behind, and look-ups go through the rest of the log.
+    pub fn catch_up(&mut self)
+        ensures { self.new ≡ self.old }
+    {
+        self.listed.catch_up_all(self.alloc, self.log.as_slice());
+    }
+
+    /// The same of the lists that are asked of paging-structure-cache entries, and of translations
+    /// of 4-KiB pages that are not global.
+    pub fn catch_up_pages(&mut self)
+        ensures { self.new ≡ self.old }
+    {
+        let log = self.log.as_slice();
+        self.listed.catch_up(Class::Spaces, self.alloc, log);
+        self.listed.catch_up(Class::Regions, self.alloc, log);
+        self.listed.catch_up(Class::Pages, self.alloc, log);
     }
 
     /// Whether no event from a moment on drops a translation of processor `p`, as the last moments
@@ -208,7 +265,29 @@ impl Drops {
         if self.structure_outlasts(p, key, from) {
             return None;
         }
-        first_between(&self.by_key, &structure_keys(p, key), from, to, probes)
+        self.listed_structure_drop(p, key, from, to, probes)
+    }
+
+    /// The least moment of a window at which an entry is dropped, by the lists of its keys.
+    fn listed_structure_drop(
+        &self,
+        p: u16,
+        key: StructureKey,
+        from: u32,
+        to: u32,
+        probes: &mut Probes,
+    ) -> Option<u32>
+        requires { IsTableLevel key.level }
+        ensures first { IsFirstDrop (is_dropped self.now p (Structure key)) from to result }
+        ensures run { (head : Head) (events : List Event) → StandsFor self.now head events →
+            IsFirstDrop
+            (λ a b. not (survives head events p (λ c e. must_drop_structure c e key) a b))
+            from to result }
+        ensures probes { (probes.old ≤ probes.new) × (probes.new ≤ probes.old + 102) }
+    {
+        let keys = structure_keys(p, key);
+        self.listed
+            .first_between(self.log.as_slice(), &keys, from, to, probes)
     }
 
     /// Whether processor `p` had to drop the translation of a linear address by a page of 2 to the
@@ -288,7 +367,28 @@ impl Drops {
         if self.translation_outlasts(p, key, from) {
             return None;
         }
+        self.listed_translation_drop(p, key, from, to, probes)
+    }
+
+    /// The least moment of a window at which a translation is dropped, by the lists of its keys.
+    fn listed_translation_drop(
+        &self,
+        p: u16,
+        key: TranslationKey,
+        from: u32,
+        to: u32,
+        probes: &mut Probes,
+    ) -> Option<u32>
+        requires { IsPageShift key.shift }
+        ensures first { IsFirstDrop (is_dropped self.now p (Translation key)) from to result }
+        ensures run { (head : Head) (events : List Event) → StandsFor self.now head events →
+            IsFirstDrop
+            (λ a b. not (survives head events p (λ c e. must_drop_translation c e key) a b))
+            from to result }
+        ensures probes { (probes.old ≤ probes.new) × (probes.new ≤ probes.old + 102) }
+    {
         let keys = translation_keys(p, key);
-        first_between(&self.by_key, keys.as_slice(), from, to, probes)
+        self.listed
+            .first_between(self.log.as_slice(), keys.as_slice(), from, to, probes)
     }
 }

@@ -2,9 +2,12 @@
 
 ghost use Rattle.std.specs.Prelude.{◌<◌, ℕ, IsTrue};
 ghost use Rattle.pg_inval.specs.declared.key.DropKey.{DropKey};
+ghost use Rattle.pg_inval.specs.Keys.{structures_for, locals_for, globals_for, dropped_keys};
 ghost use Rattle.pg_inval.specs.Lasts.{MayHave, AreRaised};
 
-use crate::key::DropKey;
+use crate::key::{DropKey, global_at, local_at, structure_at};
+use pg_entry::Level;
+use pg_event::{Invalidation, structure_key, translation_key};
 use std::alloc::Global;
 use std::marker::Model;
 
@@ -59,6 +62,7 @@ impl Lasts {
     }
 
     /// A key may have this moment too.
+    #[inline(always)]
     fn raise(&mut self, key: DropKey, moment: u32)
         ensures kept { (k : DropKey) (m : ℕ) → MayHave self.old k m → MayHave self.new k m }
         ensures own { MayHave self.new key moment }
@@ -69,12 +73,69 @@ impl Lasts {
         }
     }
 
-    /// Each of some keys may have this moment too.
-    pub(crate) fn raise_all(&mut self, keys: &[DropKey], moment: u32)
-        ensures { AreRaised self.old self.new keys.now moment }
+    /// What an invalidation drops that would be used for an address may have this moment too: the
+    /// structure entries of a PCID.
+    fn raise_structures(&mut self, p: u16, pcid: u16, la: u64, moment: u32)
+        ensures { AreRaised self.old self.new (structures_for p pcid la) moment }
     {
-        for key in keys {
-            self.raise(*key, moment);
+        self.raise(
+            structure_at(p, structure_key(pcid, Level::Four, la)),
+            moment,
+        );
+        self.raise(
+            structure_at(p, structure_key(pcid, Level::Three, la)),
+            moment,
+        );
+        self.raise(structure_at(p, structure_key(pcid, Level::Two, la)), moment);
+    }
+
+    /// Its translations of the page of the address, which are not global.
+    fn raise_locals(&mut self, p: u16, pcid: u16, la: u64, moment: u32)
+        ensures { AreRaised self.old self.new (locals_for p pcid la) moment }
+    {
+        self.raise(local_at(p, translation_key(pcid, 12, false, la)), moment);
+        self.raise(local_at(p, translation_key(pcid, 21, false, la)), moment);
+        self.raise(local_at(p, translation_key(pcid, 30, false, la)), moment);
+    }
+
+    /// The global translations of that page.
+    fn raise_globals(&mut self, p: u16, la: u64, moment: u32)
+        ensures { AreRaised self.old self.new (globals_for p la) moment }
+    {
+        self.raise(global_at(p, translation_key(0, 12, true, la)), moment);
+        self.raise(global_at(p, translation_key(0, 21, true, la)), moment);
+        self.raise(global_at(p, translation_key(0, 30, true, la)), moment);
+    }
+
+    /// Each key that an invalidation drops may have this moment too. No list of them is made, since
+    /// each event that drops something comes here.
+    pub(crate) fn raise_for(&mut self, p: u16, invalidation: Invalidation, moment: u32)
+        ensures { AreRaised self.old self.new (dropped_keys p invalidation) moment }
+    {
+        match invalidation {
+            Invalidation::Nothing => {}
+            Invalidation::Address { pcid, la, globals } => {
+                self.raise_structures(p, pcid, la, moment);
+                self.raise_locals(p, pcid, la, moment);
+                if globals {
+                    self.raise_globals(p, la, moment);
+                }
+            }
+            Invalidation::Page { pcid, la } => {
+                self.raise(DropKey::StructuresOf { p, pcid }, moment);
+                self.raise_locals(p, pcid, la, moment);
+                self.raise_globals(p, la, moment);
+            }
+            Invalidation::Pcid(pcid) => {
+                self.raise(DropKey::StructuresOf { p, pcid }, moment);
+                self.raise(DropKey::LocalsOf { p, pcid }, moment);
+            }
+            Invalidation::Everything { globals } => {
+                self.raise(DropKey::NotGlobal { p }, moment);
+                if globals {
+                    self.raise(DropKey::Globals { p }, moment);
+                }
+            }
         }
     }
 }

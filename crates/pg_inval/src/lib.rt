@@ -1,10 +1,14 @@
 //! Which cached entries a processor had to drop between two moments.
 #![tactic(auto)]
 
+mod class;
 mod dropped;
 mod drops;
 mod key;
 mod lasts;
+mod listed;
 mod lists;
+mod log;
+mod packed;
 
 pub use drops::Drops;

@@ -1,14 +1,19 @@
-ghost use Rattle.std.specs.Prelude.{◌≡◌, ◌+◌, ◌-◌, ◌*◌, ◌≤◌, ◌||◌, ℕ, Bool, length};
-ghost use Rattle.std.specs.Prelude.{[], IsOk, OnOk, OnErr};
+ghost use Rattle.std.specs.Prelude.{◌≡◌, ◌+◌, ◌≤◌, ℕ, OnOk, OnErr, List, [], length, IsOk};
 ghost use Rattle.std.specs.HashMap.{IsUnchanged};
-ghost use Rattle.pg_event.specs.Witness.{any_from};
 ghost use Rattle.pg_timeline.specs.Timelines.{end_of, has_moment, IsLeastFrom};
 ghost use Rattle.pg_timeline.specs.Keyed.{stamps_in, IsPushed, AreCut, EndsBefore};
 ghost use Rattle.pg_inval.specs.Keys.{is_same_key};
-ghost use Rattle.pg_inval.specs.Lists.{AreDistinct, ArePushed, AreSame, has_among};
-ghost use Rattle.pg_inval.specs.Lists.{has_between, IsFirstDrop};
+ghost use Rattle.pg_inval.specs.Classes.{class_of};
+ghost use Rattle.pg_inval.specs.declared.class.Class.{Class};
+ghost use Rattle.pg_inval.specs.declared.log.LogEntry.{LogEntry};
+ghost use Rattle.pg_inval.specs.Lists.{AreDistinct, ArePushed, AreSame, has_drop, cut_log};
+ghost use Rattle.pg_inval.specs.Lists.{IsRisingFrom, IsListed};
 
+use crate::class::Class;
+use crate::dropped::keys_in;
 use crate::key::DropKey;
+use crate::log::{LogEntry, earliest, first_in};
+use crate::packed::invalidation_of;
 use pg_timeline::{Probes, Timeline};
 use std::alloc::{AllocError, Global};
 use std::collections::HashMap;
@@ -38,7 +43,7 @@ fn push_at(
 }
 
 /// Forgets the moments of every key from one on. A key may be left with none.
-pub(crate) fn cut_all(by_key: &mut HashMap<DropKey, Timeline<()>>, moment: u32)
+fn cut_all(by_key: &mut HashMap<DropKey, Timeline<()>>, moment: u32)
     ensures { AreCut is_same_key by_key.old.entries by_key.new.entries moment }
 {
     by_key.retain(|_, timeline| {
@@ -49,7 +54,7 @@ pub(crate) fn cut_all(by_key: &mut HashMap<DropKey, Timeline<()>>, moment: u32)
 
 /// Adds a moment, which is above all others, at the end of the list of each key. Fails where memory
 /// is refused, and then nothing is added.
-pub(crate) fn push_moments(
+fn push_moments(
     by_key: &mut HashMap<DropKey, Timeline<()>>,
     alloc: Global,
     keys: &[DropKey],
@@ -85,61 +90,68 @@ fn first_at(
     by_key.get(&key)?.first_from(from, probes)
 }
 
-/// The lesser of two moments, where one may be missing.
-fn earliest(a: Option<u32>, b: Option<u32>) -> Option<u32>
-    ensures { (p q : ℕ → Bool) (from : ℕ) → IsLeastFrom p from a → IsLeastFrom q from b →
-        IsLeastFrom (λ j. p j || q j) from result }
-{
-    match (a, b) {
-        (Some(x), Some(y)) => Some(x.min(y)),
-        (a, b) => a.or(b),
-    }
+/// For each key of a class the moments of its events, as far as the log was gone through.
+#[derive(Drop)]
+pub(crate) struct Lists {
+    /// So many of the log's entries are in the lists.
+    known: usize,
+    by_key: HashMap<DropKey, Timeline<()>>,
 }
 
-/// The least moment of some keys from one on.
-fn first_among(
-    by_key: &HashMap<DropKey, Timeline<()>>,
-    keys: &[DropKey],
-    from: u32,
-    probes: &mut Probes,
-) -> Option<u32>
-    ensures least { IsLeastFrom (has_among by_key.now.entries keys.now) from result }
-    ensures probes { (probes.old ≤ probes.new)
-        × (probes.new ≤ probes.old + 34 * length keys.now) }
-{
-    let mut found = None;
-    for key in keys {
-        found = earliest(found, first_at(by_key, *key, from, probes));
+impl Lists {
+    /// Those of no entry.
+    pub(crate) fn new(alloc: Global) -> Lists
+        ensures { (c : Class) (log : List LogEntry) →
+            IsListed c log result.known result.by_key.entries }
+    {
+        Lists {
+            known: 0,
+            by_key: HashMap::new(alloc),
+        }
     }
-    found
-}
 
-/// A moment, where it is below another.
-fn below(found: Option<u32>, to: u32) -> Option<u32>
-    ensures { (test : ℕ → Bool) (from : ℕ) → IsLeastFrom test from found →
-        IsFirstDrop (λ a b. any_from test a (b - a)) from to result }
-{
-    match found {
-        Some(moment) => if moment < to { Some(moment) } else { None },
-        None => None,
+    /// Goes through the rest of the log. Where memory is refused, the lists stay behind it.
+    #[inline(always)]
+    pub(crate) fn catch_up(&mut self, class: Class, alloc: Global, log: &[LogEntry])
+        requires listed { IsListed class log.now self.old.known self.old.by_key.entries }
+        requires rising { IsRisingFrom 0 log.now }
+        ensures { IsListed class log.now self.new.known self.new.by_key.entries }
+    {
+        while self.known < log.len() {
+            let entry = log[self.known];
+            let keys = keys_in(class, entry.p, invalidation_of(entry.packed));
+            match push_moments(&mut self.by_key, alloc, keys.as_slice(), entry.moment) {
+                Ok(()) => self.known += 1,
+                Err(_) => return,
+            }
+        }
     }
-}
 
-/// The least moment of some keys from one up to, not with, another. Where no moment lies between,
-/// as between levels that were read at once, no list is searched.
-pub(crate) fn first_between(
-    by_key: &HashMap<DropKey, Timeline<()>>,
-    keys: &[DropKey],
-    from: u32,
-    to: u32,
-    probes: &mut Probes,
-) -> Option<u32>
-    ensures first { IsFirstDrop (has_between by_key.now.entries keys.now) from to result }
-    ensures probes { (probes.old ≤ probes.new)
-        × (probes.new ≤ probes.old + 34 * length keys.now) }
-{
-    if from >= to {
-        return None;
+    /// Forgets the moments from one on, of which so many entries of the log are left.
+    pub(crate) fn forget_from(&mut self, moment: u32, left: usize)
+        ensures { (c : Class) (log : List LogEntry) → IsRisingFrom 0 log →
+            left ≡ length (cut_log moment log) →
+            IsListed c log self.old.known self.old.by_key.entries →
+            IsListed c (cut_log moment log) self.new.known self.new.by_key.entries }
+    {
+        cut_all(&mut self.by_key, moment);
+        self.known = self.known.min(left);
     }
-    below(first_among(by_key, keys, from, probes), to)
+
+    /// The least moment of a key from one on. The entries that are not in the lists are gone
+    /// through.
+    pub(crate) fn first_from(
+        &self,
+        log: &[LogEntry],
+        key: DropKey,
+        from: u32,
+        probes: &mut Probes,
+    ) -> Option<u32>
+        requires { IsListed (class_of key) log.now self.now.known self.now.by_key.entries }
+        ensures least { IsLeastFrom (has_drop log.now key) from result }
+        ensures probes { (probes.old ≤ probes.new) × (probes.new ≤ probes.old + 34) }
+    {
+        let listed = first_at(&self.by_key, key, from, probes);
+        earliest(listed, first_in(&log[self.known..], key, from))
+    }
 }

@@ -1,6 +1,6 @@
 use Rattle.std.proofs.Common.{refl, ap, sym, subst, ◌∙◌}
-use Rattle.pg_timeline.specs.Keyed.{Keyed}
 use Rattle.pg_inval.specs.declared.key.DropKey.{DropKey}
+use Rattle.pg_inval.specs.Lists.{Log}
 use Rattle.pg_inval.specs.Drops.{Translation, is_dropped}
 use Rattle.pg_inval.proofs.Bounded.{IsOver, global-outlasts, local-outlasts, not_false}
 use Rattle.pg_inval.proofs.drops.Drops.translation_outlasts.Goals as goal
@@ -9,8 +9,8 @@ pub returns-then-key-clause-value : goal.returns-then-key-clause-value
 returns-then-key-clause-value c = λ yes to.
     let s = c.self.inside in
     let own : IsOver s.lasts c.global_at.result c.args.from = c.are_over.ensures.other yes in
-    ap (λ (d : Keyed DropKey Unit). is_dropped d c.args.p (Translation c.args.key) c.args.from to) (sym c.self.view_is)
-    ∙ global-outlasts s.lasts s.by_key.entries c.args.p c.args.key c.args.from to c.self.invariant.1 c.if-key.true
+    ap (λ (d : Log). is_dropped d c.args.p (Translation c.args.key) c.args.from to) (sym c.self.view_is)
+    ∙ global-outlasts s.lasts s.log.items c.args.p c.args.key c.args.from to c.self.invariant.3 c.if-key.true
     (c.are_over.ensures.one yes) (subst (λ (k : DropKey). IsOver s.lasts k c.args.from) c.global_at.ensures own)
 
 pub returns-then-key-clause-run : goal.returns-then-key-clause-run
@@ -21,8 +21,8 @@ pub returns-then-is_over-clause-value : goal.returns-then-is_over-clause-value
 returns-then-is_over-clause-value c = λ yes to.
     let s = c.self.inside in
     let own : IsOver s.lasts c.local_at.result c.args.from = c.are_over-then-is_over.ensures.other yes in
-    ap (λ (d : Keyed DropKey Unit). is_dropped d c.args.p (Translation c.args.key) c.args.from to) (sym c.self.view_is)
-    ∙ local-outlasts s.lasts s.by_key.entries c.args.p c.args.key c.args.from to c.self.invariant.1 c.if-key.false
+    ap (λ (d : Log). is_dropped d c.args.p (Translation c.args.key) c.args.from to) (sym c.self.view_is)
+    ∙ local-outlasts s.lasts s.log.items c.args.p c.args.key c.args.from to c.self.invariant.3 c.if-key.false
     (c.if-is_over.ensures refl) (c.are_over-then-is_over.ensures.one yes) (subst (λ (k : DropKey). IsOver s.lasts k c.args.from) c.local_at.ensures own)
 
 pub returns-then-is_over-clause-run : goal.returns-then-is_over-clause-run

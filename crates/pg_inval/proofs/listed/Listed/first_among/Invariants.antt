@@ -1,9 +1,9 @@
 use Rattle.std.proofs.Common.{take, ◌≤◌, ◌+◌, ◌*◌}
 use Rattle.pg_timeline.specs.Timelines.{IsLeastFrom}
 use Rattle.pg_inval.specs.Lists.{has_among}
-use Rattle.pg_inval.proofs.lists.first_among.Given as goal
+use Rattle.pg_inval.proofs.listed.Listed.first_among.Given as goal
 
 abbrev pub invariant-loop-key : goal.invariant-loop-key
 invariant-loop-key l =
-    IsLeastFrom (has_among l.fn.by_key.entries (take l.key-index l.fn.keys)) l.fn.from l.found
+    IsLeastFrom (has_among l.fn.log (take l.key-index l.fn.keys)) l.fn.from l.found
     × (l.fn.probes ≤ l.probes) × (l.probes ≤ l.fn.probes + 34 * l.key-index)

@@ -1,7 +1,7 @@
 use Rattle.std.proofs.Common.{Option, ℕ, subst}
 use Rattle.pg_timeline.specs.Timelines.{IsLeastFrom}
 use Rattle.pg_inval.proofs.AnyFrom.{IsFirstDrop-inside, IsFirstDrop-past, IsFirstDrop-none}
-use Rattle.pg_inval.proofs.lists.below.Goals as goal
+use Rattle.pg_inval.proofs.listed.below.Goals as goal
 
 pub returns-then-moment-to : goal.returns-then-moment-to
 returns-then-moment-to c = λ test from least.

@@ -1,0 +1,154 @@
+ghost use Rattle.std.specs.Prelude.{◌≡◌, ◌+◌, ◌-◌, ◌*◌, ◌≤◌, ℕ, Bool, List, length};
+ghost use Rattle.pg_event.specs.Witness.{any_from};
+ghost use Rattle.pg_timeline.specs.Timelines.{IsLeastFrom};
+ghost use Rattle.pg_inval.specs.declared.log.LogEntry.{LogEntry};
+ghost use Rattle.pg_inval.specs.Lists.{has_drop, has_among, has_between, IsFirstDrop};
+ghost use Rattle.pg_inval.specs.Lists.{cut_log, IsRisingFrom};
+ghost use Rattle.pg_inval.specs.Listed.{AreListed};
+
+use crate::class::{Class, class_of};
+use crate::key::DropKey;
+use crate::lists::Lists;
+use crate::log::{LogEntry, earliest};
+use pg_timeline::Probes;
+use std::alloc::Global;
+
+/// The lists of each class. Those of a class that is never asked for are never made.
+#[derive(Drop)]
+pub(crate) struct Listed {
+    pages: Lists,
+    large_pages: Lists,
+    global_pages: Lists,
+    regions: Lists,
+    spaces: Lists,
+}
+
+impl Listed {
+    /// Those of no entry.
+    pub(crate) fn new(alloc: Global) -> Listed
+        ensures { (log : List LogEntry) → AreListed log result }
+    {
+        Listed {
+            pages: Lists::new(alloc),
+            large_pages: Lists::new(alloc),
+            global_pages: Lists::new(alloc),
+            regions: Lists::new(alloc),
+            spaces: Lists::new(alloc),
+        }
+    }
+
+    /// Goes through the rest of the log for a class. Where memory is refused, the class stays
+    /// behind.
+    pub(crate) fn catch_up(&mut self, class: Class, alloc: Global, log: &[LogEntry])
+        requires listed { AreListed log.now self.old }
+        requires rising { IsRisingFrom 0 log.now }
+        ensures { AreListed log.now self.new }
+    {
+        match class {
+            Class::Pages => self.pages.catch_up(class, alloc, log),
+            Class::LargePages => self.large_pages.catch_up(class, alloc, log),
+            Class::GlobalPages => self.global_pages.catch_up(class, alloc, log),
+            Class::Regions => self.regions.catch_up(class, alloc, log),
+            Class::Spaces => self.spaces.catch_up(class, alloc, log),
+        }
+    }
+
+    /// The same for each class.
+    pub(crate) fn catch_up_all(&mut self, alloc: Global, log: &[LogEntry])
+        requires listed { AreListed log.now self.old }
+        requires rising { IsRisingFrom 0 log.now }
+        ensures { AreListed log.now self.new }
+    {
+        self.pages.catch_up(Class::Pages, alloc, log);
+        self.large_pages.catch_up(Class::LargePages, alloc, log);
+        self.global_pages.catch_up(Class::GlobalPages, alloc, log);
+        self.regions.catch_up(Class::Regions, alloc, log);
+        self.spaces.catch_up(Class::Spaces, alloc, log);
+    }
+
+    /// Forgets the moments from one on, of which so many entries of the log are left.
+    pub(crate) fn forget_from(&mut self, moment: u32, left: usize)
+        ensures { (log : List LogEntry) → IsRisingFrom 0 log →
+            left ≡ length (cut_log moment log) → AreListed log self.old →
+            AreListed (cut_log moment log) self.new }
+    {
+        self.pages.forget_from(moment, left);
+        self.large_pages.forget_from(moment, left);
+        self.global_pages.forget_from(moment, left);
+        self.regions.forget_from(moment, left);
+        self.spaces.forget_from(moment, left);
+    }
+
+    /// The least moment of a key from one on.
+    fn first_at(
+        &self,
+        log: &[LogEntry],
+        key: DropKey,
+        from: u32,
+        probes: &mut Probes,
+    ) -> Option<u32>
+        requires { AreListed log.now self.now }
+        ensures least { IsLeastFrom (has_drop log.now key) from result }
+        ensures probes { (probes.old ≤ probes.new) × (probes.new ≤ probes.old + 34) }
+    {
+        match class_of(key) {
+            Class::Pages => self.pages.first_from(log, key, from, probes),
+            Class::LargePages => self.large_pages.first_from(log, key, from, probes),
+            Class::GlobalPages => self.global_pages.first_from(log, key, from, probes),
+            Class::Regions => self.regions.first_from(log, key, from, probes),
+            Class::Spaces => self.spaces.first_from(log, key, from, probes),
+        }
+    }
+
+    /// The least moment of some keys from one on.
+    fn first_among(
+        &self,
+        log: &[LogEntry],
+        keys: &[DropKey],
+        from: u32,
+        probes: &mut Probes,
+    ) -> Option<u32>
+        requires { AreListed log.now self.now }
+        ensures least { IsLeastFrom (has_among log.now keys.now) from result }
+        ensures probes { (probes.old ≤ probes.new)
+            × (probes.new ≤ probes.old + 34 * length keys.now) }
+    {
+        let mut found = None;
+        for key in keys {
+            found = earliest(found, self.first_at(log, *key, from, probes));
+        }
+        found
+    }
+
+    /// The least moment of some keys from one up to, not with, another. Where no moment lies
+    /// between, as between levels that were read at once, no list is searched.
+    pub(crate) fn first_between(
+        &self,
+        log: &[LogEntry],
+        keys: &[DropKey],
+        from: u32,
+        to: u32,
+        probes: &mut Probes,
+    ) -> Option<u32>
+        requires { AreListed log.now self.now }
+        ensures first { IsFirstDrop (has_between log.now keys.now) from to result }
+        ensures probes { (probes.old ≤ probes.new)
+            × (probes.new ≤ probes.old + 34 * length keys.now) }
+    {
+        if from >= to {
+            return None;
+        }
+        below(self.first_among(log, keys, from, probes), to)
+    }
+}
+
+/// A moment, where it is below another.
+fn below(found: Option<u32>, to: u32) -> Option<u32>
+    ensures { (test : ℕ → Bool) (from : ℕ) → IsLeastFrom test from found →
+        IsFirstDrop (λ a b. any_from test a (b - a)) from to result }
+{
+    match found {
+        Some(moment) => if moment < to { Some(moment) } else { None },
+        None => None,
+    }
+}
