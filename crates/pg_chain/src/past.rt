@@ -69,8 +69,9 @@ impl Past {
     }
 
     /// Notes the event with this number, which is the next. Fails where memory is refused, and then
-    /// nothing is noted. An access that got its answer takes no memory.
-    pub fn note(&mut self, moment: u32, event: &Event) -> Result<(), AllocError>
+    /// nothing is noted. An access that got its answer takes no memory. What the event drops is
+    /// noted in a log alone: `catch_up` and `catch_up_pages` make the lists that look-ups ask.
+    pub fn note_later(&mut self, moment: u32, event: &Event) -> Result<(), AllocError>
         requires next { IsNext self.old moment }
         requires processor { processor_of event.now < processor_count self.old }
         ensures ok { InEachRun self.old (λ head events.
@@ -94,6 +95,38 @@ impl Past {
         }
     }
 
+    /// The same, and makes all lists.
+    pub fn note(&mut self, moment: u32, event: &Event) -> Result<(), AllocError>
+        requires next { IsNext self.old moment }
+        requires processor { processor_of event.now < processor_count self.old }
+        ensures ok { InEachRun self.old (λ head events.
+            moment ≡ length events →
+            OnOk result (IsPast self.new head (events ++ event.now ∷ []))) }
+        ensures err { InEachRun self.old (λ head events.
+            moment ≡ length events → OnErr result (IsPast self.new head events)) }
+        ensures nothing { changes_nothing event.now ≡ true → IsOk result }
+    {
+        let noted = self.note_later(moment, event);
+        self.catch_up();
+        noted
+    }
+
+    /// Makes all lists of what was dropped, which look-ups ask where they are made and else go
+    /// through the log.
+    pub fn catch_up(&mut self)
+        ensures { self.new ≡ self.old }
+    {
+        self.drops.catch_up();
+    }
+
+    /// The same of the lists that are asked of paging-structure-cache entries, and of translations
+    /// of 4-KiB pages that are not global.
+    pub fn catch_up_pages(&mut self)
+        ensures { self.new ≡ self.old }
+    {
+        self.drops.catch_up_pages();
+    }
+
     /// Notes an event that leaves memory as it is, and may drop entries and change control
     /// registers.
     fn note_drop(&mut self, moment: u32, event: &Event) -> Result<(), AllocError>
@@ -107,7 +140,7 @@ impl Past {
             moment ≡ length events → OnErr result (IsPast self.new head events)) }
     {
         let before = self.controls.control_at(processor_of(event), moment);
-        match self.drops.note(moment, event, before) {
+        match self.drops.note_later(moment, event, before) {
             Err(refused) => Err(refused),
             Ok(()) => match self.controls.note(moment, event) {
                 Err(refused) => {
@@ -132,11 +165,12 @@ impl Past {
             first ≡ length before → OnErr result (IsPast self.new head before)) }
     {
         for (i, event) in events.iter().enumerate() {
-            if let Err(refused) = self.note(first + i as u32, event) {
+            if let Err(refused) = self.note_later(first + i as u32, event) {
                 self.forget_from(first);
                 return Err(refused);
             }
         }
+        self.catch_up();
         Ok(())
     }
 
@@ -170,7 +204,15 @@ impl Past {
     pub fn value_at(&self, moment: u32, addr: u64) -> u64
         ensures { InEachRun self.now (λ head events. result ≡ mem_at events moment addr) }
     {
-        self.versions.at(moment, addr)
+        self.value_at_counted(moment, addr, &mut Probes::new())
+    }
+
+    /// The same, and counts the moments that were read.
+    pub fn value_at_counted(&self, moment: u32, addr: u64, probes: &mut Probes) -> u64
+        ensures run { InEachRun self.now (λ head events. result ≡ mem_at events moment addr) }
+        ensures probes { (probes.old ≤ probes.new) × (probes.new ≤ probes.old + 34) }
+    {
+        self.versions.at_counted(moment, addr, probes)
     }
 
     /// The control registers of a processor just before the event with this number.
@@ -179,7 +221,17 @@ impl Past {
         ensures run { InEachRun self.now (λ head events. result ≡ control_at head events p moment) }
         ensures root { result.root < 2 ^ 52 }
     {
-        self.controls.control_at(p, moment)
+        self.control_at_counted(p, moment, &mut Probes::new())
+    }
+
+    /// The same, and counts the moments that were read.
+    pub fn control_at_counted(&self, p: u16, moment: u32, probes: &mut Probes) -> Control
+        requires { p < processor_count self.now }
+        ensures run { InEachRun self.now (λ head events. result ≡ control_at head events p moment) }
+        ensures root { result.root < 2 ^ 52 }
+        ensures probes { (probes.old ≤ probes.new) × (probes.new ≤ probes.old + 34) }
+    {
+        self.controls.control_at_counted(p, moment, probes)
     }
 
     /// The control registers of a processor at the event that comes next.

@@ -38,6 +38,8 @@ pub struct Reader<'a> {
     words: Vec<Option<Word>>,
     spells: Vec<Option<Spell>>,
     probes: Probes,
+    /// Whether it was asked when a large or global translation had to go.
+    wide: bool,
 }
 
 impl<'a> Model for Reader<'a> {
@@ -75,11 +77,10 @@ impl<'a> Reader<'a> {
     pub fn new(past: &'a Past, words: usize) -> Reader<'a>
         ensures { result ≡ past.now }
     {
-        let spells = if words == 0 {
-            0
-        } else {
-            past.controls.processors()
-        };
+        if words == 0 {
+            return Reader::without_room(past);
+        }
+        let spells = past.controls.processors();
         Reader {
             past,
             words: match Vec::from_elem(past.alloc, None, words.min(MOST_WORDS)) {
@@ -91,6 +92,21 @@ impl<'a> Reader<'a> {
                 Err(_) => Vec::new(past.alloc),
             },
             probes: Probes::new(),
+            wide: false,
+        }
+    }
+
+    /// Each word is looked up anew.
+    #[inline(always)]
+    fn without_room(past: &'a Past) -> Reader<'a>
+        ensures { result ≡ past.now }
+    {
+        Reader {
+            past,
+            words: Vec::new(past.alloc),
+            spells: Vec::new(past.alloc),
+            probes: Probes::new(),
+            wide: false,
         }
     }
 
@@ -101,9 +117,16 @@ impl<'a> Reader<'a> {
         self.past
     }
 
-    /// How many moments its look-ups in the past have read: none where a value was kept.
+    /// How many moments its look-ups in the past have read: none where a value was kept, and of
+    /// structure entries none.
     pub fn probes(&self) -> u64 {
         self.probes.count()
+    }
+
+    /// Whether a look-up asked when a translation had to go that is global or of a large page: the
+    /// lists of those are made by `Past::catch_up` alone.
+    pub fn asked_wide(&self) -> bool {
+        self.wide
     }
 
     /// The settings of the run.
@@ -152,7 +175,7 @@ impl<'a> Reader<'a> {
         ensures value { InEachRun self.old (λ head events. result ≡ mem_at events moment address) }
     {
         if self.words.is_empty() {
-            return self.past.value_at(moment, address);
+            return self.value_once(moment, address);
         }
         let place = self.place_of(address);
         match self.known_value(place, moment, address) {
@@ -163,6 +186,15 @@ impl<'a> Reader<'a> {
                 span.value
             }
         }
+    }
+
+    /// The same of a word that is not kept, since it is hardly read twice.
+    pub fn value_once(&mut self, moment: u32, address: u64) -> u64
+        ensures past { self.new ≡ self.old }
+        ensures value { InEachRun self.old (λ head events. result ≡ mem_at events moment address) }
+    {
+        self.past
+            .value_at_counted(moment, address, &mut self.probes)
     }
 
     /// The control registers of a processor at a moment, where they are kept.
@@ -212,7 +244,7 @@ impl<'a> Reader<'a> {
         ensures root { result.root < 2 ^ 52 }
     {
         if self.spells.is_empty() {
-            return self.past.control_at(p, moment);
+            return self.past.control_at_counted(p, moment, &mut self.probes);
         }
         match self.known_control(p, moment) {
             Some(control) => control,
@@ -243,6 +275,7 @@ impl<'a> Reader<'a> {
             (λ a b. not (survives head events p (λ c e. must_drop_translation c e key) a b))
             from (2 ^ 32 - 1) result) }
     {
+        self.wide |= global || shift != 12;
         let probes = &mut self.probes;
         self.past
             .first_drop_of_translation(p, pcid, shift, la, global, from, probes)

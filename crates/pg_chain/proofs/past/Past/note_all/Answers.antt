@@ -2,20 +2,21 @@ use Rattle.std.proofs.Common.{ℕ, ◌<◌, List, ◌++◌, take, sym, subst, �
 use Rattle.std.proofs.lemmas.List.{take_all}
 use Rattle.pg_event.specs.declared.event.Event.{Event}
 use Rattle.pg_event.specs.Form.{processor_of}
+use Rattle.pg_chain.specs.declared.past.Past.{Past}
 use Rattle.pg_chain.specs.Standing.{IsPast, processor_count}
 use Rattle.pg_chain.proofs.Notes.{processor_count-past, AllByRecursion-read, run_more, run_count}
 use Rattle.pg_chain.proofs.past.Past.note_all.Goals as goal
 
-pub note-requires-clause-next : goal.note-requires-clause-next
-note-requires-clause-next c = record {
+pub note_later-requires-clause-next : goal.note_later-requires-clause-next
+note_later-requires-clause-next c = record {
   head = c.requires.next.head;
   events = c.requires.next.events ++ take c.loop-i.i c.args.events.now;
   stands = c.loop-i.invariant.stands c.requires.next.head c.requires.next.events c.requires.next.stands c.requires.next.count;
   count = run_count c.requires.next.events c.args.events.now c.args.first c.loop-i.i c.requires.next.count (omega arith);
 }
 
-pub note-requires-clause-processor : goal.note-requires-clause-processor
-note-requires-clause-processor c =
+pub note_later-requires-clause-processor : goal.note_later-requires-clause-processor
+note_later-requires-clause-processor c =
     let next = c.requires.next in
     let now = c.loop-i.invariant.stands next.head next.events next.stands next.count in
     subst (λ (n : ℕ). processor_of c.index-events-i.result < n)
@@ -32,11 +33,12 @@ returns-in-Err-clause-err c = λ head before h count.
 pub loop-i-preserved : goal.loop-i-preserved
 loop-i-preserved c = record {
   stands = λ head before h count.
-      subst (λ (es : List Event). IsPast c.note.new.self head es) (run_more before c.args.events.now c.loop-i.i c.index-events-i.result (omega arith) c.index-events-i.is)
+      subst (λ (es : List Event). IsPast c.note_later.new.self head es) (run_more before c.args.events.now c.loop-i.i c.index-events-i.result (omega arith) c.index-events-i.is)
       (c.in_default.ensures.ok head (before ++ take c.loop-i.i c.args.events.now) (c.loop-i.invariant.stands head before h count)
       (run_count before c.args.events.now c.args.first c.loop-i.i count (omega arith)));
 }
 
 pub returns-clause-ok : goal.returns-clause-ok
 returns-clause-ok c = λ head before h count.
-    subst (λ (es : List Event). IsPast c.loop-i.self head (before ++ es)) (take_all c.loop-i.i c.args.events.now (omega arith)) (c.loop-i.invariant.stands head before h count)
+    subst (λ (x : Past). IsPast x head (before ++ c.args.events.now)) (sym c.catch_up.ensures)
+    (subst (λ (es : List Event). IsPast c.loop-i.self head (before ++ es)) (take_all c.loop-i.i c.args.events.now (omega arith)) (c.loop-i.invariant.stands head before h count))

@@ -8,11 +8,11 @@ use Rattle.pg_chain.proofs.past.Past.note_drop.Goals as goal
 
 pub returns-in-Err-note-clause-err : goal.returns-in-Err-note-clause-err
 returns-in-Err-note-clause-err c = λ head events h count.
-    let D : ℕ → Type 0 = λ n. drops.IsCutAt c.note.new.self c.forget_from.new.self n in
+    let D : ℕ → Type 0 = λ n. drops.IsCutAt c.note_later.new.self c.forget_from.new.self n in
     let read : c.control_at-before.result ≡ control_at head events (processor_of c.args.event.now) c.args.moment =
     c.control_at-before.ensures.run head events h.controls ∙ ap (λ q. control_at head events q c.args.moment) c.processor_of.ensures in
     record {
       versions = h.versions;
-      controls = registers.StandsFor-same c.args.self.now.controls c.note-in-Ok.new.self head events h.controls c.in-Err-note.ensures.err;
-      drops = dropped.StandsFor-cut c.note.new.self c.forget_from.new.self head events (c.args.event.now ∷ []) (c.in-Ok.ensures.run head events h.drops count read) (subst D count c.forget_from.ensures);
+      controls = registers.StandsFor-same c.args.self.now.controls c.note.new.self head events h.controls c.in-Err-note.ensures.err;
+      drops = dropped.StandsFor-cut c.note_later.new.self c.forget_from.new.self head events (c.args.event.now ∷ []) (c.in-Ok.ensures.run head events h.drops count read) (subst D count c.forget_from.ensures);
     }
