@@ -280,3 +280,11 @@ pub walk_of_page : (head : Head) (events : List Event) (p la : ℕ) (want : Want
 walk_of_page head events p la want ws result few walk =
     let fits = page_fits (length ws) few in
     walk_of_region (page_bits (length ws)) head events p la want ws result fits.0 fits.1 walk
+
+-- the walk itself, to the first address of the page
+pub chain_of_page : (head : Head) (events : List Event) (p la : ℕ) (want : Want) (ws : List ℕ) → length ws ≤ 4 →
+    chain_of head events p (page_start (page_bits (length ws)) la) ws want ≡ chain_of head events p la ws want
+chain_of_page head events p la want ws few =
+    let k = page_bits (length ws) in
+    let fits = page_fits (length ws) few in
+    same_chain k head events p la ws want (small_page k (length ws) fits.1) (coarse_levels k ws fits.0 fits.1)

@@ -38,6 +38,7 @@ impl Model for Judged {
     ghost use Rattle.pg_event.specs.Spelling.{IsHead};
     ghost use Rattle.pg_check.specs.Judging.{Findings};
     ghost use Rattle.pg_check.specs.Remembered.{HaveWalks};
+    ghost use Rattle.pg_check.specs.Stems.{HaveStems};
 
     ghost Value = { Findings };
 
@@ -48,7 +49,8 @@ impl Model for Judged {
       first_bad = j.first_bad;
     } };
 
-    ghost invariant = { λ j. IsHead j.header × HaveWalks j.past j.count j.kept.slots.items };
+    ghost invariant = { λ j. IsHead j.header × HaveWalks j.past j.count j.kept.slots.items
+        × HaveStems j.past j.count j.kept.stems.items };
 }
 
 impl Judged {
@@ -172,7 +174,7 @@ impl Judged {
         ensures err { (head : Head) (before : List Event) → IsJudged self.old head before →
             OnErr result (IsJudged self.new head before) }
     {
-        self.past.note(self.count as u32, event)
+        self.past.note_later(self.count as u32, event)
     }
 
     /// The least reason that fails for the event that comes next, by the events before it. It is
@@ -187,7 +189,7 @@ impl Judged {
         if self.first_bad.is_some() {
             return None;
         }
-        failing_next(&self.past, &mut self.kept, self.count as u32, event)
+        failing_next(&mut self.past, &mut self.kept, self.count as u32, event)
     }
 
     /// Takes the least reason that fails for the event that waits.

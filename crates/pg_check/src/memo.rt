@@ -12,10 +12,7 @@ ghost use Rattle.pg_check.specs.Lasting.{IsAsked, IsWalk};
 ghost use Rattle.pg_check.specs.Remembered.{HasWalk, HaveWalks, IsWithin, walk_in};
 
 use crate::lasting::{Lasting, asked_up_to, is_asked, lasting_walk};
-use crate::places::{
-    Kept, empty_slots, first_slots, most_slots, next_count, page_of, place_of, put_all,
-    walks_before, with_room,
-};
+use crate::places::{Kept, first_slots, most_slots, page_of, place_of};
 use crate::walk::is_in_order;
 use pg_chain::{Chain, EntryRead, Past, Reader, kind_at};
 use pg_entry::{Kind, Level, Rights};
@@ -69,7 +66,14 @@ pub(crate) fn walk_in(slot: &Slot) -> Lasting
 }
 
 /// The slot of a walk that ends with a leaf, which maps a page of 2 to the power of `shift` bytes.
-fn slot_of(p: u16, page: u64, moments: &Moments, walk: Lasting, frame: u64, shift: u8) -> Slot
+pub(crate) fn slot_of(
+    p: u16,
+    page: u64,
+    moments: &Moments,
+    walk: Lasting,
+    frame: u64,
+    shift: u8,
+) -> Slot
     ensures names { (result.p ≡ p) × (result.page ≡ page) × (result.moments ≡ moments.now) }
     ensures leaf { (result.frame ≡ frame) × (result.shift ≡ shift) }
     ensures walk { walk_in result ≡ walk }
@@ -95,7 +99,7 @@ fn slot_of(p: u16, page: u64, moments: &Moments, walk: Lasting, frame: u64, shif
 }
 
 /// Whether what a slot says rests on the first so many events alone, so that later ones leave it.
-fn is_within(slot: &Slot, limit: u32) -> bool
+pub(crate) fn is_within(slot: &Slot, limit: u32) -> bool
     requires frame { slot.now.frame < 2 ^ 52 }
     requires shift { IsPageShift slot.now.shift }
     ensures { IsTrue result → IsWithin limit slot.now }
@@ -108,11 +112,9 @@ fn is_within(slot: &Slot, limit: u32) -> bool
 #[derive(Drop)]
 pub struct Memo<'a> {
     reader: Reader<'a>,
-    slots: Vec<Option<Slot>>,
+    kept: Kept,
     /// What the slots say rests on the first so many events.
     limit: u32,
-    /// How many walks were made for the slots.
-    made: usize,
     /// So many slots there are at most.
     most: usize,
 }
@@ -126,7 +128,7 @@ impl<'a> Model for Memo<'a> {
 
     ghost view = { λ memo. memo.reader };
 
-    ghost invariant = { λ memo. HaveWalks memo.reader memo.limit memo.slots.items };
+    ghost invariant = { λ memo. HaveWalks memo.reader memo.limit memo.kept.slots.items };
 }
 
 /// So many walks are kept at most by a memo for a round: more would not stay in a cache of the
@@ -146,7 +148,7 @@ fn may_be_kept(want: Want) -> bool
 
 /// Whether a slot has a walk of a processor to a page.
 #[inline(always)]
-fn is_to(slot: &Slot, p: u16, page: u64) -> bool
+pub(crate) fn is_to(slot: &Slot, p: u16, page: u64) -> bool
     ensures { IsTrue result → (slot.now.p ≡ p) × (slot.now.page ≡ page) }
 {
     slot.p == p && slot.page == page
@@ -186,14 +188,6 @@ pub(crate) fn slot_at(
     }
 }
 
-/// Whether a slot has a walk of a processor to a page under this PCID, by whatever moments.
-fn is_for(slot: Option<Slot>, p: u16, page: u64, pcid: u16) -> bool {
-    match slot {
-        Some(slot) => is_to(&slot, p, page) && slot.pcid == pcid,
-        None => false,
-    }
-}
-
 impl<'a> Memo<'a> {
     /// No walk. There is room for so many, up to a limit; where memory is refused, each walk is
     /// made anew.
@@ -203,9 +197,8 @@ impl<'a> Memo<'a> {
         let most = walks.min(MOST_SLOTS);
         Memo {
             reader: Reader::new(past, walks),
-            slots: empty_slots(past.alloc, first_slots(past, most)),
+            kept: Kept::with_slots(past.alloc, first_slots(past, most)),
             limit: u32::MAX,
-            made: 0,
             most,
         }
     }
@@ -216,15 +209,19 @@ impl<'a> Memo<'a> {
         requires { HaveWalks past.now number kept.slots.items }
         ensures { result ≡ past.now }
     {
-        let Kept { slots, made } = kept;
-        let count = first_slots(past, walks_before(number));
+        let mut own = kept;
+        own.make_room(past, number);
         Memo {
             reader: Reader::new(past, 0),
-            slots: with_room(past.alloc, slots, count),
+            kept: own,
             limit: number,
-            made,
             most: most_slots(past),
         }
+    }
+
+    /// Whether lists of large or global pages were asked.
+    pub(crate) fn asked_wide(&self) -> bool {
+        self.reader.asked_wide()
     }
 
     /// The slots, where they rest on the first so many events.
@@ -234,16 +231,11 @@ impl<'a> Memo<'a> {
         let alloc = self.past().alloc;
         let Memo {
             reader: _,
-            slots,
+            kept,
             limit: own,
-            made,
             most: _,
         } = self;
-        if own <= limit {
-            Kept { slots, made }
-        } else {
-            Kept::new(alloc)
-        }
+        if own <= limit { kept } else { Kept::new(alloc) }
     }
 
     /// What the run did.
@@ -274,7 +266,7 @@ impl<'a> Memo<'a> {
         ensures { (head : Head) (events : List Event) → IsPast self.now head events →
             IfSome result (λ l. IsWalk head events p page Leaf moments.now (Ok l)) }
     {
-        match slot_at(self.slots.as_slice(), place, p, page, moments) {
+        match slot_at(self.kept.slots.as_slice(), place, p, page, moments) {
             Some(slot) => Some(walk_in(&slot)),
             None => None,
         }
@@ -294,67 +286,14 @@ impl<'a> Memo<'a> {
         }
     }
 
-    /// Makes room at the first of two places: what it has goes to the other.
-    fn make_way(&mut self, first: usize)
-        ensures { self.new ≡ self.old }
-    {
-        let second = first | 1;
-        if first < self.slots.len() && second < self.slots.len() {
-            let before = self.slots[first];
-            self.slots[second] = before;
-        }
-    }
-
-    /// Whether a place has a walk to a page under this PCID, by whatever moments.
-    fn is_taken_for(&self, place: usize, p: u16, page: u64, pcid: u16) -> bool {
-        match self.slots.get(place) {
-            Some(slot) => is_for(*slot, p, page, pcid),
-            None => false,
-        }
-    }
-
-    /// Which of two places a new walk takes: that of an earlier walk to the page, which it follows,
-    /// else the first.
-    fn room_for(&mut self, first: usize, p: u16, page: u64, pcid: u16) -> usize
-        ensures { self.new ≡ self.old }
-    {
-        if self.is_taken_for(first, p, page, pcid) {
-            first
-        } else if self.is_taken_for(first | 1, p, page, pcid) {
-            first | 1
-        } else {
-            self.make_way(first);
-            first
-        }
-    }
-
     /// Keeps a walk that was not kept, at one of its two places.
     fn remember(&mut self, first: usize, p: u16, page: u64, moments: &Moments, walk: Lasting)
         requires { (head : Head) (events : List Event) → IsPast self.old head events →
             IsWalk head events p page Leaf moments.now (Ok walk) }
         ensures { self.new ≡ self.old }
     {
-        let place = self.room_for(first, p, page, walk.chain.pcid);
+        let place = self.kept.room_for(first, p, page, walk.chain.pcid);
         self.keep(place, p, page, moments, walk);
-    }
-
-    /// Counts a walk that was made. Where as many were made as there are slots, there are more from
-    /// now on, unless memory is refused: then it is asked for again after so many walks more.
-    fn count_walk(&mut self)
-        ensures { self.new ≡ self.old }
-    {
-        self.made = self.made.saturating_add(1);
-        let count = self.slots.len();
-        if self.made <= count || count >= self.most {
-            return;
-        }
-        let mut more = empty_slots(self.past().alloc, next_count(count, self.most));
-        if more.len() > count {
-            put_all(self.slots.as_slice(), &mut more);
-            self.slots = more;
-        } else {
-            self.made = 0;
-        }
     }
 
     /// Keeps what a walk to a page came to at a place, where there is one, unless it rests on later
@@ -364,15 +303,12 @@ impl<'a> Memo<'a> {
             IsWalk head events p page Leaf moments.now (Ok walk) }
         ensures { self.new ≡ self.old }
     {
-        if place >= self.slots.len() {
-            return;
-        }
         let Kind::Leaf { frame, shift, .. } = kind_at(self.reader.cfg(), walk.chain.end) else {
             return;
         };
         let slot = slot_of(p, page, moments, walk, frame, shift);
         if is_within(&slot, self.limit) {
-            self.slots[place] = Some(slot);
+            self.kept.put(place, slot);
         }
     }
 
@@ -421,7 +357,8 @@ impl<'a> Memo<'a> {
         match lasting_walk(&mut self.reader, number, to, p, page, moments, Want::Leaf) {
             Ok(walk) => {
                 self.remember(first, p, page, moments, walk);
-                self.count_walk();
+                let alloc = self.past().alloc;
+                self.kept.count_walk(alloc, self.most);
                 Ok(walk)
             }
             Err(reason) => Err(reason),
@@ -470,7 +407,7 @@ impl<'a> Memo<'a> {
         if may_be_kept(want) {
             let levels = moments.len();
             let page = page_of(la, levels);
-            let first = place_of(self.slots.len(), p, page, levels, current);
+            let first = place_of(self.kept.slots.len(), p, page, levels, current);
             self.page_walk(number, first, p, page, moments)
         } else {
             lasting_walk(&mut self.reader, number, number, p, la, moments, want)

@@ -1,29 +1,130 @@
 //! Where walks are kept, and how many places there are.
 
-ghost use Rattle.std.specs.Prelude.{◌≡◌, ℕ, []};
+ghost use Rattle.std.specs.Prelude.{◌≡◌, ℕ, [], Some};
 ghost use Rattle.pg_chain.specs.declared.past.Past.{Past};
 ghost use Rattle.pg_check.specs.Remembered.{HasWalk, HaveWalks, page_bits, page_start};
 
-use crate::memo::Slot;
+use crate::memo::{Slot, is_to};
+use crate::stems::Stem;
 use pg_chain::Past;
 use std::alloc::Global;
 
-/// Slots that outlive the memo that filled them.
+/// Slots that outlive the memo that filled them, and upper parts of walks.
 #[derive(Drop)]
 pub struct Kept {
     pub slots: Vec<Option<Slot>>,
     /// How many walks were made for them.
     pub made: usize,
+    pub stems: Vec<Option<Stem>>,
+    /// Whether lists of large or global pages were asked, which are to be made then.
+    pub wide: bool,
 }
 
 impl Kept {
     /// No slot.
     pub fn new(alloc: Global) -> Kept
-        ensures { result.slots.items ≡ [] }
+        ensures slots { result.slots.items ≡ [] }
+        ensures stems { result.stems.items ≡ [] }
     {
         Kept {
             slots: Vec::new(alloc),
             made: 0,
+            stems: Vec::new(alloc),
+            wide: false,
+        }
+    }
+
+    /// So many slots with no walk. Where memory is refused there are none.
+    pub(crate) fn with_slots(alloc: Global, count: usize) -> Kept
+        ensures { (past : Past) (limit : ℕ) → HaveWalks past limit result.slots.items }
+    {
+        Kept {
+            slots: empty_slots(alloc, count),
+            made: 0,
+            stems: Vec::new(alloc),
+            wide: false,
+        }
+    }
+
+    /// Makes room for the walks that may have come before the event with this number.
+    pub(crate) fn make_room(&mut self, past: &Past, number: u32)
+        ensures walks { (past : Past) (limit : ℕ) → HaveWalks past limit self.old.slots.items →
+            HaveWalks past limit self.new.slots.items }
+        ensures stems { self.new.stems ≡ self.old.stems }
+    {
+        let count = first_slots(past, walks_before(number));
+        if self.slots.len() < count {
+            self.slots = empty_slots(past.alloc, count);
+        }
+    }
+
+    /// Makes room at the first of two places: what it has goes to the other.
+    fn make_way(&mut self, first: usize)
+        ensures walks { (past : Past) (limit : ℕ) → HaveWalks past limit self.old.slots.items →
+            HaveWalks past limit self.new.slots.items }
+        ensures stems { self.new.stems ≡ self.old.stems }
+    {
+        let second = first | 1;
+        if first < self.slots.len() && second < self.slots.len() {
+            let before = self.slots[first];
+            self.slots[second] = before;
+        }
+    }
+
+    /// Whether a place has a walk to a page under this PCID, by whatever moments.
+    fn is_taken_for(&self, place: usize, p: u16, page: u64, pcid: u16) -> bool {
+        match self.slots.get(place) {
+            Some(Some(slot)) => is_to(slot, p, page) && slot.pcid == pcid,
+            Some(None) | None => false,
+        }
+    }
+
+    /// Which of two places a new walk takes: that of an earlier walk to the page, which it follows,
+    /// else the first.
+    pub(crate) fn room_for(&mut self, first: usize, p: u16, page: u64, pcid: u16) -> usize
+        ensures walks { (past : Past) (limit : ℕ) → HaveWalks past limit self.old.slots.items →
+            HaveWalks past limit self.new.slots.items }
+        ensures stems { self.new.stems ≡ self.old.stems }
+    {
+        if self.is_taken_for(first, p, page, pcid) {
+            first
+        } else if self.is_taken_for(first | 1, p, page, pcid) {
+            first | 1
+        } else {
+            self.make_way(first);
+            first
+        }
+    }
+
+    /// Keeps a walk at a place, where there is one.
+    pub(crate) fn put(&mut self, place: usize, slot: Slot)
+        ensures walks { (past : Past) (limit : ℕ) → HasWalk past limit (Some slot) →
+            HaveWalks past limit self.old.slots.items → HaveWalks past limit self.new.slots.items }
+        ensures stems { self.new.stems ≡ self.old.stems }
+    {
+        if place < self.slots.len() {
+            self.slots[place] = Some(slot);
+        }
+    }
+
+    /// Counts a walk that was made. Where as many were made as there are slots, there are more from
+    /// now on, unless memory is refused: then it is asked for again after so many walks more.
+    pub(crate) fn count_walk(&mut self, alloc: Global, most: usize)
+        ensures walks { (past : Past) (limit : ℕ) → HaveWalks past limit self.old.slots.items →
+            HaveWalks past limit self.new.slots.items }
+        ensures stems { self.new.stems ≡ self.old.stems }
+    {
+        self.made = self.made.saturating_add(1);
+        let count = self.slots.len();
+        if self.made <= count || count >= most {
+            return;
+        }
+        let mut more = empty_slots(alloc, next_count(count, most));
+        if more.len() > count {
+            put_all(self.slots.as_slice(), &mut more);
+            self.slots = more;
+        } else {
+            self.made = 0;
         }
     }
 }
@@ -72,11 +173,15 @@ pub(crate) fn page_of(la: u64, levels: usize) -> u64
 /// spread evenly.
 pub(crate) fn place_of(count: usize, p: u16, page: u64, levels: usize, current: u16) -> usize {
     let space = if page >> 63 == 0 { current as u64 } else { 0 };
+    spread(count, p, page, levels, space) & !1
+}
+
+/// One of so many places. Pages that follow each other are spread evenly.
+pub(crate) fn spread(count: usize, p: u16, page: u64, levels: usize, space: u64) -> usize {
     let key = (p as u64) << 40 | (levels as u64) << 36 | page % (1 << 48) / 4096;
     let number = (key ^ space << 50).wrapping_mul(SPREAD) >> 32;
     // The same part of the places that this number is of 2 to the power of 32.
-    let place = number.wrapping_mul(count as u64) >> 32;
-    place as usize & !1
+    (number.wrapping_mul(count as u64) >> 32) as usize
 }
 
 /// So many slots are worth their room at first where so many walks may come.
@@ -87,7 +192,7 @@ pub(crate) fn first_slots(past: &Past, walks: usize) -> usize {
 
 /// So many walks may have come before the event with this number, as a number that rarely grows:
 /// whenever it does, slots begin anew.
-pub(crate) fn walks_before(number: u32) -> usize {
+fn walks_before(number: u32) -> usize {
     match number {
         0..256 => 256,
         256..4096 => 4_096,
@@ -102,24 +207,12 @@ pub(crate) fn most_slots(past: &Past) -> usize {
 }
 
 /// So many slots. Where memory is refused there are none.
-pub(crate) fn empty_slots(alloc: Global, count: usize) -> Vec<Option<Slot>>
+fn empty_slots(alloc: Global, count: usize) -> Vec<Option<Slot>>
     ensures { (past : Past) (limit : ℕ) → HaveWalks past limit result.items }
 {
     match Vec::from_elem(alloc, None, count) {
         Ok(slots) => slots,
         Err(_) => Vec::new(alloc),
-    }
-}
-
-/// These slots if there are so many, else so many with no walk.
-pub(crate) fn with_room(alloc: Global, slots: Vec<Option<Slot>>, count: usize) -> Vec<Option<Slot>>
-    ensures { (past : Past) (limit : ℕ) → HaveWalks past limit slots.items →
-        HaveWalks past limit result.items }
-{
-    if slots.len() < count {
-        empty_slots(alloc, count)
-    } else {
-        slots
     }
 }
 
@@ -139,7 +232,7 @@ fn put(slots: &mut Vec<Option<Slot>>, slot: Option<Slot>)
 }
 
 /// Keeps what slots have among others too.
-pub(crate) fn put_all(from: &[Option<Slot>], to: &mut Vec<Option<Slot>>)
+fn put_all(from: &[Option<Slot>], to: &mut Vec<Option<Slot>>)
     ensures { (past : Past) (limit : ℕ) → HaveWalks past limit from.now →
         HaveWalks past limit to.old.items → HaveWalks past limit to.new.items }
 {
@@ -149,6 +242,6 @@ pub(crate) fn put_all(from: &[Option<Slot>], to: &mut Vec<Option<Slot>>)
 }
 
 /// How many slots follow so many, where there may be so many at most.
-pub(crate) fn next_count(count: usize, most: usize) -> usize {
+fn next_count(count: usize, most: usize) -> usize {
     count.saturating_mul(TIMES).min(most)
 }

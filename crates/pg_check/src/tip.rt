@@ -1,7 +1,7 @@
 //! The event that comes next, judged by what stands now: by a walk that was kept, where nothing
 //! dropped its translation since, as a processor uses its TLB.
 
-ghost use Rattle.std.specs.Prelude.{◌≡◌, ◌<◌, ◌≤◌, ℕ, List, length, Ok, Some, None, IfSome};
+ghost use Rattle.std.specs.Prelude.{◌≡◌, ◌<◌, ◌≤◌, ◌^◌, ℕ, List, length, Ok, Some, None, IfSome};
 ghost use Rattle.std.specs.Prelude.{IsTrue, true};
 ghost use Rattle.pg_entry.specs.Kinds.{IsPageShift};
 ghost use Rattle.pg_event.specs.declared.event.Event.{Event};
@@ -10,18 +10,22 @@ ghost use Rattle.pg_event.specs.Form.{processor_of};
 ghost use Rattle.pg_event.specs.Heads.{Head};
 ghost use Rattle.pg_event.specs.Wants.{want_of};
 ghost use Rattle.pg_event.specs.Invalidation.{translation_key, must_drop_translation};
-ghost use Rattle.pg_event.specs.Witness.{failing_access, failing_event, survives};
+ghost use Rattle.pg_event.specs.Witness.{failing_access, failing_event, is_in_order, survives};
 ghost use Rattle.pg_chain.specs.declared.past.Past.{Past};
 ghost use Rattle.pg_chain.specs.Standing.{InEachRun, IsNext, processor_count};
-ghost use Rattle.pg_check.specs.Lasting.{IsWalk};
+ghost use Rattle.pg_check.specs.Lasting.{IsAsked, IsLasting, IsWalk};
 ghost use Rattle.pg_check.specs.Remembered.{HasWalk, HaveWalks, IsLeaf, IsWithin, lasting_to};
+ghost use Rattle.pg_check.specs.Remembered.{page_bits, page_start};
+ghost use Rattle.pg_check.specs.Stems.{HaveStems};
 
 use crate::access::failing_leaf_chain;
 use crate::judge::failing;
 use crate::lasting::Lasting;
-use crate::memo::{Memo, Slot, slot_at, walk_in};
-use crate::places::{Kept, page_of, place_of};
-use pg_chain::Past;
+use crate::memo::{Memo, Slot, is_within, slot_at, slot_of, walk_in};
+use crate::places::{Kept, most_slots, page_of, place_of};
+use crate::stems::{Region, Stem, split_last, stem_of};
+use pg_chain::{Chain, Past, chain_further, kind_at};
+use pg_entry::Kind;
 use pg_event::{
     Claim, Event, Moments, Reason, Request, Want, processor_of, translation_key, want_of,
 };
@@ -149,64 +153,175 @@ fn failing_by_past(past: &Past, kept: &mut Kept, number: u32, event: &Event) -> 
     requires processor { processor_of event.now < processor_count past.now }
     requires walks { HaveWalks past.now number kept.old.slots.items }
     ensures walks { HaveWalks past.now number kept.new.slots.items }
+    ensures stems { kept.new.stems ≡ kept.old.stems }
     ensures failing { InEachRun past.now (λ head events.
         result ≡ failing_event head events number event.now) }
 {
-    let own = mem::replace(kept, Kept::new(past.alloc));
+    let own = Kept {
+        slots: mem::replace(&mut kept.slots, Vec::new(past.alloc)),
+        made: kept.made,
+        stems: Vec::new(past.alloc),
+        wide: false,
+    };
     let mut memo = Memo::at_tip(past, own, number);
     let found = failing(&mut memo, number, event);
-    *kept = memo.into_slots(number);
+    kept.wide = memo.asked_wide();
+    let Kept { slots, made, .. } = memo.into_slots(number);
+    kept.slots = slots;
+    kept.made = made;
     found
 }
 
-/// The same for an access that asks for a leaf: a walk that was kept and stands is used before the
-/// past is asked.
+/// What the walk of an access gives that is read last at the event that comes next, if it ends with
+/// a leaf.
 #[inline(always)]
-fn failing_of_page(
+fn lasting_now(past: &Past, number: u32, p: u16, la: u64, chain: Chain) -> Option<Lasting>
+    requires next { IsNext past.now number }
+    requires processor { p < processor_count past.now }
+    ensures asked { IfSome result (IsAsked number) }
+    ensures chain { IfSome result (λ l. l.chain ≡ chain) }
+    ensures lasting { InEachRun past.now (λ head events. IfSome result (IsLasting head events p la)) }
+{
+    if chain.end.moment != number {
+        return None;
+    }
+    let Kind::Leaf { global_bit, .. } = kind_at(past.cfg(), chain.end) else {
+        return None;
+    };
+    Some(Lasting {
+        chain,
+        global: global_bit && past.latest_control(p).pge,
+        asked: number,
+        dropped: None,
+    })
+}
+
+/// The walk of an access to a page that is read last at the event that comes next, by the walk of
+/// its other moments. None says nothing.
+#[inline(always)]
+fn walk_at_event(
+    past: &Past,
+    stems: &mut Vec<Option<Stem>>,
+    current: u16,
+    claim: &Claim,
+    moments: &Moments,
+) -> Option<Lasting>
+    requires next { IsNext past.now claim.now.number }
+    requires processor { claim.now.p < processor_count past.now }
+    requires stems { HaveStems past.now claim.now.number stems.old.items }
+    ensures stems { HaveStems past.now claim.now.number stems.new.items }
+    ensures asked { IfSome result (IsAsked claim.now.number) }
+    ensures ordered { IfSome result (λ l. is_in_order moments.now claim.now.number ≡ true) }
+    ensures walk { let page = page_start (page_bits (length moments.now)) claim.now.la in
+        InEachRun past.now (λ head events. IfSome result (λ l.
+        IsWalk head events claim.now.p page Leaf moments.now (Ok l))) }
+{
+    let Claim { number, p, la, .. } = *claim;
+    let (upper, last) = split_last(moments)?;
+    if last != number {
+        return None;
+    }
+    let page = page_of(la, moments.len());
+    let first = page_of(page, upper.len());
+    let stem = stem_of(past, stems, number, current, Region { p, first }, &upper)?;
+    match chain_further(past, p, page, stem, number, Want::Leaf) {
+        Ok(chain) => lasting_now(past, number, p, page, chain),
+        Err(_) => None,
+    }
+}
+
+/// What is known of the access that comes next by a walk that is made and kept: the least reason
+/// that fails, if there is one. None says nothing.
+#[inline(always)]
+fn failing_anew(
     past: &Past,
     kept: &mut Kept,
     claim: &Claim,
     moments: &Moments,
-    event: &Event,
-) -> Option<Reason>
+) -> Option<Option<Reason>>
     requires next { IsNext past.now claim.now.number }
-    requires processor { processor_of event.now < processor_count past.now }
+    requires processor { claim.now.p < processor_count past.now }
     requires walks { HaveWalks past.now claim.now.number kept.old.slots.items }
+    requires stems { HaveStems past.now claim.now.number kept.old.stems.items }
     requires leaf { want_of claim.now.outcome ≡ Leaf }
-    requires same { claim.now.p ≡ processor_of event.now }
-    requires claim { (head : Head) (events : List Event) →
-        failing_event head events claim.now.number event.now
-        ≡ failing_access head events claim.now moments.now }
     ensures walks { HaveWalks past.now claim.now.number kept.new.slots.items }
-    ensures failing { InEachRun past.now (λ head events.
-        result ≡ failing_event head events claim.now.number event.now) }
+    ensures stems { HaveStems past.now claim.now.number kept.new.stems.items }
+    ensures failing { InEachRun past.now (λ head events. IfSome result (λ found.
+        found ≡ failing_access head events claim.now moments.now)) }
 {
-    match failing_standing(past, kept, claim, moments) {
-        Some(found) => found,
-        None => failing_by_past(past, kept, claim.number, event),
-    }
+    let current = past.latest_control(claim.p).pcid;
+    let walk = walk_at_event(past, &mut kept.stems, current, claim, moments)?;
+    let Kind::Leaf { frame, shift, .. } = kind_at(past.cfg(), walk.chain.end) else {
+        return None;
+    };
+    let page = page_of(claim.la, moments.len());
+    let slot = slot_of(claim.p, page, moments, walk, frame, shift);
+    keep_walk(past, kept, current, claim.number, slot);
+    Some(failing_leaf_chain(past, current, claim, walk, frame, shift))
 }
 
-/// The least reason that fails for the event that comes next, with this number, where `kept` are
-/// walks of the events before it. What is kept then is right still.
+/// Keeps a walk that was made at the event that comes next.
 #[inline(always)]
-pub(crate) fn failing_next(
-    past: &Past,
-    kept: &mut Kept,
-    number: u32,
-    event: &Event,
-) -> Option<Reason>
+fn keep_walk(past: &Past, kept: &mut Kept, current: u16, number: u32, slot: Slot)
+    requires frame { slot.frame < 2 ^ 52 }
+    requires shift { IsPageShift slot.shift }
+    requires walks { HaveWalks past.now number kept.old.slots.items }
+    requires slot { IsWithin number slot → HasWalk past.now number (Some slot) }
+    ensures walks { HaveWalks past.now number kept.new.slots.items }
+    ensures stems { kept.new.stems ≡ kept.old.stems }
+{
+    kept.make_room(past, number);
+    let levels = slot.moments.len();
+    let first = place_of(kept.slots.len(), slot.p, slot.page, levels, current);
+    let place = kept.room_for(first, slot.p, slot.page, slot.pcid);
+    if is_within(&slot, number) {
+        kept.put(place, slot);
+    }
+    kept.count_walk(past.alloc, most_slots(past));
+}
+
+/// The least reason that fails for the event that comes next, where no walk that was kept tells it:
+/// by a walk that is made from the upper part of others, or else by what the past says. The lists of
+/// what was dropped are made as far as they are asked.
+#[inline(never)]
+fn failing_slow(past: &mut Past, kept: &mut Kept, number: u32, event: &Event) -> Option<Reason>
+    requires next { IsNext past.old number }
+    requires processor { processor_of event.now < processor_count past.old }
+    requires walks { HaveWalks past.old number kept.old.slots.items }
+    requires stems { HaveStems past.old number kept.old.stems.items }
+    ensures past { past.new ≡ past.old }
+    ensures walks { HaveWalks past.old number kept.new.slots.items }
+    ensures stems { HaveStems past.old number kept.new.stems.items }
+    ensures failing { InEachRun past.old (λ head events.
+        result ≡ failing_event head events number event.now) }
+{
+    past.catch_up_pages();
+    if let Some(found) = failing_page(past, kept, number, event) {
+        return found;
+    }
+    let found = failing_by_past(past, kept, number, event);
+    if kept.wide {
+        past.catch_up();
+    }
+    found
+}
+
+/// What is known of the event that comes next by a walk that is made from the upper part of others,
+/// if it is an access that asks for a leaf. None says nothing.
+#[inline(always)]
+fn failing_page(past: &Past, kept: &mut Kept, number: u32, event: &Event) -> Option<Option<Reason>>
     requires next { IsNext past.now number }
     requires processor { processor_of event.now < processor_count past.now }
     requires walks { HaveWalks past.now number kept.old.slots.items }
+    requires stems { HaveStems past.now number kept.old.stems.items }
     ensures walks { HaveWalks past.now number kept.new.slots.items }
-    ensures failing { InEachRun past.now (λ head events.
-        result ≡ failing_event head events number event.now) }
+    ensures stems { HaveStems past.now number kept.new.stems.items }
+    ensures failing { InEachRun past.now (λ head events. IfSome result (λ found.
+        found ≡ failing_event head events number event.now)) }
 {
     let p = processor_of(event);
     match event.request() {
-        Request::Nothing => None,
-        Request::Update { .. } => failing_by_past(past, kept, number, event),
+        Request::Nothing | Request::Update { .. } => None,
         Request::Access {
             kind,
             la,
@@ -214,7 +329,7 @@ pub(crate) fn failing_next(
             moments,
         } => {
             if !is_leaf(want_of(outcome)) {
-                return failing_by_past(past, kept, number, event);
+                return None;
             }
             let claim = Claim {
                 number,
@@ -223,7 +338,54 @@ pub(crate) fn failing_next(
                 la,
                 outcome,
             };
-            failing_of_page(past, kept, &claim, &moments, event)
+            failing_anew(past, kept, &claim, &moments)
+        }
+    }
+}
+
+/// The least reason that fails for the event that comes next, with this number, where `kept` are
+/// walks of the events before it. What is kept then is right still.
+#[inline(always)]
+pub(crate) fn failing_next(
+    past: &mut Past,
+    kept: &mut Kept,
+    number: u32,
+    event: &Event,
+) -> Option<Reason>
+    requires next { IsNext past.old number }
+    requires processor { processor_of event.now < processor_count past.old }
+    requires walks { HaveWalks past.old number kept.old.slots.items }
+    requires stems { HaveStems past.old number kept.old.stems.items }
+    ensures past { past.new ≡ past.old }
+    ensures walks { HaveWalks past.old number kept.new.slots.items }
+    ensures stems { HaveStems past.old number kept.new.stems.items }
+    ensures failing { InEachRun past.old (λ head events.
+        result ≡ failing_event head events number event.now) }
+{
+    let p = processor_of(event);
+    match event.request() {
+        Request::Nothing => None,
+        Request::Update { .. } => failing_slow(past, kept, number, event),
+        Request::Access {
+            kind,
+            la,
+            outcome,
+            moments,
+        } => {
+            if !is_leaf(want_of(outcome)) {
+                return failing_slow(past, kept, number, event);
+            }
+            let claim = Claim {
+                number,
+                p,
+                kind,
+                la,
+                outcome,
+            };
+            match failing_standing(past, kept, &claim, &moments) {
+                Some(found) => found,
+                None => failing_slow(past, kept, number, event),
+            }
         }
     }
 }

@@ -1,4 +1,4 @@
-use Rattle.std.proofs.Common.{◌≡◌, refl, sym, ◌∙◌}
+use Rattle.std.proofs.Common.{refl, sym, ◌∙◌}
 use Rattle.pg_check.proofs.Memos.{same_moments}
 use Rattle.pg_check.proofs.memo.is_of.Goals as goal
 

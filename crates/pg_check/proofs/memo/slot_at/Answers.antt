@@ -1,4 +1,4 @@
-use Rattle.std.proofs.Common.{◌∙◌, sym, subst, Option, Some}
+use Rattle.std.proofs.Common.{◌∙◌, sym, subst, Option}
 use Rattle.pg_check.specs.declared.memo.Slot.{Slot}
 use Rattle.pg_check.specs.Remembered.{HasWalk}
 use Rattle.pg_check.proofs.Memos as memos

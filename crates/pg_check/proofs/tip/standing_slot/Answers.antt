@@ -1,4 +1,4 @@
-use Rattle.std.proofs.Common.{◌≡◌, ℕ, List, Some, Ok, refl, sym, ap, subst, ◌∙◌}
+use Rattle.std.proofs.Common.{ℕ, List, Some, Ok, refl, ap, subst, ◌∙◌}
 use Rattle.pg_event.specs.declared.event.Want.TheVariants as wants
 use Rattle.pg_check.specs.Lasting.{IsWalk}
 use Rattle.pg_check.specs.Remembered.{HasWalk, page_bits, page_start, lasting_to}

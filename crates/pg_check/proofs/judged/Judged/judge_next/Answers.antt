@@ -1,6 +1,6 @@
-use Rattle.std.proofs.Common.{◌≡◌, List, [], ◌∷◌, None, ap, sym, subst, ◌∙◌}
+use Rattle.std.proofs.Common.{◌≡◌, [], ◌∷◌, None, sym, subst, ◌∙◌}
 use Rattle.pg_event.specs.Witness.{first_some}
-use Rattle.pg_check.specs.Judging.{Findings, IsJudged, IsFound, Awaits}
+use Rattle.pg_check.specs.Judging.{Findings, IsJudged, IsFound}
 use Rattle.pg_check.proofs.judged.Judged.judge_next.Goals as goal
 
 pub settle_next-requires : goal.settle_next-requires

@@ -2,12 +2,16 @@ use Rattle.std.proofs.Common.{◌+◌, length, sym, subst, arith}
 use Rattle.pg_check.specs.Judging.{Findings, Awaits}
 use Rattle.pg_check.proofs.Judgings.{findings, settled}
 use Rattle.pg_check.proofs.Grown.{walks_later}
+use Rattle.pg_check.proofs.Uppers.{stems_later}
 use Rattle.pg_check.proofs.judged.Judged.move_on.Goals as goal
 
 pub invariant_of-self : goal.invariant_of-self
 invariant_of-self c =
-    let s = c.self.inside in
-    (c.self.invariant.0, walks_later s.past s.count (s.count + length c.args.events.now) s.kept.slots.items (omega arith) c.self.invariant.1)
+    let s = c.self.inside in (
+      c.self.invariant.0,
+      walks_later s.past s.count (s.count + length c.args.events.now) s.kept.slots.items (omega arith) c.self.invariant.1,
+      stems_later s.past s.count (s.count + length c.args.events.now) s.kept.stems.items (omega arith) c.self.invariant.2,
+    )
 
 pub returns-clause-judged : goal.returns-clause-judged
 returns-clause-judged c = λ head before waits is.

@@ -2,6 +2,7 @@ use Rattle.std.proofs.Common.{◌≡◌, length, sym, subst, arith}
 use Rattle.pg_check.specs.Judging.{Findings, IsJudged, MayFollow}
 use Rattle.pg_check.proofs.Judgings.{findings, noted_ok, noted_err}
 use Rattle.pg_check.proofs.Grown.{walks_noted}
+use Rattle.pg_check.proofs.Uppers.{stems_noted}
 use Rattle.pg_check.proofs.judged.Judged.note.Goals as goal
 
 pub invariant_of-self : goal.invariant_of-self
@@ -14,6 +15,8 @@ invariant_of-self c =
       c.self.invariant.0,
       walks_noted c.note_all.result s.past c.note_all.new.self s.count s.header may.before c.args.events.now s.kept.slots.items (omega (arith, count)) was.past
           (c.note_all.ensures.ok s.header may.before was.past was.count) (c.note_all.ensures.err s.header may.before was.past was.count) c.self.invariant.1,
+      stems_noted c.note_all.result s.past c.note_all.new.self s.count s.header may.before c.args.events.now s.kept.stems.items (omega (arith, count)) was.past
+          (c.note_all.ensures.ok s.header may.before was.past was.count) (c.note_all.ensures.err s.header may.before was.past was.count) c.self.invariant.2,
     )
 
 pub returns-clause-ok : goal.returns-clause-ok

@@ -2,6 +2,7 @@ use Rattle.std.proofs.Common.{◌≡◌, [], ◌∷◌, length, sym, subst, arit
 use Rattle.pg_check.specs.Judging.{Findings, IsJudged, MayFollow}
 use Rattle.pg_check.proofs.Judgings.{findings, noted_ok, noted_err}
 use Rattle.pg_check.proofs.Grown.{walks_noted}
+use Rattle.pg_check.proofs.Uppers.{stems_noted}
 use Rattle.pg_check.proofs.judged.Judged.note_next.Goals as goal
 
 pub invariant_of-self : goal.invariant_of-self
@@ -12,8 +13,10 @@ invariant_of-self c =
     let was : IsJudged f s.header may.before = may.judged in
     let count : s.count ≡ length may.before = was.count in (
       c.self.invariant.0,
-      walks_noted c.note.result s.past c.note.new.self s.count s.header may.before (c.args.event.now ∷ []) s.kept.slots.items (omega (arith, count)) was.past
-          (c.note.ensures.ok s.header may.before was.past was.count) (c.note.ensures.err s.header may.before was.past was.count) c.self.invariant.1,
+      walks_noted c.note_later.result s.past c.note_later.new.self s.count s.header may.before (c.args.event.now ∷ []) s.kept.slots.items (omega (arith, count)) was.past
+          (c.note_later.ensures.ok s.header may.before was.past was.count) (c.note_later.ensures.err s.header may.before was.past was.count) c.self.invariant.1,
+      stems_noted c.note_later.result s.past c.note_later.new.self s.count s.header may.before (c.args.event.now ∷ []) s.kept.stems.items (omega (arith, count)) was.past
+          (c.note_later.ensures.ok s.header may.before was.past was.count) (c.note_later.ensures.err s.header may.before was.past was.count) c.self.invariant.2,
     )
 
 pub returns-clause-ok : goal.returns-clause-ok
@@ -22,11 +25,11 @@ returns-clause-ok c = λ head before judged.
     let f : Findings = findings s.header s.past s.count s.first_bad in
     let was : IsJudged f head before = subst (λ (x : Findings). IsJudged x head before) (sym c.self.view_is) judged in
     let may : MayFollow f (c.args.event.now ∷ []) = subst (λ (x : Findings). MayFollow x (c.args.event.now ∷ [])) (sym c.self.view_is) c.requires in
-    noted_ok c.note.result f head before (c.args.event.now ∷ []) may was c.note.new.self (c.note.ensures.ok head before was.past was.count)
+    noted_ok c.note_later.result f head before (c.args.event.now ∷ []) may was c.note_later.new.self (c.note_later.ensures.ok head before was.past was.count)
 
 pub returns-clause-err : goal.returns-clause-err
 returns-clause-err c = λ head before judged.
     let s = c.self.inside in
     let f : Findings = findings s.header s.past s.count s.first_bad in
     let was : IsJudged f head before = subst (λ (x : Findings). IsJudged x head before) (sym c.self.view_is) judged in
-    noted_err c.note.result f head before was c.note.new.self (c.note.ensures.err head before was.past was.count)
+    noted_err c.note_later.result f head before was c.note_later.new.self (c.note_later.ensures.err head before was.past was.count)

@@ -1,26 +1,30 @@
-use Rattle.std.proofs.Common.{◌≡◌, ◌+◌, List, [], ◌∷◌, ◌++◌, length, Option, Some, None, ℕ, refl, ap, sym, subst, ◌∙◌, arith}
+use Rattle.std.proofs.Common.{◌+◌, [], ◌∷◌, ◌++◌, Option, None, ℕ, ap, sym, subst, ◌∙◌, arith}
 use Rattle.std.specs.Option.{option_or}
-use Rattle.pg_event.specs.declared.event.Event.{Event}
 use Rattle.pg_event.specs.declared.event.Reason.{Reason}
-use Rattle.pg_event.specs.Heads.{Head}
 use Rattle.pg_event.specs.Spelling.{IsHead}
 use Rattle.pg_event.specs.Witness.{first_some}
 use Rattle.pg_check.specs.declared.judged.Judged.TheInside.{Inside}
 use Rattle.pg_check.specs.Judging.{Findings, IsJudged, IsFound, Awaits}
 use Rattle.pg_check.specs.Remembered.{HaveWalks}
+use Rattle.pg_check.specs.Stems.{HaveStems}
 use Rattle.pg_check.proofs.Judgings.{findings, settled, or_none}
 use Rattle.pg_check.proofs.Grown.{walks_later}
+use Rattle.pg_check.proofs.Uppers.{stems_later}
 use Rattle.pg_check.proofs.judged.Judged.settle_next.Goals.{in-Some, in-None}
 use Rattle.pg_check.proofs.judged.Judged.settle_next.Goals as goal
 
 -- one more event was judged
 abbrev CountsOne : Inside → Type 0
-CountsOne s = IsHead s.header × HaveWalks s.past (s.count + 1) s.kept.slots.items
+CountsOne s = IsHead s.header × HaveWalks s.past (s.count + 1) s.kept.slots.items × HaveStems s.past (s.count + 1) s.kept.stems.items
 
 pub invariant_of-self : goal.invariant_of-self
 invariant_of-self c =
     let s = c.self.inside in
-    let next : CountsOne s = (c.self.invariant.0, walks_later s.past s.count (s.count + 1) s.kept.slots.items (omega arith) c.self.invariant.1) in
+    let next : CountsOne s = (
+      c.self.invariant.0,
+      walks_later s.past s.count (s.count + 1) s.kept.slots.items (omega arith) c.self.invariant.1,
+      stems_later s.past s.count (s.count + 1) s.kept.stems.items (omega arith) c.self.invariant.2,
+    ) in
     elim c.match-found.branch [
       | in-Some w ↦ subst CountsOne (sym w.self-inside-is) next
       | in-None w ↦ subst CountsOne (sym w.self-inside-is) next

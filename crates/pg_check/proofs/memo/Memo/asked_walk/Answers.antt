@@ -6,7 +6,7 @@ use Rattle.pg_check.specs.Remembered.{HaveWalks}
 use Rattle.pg_check.proofs.memo.Memo.asked_walk.Goals as goal
 
 pub invariant_of-self : goal.invariant_of-self
-invariant_of-self c = subst (λ (x : Past). HaveWalks x c.self.inside.limit c.self.inside.slots.items) (sym c.asked_up_to-known.ensures.past) c.self.invariant
+invariant_of-self c = subst (λ (x : Past). HaveWalks x c.self.inside.limit c.self.inside.kept.slots.items) (sym c.asked_up_to-known.ensures.past) c.self.invariant
 
 pub keep-requires : goal.keep-requires
 keep-requires c = λ head events h.

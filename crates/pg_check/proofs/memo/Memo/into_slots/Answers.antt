@@ -7,5 +7,5 @@ use Rattle.pg_check.proofs.memo.Memo.into_slots.Goals as goal
 pub returns-then-own-limit : goal.returns-then-own-limit
 returns-then-own-limit c =
     let memo = c.self.inside in
-    subst (λ (x : Past). HaveWalks x c.args.limit memo.slots.items) c.self.view_is
-    (walks_later memo.reader memo.limit c.args.limit memo.slots.items (omega (arith, c.if-own-limit.true)) c.self.invariant)
+    subst (λ (x : Past). HaveWalks x c.args.limit memo.kept.slots.items) c.self.view_is
+    (walks_later memo.reader memo.limit c.args.limit memo.kept.slots.items (omega (arith, c.if-own-limit.true)) c.self.invariant)

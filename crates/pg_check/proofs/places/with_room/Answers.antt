@@ -1,4 +1,0 @@
-use Rattle.pg_check.proofs.places.with_room.Goals as goal
-
-pub returns-then-len-count : goal.returns-then-len-count
-returns-then-len-count c = λ past limit have. c.empty_slots.ensures past limit

@@ -1,0 +1,183 @@
+//! Upper parts of walks, kept so that the pages of a region share them.
+
+ghost use Rattle.std.specs.Prelude.{◌≡◌, ◌<◌, ◌++◌, ◌∷◌, ℕ, [], IfSome, IsTrue};
+ghost use Rattle.pg_chain.specs.declared.past.Past.{Past};
+ghost use Rattle.pg_chain.specs.Standing.{processor_count};
+ghost use Rattle.pg_check.specs.Stems.{HaveStems, IsStem};
+
+use crate::places::spread;
+use crate::walk::is_in_order;
+use pg_chain::{Chain, Past, chain};
+use pg_event::{Moments, Want};
+use std::alloc::Global;
+
+/// The walk of an access by all its moments but the last. Walks by the same moments to addresses of
+/// one region are alike: that is the page which the last of these moments would map.
+#[derive(Clone, Copy)]
+pub struct Stem {
+    /// The first address of the region.
+    pub region: u64,
+    pub moments: Moments,
+    pub p: u16,
+    pub chain: Chain,
+}
+
+/// So many upper parts are kept at most for each recorded processor.
+const STEMS_FOR_EACH: usize = 256;
+
+/// So many are kept at most.
+const MOST_STEMS: usize = 8_192;
+
+/// So many are worth their room before the event with this number, as a number that rarely grows.
+fn stems_before(past: &Past, number: u32) -> usize {
+    let all = past.controls.processors().saturating_mul(STEMS_FOR_EACH);
+    match number {
+        0..1024 => 64,
+        _ => all.max(1_024).min(MOST_STEMS),
+    }
+}
+
+/// Makes room for the upper parts that may have come before the event with this number. Where
+/// memory is refused there is none.
+fn make_room(past: &Past, stems: &mut Vec<Option<Stem>>, number: u32)
+    ensures { (past : Past) (limit : ℕ) → HaveStems past limit stems.old.items →
+        HaveStems past limit stems.new.items }
+{
+    let count = stems_before(past, number);
+    if stems.len() < count {
+        *stems = empty_stems(past.alloc, count);
+    }
+}
+
+/// So many places with no upper part. Where memory is refused there are none.
+fn empty_stems(alloc: Global, count: usize) -> Vec<Option<Stem>>
+    ensures { (past : Past) (limit : ℕ) → HaveStems past limit result.items }
+{
+    match Vec::from_elem(alloc, None, count) {
+        Ok(stems) => stems,
+        Err(_) => Vec::new(alloc),
+    }
+}
+
+/// All moments but the last, and the last, if there are two or more.
+#[inline(always)]
+pub(crate) fn split_last(moments: &Moments) -> Option<(Moments, u32)>
+    ensures { IfSome result (λ parts. moments.now ≡ parts.0 ++ parts.1 ∷ []) }
+{
+    let all = moments.as_slice();
+    match all.len() {
+        4 => Some((Moments::first(all[0]).with(all[1])?.with(all[2])?, all[3])),
+        3 => Some((Moments::first(all[0]).with(all[1])?, all[2])),
+        2 => Some((Moments::first(all[0]), all[1])),
+        _ => None,
+    }
+}
+
+/// Whether an upper part is of a processor's walks to a region.
+#[inline(always)]
+fn is_to(stem: &Stem, p: u16, region: u64) -> bool
+    ensures { IsTrue result → (stem.now.p ≡ p) × (stem.now.region ≡ region) }
+{
+    stem.p == p && stem.region == region
+}
+
+/// Whether an upper part is of a processor's walks to a region by these moments.
+#[inline(always)]
+fn is_of(stem: &Stem, p: u16, region: u64, moments: &Moments) -> bool
+    ensures { IsTrue result → (stem.now.p ≡ p) × (stem.now.region ≡ region)
+        × (stem.now.moments ≡ moments.now) }
+{
+    is_to(stem, p, region) && stem.moments == *moments
+}
+
+/// The upper part that a place has of a processor's walks to a region by these moments.
+#[inline(always)]
+fn stem_at(
+    stems: &[Option<Stem>],
+    place: usize,
+    p: u16,
+    region: u64,
+    moments: &Moments,
+) -> Option<Chain>
+    ensures { (past : Past) (limit : ℕ) → HaveStems past limit stems.now →
+        IfSome result (IsStem past limit p region moments.now) }
+{
+    match stems.get(place)? {
+        Some(stem) => if is_of(stem, p, region, moments) {
+            Some(stem.chain)
+        } else {
+            None
+        },
+        None => None,
+    }
+}
+
+/// The upper part of a processor's walks to a region by these moments, as far as the past says that
+/// there is one.
+#[inline(never)]
+fn stem_anew(past: &Past, number: u32, p: u16, region: u64, moments: &Moments) -> Option<Chain>
+    requires { p < processor_count past.now }
+    ensures { IfSome result (IsStem past.now number p region moments.now) }
+{
+    if !is_in_order(moments.as_slice(), number) {
+        return None;
+    }
+    match chain(past, p, region, moments, Want::Present) {
+        Ok(chain) => Some(chain),
+        Err(_) => None,
+    }
+}
+
+/// Keeps an upper part at a place, where there is one.
+fn put(stems: &mut Vec<Option<Stem>>, place: usize, stem: Stem)
+    ensures { (past : Past) (limit : ℕ) →
+        IsStem past limit stem.p stem.region stem.moments stem.chain →
+        HaveStems past limit stems.old.items → HaveStems past limit stems.new.items }
+{
+    if place < stems.len() {
+        stems[place] = Some(stem);
+    }
+}
+
+/// Of which walks an upper part is: those of a processor to a region.
+#[derive(Clone, Copy)]
+pub(crate) struct Region {
+    pub p: u16,
+    /// The first address of the region.
+    pub first: u64,
+}
+
+/// The upper part of a processor's walks to a region by these moments, at the event with this
+/// number: one that is kept, or one that is made and kept. `current` is the PCID: they are placed
+/// by it.
+pub(crate) fn stem_of(
+    past: &Past,
+    stems: &mut Vec<Option<Stem>>,
+    number: u32,
+    current: u16,
+    region: Region,
+    moments: &Moments,
+) -> Option<Chain>
+    requires processor { region.p < processor_count past.now }
+    requires stems { HaveStems past.now number stems.old.items }
+    ensures stems { HaveStems past.now number stems.new.items }
+    ensures stem { IfSome result (IsStem past.now number region.p region.first moments.now) }
+{
+    let Region { p, first } = region;
+    let levels = moments.len();
+    let place = spread(stems.len(), p, first, levels, current as u64);
+    if let Some(chain) = stem_at(stems.as_slice(), place, p, first, moments) {
+        return Some(chain);
+    }
+    let chain = stem_anew(past, number, p, first, moments)?;
+    make_room(past, stems, number);
+    let place = spread(stems.len(), p, first, levels, current as u64);
+    let stem = Stem {
+        region: first,
+        moments: *moments,
+        p,
+        chain,
+    };
+    put(stems, place, stem);
+    Some(chain)
+}
