@@ -20,6 +20,9 @@ pub(crate) trait Judge: Sync {
     // What the run did, by which it judges.
     ghost past: { Self → Past };
 
+    fn round(&self) -> Round
+        ensures { result ≡ round self.now };
+
     /// A memo of walks for one thread.
     fn memo(&self) -> Memo<'_>
         ensures { result ≡ past self.now };

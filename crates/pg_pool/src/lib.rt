@@ -2,6 +2,7 @@
 #![tactic(auto)]
 
 mod auditor;
+mod beside;
 mod checker;
 mod checkers;
 mod close;
@@ -18,7 +19,8 @@ mod seat;
 mod steps;
 mod thief;
 
-pub use auditor::audit_round;
+pub use auditor::{Asked, audit_round, audit_round_beside};
+pub use beside::{Beside, NoWork};
 pub use close::close_round;
 pub use deal::open_round;
 pub use error::PoolError;

@@ -7,3 +7,4 @@ pub mod Rows
 pub mod Windows
 pub mod Merged
 pub mod Rounds
+pub mod Ahead

@@ -6,3 +6,5 @@ pub mod Audits
 pub mod Judging
 pub mod Merging
 pub mod Going
+pub mod Windows
+pub mod Rounds

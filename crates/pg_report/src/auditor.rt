@@ -86,8 +86,8 @@ pub fn audit_one<R: Source, W: Sink>(
 /// bad event are read, and not judged.
 ///
 /// Where the number of checkers is none of 1 to 64 nothing is read. Where a thread is refused the
-/// audit stops by that. The threads of a window have ended before the next is read, and before an
-/// error is told.
+/// audit stops by that. The calling thread reads the next window meanwhile. The threads of a window
+/// have ended before the next is judged, and before an error is told, also one of the reader.
 pub fn audit_watched<T: Threads + Wait + Sync, R: Source, W: Sink, G: Gate>(
     rt: &T,
     alloc: Global,

@@ -1,20 +1,21 @@
 //! Windows that are judged by checkers.
 
-ghost use Rattle.std.specs.Prelude.{◌≡◌, ◌≢◌, ◌++◌, List, length, IfOk, IfErr, OnOk};
+ghost use Rattle.std.specs.Prelude.{◌≡◌, ◌≢◌, ◌≤◌, ◌++◌, List, length, IfOk, IfErr, OnOk};
 ghost use Rattle.pg_event.specs.declared.event.Event.{Event};
 ghost use Rattle.pg_event.specs.Heads.{Head};
-ghost use Rattle.pg_event.specs.Witness.{first_bad_from};
-ghost use Rattle.pg_check.specs.Judging.{Awaits, IsJudged, MayFollow};
+ghost use Rattle.pg_event.specs.Spelling.{Recorded};
+ghost use Rattle.pg_check.specs.Judging.{Awaits, IsFound, IsJudged, MayFollow};
 ghost use Rattle.pg_pool.specs.Rounds.{AreCheckers};
 ghost use Rattle.pg_report.specs.Judging.{BeginsSegment, StopsJudging, waiting_round};
+ghost use Rattle.pg_report.specs.Rounds.{IsFoundIn, round_verdicts};
 ghost use Rattle.pg_report.specs.Text.{verdict_of};
 
 use crate::error::{AuditError, MergeError};
 use crate::merger::merge;
 use crate::report::Verdict;
-use pg_check::Judged;
+use pg_check::{Judged, SegmentVerdict};
 use pg_event::{Event, Reason};
-use pg_pool::{Gate, PoolError, Round, audit_round};
+use pg_pool::{Asked, Beside, Gate, NoWork, PoolError, Round, audit_round_beside};
 use std::alloc::Global;
 use std::sync::Wait;
 use std::thread::Threads;
@@ -81,6 +82,29 @@ fn merge_error(error: MergeError) -> AuditError
     }
 }
 
+/// The first bad event that the verdicts of a round's segments tell, if there are any.
+fn found_in(
+    alloc: Global,
+    verdicts: Result<Vec<SegmentVerdict>, PoolError>,
+    round: Round,
+) -> Result<Option<(u64, Reason)>, AuditError>
+    requires ordered { round.first ≤ round.last }
+    requires each { (r : Recorded) × IfOk verdicts (λ v. v.items ≡ round_verdicts r round) }
+    requires known { IfErr verdicts (λ e. e ≢ PoolError.Checkers) }
+    ensures ok { (r : Recorded) → IfOk verdicts (λ v. v.items ≡ round_verdicts r round) →
+        IfOk result (IsFoundIn r round) }
+    ensures err { IfErr result StopsJudging }
+{
+    let verdicts = match verdicts {
+        Ok(verdicts) => verdicts,
+        Err(error) => return Err(pool_error(error)),
+    };
+    match merge(alloc, &verdicts, round) {
+        Ok(verdict) => Ok(bad_of(verdict)),
+        Err(error) => Err(merge_error(error)),
+    }
+}
+
 /// The segments of the events that wait.
 fn waiting_round(judged: &Judged, events: &[Event]) -> Round
     requires { (head : Head) × (before : List Event) × Awaits judged.now head before events.now }
@@ -105,39 +129,67 @@ impl<'a, T, G> Crew<'a, T, G> {
 }
 
 impl<'a, T: Threads + Wait + Sync, G: Gate> Crew<'a, T, G> {
-    /// The first bad event of those that wait, segment by segment.
-    fn first_bad_of(
+    /// The first bad event of those that wait, segment by segment, and what the work beside gives.
+    /// None is looked for behind a bad one.
+    fn first_bad_of<B: Beside>(
         &self,
         judged: &Judged,
         events: &[Event],
-    ) -> Result<Option<(u64, Reason)>, AuditError>
+        beside: B,
+    ) -> (Result<Option<(u64, Reason)>, AuditError>, B::Output)
         requires waits { (head : Head) × (before : List Event)
             × Awaits judged.now head before events.now }
         requires whole { BeginsSegment judged.now events.now }
+        requires beside { B.can_run beside }
         ensures ok { (head : Head) (before : List Event) →
-            Awaits judged.now head before events.now → IfOk result (λ found. found
-            ≡ first_bad_from head (before ++ events.now) (length before) events.now) }
-        ensures err { IfErr result StopsJudging }
+            Awaits judged.now head before events.now →
+            IfOk result.0 (λ found. IsFound found head before events.now) }
+        ensures err { IfErr result.0 StopsJudging }
+        ensures beside { B.gives beside result.1 }
     {
         if events.is_empty() {
-            return Ok(None);
+            return (Ok(None), beside.run());
+        }
+        if let Some(_) = judged.first_bad() {
+            return (Ok(None), beside.run());
         }
         let round = waiting_round(judged, events);
         let stretch = judged.stretch(events);
-        let verdicts = match audit_round(
-            self.rt,
-            self.alloc,
-            stretch,
-            round,
-            self.workers(round),
-            self.gate,
-        ) {
-            Ok(verdicts) => verdicts,
-            Err(error) => return Err(pool_error(error)),
-        };
-        match merge(self.alloc, &verdicts, round) {
-            Ok(verdict) => Ok(bad_of(verdict)),
-            Err(error) => Err(merge_error(error)),
+        let asked = Asked { stretch, round };
+        let workers = self.workers(round);
+        let (verdicts, output) = audit_round_beside(
+            self.rt, self.alloc, asked, workers, self.gate, beside,
+        );
+        (found_in(self.alloc, verdicts, round), output)
+    }
+
+    /// Judges the events that come next, whole segments but for the last of the run, while the
+    /// calling thread does a piece of work; that is done once, also after an error. After an error
+    /// `judged` may have noted events that it does not count, and is not to be used.
+    pub fn judge_beside<B: Beside>(
+        &self,
+        judged: &mut Judged,
+        events: &[Event],
+        beside: B,
+    ) -> (Result<(), AuditError>, B::Output)
+        requires next { MayFollow judged.old events.now }
+        requires whole { BeginsSegment judged.old events.now }
+        requires beside { B.can_run beside }
+        ensures ok { (head : Head) (before : List Event) → IsJudged judged.old head before →
+            OnOk result.0 (IsJudged judged.new head (before ++ events.now)) }
+        ensures err { IfErr result.0 StopsJudging }
+        ensures beside { B.gives beside result.1 }
+    {
+        if let Err(_) = judged.note(events) {
+            return (Err(AuditError::Memory), beside.run());
+        }
+        let (found, output) = self.first_bad_of(judged, events, beside);
+        match found {
+            Ok(found) => {
+                judged.settle(events, found);
+                (Ok(()), output)
+            }
+            Err(error) => (Err(error), output),
         }
     }
 
@@ -150,12 +202,7 @@ impl<'a, T: Threads + Wait + Sync, G: Gate> Crew<'a, T, G> {
             OnOk result (IsJudged judged.new head (before ++ events.now)) }
         ensures err { IfErr result StopsJudging }
     {
-        judged.note(events)?;
-        let found = match judged.first_bad() {
-            Some(_) => None,
-            None => self.first_bad_of(judged, events)?,
-        };
-        judged.settle(events, found);
-        Ok(())
+        let (result, ()) = self.judge_beside(judged, events, NoWork);
+        result
     }
 }

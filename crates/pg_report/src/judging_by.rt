@@ -1,15 +1,14 @@
 //! Whole records, judged by checkers as they are read.
 
-ghost use Rattle.std.specs.Prelude.{◌<◌, ◌^◌, ℕ, ◌++◌, List, Option, length, OnOk, IfErr};
-ghost use Rattle.pg_event.specs.declared.event.Event.{Event};
-ghost use Rattle.pg_event.specs.Heads.{Head};
-ghost use Rattle.pg_check.specs.Judging.{IsJudged, MayFollow};
-ghost use Rattle.pg_check.specs.Kept.{AreWellFormed};
+ghost use Rattle.std.specs.Prelude.{◌≡◌, ℕ, ◌+◌, [], List, Option};
+ghost use Rattle.pg_event.specs.Spelling.{Recorded};
+ghost use Rattle.pg_event.specs.declared.version.Version.TheVariants.{Two};
 ghost use Rattle.pg_report.specs.Changes.{drawn};
 ghost use Rattle.pg_codec.specs.Streams.{FailsWithDevice};
-ghost use Rattle.pg_report.specs.Going.{IsJudging};
+ghost use Rattle.pg_report.specs.Going.{IsGoing, IsJudging};
 ghost use Rattle.pg_report.specs.Intake.{TellsDevice, is_device};
-ghost use Rattle.pg_report.specs.Judging.{BeginsSegment, IsMovedOn, JudgesRecord, StopsJudging};
+ghost use Rattle.pg_report.specs.Judging.{JudgesRecord};
+ghost use Rattle.pg_report.specs.Windows.{GoesOn, IsLast, ReadsWindow};
 
 use crate::crew::Crew;
 use crate::error::AuditError;
@@ -19,74 +18,196 @@ use crate::whole_record::report_of_judged;
 use pg_check::Judged;
 use pg_codec::{RecordReader, Source};
 use pg_event::{Event, Version};
-use pg_pool::Gate;
+use pg_pool::{Beside, Gate};
+use std::alloc::Global;
+use std::mem;
 use std::sync::Wait;
 use std::thread::Threads;
 
-/// Events are judged once so many wait, and then let go; the last segment may bring more. To start
-/// threads takes time, so rounds are few and long.
+/// A window is full once it has so many events; its last segment may bring more. To start threads
+/// takes time, so rounds are few and long.
 const WINDOW: usize = 1 << 18;
 
-/// Puts a segment into a window, and judges the window and lets it go once its events are many.
-/// After an error `judged` is not to be used.
-fn take_in<T: Threads + Wait + Sync, G: Gate>(
+/// Reads segments into a window, whose own events are let go, until it is full or the record ends;
+/// and tells whether there is more to be read.
+fn read_window<R: Source>(
+    alloc: Global,
+    reader: &mut RecordReader,
+    source: &mut R,
+    window: &mut Vec<Event>,
+) -> Result<bool, AuditError>
+    requires going { (start : Option (List ℕ)) × (f : ℕ) × (r : Recorded) × (windows : ℕ)
+        × IsGoing R.Source Two start f (reader.old.unread, source.old) reader.old.stage r windows }
+    ensures { (start : Option (List ℕ)) (f : ℕ) (r : Recorded) (windows : ℕ) →
+        IsGoing R.Source Two start f (reader.old.unread, source.old) reader.old.stage r windows →
+        ReadsWindow R.Source start f r windows
+        (reader.new.unread, source.new) reader.new.stage window.new.items result }
+{
+    window.clear();
+    let mut room = Vec::new(alloc);
+    // Each turn brings an event or more.
+    for _ in 0..WINDOW {
+        match reader.read_segment_in(room, source) {
+            Ok(Some(events)) => {
+                if let Err(_) = window.extend_from_slice(&events) {
+                    return Err(AuditError::Memory);
+                }
+                if window.len() >= WINDOW {
+                    return Ok(true);
+                }
+                room = events;
+            }
+            Ok(None) => return Ok(false),
+            Err(error) => return Err(audit_error(error)),
+        }
+    }
+    Ok(true)
+}
+
+/// The window that comes next, to be read while another is judged.
+#[derive(Drop)]
+struct Next<'a, 'b, 'c, R> {
+    alloc: Global,
+    reader: &'a mut RecordReader,
+    source: &'b mut R,
+    window: &'c mut Vec<Event>,
+}
+
+impl<'a, 'b, 'c, R: Source> Beside for Next<'a, 'b, 'c, R> {
+    ghost use Rattle.std.specs.Prelude.{◌≡◌, ℕ, List, Option};
+    ghost use Rattle.pg_event.specs.Spelling.{Recorded};
+    ghost use Rattle.pg_event.specs.declared.version.Version.TheVariants.{Two};
+    ghost use Rattle.pg_report.specs.Going.{IsGoing};
+    ghost use Rattle.pg_report.specs.Windows.{ReadsWindow};
+
+    type Output = (Next<'a, 'b, 'c, R>, Result<bool, AuditError>);
+
+    ghost can_run = { λ n. (start : Option (List ℕ)) × (f : ℕ) × (r : Recorded) × (windows : ℕ)
+        × IsGoing R.Source Two start f (n.reader.now.unread, n.source.now) n.reader.now.stage
+        r windows };
+
+    ghost gives = { λ n out. (out.0.reader.ghost_name ≡ n.reader.ghost_name)
+        × (out.0.source.ghost_name ≡ n.source.ghost_name)
+        × (out.0.window.ghost_name ≡ n.window.ghost_name)
+        × ((start : Option (List ℕ)) (f : ℕ) (r : Recorded) (windows : ℕ) →
+        IsGoing R.Source Two start f (n.reader.now.unread, n.source.now) n.reader.now.stage
+        r windows → ReadsWindow R.Source start f r windows
+        (out.0.reader.now.unread, out.0.source.now) out.0.reader.now.stage
+        out.0.window.now.items out.1) };
+
+    fn run(self) -> (Next<'a, 'b, 'c, R>, Result<bool, AuditError>) {
+        let Next {
+            alloc,
+            reader,
+            source,
+            window,
+        } = self;
+        let more = read_window(alloc, reader, source, window);
+        let next = Next {
+            alloc,
+            reader,
+            source,
+            window,
+        };
+        (next, more)
+    }
+}
+
+/// Does nothing, but this use of a reference that came back ties it to the parameter that was lent.
+fn take_back<T>(lent: &mut T)
+    ensures { lent.new ≡ lent.old }
+{}
+
+/// Judges the window that waits, and reads the next beside.
+fn judge_and_read<T: Threads + Wait + Sync, G: Gate, R: Source>(
+    crew: &Crew<'_, T, G>,
+    reader: &mut RecordReader,
+    source: &mut R,
+    judged: &mut Judged,
+    window: &[Event],
+    next: &mut Vec<Event>,
+) -> Result<bool, AuditError>
+    requires waits { (start : Option (List ℕ)) × (f : ℕ) × (windows : ℕ)
+        × IsJudging R.Source start f (reader.old.unread, source.old) reader.old.stage
+        judged.old window.now windows }
+    ensures { (start : Option (List ℕ)) (f : ℕ) (windows : ℕ) →
+        IsJudging R.Source start f (reader.old.unread, source.old) reader.old.stage
+        judged.old window.now windows →
+        GoesOn R.Source start f (reader.new.unread, source.new) reader.new.stage
+        judged.new next.new.items (windows + 1) result }
+{
+    let work = Next {
+        alloc: crew.alloc,
+        reader,
+        source,
+        window: next,
+    };
+    let (judging, (done, reading)) = crew.judge_beside(judged, window, work);
+    let Next {
+        alloc: _,
+        reader,
+        source,
+        window,
+    } = done;
+    take_back(reader);
+    take_back(source);
+    take_back(window);
+    match reading {
+        Ok(more) => match judging {
+            Ok(()) => Ok(more),
+            Err(error) => Err(error),
+        },
+        Err(error) => Err(error),
+    }
+}
+
+/// Judges the last window, and gives the report.
+fn judge_last<T: Threads + Wait + Sync, G: Gate>(
     crew: &Crew<'_, T, G>,
     judged: &mut Judged,
-    window: &mut Vec<Event>,
-    segment: &[Event],
-) -> Result<(), AuditError>
-    requires next { MayFollow judged.old (window.old.items ++ segment.now) }
-    requires whole { BeginsSegment judged.old (window.old.items ++ segment.now) }
-    ensures few { OnOk result (length window.new.items < 2 ^ 18) }
-    ensures whole { OnOk result (BeginsSegment judged.new window.new.items) }
-    ensures err { IfErr result StopsJudging }
-    ensures moved { (head : Head) (before : List Event) → IsJudged judged.old head before →
-        AreWellFormed head (window.old.items ++ segment.now) → OnOk result
-        (IsMovedOn judged.new head (before ++ (window.old.items ++ segment.now)) window.new.items) }
+    window: &[Event],
+) -> Result<Report, AuditError>
+    requires last { (start : Option (List ℕ)) × IsLast start judged.old window.now }
+    ensures judges { (start : Option (List ℕ)) → IsLast start judged.old window.now →
+        JudgesRecord start result }
+    ensures device { (f : ℕ) → FailsWithDevice is_device f f result }
 {
-    window.extend_from_slice(segment)?;
-    if window.len() >= WINDOW {
-        crew.judge(judged, window.as_slice())?;
-        window.clear();
+    if let Err(error) = crew.judge(judged, window) {
+        return Err(error);
     }
-    Ok(())
+    Ok(report_of_judged(judged))
 }
 
 /// Reads what is left of a record behind its header, and has it judged by checkers as it is read:
-/// no more events are kept than wait to be judged, and those of the segment that was read last.
+/// each window is read while the one before it is judged. No more events are kept than those of the
+/// two, and those of the segment that was read last.
 fn judge_rest<T: Threads + Wait + Sync, G: Gate, R: Source>(
     crew: &Crew<'_, T, G>,
     reader: &mut RecordReader,
     source: &mut R,
     judged: &mut Judged,
-    window: &mut Vec<Event>,
 ) -> Result<Report, AuditError>
     requires going { (start : Option (List ℕ)) × (f : ℕ) × IsJudging R.Source start f
-        (reader.old.unread, source.old) reader.old.stage judged.old window.old.items 0 }
+        (reader.old.unread, source.old) reader.old.stage judged.old [] 0 }
     ensures judges { (start : Option (List ℕ)) (f : ℕ) → IsJudging R.Source start f
-        (reader.old.unread, source.old) reader.old.stage judged.old window.old.items 0 →
+        (reader.old.unread, source.old) reader.old.stage judged.old [] 0 →
         JudgesRecord start result }
     ensures device { (start : Option (List ℕ)) (f : ℕ) → IsJudging R.Source start f
-        (reader.old.unread, source.old) reader.old.stage judged.old window.old.items 0 →
+        (reader.old.unread, source.old) reader.old.stage judged.old [] 0 →
         FailsWithDevice is_device f (R.failed source.new) result }
 {
-    let mut room = Vec::new(crew.alloc);
+    let mut window = Vec::new(crew.alloc);
+    let mut next = Vec::new(crew.alloc);
     for _ in 0..MOST_CHUNKS {
-        match reader.read_segment_in(room, source) {
-            Ok(Some(events)) => {
-                if let Err(error) = take_in(crew, judged, window, &events) {
-                    return Err(error);
+        match judge_and_read(crew, reader, source, judged, window.as_slice(), &mut next) {
+            Ok(more) => {
+                if !more {
+                    return judge_last(crew, judged, next.as_slice());
                 }
-                room = events;
             }
-            Ok(None) => {
-                if let Err(error) = crew.judge(judged, window) {
-                    return Err(error);
-                }
-                return Ok(report_of_judged(judged));
-            }
-            Err(error) => return Err(audit_error(error)),
+            Err(error) => return Err(error),
         }
+        mem::swap(&mut window, &mut next);
     }
     unreachable!()
 }
@@ -106,6 +227,5 @@ pub fn judge_record_by<T: Threads + Wait + Sync, G: Gate, R: Source>(
         Err(error) => return Err(audit_error(error)),
     };
     let mut judged = Judged::new(alloc, header)?;
-    let mut window = Vec::new(alloc);
-    judge_rest(crew, &mut reader, source, &mut judged, &mut window)
+    judge_rest(crew, &mut reader, source, &mut judged)
 }

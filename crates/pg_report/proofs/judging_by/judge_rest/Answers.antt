@@ -1,77 +1,54 @@
-use Rattle.std.proofs.Common.{◌+◌, ◌++◌, List, ℕ, Option}
-use Rattle.pg_event.specs.declared.version.Version.TheVariants.{Two}
-use Rattle.pg_event.specs.Spelling.{Recorded}
-use Rattle.pg_check.specs.Judging.{IsJudged}
+use Rattle.std.proofs.Common.{rules, ◌≡◌, ◌+◌, true, false, ℕ, List, Option}
 use Rattle.pg_report.specs.Going.{IsJudging}
-use Rattle.pg_report.proofs.Continuing.{going_ends, going_fails, end_counts, failure_counts}
-use Rattle.pg_report.proofs.Windows.{error_judges, stopped_judges, stopped_counts, may_follow, longer, moved_on}
+use Rattle.pg_report.specs.Windows.{IsLast}
 use Rattle.pg_report.proofs.judging_by.judge_rest.Goals as goal
 
-pub take_in-requires-clause-next : goal.take_in-requires-clause-next
-take_in-requires-clause-next g c κs within =
-    let read = c.in-Ok-Some.ensures in
-    let on = longer g.R.Source _ _ _ c.loop.reader.stage c.loop.judged c.loop.window.items c.loop.counter c.loop.invariant.0.2 _ c.in-Ok-Some.events.items _
-    (rw c.in-Ok-Some.field-0-is at read.pulls) (rw c.in-Ok-Some.field-0-is at read.next) (rw c.in-Ok-Some.field-0-is at read.stage) in
-    rw c.deref.ensures.value (may_follow g.R.Source _ _ _ _ c.loop.judged _ _ on)
+pub judge_last-requires-clause-last : goal.judge_last-requires-clause-last
+judge_last-requires-clause-last g c κs within =
+    let was = c.loop.invariant.0 in
+    let h : IsJudging g.R.Source was.0 was.1 (c.loop.reader.unread, c.loop.source) c.loop.reader.stage c.loop.judged c.as_slice.result.now c.loop.counter = rw c.as_slice.ensures.value was.2 in
+    let on = c.in-Ok.ensures was.0 was.1 c.loop.counter h in
+    let no : c.in-Ok.more ≡ false = search rules in
+    let last : IsLast was.0 c.judge_and_read.new.judged c.judge_and_read.new.next.items = rw no at on.waits in
+    (was.0, rw c.as_slice-then-not-more.ensures.value last)
 
-pub take_in-requires-clause-whole : goal.take_in-requires-clause-whole
-take_in-requires-clause-whole g c κs within =
-    let read = c.in-Ok-Some.ensures in
-    let on = longer g.R.Source _ _ _ c.loop.reader.stage c.loop.judged c.loop.window.items c.loop.counter c.loop.invariant.0.2 _ c.in-Ok-Some.events.items _
-    (rw c.in-Ok-Some.field-0-is at read.pulls) (rw c.in-Ok-Some.field-0-is at read.next) (rw c.in-Ok-Some.field-0-is at read.stage) in
-    rw c.deref.ensures.value on.whole
+pub returns-then-not-more-clause-judges : goal.returns-then-not-more-clause-judges
+returns-then-not-more-clause-judges g c = λ start f at.
+    let was = c.loop.invariant.1 start f at in
+    let h : IsJudging g.R.Source start f (c.loop.reader.unread, c.loop.source) c.loop.reader.stage c.loop.judged c.as_slice.result.now c.loop.counter = rw c.as_slice.ensures.value was in
+    let on = c.in-Ok.ensures start f c.loop.counter h in
+    let no : c.in-Ok.more ≡ false = search rules in
+    let last : IsLast start c.judge_and_read.new.judged c.judge_and_read.new.next.items = rw no at on.waits in
+    c.judge_last.ensures.judges start (rw c.as_slice-then-not-more.ensures.value last)
 
-pub returns-in-Ok-None-clause-judges : goal.returns-in-Ok-None-clause-judges
-returns-in-Ok-None-clause-judges g c = λ start f h.
-    let was = c.loop.invariant.1 start f h in
-    let r : Recorded = record { head = c.loop.judged.head; events = was.before ++ c.loop.window.items } in
-    let judged : IsJudged c.judge.new.judged r.head r.events = rw (← c.deref-in-Ok-None.ensures.value) (c.in_default-judge.ensures.ok c.loop.judged.head was.before was.judges) in
-    (r, c.report_of_judged.ensures r.head r.events judged, going_ends g.R.Source Two _ _ _ _ c.loop.reader.stage r c.loop.counter was.going (rw c.in-Ok-None.field-0-is at c.in-Ok-None.ensures.pulls))
-
-pub returns-in-Ok-None-clause-device : goal.returns-in-Ok-None-clause-device
-returns-in-Ok-None-clause-device g c = λ start f h.
-    end_counts g.R.Source Two _ _ _ _ _ _ _ (c.loop.invariant.1 start f h).going (rw c.in-Ok-None.field-0-is at c.in-Ok-None.ensures.pulls)
+pub returns-then-not-more-clause-device : goal.returns-then-not-more-clause-device
+returns-then-not-more-clause-device g c = λ start f at.
+    let was = c.loop.invariant.1 start f at in
+    let h : IsJudging g.R.Source start f (c.loop.reader.unread, c.loop.source) c.loop.reader.stage c.loop.judged c.as_slice.result.now c.loop.counter = rw c.as_slice.ensures.value was in
+    let on = c.in-Ok.ensures start f c.loop.counter h in
+    rw on.device (c.judge_last.ensures.device f)
 
 pub returns-in-Err-clause-judges : goal.returns-in-Err-clause-judges
-returns-in-Err-clause-judges g c = λ start f h.
-    let was = c.loop.invariant.1 start f h in
-    let r : Recorded = record { head = c.loop.judged.head; events = was.before ++ c.loop.window.items } in
-    error_judges _ c.in-Err.error c.audit_error.result c.audit_error.ensures
-    (going_fails g.R.Source Two _ _ _ _ c.loop.reader.stage r c.loop.counter was.going c.in-Err.error c.audit_error.result c.audit_error.ensures c.in-Err.ensures.pulls)
+returns-in-Err-clause-judges g c = λ start f at.
+    let was = c.loop.invariant.1 start f at in
+    let h : IsJudging g.R.Source start f (c.loop.reader.unread, c.loop.source) c.loop.reader.stage c.loop.judged c.as_slice.result.now c.loop.counter = rw c.as_slice.ensures.value was in
+    (c.in-Err.ensures start f c.loop.counter h).fails
 
 pub returns-in-Err-clause-device : goal.returns-in-Err-clause-device
-returns-in-Err-clause-device g c = λ start f h.
-    let was = c.loop.invariant.1 start f h in
-    let r : Recorded = record { head = c.loop.judged.head; events = was.before ++ c.loop.window.items } in
-    failure_counts g.R.Source Two _ _ _ _ c.loop.reader.stage r c.loop.counter was.going c.in-Err.error c.audit_error.result c.audit_error.ensures c.in-Err.ensures.pulls
+returns-in-Err-clause-device g c = λ start f at.
+    let was = c.loop.invariant.1 start f at in
+    let h : IsJudging g.R.Source start f (c.loop.reader.unread, c.loop.source) c.loop.reader.stage c.loop.judged c.as_slice.result.now c.loop.counter = rw c.as_slice.ensures.value was in
+    (c.in-Err.ensures start f c.loop.counter h).device
 
 pub loop-preserved : goal.loop-preserved
 loop-preserved g c =
-    let read = c.in-Ok-Some.ensures in
+    let yes : c.in-Ok.more ≡ true = search rules in
     let step : (start : Option (List ℕ)) (f : ℕ) → IsJudging g.R.Source start f (c.loop.reader.unread, c.loop.source) c.loop.reader.stage c.loop.judged c.loop.window.items c.loop.counter
-    → IsJudging g.R.Source start f (c.read_segment_in.new.self.unread, c.read_segment_in.new.source) c.read_segment_in.new.self.stage c.take_in.new.judged c.take_in.new.window.items (c.loop.counter + 1) =
+    → IsJudging g.R.Source start f (c.judge_and_read.new.reader.unread, c.judge_and_read.new.source) c.judge_and_read.new.reader.stage c.judge_and_read.new.judged c.swap.new.x.items (c.loop.counter + 1) =
     (λ start f was.
-    let on = longer g.R.Source start f _ c.loop.reader.stage c.loop.judged c.loop.window.items c.loop.counter was _ c.in-Ok-Some.events.items _
-    (rw c.in-Ok-Some.field-0-is at read.pulls) (rw c.in-Ok-Some.field-0-is at read.next) (rw c.in-Ok-Some.field-0-is at read.stage) in
-    let segment : IsJudging g.R.Source start f (c.read_segment_in.new.self.unread, c.read_segment_in.new.source) c.read_segment_in.new.self.stage c.loop.judged (c.loop.window.items ++ c.deref.result.now) (c.loop.counter + 1) = rw c.deref.ensures.value on in
-    moved_on g.R.Source start f _ _ c.loop.judged (c.loop.window.items ++ c.deref.result.now) _ segment c.take_in.new.judged c.take_in.new.window.items
-    (c.in_default.ensures.moved c.loop.judged.head segment.before segment.judges segment.well) c.in_default.ensures.whole) in
+    let h : IsJudging g.R.Source start f (c.loop.reader.unread, c.loop.source) c.loop.reader.stage c.loop.judged c.as_slice.result.now c.loop.counter = rw c.as_slice.ensures.value was in
+    let on = c.in-Ok.ensures start f c.loop.counter h in
+    let next : IsJudging g.R.Source start f (c.judge_and_read.new.reader.unread, c.judge_and_read.new.source) c.judge_and_read.new.reader.stage c.judge_and_read.new.judged c.judge_and_read.new.next.items (c.loop.counter + 1) = rw yes at on.waits in
+    rw c.swap.ensures.x_after next) in
     let was = c.loop.invariant in
-    ((was.0.0, was.0.1, step was.0.0 was.0.1 was.0.2), λ start f h. step start f (was.1 start f h))
-
-pub returns-in-Err-take_in-clause-judges : goal.returns-in-Err-take_in-clause-judges
-returns-in-Err-take_in-clause-judges g c = λ start f h. stopped_judges start c.in-Err-take_in.error c.in-Err-take_in.ensures.err
-
-pub returns-in-Err-take_in-clause-device : goal.returns-in-Err-take_in-clause-device
-returns-in-Err-take_in-clause-device g c = λ start f h.
-    let read = c.in-Ok-Some.ensures in
-    let on = longer g.R.Source start f _ c.loop.reader.stage c.loop.judged c.loop.window.items c.loop.counter (c.loop.invariant.1 start f h) _ c.in-Ok-Some.events.items _
-    (rw c.in-Ok-Some.field-0-is at read.pulls) (rw c.in-Ok-Some.field-0-is at read.next) (rw c.in-Ok-Some.field-0-is at read.stage) in
-    stopped_counts c.in-Err-take_in.error _ _ c.in-Err-take_in.ensures.err on.going.failed
-
-pub returns-in-Err-judge-clause-judges : goal.returns-in-Err-judge-clause-judges
-returns-in-Err-judge-clause-judges g c = λ start f h. stopped_judges start c.in-Err-judge.error c.in-Err-judge.ensures.err
-
-pub returns-in-Err-judge-clause-device : goal.returns-in-Err-judge-clause-device
-returns-in-Err-judge-clause-device g c = λ start f h.
-    stopped_counts c.in-Err-judge.error _ _ c.in-Err-judge.ensures.err (end_counts g.R.Source Two _ _ _ _ _ _ _ (c.loop.invariant.1 start f h).going (rw c.in-Ok-None.field-0-is at c.in-Ok-None.ensures.pulls))
+    ((was.0.0, was.0.1, step was.0.0 was.0.1 was.0.2), λ start f at. step start f (was.1 start f at))

@@ -1,4 +1,4 @@
-use Rattle.std.proofs.Common.{◌≡◌, ◌+◌, [], ◌++◌, append-nil, List, ℕ, Option, inl, refl, sym, subst}
+use Rattle.std.proofs.Common.{◌+◌, [], ◌++◌, append-nil, List, ℕ, Option, inl, refl, sym, subst}
 use Rattle.std.proofs.lemmas.Result.{err_from_is_err_and}
 use Rattle.pg_event.specs.declared.event.Event.{Event}
 use Rattle.pg_event.specs.declared.version.Version.TheVariants.{Two}
