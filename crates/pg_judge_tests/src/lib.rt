@@ -18,4 +18,6 @@ mod rounds;
 #[cfg(test)]
 mod scans;
 #[cfg(test)]
+mod spanned;
+#[cfg(test)]
 mod written;

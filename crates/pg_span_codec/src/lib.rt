@@ -12,8 +12,6 @@ mod peeked;
 mod reader;
 mod refusal;
 mod spelling;
-#[cfg(test)]
-mod tests;
 
 pub use bare::{bare_of, last_tag};
 pub use error::SpannedError;

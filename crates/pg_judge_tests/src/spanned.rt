@@ -2,13 +2,9 @@
 
 ghost use Rattle.std.specs.Prelude.{◌≤◌};
 
-use crate::error::SpannedError;
-use crate::peeked::Peeked;
-use crate::reader::read_spanned;
-use crate::refusal::SpannedRefusal;
-use crate::spelling::spell_spanned;
 use pg_codec::{Watched, pull_all};
 use pg_event::{Event, Malformed, Moments, Outcome, Refusal, Version};
+use pg_span_codec::{Peeked, SpannedError, SpannedRefusal, read_spanned, spell_spanned};
 use pg_spanned::SpannedRun;
 use std::alloc::Global;
 use std::io::{self, Read};
