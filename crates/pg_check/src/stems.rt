@@ -22,10 +22,13 @@ pub struct Stem {
     pub chain: Chain,
 }
 
-/// So many upper parts are kept at most for each recorded processor.
+/// There is room for so many upper parts for each recorded processor.
 const STEMS_FOR_EACH: usize = 256;
 
-/// So many are kept at most.
+/// There is room for so many at least, however few processors there are.
+const FEWEST_STEMS: usize = 1_024;
+
+/// There is room for so many at most.
 const MOST_STEMS: usize = 8_192;
 
 /// So many are worth their room before the event with this number, as a number that rarely grows.
@@ -33,7 +36,7 @@ fn stems_before(past: &Past, number: u32) -> usize {
     let all = past.controls.processors().saturating_mul(STEMS_FOR_EACH);
     match number {
         0..1024 => 64,
-        _ => all.max(1_024).min(MOST_STEMS),
+        _ => all.max(FEWEST_STEMS).min(MOST_STEMS),
     }
 }
 

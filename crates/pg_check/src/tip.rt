@@ -180,7 +180,8 @@ fn lasting_now(past: &Past, number: u32, p: u16, la: u64, chain: Chain) -> Optio
     requires processor { p < processor_count past.now }
     ensures asked { IfSome result (IsAsked number) }
     ensures chain { IfSome result (λ l. l.chain ≡ chain) }
-    ensures lasting { InEachRun past.now (λ head events. IfSome result (IsLasting head events p la)) }
+    ensures lasting { InEachRun past.now (λ head events.
+        IfSome result (IsLasting head events p la)) }
 {
     if chain.end.moment != number {
         return None;
@@ -281,8 +282,8 @@ fn keep_walk(past: &Past, kept: &mut Kept, current: u16, number: u32, slot: Slot
 }
 
 /// The least reason that fails for the event that comes next, where no walk that was kept tells it:
-/// by a walk that is made from the upper part of others, or else by what the past says. The lists of
-/// what was dropped are made as far as they are asked.
+/// by a walk that is made from the upper part of others, or else by what the past says. The lists
+/// of what was dropped are made before.
 #[inline(never)]
 fn failing_slow(past: &mut Past, kept: &mut Kept, number: u32, event: &Event) -> Option<Reason>
     requires next { IsNext past.old number }

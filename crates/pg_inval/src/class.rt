@@ -1,4 +1,4 @@
-//! Classes of keys. The lists of a class are made together, and only once one of them is asked for.
+//! Classes of keys. The lists of a class are made together.
 
 ghost use Rattle.std.specs.Prelude.{◌≡◌};
 ghost use Rattle.pg_inval.specs.Classes.{class_of};

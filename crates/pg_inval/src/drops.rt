@@ -30,7 +30,7 @@ use std::marker::Model;
 
 /// What a run's events dropped from the caches of their processors, as far as they were noted: a
 /// log of them, and for each key the moments of its events. The lists of a class of keys are made
-/// from the log when one of them is asked for.
+/// from the log by `catch_up`; what they lack, look-ups find in the log.
 #[derive(Drop)]
 pub struct Drops {
     alloc: Global,
@@ -215,7 +215,7 @@ impl Drops {
         self.structure_dropped_counted(p, pcid, level, la, from, to, &mut Probes::new())
     }
 
-    /// The same, and counts the moments that were read.
+    /// The same, and counts the moments that were read in lists.
     pub fn structure_dropped_counted(
         &self,
         p: u16,
@@ -314,7 +314,7 @@ impl Drops {
         self.translation_dropped_counted(p, pcid, shift, la, global, from, to, &mut probes)
     }
 
-    /// The same, and counts the moments that were read.
+    /// The same, and counts the moments that were read in lists.
     pub fn translation_dropped_counted(
         &self,
         p: u16,

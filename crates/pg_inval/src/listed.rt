@@ -13,7 +13,7 @@ use crate::log::{LogEntry, earliest};
 use pg_timeline::Probes;
 use std::alloc::Global;
 
-/// The lists of each class. Those of a class that is never asked for are never made.
+/// The lists of each class, as far as each was made.
 #[derive(Drop)]
 pub(crate) struct Listed {
     pages: Lists,

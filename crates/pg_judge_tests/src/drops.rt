@@ -2,6 +2,7 @@ use crate::written::{Written, event_of};
 use pg_entry::Level;
 use pg_event::{Control, Event, Outcome};
 use pg_inval::Drops;
+use pg_timeline::Probes;
 use std::alloc::{AllocError, Global};
 use std::test::Fail;
 
@@ -184,6 +185,17 @@ fn structures(rt: HostRuntime) -> Result<(), Fail> {
     for (place, row) in STRUCTURES.iter().enumerate() {
         assert!(rt; is_right(rt.alloc(), row)?, "row {place}");
     }
+    Ok(())
+}
+
+/// A drop that was noted is found in a list, and not in the log, whose entries are not counted.
+#[test]
+fn drops_are_listed(rt: HostRuntime) -> Result<(), Fail> {
+    let drops = noted(rt.alloc(), &event_of(&INVLPG).ok_or("moments")?)?;
+    let mut probes = Probes::new();
+    let dropped = drops.translation_dropped_counted(0, 1, 12, LA, false, 5, 6, &mut probes);
+    let count = probes.count();
+    assert!(rt; dropped && count >= 1, "{count}");
     Ok(())
 }
 
