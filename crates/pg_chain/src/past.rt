@@ -69,8 +69,8 @@ impl Past {
     }
 
     /// Notes the event with this number, which is the next. Fails where memory is refused, and then
-    /// nothing is noted. An access that got its answer takes no memory. What the event drops is
-    /// noted in a log alone: `catch_up` and `catch_up_pages` make the lists that look-ups ask.
+    /// nothing is noted. An access that got its answer takes no memory. The lists
+    /// of large and global pages that it drops are made by `catch_up` alone.
     pub fn note_later(&mut self, moment: u32, event: &Event) -> Result<(), AllocError>
         requires next { IsNext self.old moment }
         requires processor { processor_of event.now < processor_count self.old }
@@ -117,14 +117,6 @@ impl Past {
         ensures { self.new ≡ self.old }
     {
         self.drops.catch_up();
-    }
-
-    /// The same of the lists that are asked of paging-structure-cache entries, and of translations
-    /// of 4-KiB pages that are not global.
-    pub fn catch_up_pages(&mut self)
-        ensures { self.new ≡ self.old }
-    {
-        self.drops.catch_up_pages();
     }
 
     /// Notes an event that leaves memory as it is, and may drop entries and change control

@@ -283,7 +283,7 @@ fn keep_walk(past: &Past, kept: &mut Kept, current: u16, number: u32, slot: Slot
 
 /// The least reason that fails for the event that comes next, where no walk that was kept tells it:
 /// by a walk that is made from the upper part of others, or else by what the past says. The lists
-/// of what was dropped are made before.
+/// of large and global pages are made once they were asked.
 #[inline(never)]
 fn failing_slow(past: &mut Past, kept: &mut Kept, number: u32, event: &Event) -> Option<Reason>
     requires next { IsNext past.old number }
@@ -296,7 +296,6 @@ fn failing_slow(past: &mut Past, kept: &mut Kept, number: u32, event: &Event) ->
     ensures failing { InEachRun past.old (λ head events.
         result ≡ failing_event head events number event.now) }
 {
-    past.catch_up_pages();
     if let Some(found) = failing_page(past, kept, number, event) {
         return found;
     }

@@ -98,19 +98,36 @@ impl Drops {
             before ≡ control_at head events (processor_of event.now) moment →
             OnOk result (StandsFor self.new head (events ++ event.now ∷ [])) }
     {
-        let noted = self.note_later(moment, event, before);
+        let noted = self.note_in_log(moment, event, before);
         self.catch_up();
         noted
     }
 
-    /// The same, and makes no list: the event stands in the log alone until `catch_up`. Until then
-    /// look-ups that the last moments do not answer go through that part of the log each time.
+    /// The same, and makes the lists alone that most look-ups ask: those of paging-structure-cache
+    /// entries, and of translations of 4-KiB pages that are not global. The others wait for
+    /// `catch_up`. Until then look-ups that the last moments do not answer go through the log.
     pub fn note_later(
         &mut self,
         moment: u32,
         event: &Event,
         before: Control,
     ) -> Result<(), AllocError>
+        requires { next_moment self.old ≤ moment }
+        ensures ok { OnOk result (IsNoted self.old self.new moment event.now before) }
+        ensures err { OnErr result (IsSame self.old self.new) }
+        ensures none { DropsNothing before event.now → IsOk result }
+        ensures run { (head : Head) (events : List Event) → StandsFor self.old head events →
+            moment ≡ length events →
+            before ≡ control_at head events (processor_of event.now) moment →
+            OnOk result (StandsFor self.new head (events ++ event.now ∷ [])) }
+    {
+        let noted = self.note_in_log(moment, event, before);
+        self.catch_up_pages();
+        noted
+    }
+
+    /// The same, in the log and in the last moments of keys alone.
+    fn note_in_log(&mut self, moment: u32, event: &Event, before: Control) -> Result<(), AllocError>
         requires { next_moment self.old ≤ moment }
         ensures ok { OnOk result (IsNoted self.old self.new moment event.now before) }
         ensures err { OnErr result (IsSame self.old self.new) }
@@ -148,7 +165,7 @@ impl Drops {
 
     /// The same of the lists that are asked of paging-structure-cache entries, and of translations
     /// of 4-KiB pages that are not global.
-    pub fn catch_up_pages(&mut self)
+    fn catch_up_pages(&mut self)
         ensures { self.new ≡ self.old }
     {
         let log = self.log.as_slice();
