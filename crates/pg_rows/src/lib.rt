@@ -24,10 +24,6 @@ mod headers;
 #[cfg(test)]
 mod invalidations;
 #[cfg(test)]
-mod json_rows;
-#[cfg(test)]
-mod json_spans;
-#[cfg(test)]
 mod lines;
 #[cfg(test)]
 mod long_run;

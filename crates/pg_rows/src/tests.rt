@@ -1,7 +1,7 @@
 use crate::row::run_all;
 use crate::{
-    all_noes, certificates, explanations, headers, invalidations, json_rows, json_spans, lines,
-    many_lines, pictures, refusals, rights, runs, span_pictures, spans, spliced, versions, walks,
+    all_noes, certificates, explanations, headers, invalidations, lines, many_lines, pictures,
+    refusals, rights, runs, span_pictures, spans, spliced, versions, walks,
 };
 use std::test::Fail;
 
@@ -44,12 +44,6 @@ fn records_shown(rt: HostRuntime) -> Result<(), Fail> {
 fn records_with_spans(rt: HostRuntime) -> Result<(), Fail> {
     run_all(&rt, &spans::ROWS)?;
     run_all(&rt, &span_pictures::ROWS)
-}
-
-#[test]
-fn records_as_json(rt: HostRuntime) -> Result<(), Fail> {
-    run_all(&rt, &json_rows::ROWS)?;
-    run_all(&rt, &json_spans::ROWS)
 }
 
 #[test]

@@ -1,5 +1,5 @@
-//! Answers as JSON, one for each command. Expected objects were written by hand from the texts of
-//! docs/COMMANDS.md.
+//! Answers as JSON by the whole program, over memory. Expected objects were written by hand from
+//! the texts of docs/COMMANDS.md.
 
 use crate::row::Row;
 

@@ -1,4 +1,4 @@
-//! Answers as JSON of records with spans. Expected objects were written by hand from the texts of
+//! The same of records with spans. Expected objects were written by hand from the texts of
 //! docs/COMMANDS.md.
 
 use crate::row::Row;
@@ -139,7 +139,7 @@ const STALE_LINE: &str = "{\"all_orders\":false,\"cause\":{\"as_written\":false,
     \"kind\":\"invlpg\"}},\"deduced\":[],\"event\":6,\"events\":7,\"reason\":15,\
     \"reason_name\":\"no order\",\"segments\":1,\"verdict\":\"no\"}\n";
 
-pub const ROWS: [Row; 11] = [
+pub const SPANS: [Row; 11] = [
     Row {
         name: "spans_with_an_order",
         words: &["certify", "--json"],
