@@ -11,7 +11,7 @@ use Rattle.pg_check.specs.Kept.{AreWellFormed}
 use Rattle.pg_run_of.specs.Converse.{without_moments, AreSameButMoments}
 use Rattle.pg_run_of.proofs.Moments.{well_same}
 use Rattle.pg_search.specs.declared.last.Last.{Last}
-use Rattle.pg_search.specs.Bare.{bare}
+use Rattle.pg_search.specs.Placeholders.{with_placeholder}
 use Rattle.pg_search.specs.Last.{IsLast}
 use Rattle.pg_search.specs.Law.{names_moments}
 use Rattle.pg_search.specs.Thinned.{changes_something, thinned, rank}
@@ -158,7 +158,7 @@ module _ (a : Account) (r : Recorded) (n : ℕ) (e : Event) (h : IsDeniedAccount
         let number : ℕ = put_back numbers n last.number in
         let k = there r.events n last.number kept numbers x.0 changes x.1 in
         let at : slice_get (kept ++ e ∷ []) last.number ≡ Some x.0 = get_front kept (e ∷ []) last.number under ∙ x.1 in
-        ap (option_map (λ e. whole_of a.numbers.named number (bare e))) at
+        ap (option_map (λ e. whole_of a.numbers.named number (with_placeholder e))) at
         ∙ ap (λ y. Some y) (whole a.numbers r.events number k.event x.0 h.known.numbering k.there k.changes k.same)
         ∙ sym k.there
 

@@ -12,7 +12,7 @@ use Rattle.pg_certify.specs.Accounts.{Account, IsAccount, Numbers, whole_of}
 use Rattle.pg_explain.specs.declared.denial.Denial.{Denial}
 use Rattle.pg_explain.specs.Denied.{IsDenialOf, denial_text}
 use Rattle.pg_search.specs.declared.last.Last.{Last}
-use Rattle.pg_search.specs.Bare.{bare}
+use Rattle.pg_search.specs.Placeholders.{with_placeholder}
 use Rattle.pg_report.specs.declared.error.AuditError.{AuditError}
 use Rattle.pg_report.specs.Going.{IsGoing}
 use Rattle.pg_report.specs.Intake.{ReadsRecord}
@@ -49,7 +49,7 @@ abbrev pub taken_told : Numbers → List Event → Option Last → Option Last �
 taken_told n changes None last = None
 taken_told n changes (Some among) None = None
 taken_told n changes (Some among) (Some last) =
-    option_map (λ e. whole_of n.named last.number (bare e)) (slice_get changes among.number)
+    option_map (λ e. whole_of n.named last.number (with_placeholder e)) (slice_get changes among.number)
 
 -- what stands behind event n, and its text
 abbrev pub IsDenialTold : Recorded → ℕ → List ℕ → Type 0

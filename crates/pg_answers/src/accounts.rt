@@ -12,7 +12,7 @@ ghost use Rattle.pg_report.specs.Intake.{IsErrorOf, ReadsRecord, TellsDevice, is
 ghost use Rattle.pg_answers.specs.Accounts.{IsAccounting, IsAccountedTo, IsAccountOfAll};
 ghost use Rattle.pg_answers.specs.Accounts.{ReadsAccount};
 
-use pg_certify::Accounting;
+use pg_certify::StreamingCertifier;
 use pg_codec::{ReadError, RecordReader, Source};
 use pg_event::{Event, Version};
 use pg_report::AuditError;
@@ -40,7 +40,7 @@ fn read_error(error: ReadError) -> AuditError
 /// Puts a segment into a window, and judges the window and lets it go once its events are many.
 /// After an error the account is not to be used.
 fn take_in(
-    account: &mut Accounting,
+    account: &mut StreamingCertifier,
     window: &mut Vec<Event>,
     segment: &[Event],
 ) -> Result<(), AllocError>
@@ -65,7 +65,7 @@ fn account_rest<R: Source>(
     alloc: Global,
     reader: &mut RecordReader,
     source: &mut R,
-    account: &mut Accounting,
+    account: &mut StreamingCertifier,
     window: &mut Vec<Event>,
 ) -> Result<(), AuditError>
     requires going { (start : Option (List ℕ)) × (f : ℕ) × IsAccounting R.Source start f
@@ -103,7 +103,7 @@ fn account_by<R: Source>(
     alloc: Global,
     reader: &mut RecordReader,
     source: &mut R,
-) -> Result<Accounting, AuditError>
+) -> Result<StreamingCertifier, AuditError>
     requires { reader.old ≡ record { unread = []; stage = Start } }
     ensures reads { ReadsAccount (R.left source.old) result }
     ensures device { TellsDevice (drawn R.Source source.old source.new) result }
@@ -112,7 +112,7 @@ fn account_by<R: Source>(
         Ok(header) => header,
         Err(error) => return Err(read_error(error)),
     };
-    let mut account = Accounting::new(alloc, header)?;
+    let mut account = StreamingCertifier::new(alloc, header)?;
     let mut window = Vec::new(alloc);
     match account_rest(alloc, reader, source, &mut account, &mut window) {
         Ok(()) => Ok(account),
@@ -124,7 +124,7 @@ fn account_by<R: Source>(
 pub(crate) fn read_account<R: Source>(
     alloc: Global,
     source: &mut R,
-) -> Result<Accounting, AuditError>
+) -> Result<StreamingCertifier, AuditError>
     ensures reads { ReadsAccount (R.left source.old) result }
     ensures device { TellsDevice (drawn R.Source source.old source.new) result }
 {

@@ -23,7 +23,8 @@ use crate::denials::told_of;
 use crate::shown::CertificateText;
 use pg_auditing::{error_status, tell_error};
 use pg_certify::{
-    Accounting, CertifyError, certified_events_run, denied_events_have_no_run, first_denied_by,
+    CertifyError, StreamingCertifier, certified_events_run, denied_events_have_no_run,
+    first_denied_by,
 };
 use pg_check::History;
 use pg_codec::{Sink, Source};
@@ -114,7 +115,7 @@ fn certificate_of(
 /// The report of a no, and what stands behind it, by what is known of the record.
 fn denied_text(
     alloc: Global,
-    account: &Accounting,
+    account: &StreamingCertifier,
     number: u64,
     event: &Event,
 ) -> Result<String, AllocError>
@@ -130,7 +131,10 @@ fn denied_text(
 }
 
 /// What certifying a record came to, by what is known of it, with its text.
-fn certificate_by(alloc: Global, account: &Accounting) -> Result<CertificateText, AllocError>
+fn certificate_by(
+    alloc: Global,
+    account: &StreamingCertifier,
+) -> Result<CertificateText, AllocError>
     requires { (r : Recorded) × IsAccount account.now r.head r.events }
     ensures { (r : Recorded) → IsAccount account.now r.head r.events →
         IfOk result (λ told. IsCertificateOf r told.denied (string_bytes told.text)) }
@@ -212,7 +216,7 @@ fn write_by_checkers<T: AllocGlobal + Threads + Wait + Sync, R: Source, O: Sink>
 /// Writes whether a record can be certified, by what is known of it.
 fn write_account<O: Sink>(
     alloc: Global,
-    account: &Accounting,
+    account: &StreamingCertifier,
     output: &mut O,
 ) -> Result<Option<u64>, AuditError>
     requires { (r : Recorded) × IsAccount account.now r.head r.events }

@@ -7,7 +7,7 @@ ghost use Rattle.pg_check.specs.Kept.{AreWellFormed};
 ghost use Rattle.pg_certify.specs.Accounts.{IsAccount};
 ghost use Rattle.pg_answers.specs.Accounts.{IsDenialTold, IsDeniedAccount, taken_told};
 
-use pg_certify::{Accounting, Numbering, kept_whole};
+use pg_certify::{Numbering, StreamingCertifier, kept_whole};
 use pg_check::History;
 use pg_event::Event;
 use pg_explain::{Denial, denial_text_by, denials_put_back, deny, events_put_back, put_back};
@@ -52,7 +52,7 @@ fn taken_of(
 /// What stands behind the event that is denied, as text.
 pub(crate) fn told_of(
     alloc: Global,
-    account: &Accounting,
+    account: &StreamingCertifier,
     number: u64,
     event: &Event,
 ) -> Result<String, AllocError>

@@ -8,7 +8,7 @@ use Rattle.pg_event.specs.declared.event.Event.TheVariants.{Write, Access, Assis
 use Rattle.pg_event.specs.declared.event.Outcome.TheVariants.{Page, Fault}
 use Rattle.pg_event.specs.Heads.{Head}
 use Rattle.pg_run_of.specs.Converse.{without_moments}
-use Rattle.pg_search.specs.Bare.{bare}
+use Rattle.pg_search.specs.Placeholders.{with_placeholder}
 use Rattle.pg_search.specs.Law.{CanBeWitnessed}
 use Rattle.pg_search.specs.Thinned.{changes_something, numbers_from}
 use Rattle.pg_certify.specs.declared.numbering.Numbered.{Numbered}
@@ -58,7 +58,7 @@ noted_is n before e h =
 
 -- what is kept of an event is all of it, or it is kept whole
 
-bare_without : (e : Event) → bare (without_moments e) ≡ bare e
+bare_without : (e : Event) → with_placeholder (without_moments e) ≡ with_placeholder e
 bare_without (Write p addr value) = refl
 bare_without (Access p flags la outcome moments) = refl
 bare_without (Assist p flags la word moments) = refl
@@ -76,7 +76,7 @@ not_false : (b : Bool) → not b ≡ false → b ≡ true
 not_false true h = refl
 not_false false h = absurd (cc)
 
-bare_kept : (e : Event) → changes_something e ≡ true → is_named e ≡ false → bare e ≡ e
+bare_kept : (e : Event) → changes_something e ≡ true → is_named e ≡ false → with_placeholder e ≡ e
 bare_kept (Write p addr value) changes none = refl
 bare_kept (Access p flags la (Page page) moments) changes none = absurd (cc)
 bare_kept (Access p flags la (Fault code) moments) changes none = ap (Access p flags la (Fault code)) (placeholder_is moments (not_false (is_placeholder moments) none))
@@ -100,7 +100,7 @@ whole_low s (x ∷ xs) m kept lt =
       | inr f ↦ ap (λ b. whole_of (cond b (numbered s x ∷ ns) ns) m kept) f ∙ rest
     ]
 
-whole_from : (s : ℕ) (es : List Event) (i : ℕ) (e kept : Event) → slice_get es i ≡ Some e → changes_something e ≡ true → kept ≡ bare e → whole_of (named_from s es) (s + i) kept ≡ e
+whole_from : (s : ℕ) (es : List Event) (i : ℕ) (e kept : Event) → slice_get es i ≡ Some e → changes_something e ≡ true → kept ≡ with_placeholder e → whole_of (named_from s es) (s + i) kept ≡ e
 whole_from s [] i e kept at changes is = absurd (cc)
 whole_from s (x ∷ xs) zero e kept at changes is =
     let ns : List Numbered = named_from (s + 1) xs in
@@ -123,8 +123,8 @@ whole_from s (x ∷ xs) (suc i) e kept at changes is =
 pub kept_whole : KeptWhole
 kept_whole n events i e kept h at changes same =
     let here : 0 + i ≡ i = omega arith in
-    let bared : bare kept ≡ bare e = sym (bare_without kept) ∙ ap bare same ∙ bare_without e in
-    ap (λ ns. whole_of ns i (bare kept)) h.named ∙ subst (λ k. whole_of (named_from 0 events) k (bare kept) ≡ e) here (whole_from 0 events i e (bare kept) at changes bared)
+    let bared : with_placeholder kept ≡ with_placeholder e = sym (bare_without kept) ∙ ap with_placeholder same ∙ bare_without e in
+    ap (λ ns. whole_of ns i (with_placeholder kept)) h.named ∙ subst (λ k. whole_of (named_from 0 events) k (with_placeholder kept) ≡ e) here (whole_from 0 events i e (with_placeholder kept) at changes bared)
 
 -- the event that is denied
 

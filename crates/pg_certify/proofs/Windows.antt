@@ -13,7 +13,7 @@ use Rattle.pg_event.proofs.Alike.{same_judged}
 use Rattle.pg_check.specs.Kept.{AreWellFormed}
 use Rattle.pg_check.proofs.Known.{AreWellFormed-append}
 use Rattle.pg_run_of.specs.Converse.{without_moments, AreSameButMoments}
-use Rattle.pg_search.specs.Bare.{bare}
+use Rattle.pg_search.specs.Placeholders.{with_placeholder}
 use Rattle.pg_search.specs.Law.{names_moments, with_moments, AreWitness, CanBeWitnessed}
 use Rattle.pg_search.specs.Thinned.{changes_something, thinned, rank, placed, WitnessedAmongChanges}
 use Rattle.pg_certify.specs.declared.window.Denied.{Denied}
@@ -113,7 +113,7 @@ rank_past before more k =
 
 -- what is kept
 
-without_bare : (e : Event) → without_moments (bare e) ≡ without_moments e
+without_bare : (e : Event) → without_moments (with_placeholder e) ≡ without_moments e
 without_bare (Write p addr value) = refl
 without_bare (Access p flags la outcome moments) = refl
 without_bare (Assist p flags la word moments) = refl
@@ -122,13 +122,13 @@ without_bare (Invlpg p la) = refl
 without_bare (Invpcid p kind pcid la) = refl
 without_bare (MovCr4Pge p on) = refl
 
-bare_same : (es : List Event) → AreSameButMoments (map bare es) es
+bare_same : (es : List Event) → AreSameButMoments (map with_placeholder es) es
 bare_same [] = refl
-bare_same (e ∷ es) = ap (λ x. x ∷ map without_moments (map bare es)) (without_bare e) ∙ ap (λ xs. without_moments e ∷ xs) (bare_same es)
+bare_same (e ∷ es) = ap (λ x. x ∷ map without_moments (map with_placeholder es)) (without_bare e) ∙ ap (λ xs. without_moments e ∷ xs) (bare_same es)
 
-kept_bare : (kept before more : List Event) → AreSameButMoments kept (thinned before) → AreSameButMoments (kept ++ map bare (thinned more)) (thinned (before ++ more))
+kept_bare : (kept before more : List Event) → AreSameButMoments kept (thinned before) → AreSameButMoments (kept ++ map with_placeholder (thinned more)) (thinned (before ++ more))
 kept_bare kept before more same =
-    map-append without_moments kept (map bare (thinned more)) ∙ ap (λ xs. map without_moments kept ++ xs) (bare_same (thinned more))
+    map-append without_moments kept (map with_placeholder (thinned more)) ∙ ap (λ xs. map without_moments kept ++ xs) (bare_same (thinned more))
     ∙ sym (map-append without_moments kept (thinned more)) ∙ kept_more kept before more same
 
 kept_count : (kept xs : List Event) → AreSameButMoments kept xs → length kept ≡ length xs
@@ -198,19 +198,19 @@ denied_among h s first window i n e None same at number is names denied before =
 -- a window
 
 can_at : WitnessedAmongChanges → (head : Head) (kept before more : List Event) (k : ℕ) → AreSameButMoments kept (thinned before) →
-    CanBeAmong head (kept ++ map bare (thinned more)) (length kept) more k → CanBeWitnessed head (before ++ more) (length before + k)
+    CanBeAmong head (kept ++ map with_placeholder (thinned more)) (length kept) more k → CanBeWitnessed head (before ++ more) (length before + k)
 can_at law head kept before more k same h =
     let count : length kept ≡ length (thinned before) = kept_count kept (thinned before) same in
     let number : rank_in (length kept) more k ≡ rank (before ++ more) (length before + k) = ap (λ n. n + rank more k) count ∙ sym (rank_past before more k) in
-    can_here law head (before ++ more) (kept ++ map bare (thinned more)) (length before + k) (rank_in (length kept) more k) h.event h.moments (kept_bare kept before more same)
+    can_here law head (before ++ more) (kept ++ map with_placeholder (thinned more)) (length before + k) (rank_in (length kept) more k) h.event h.moments (kept_bare kept before more same)
     (there_past before more k ∙ h.there) number h.witness
 
 cannot_at : WitnessedAmongChanges → (head : Head) (kept before more : List Event) (d : Denied) → AreSameButMoments kept (thinned before) →
-    IsDeniedAmong head (kept ++ map bare (thinned more)) (length kept) more d → CanBeWitnessed head (before ++ more) (length before + d.place) → ⊥
+    IsDeniedAmong head (kept ++ map with_placeholder (thinned more)) (length kept) more d → CanBeWitnessed head (before ++ more) (length before + d.place) → ⊥
 cannot_at law head kept before more d same h =
     let count : length kept ≡ length (thinned before) = kept_count kept (thinned before) same in
     let number : d.rank ≡ rank (before ++ more) (length before + d.place) = h.rank ∙ ap (λ n. n + rank more d.place) count ∙ sym (rank_past before more d.place) in
-    cannot_here law head (before ++ more) (kept ++ map bare (thinned more)) (length before + d.place) d.rank h.event (kept_bare kept before more same)
+    cannot_here law head (before ++ more) (kept ++ map with_placeholder (thinned more)) (length before + d.place) d.rank h.event (kept_bare kept before more same)
     (there_past before more d.place ∙ h.there) number h.denied
 
 -- an event of either of two lists
@@ -261,7 +261,7 @@ open_each f head before c none = subst (λ d. IfNone d ((n : ℕ) → n < length
 -- a window of a run of which no event is denied
 
 judged : WitnessedAmongChanges → (f new : Findings) (head : Head) (before more : List Event) (found : Option Denied) → IsCertifying f head before → f.denied ≡ None → AreWellFormed head more → length before + length more < 2 ^ 32 →
-    IsFirstDenied head (f.kept.events ++ map bare (thinned more)) (length f.kept.events) more found →
+    IsFirstDenied head (f.kept.events ++ map with_placeholder (thinned more)) (length f.kept.events) more found →
     new ≡ after_window (record { kept = with_window f.kept more; count = f.count; denied = f.denied }) found (length more) → IsCertifying new head (before ++ more)
 judged law f new head before more None c none well few first is =
     let same = open_kept f head before c none in
@@ -277,13 +277,13 @@ judged law f new head before more (Some d) c none well few first is =
     let same = open_kept f head before c none in
     let all : List Event = before ++ more in
     let n : ℕ = length before + d.place in
-    let kept : Recorded = record { head = f.kept.head; events = take d.rank (f.kept.events ++ map bare (thinned more)) } in
+    let kept : Recorded = record { head = f.kept.head; events = take d.rank (f.kept.events ++ map with_placeholder (thinned more)) } in
     let fits : length all < 2 ^ 32 = omega (arith, few, length-append before more) in
     let count : f.count + length more ≡ length all = omega (arith, c.count, length-append before more) in
     let place : f.count + d.place ≡ n = omega (arith, c.count) in
     let ranked : d.rank ≡ rank all n = first.rank ∙ ap (λ k. k + rank more d.place) (kept_count f.kept.events (thinned before) same) ∙ sym (rank_past before more d.place) in
     let front : AreSameButMoments kept.events (thinned (take n all)) =
-    same_front d.rank (f.kept.events ++ map bare (thinned more)) (thinned all) (kept_bare f.kept.events before more same) ∙ ap (λ k. map without_moments (take k (thinned all))) ranked ∙ ap (map without_moments) (thinned_front all n) in
+    same_front d.rank (f.kept.events ++ map with_placeholder (thinned more)) (thinned all) (kept_bare f.kept.events before more same) ∙ ap (λ k. map without_moments (take k (thinned all))) ranked ∙ ap (map without_moments) (thinned_front all n) in
     let denied : IsDenied head all n = record {
       within = omega (arith, there_within more d.place first.event first.there, length-append before more);
       names = (first.event, there_past before more d.place ∙ first.there, first.names);
@@ -297,7 +297,7 @@ pub window_judged : WitnessedAmongChanges → (f new : Findings) (head : Head) (
 window_judged law f new head before more may none j c =
     let lengths : length before ≡ length may.before = sym c.count ∙ may.certifying.count in
     let well : AreWellFormed head more = subst (λ (h : Head). AreWellFormed h more) c.settings may.well in
-    let first = subst (λ (h : Head). IsFirstDenied h (f.kept.events ++ map bare (thinned more)) (length f.kept.events) more j.found) c.settings j.first in
+    let first = subst (λ (h : Head). IsFirstDenied h (f.kept.events ++ map with_placeholder (thinned more)) (length f.kept.events) more j.found) c.settings j.first in
     judged law f new head before more j.found c none well (omega (arith, lengths, may.limit)) first j.after
 
 -- one behind an event that is denied
@@ -333,7 +333,7 @@ denied_within head kept first window (Some d) h = there_within window d.place h.
 
 pub kept_with : (kept new : Recorded) (window : List Event) → new ≡ with_window kept window → length new.events ≡ length kept.events + length (thinned window)
 kept_with kept new window is =
-    ap (λ (r : Recorded). length r.events) is ∙ length-append kept.events (map bare (thinned window)) ∙ ap (λ n. length kept.events + n) (length-map (thinned window) bare)
+    ap (λ (r : Recorded). length r.events) is ∙ length-append kept.events (map with_placeholder (thinned window)) ∙ ap (λ n. length kept.events + n) (length-map (thinned window) with_placeholder)
 
 -- what it comes to
 

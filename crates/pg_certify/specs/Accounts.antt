@@ -7,7 +7,7 @@ use Rattle.pg_event.specs.declared.event.Event.TheVariants.{Invpcid, MovCr4Pge}
 use Rattle.pg_event.specs.declared.event.Outcome.TheVariants.{Page, Fault}
 use Rattle.pg_event.specs.Heads.{Head}
 use Rattle.pg_run_of.specs.Converse.{without_moments}
-use Rattle.pg_search.specs.Bare.{bare}
+use Rattle.pg_search.specs.Placeholders.{with_placeholder}
 use Rattle.pg_search.specs.Thinned.{changes_something, numbers_from}
 use Rattle.pg_certify.specs.declared.numbering.Numbered.{Numbered}
 use Rattle.pg_certify.specs.Windows.{Findings, IsCertifying, MayCome}
@@ -60,7 +60,7 @@ pub record IsNumbering (n : Numbers) (events : List Event) : Type 0 where
 abbrev pub KeptWhole : Type 0
 KeptWhole = (n : Numbers) (events : List Event) (i : ℕ) (e kept : Event) → IsNumbering n events →
     slice_get events i ≡ Some e → changes_something e ≡ true →
-    without_moments kept ≡ without_moments e → whole_of n.named i (bare kept) ≡ e
+    without_moments kept ≡ without_moments e → whole_of n.named i (with_placeholder kept) ≡ e
 
 abbrev pub with_number : List ℕ → ℕ → Event → List ℕ
 with_number numbers number e =

@@ -7,7 +7,7 @@ use Rattle.pg_event.specs.Heads.{Head}
 use Rattle.pg_event.specs.Spelling.{Recorded}
 use Rattle.pg_check.specs.Kept.{AreWellFormed}
 use Rattle.pg_run_of.specs.Converse.{AreSameButMoments}
-use Rattle.pg_search.specs.Bare.{bare}
+use Rattle.pg_search.specs.Placeholders.{with_placeholder}
 use Rattle.pg_search.specs.Law.{names_moments, AreWitness, CanBeWitnessed}
 use Rattle.pg_search.specs.Thinned.{thinned, rank}
 use Rattle.pg_certify.specs.declared.window.Denied.{Denied}
@@ -71,7 +71,7 @@ IsFirstDenied head kept first window (Some d) = IsDeniedAmong head kept first wi
 -- with those events of a window kept that change something
 abbrev pub with_window : Recorded → List Event → Recorded
 with_window kept window =
-    record { head = kept.head; events = kept.events ++ map bare (thinned window) }
+    record { head = kept.head; events = kept.events ++ map with_placeholder (thinned window) }
 
 -- what judging so many events, of which some are kept, leaves
 abbrev pub after_window : Findings → Option Denied → ℕ → Findings
@@ -85,7 +85,7 @@ after_window f (Some d) count = record {
 -- the same of the events of a window, by what judging them came to
 pub record IsJudgedWindow (old : Findings) (window : List Event) (new : Findings) : Type 0 where
   pub found : Option Denied
-  pub first : IsFirstDenied old.kept.head (old.kept.events ++ map bare (thinned window))
+  pub first : IsFirstDenied old.kept.head (old.kept.events ++ map with_placeholder (thinned window))
       (length old.kept.events) window found
   pub after : new ≡ after_window
       (record { kept = with_window old.kept window; count = old.count; denied = old.denied })

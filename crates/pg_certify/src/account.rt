@@ -16,13 +16,13 @@ use std::marker::Model;
 /// What is known of a run so far, the numbers of the events that are kept, and the event that no
 /// moments witness, where there is one.
 #[derive(Drop)]
-pub struct Accounting {
+pub struct StreamingCertifier {
     certifying: Certifying,
     numbering: Numbering,
     event: Option<Event>,
 }
 
-impl Model for Accounting {
+impl Model for StreamingCertifier {
     ghost use Rattle.pg_certify.specs.Accounts.{Account};
 
     ghost Value = { Account };
@@ -47,14 +47,14 @@ fn event_of(denied: Option<u64>, first: u64, window: &[Event]) -> Option<Event>
     }
 }
 
-impl Accounting {
+impl StreamingCertifier {
     /// A run with no event yet. Fails where memory is refused.
-    pub fn new(alloc: Global, header: Header) -> Result<Accounting, AllocError>
+    pub fn new(alloc: Global, header: Header) -> Result<StreamingCertifier, AllocError>
         requires { IsHead header }
         ensures { IfOk result (λ account. IsAccount account header []) }
     {
         let certifying = Certifying::new(alloc, header)?;
-        Ok(Accounting {
+        Ok(StreamingCertifier {
             certifying,
             numbering: Numbering::new(alloc),
             event: None,

@@ -4,7 +4,7 @@ ghost use Rattle.std.specs.Prelude.{◌≡◌, ◌+◌, ◌<◌, ◌^◌, [], �
 ghost use Rattle.std.specs.Prelude.{None, OnOk, OnErr};
 ghost use Rattle.pg_event.specs.Form.{broken_rule};
 ghost use Rattle.pg_check.specs.Kept.{AreWellFormed};
-ghost use Rattle.pg_search.specs.Bare.{bare};
+ghost use Rattle.pg_search.specs.Placeholders.{with_placeholder};
 ghost use Rattle.pg_search.specs.Thinned.{changes_something, thinned};
 
 use pg_event::{Event, Outcome, Request};
@@ -31,7 +31,7 @@ fn keep_change(kept: &mut KeptRun, event: &Event) -> Result<(), AllocError>
     requires room { length kept.old.events + 1 < 2 ^ 32 }
     ensures ok { OnOk result (kept.new ≡ record {
       head = kept.old.head;
-      events = kept.old.events ++ map bare (thinned (event.now ∷ []));
+      events = kept.old.events ++ map with_placeholder (thinned (event.now ∷ []));
     }) }
     ensures err { OnErr result (kept.new ≡ kept.old) }
 {
@@ -49,7 +49,7 @@ pub(crate) fn keep_all(kept: &mut KeptRun, events: &[Event]) -> Result<(), Alloc
     requires room { length kept.old.events + length events.now < 2 ^ 32 }
     ensures ok { OnOk result (kept.new ≡ record {
       head = kept.old.head;
-      events = kept.old.events ++ map bare (thinned events.now);
+      events = kept.old.events ++ map with_placeholder (thinned events.now);
     }) }
     ensures err { OnErr result (kept.new ≡ kept.old) }
 {

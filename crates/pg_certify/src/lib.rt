@@ -21,7 +21,7 @@ mod walk;
 mod whole;
 mod window;
 
-pub use account::Accounting;
+pub use account::StreamingCertifier;
 pub use certifier::Certified;
 pub use certifying::Certifying;
 pub use crew::{CertifyError, first_denied_by};

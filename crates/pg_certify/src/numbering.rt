@@ -4,12 +4,12 @@ ghost use Rattle.std.specs.Prelude.{◌≡◌, ◌+◌, ◌<◌, ◌^◌, [], �
 ghost use Rattle.pg_event.specs.declared.event.Event.{Event};
 ghost use Rattle.pg_certify.specs.Accounts.{is_placeholder, is_named, whole_of, with_named};
 ghost use Rattle.pg_certify.specs.Accounts.{noted, IsNumbering, KeptWhole};
-ghost use Rattle.pg_search.specs.Bare.{bare};
+ghost use Rattle.pg_search.specs.Placeholders.{with_placeholder};
 
 use crate::flags::Flags;
 use crate::keeping::changes_something;
 use pg_event::{Event, Moments, Outcome, Request};
-use pg_search::bare;
+use pg_search::with_placeholder;
 use std::alloc::{AllocError, Global};
 use std::marker::Model;
 
@@ -123,14 +123,14 @@ impl Numbering {
 
     /// The event with this number, of which the other is what is kept. `kept_whole` is the law.
     pub fn whole(&self, number: u32, kept: &Event) -> Event
-        ensures { result ≡ whole_of self.now.named number (bare kept.now) }
+        ensures { result ≡ whole_of self.now.named number (with_placeholder kept.now) }
     {
         for named in &self.named {
             if named.number == number {
                 return named.event;
             }
         }
-        bare(kept)
+        with_placeholder(kept)
     }
 }
 

@@ -200,7 +200,7 @@ impl Past {
     }
 
     /// The same, and counts the moments that were read.
-    pub fn value_at_counted(&self, moment: u32, addr: u64, probes: &mut Probes) -> u64
+    pub(crate) fn value_at_counted(&self, moment: u32, addr: u64, probes: &mut Probes) -> u64
         ensures run { InEachRun self.now (λ head events. result ≡ mem_at events moment addr) }
         ensures probes { (probes.old ≤ probes.new) × (probes.new ≤ probes.old + 34) }
     {
@@ -217,7 +217,7 @@ impl Past {
     }
 
     /// The same, and counts the moments that were read.
-    pub fn control_at_counted(&self, p: u16, moment: u32, probes: &mut Probes) -> Control
+    pub(crate) fn control_at_counted(&self, p: u16, moment: u32, probes: &mut Probes) -> Control
         requires { p < processor_count self.now }
         ensures run { InEachRun self.now (λ head events. result ≡ control_at head events p moment) }
         ensures root { result.root < 2 ^ 52 }

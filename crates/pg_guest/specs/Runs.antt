@@ -10,7 +10,7 @@ use Rattle.pg_home.specs.declared.advance.Advance.TheVariants.{Stopped}
 use Rattle.pg_home.specs.declared.advance.Stop.{Stop}
 use Rattle.pg_home.specs.Turn.{Processor, fresh}
 use Rattle.pg_shadow.specs.declared.entries.Found.TheVariants.{Miss}
-use Rattle.pg_home.specs.Home.{IsAtHome}
+use Rattle.pg_home.specs.Home.{HasSoundCaches}
 use Rattle.pg_home.specs.Laws.{KeepsHome}
 use Rattle.pg_guest.specs.Held.{Held, seen}
 use Rattle.pg_guest.specs.Steps.{IsOfRun}
@@ -18,7 +18,7 @@ use Rattle.pg_guest.specs.Steps.{IsOfRun}
 -- where the record is accepted and p is at home, both hold afterwards, and all others stay at home
 abbrev pub StaysAtHome : ℕ → Recording → Recording → Processor → Processor → Type 0
 StaysAtHome p old new before after =
-    Accepted old.head old.events → IsAtHome old.head old.events p before → KeepsHome p old new after
+    Accepted old.head old.events → HasSoundCaches old.head old.events p before → KeepsHome p old new after
 
 -- a turn that was stopped left the record as it was, and of the processor all but the walk under
 -- way, which was given up: the next turn begins the instruction again

@@ -30,7 +30,7 @@ use Rattle.pg_world.proofs.Assisted.{an_assist_is_enough}
 use Rattle.pg_home.specs.declared.advance.Advance.{Advance}
 use Rattle.pg_home.specs.Turn.{Processor, Turned, goes_on, begun, turned_by, turned, from_root, from_table, IsTurn}
 use Rattle.pg_home.specs.CoreRun.{IsCoreRun}
-use Rattle.pg_home.specs.Home.{IsUnderWay, IsAtHome}
+use Rattle.pg_home.specs.Home.{IsUnderWay, HasSoundCaches}
 use Rattle.pg_home.specs.Laws.{IsQuiet}
 use Rattle.pg_home.specs.Progress.{depth, progress, ready, measure_from, measure_by, measure, is_stopped, turns_of, answers_of, NoneIsStopped, TurnsComeNearer, FiveTurnsCarryOut, NineTurnsCarryOut}
 use Rattle.pg_home.proofs.Cases.{goes_on_any}
@@ -46,7 +46,7 @@ ready_most (Fault receipt) = omega arith
 ready_most (Assisted receipt) = omega arith
 
 -- no table is read at level 1
-measure_from_most : (p : ℕ) (r : Recording) (x : Processor) (flags la : ℕ) → IsAtHome r.head r.events p x → (way : Found) → IsUnderWay r.head x.caches la (access_kind flags) way →
+measure_from_most : (p : ℕ) (r : Recording) (x : Processor) (flags la : ℕ) → HasSoundCaches r.head r.events p x → (way : Found) → IsUnderWay r.head x.caches la (access_kind flags) way →
     measure_from p r x.caches flags la way ≤ 8
 measure_from_most p r x flags la home (Hit frame shift rights global moments) under = omega arith
 measure_from_most p r x flags la home (Partial level table rights moments) under =
@@ -65,7 +65,7 @@ measure_from_most p r x flags la home Miss under =
     one_of_eight : (a : ℕ) → a ≤ 1 → a ≤ 8
     one_of_eight a h = omega arith
 
-measure_most : (p : ℕ) (r : Recording) (x : Processor) → IsAtHome r.head r.events p x → (o : Option Instruction) → slice_get x.instructions x.place ≡ o → measure_by p r x o ≤ 8
+measure_most : (p : ℕ) (r : Recording) (x : Processor) → HasSoundCaches r.head r.events p x → (o : Option Instruction) → slice_get x.instructions x.place ≡ o → measure_by p r x o ≤ 8
 measure_most p r x home None at = omega arith
 measure_most p r x home (Some (Write addr value)) at = omega arith
 measure_most p r x home (Some (Access flags la)) at =
@@ -93,7 +93,7 @@ found_missed head s la kind Miss h = h
 abbrev Counts : ℕ → ℕ → ℕ → ℕ → Turned → Type 0
 Counts p flags la m t = m < measure_by p t.world t.processor (Some (Access flags la))
 
-access_counts : (p : ℕ) (r : Recording) (x : Processor) (flags la : ℕ) → IsHead r.head → IsAtHome r.head r.events p x → (way : Found) → begun r.head x.caches la (access_kind flags) x.way ≡ way →
+access_counts : (p : ℕ) (r : Recording) (x : Processor) (flags la : ℕ) → IsHead r.head → HasSoundCaches r.head r.events p x → (way : Found) → begun r.head x.caches la (access_kind flags) x.way ≡ way →
     IsUnderWay r.head x.caches la (access_kind flags) way → CarriesOr (Counts p flags la (measure_from p r x.caches flags la way)) x (goes_on p r x flags la way)
 access_counts p r x flags la head home (Hit frame shift rights global moments) is under = (refl, inl (refl, (_, refl)))
 access_counts p r x flags la head home (Partial level table rights moments) is under =
@@ -135,7 +135,7 @@ access_counts p r x flags la head home Miss is under =
     first_assist : (a b : ℕ) → a ≡ 0 → b ≡ 1 → a < b
     first_assist a b none one = omega arith
 
-measure_grows : (p : ℕ) (r : Recording) (x : Processor) → IsHead r.head → IsAtHome r.head r.events p x → (slice_get x.instructions x.place ≡ None → ⊥) →
+measure_grows : (p : ℕ) (r : Recording) (x : Processor) → IsHead r.head → HasSoundCaches r.head r.events p x → (slice_get x.instructions x.place ≡ None → ⊥) →
     let o = slice_get x.instructions x.place in CarriesOr (λ t. measure_by p r x o < measure_by p t.world t.processor o) x (turned p r x)
 measure_grows p r x head home due =
     let o : Option Instruction = slice_get x.instructions x.place in
@@ -189,9 +189,9 @@ places_grow r xs (q ∷ ps) answers end ys run p x y here there =
 
 -- a measure that each turn of p raises as long as it carries nothing out, up to a bound, and that turns of others leave as it is, where there are any
 record IsMeasure (p bound : ℕ) (C : Head → Type 0) (Others : Type 0) (M : Recording → Processor → ℕ) : Type 0 where
-  own : (r : Recording) (x : Processor) → C r.head → IsAtHome r.head r.events p x → (slice_get x.instructions x.place ≡ None → ⊥) → CarriesOr (λ t. M r x < M t.world t.processor) x (turned p r x)
+  own : (r : Recording) (x : Processor) → C r.head → HasSoundCaches r.head r.events p x → (slice_get x.instructions x.place ≡ None → ⊥) → CarriesOr (λ t. M r x < M t.world t.processor) x (turned p r x)
   other : Others → (r s : Recording) (x : Processor) → M r x ≡ M s x
-  most : (r : Recording) (x : Processor) → IsAtHome r.head r.events p x → M r x ≤ bound
+  most : (r : Recording) (x : Processor) → HasSoundCaches r.head r.events p x → M r x ≤ bound
 
 not_stopped : (p : ℕ) (r : Recording) (x : Processor) (t : Turned) → IsTurn p r x t → is_stopped t.answer ≡ false → t ≡ turned p r x
 not_stopped p r x t (inl halt) h = let contrary : true ≡ false = sym (ap (λ (t : Turned). is_stopped t.answer) halt.is) ∙ h in absurd (cc)
@@ -306,7 +306,7 @@ all_turns : (p n : ℕ) → turns_of p (replicate n p) ≡ n
 all_turns p zero = refl
 all_turns p (suc n) = ap (λ b. counted b p (filter (λ q. q == p) (replicate n p))) (eq-eqb p p refl) ∙ ap suc (all_turns p n)
 
-own_measure : (p : ℕ) (r : Recording) (x : Processor) → IsHead r.head → IsAtHome r.head r.events p x → (slice_get x.instructions x.place ≡ None → ⊥) →
+own_measure : (p : ℕ) (r : Recording) (x : Processor) → IsHead r.head → HasSoundCaches r.head r.events p x → (slice_get x.instructions x.place ≡ None → ⊥) →
     CarriesOr (λ t. measure p r x < measure p t.world t.processor) x (turned p r x)
 own_measure p r x head home due = moved (measure_grows p r x head home due)
   where

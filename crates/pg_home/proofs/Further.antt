@@ -36,7 +36,7 @@ use Rattle.pg_world.specs.Recording.{Recording, receipt_of}
 use Rattle.pg_world.specs.Walks.{address_of, word_now, moments_of, lacks_dirty, lacks_flags, assist_of, used_entry, found_entry, found_in}
 use Rattle.pg_home.specs.declared.advance.Advance.TheVariants as answers
 use Rattle.pg_home.specs.Turn.{Processor, Turned, keeps, after_read, assisted, goes_on, begun, turned_by, turned}
-use Rattle.pg_home.specs.Home.{Place, at_root, word_at, place_below, Along, FromRoot, EndsInTable, IsSoundTable, IsUnderWay, IsUnderWayFor, IsAtHome}
+use Rattle.pg_home.specs.Home.{Place, at_root, word_at, place_below, Along, FromRoot, EndsInTable, IsSoundTable, IsUnderWay, IsUnderWayFor, HasSoundCaches}
 use Rattle.pg_home.specs.Progress.{EntriesArePresent, depth, progress, GoesFurther, ReadsGoFurther, NoneAssistInVersionOne}
 use Rattle.pg_home.proofs.Turns.{begun_under}
 
@@ -156,7 +156,7 @@ read_comes P p r x way kind la level table rights ms reads (kinds.Leaf frame shi
     (λ none. subst (λ (k : Kind). CarriesOr P x (keeps r x walk value (moments_of ms ++ length r.events ∷ []) k)) (sym is) (refl, inr (refl, reads.leaf value frame shift g _)))
 
 -- a turn of an access whose walk has come so far
-goes_comes : (P : Turned → Type 0) (p : ℕ) (r : Recording) (x : Processor) (flags la : ℕ) → IsAtHome r.head r.events p x → (way : Found) → IsUnderWay r.head x.caches la (access_kind flags) way →
+goes_comes : (P : Turned → Type 0) (p : ℕ) (r : Recording) (x : Processor) (flags la : ℕ) → HasSoundCaches r.head r.events p x → (way : Found) → IsUnderWay r.head x.caches la (access_kind flags) way →
     ((level : Level) (table : ℕ) (rights : Rights) (ms : Option (List ℕ)) → progress way < depth level → Reads P p r x way (walk_in (access_kind flags) la level table rights ms)) →
     CarriesOr P x (goes_on p r x flags la way)
 goes_comes P p r x flags la home (Hit frame shift rights global moments) under reads = (refl, inl (refl, (_, refl)))
@@ -216,7 +216,7 @@ reads_further p r x way walk n one lt =
       assist = λ with_dirty found judged. absurd (one_judges_nothing r.head.version one judged);
     }
 
-pub under_of : (p : ℕ) (r : Recording) (x : Processor) (flags la : ℕ) → IsAtHome r.head r.events p x → slice_get x.instructions x.place ≡ Some (Access flags la) →
+pub under_of : (p : ℕ) (r : Recording) (x : Processor) (flags la : ℕ) → HasSoundCaches r.head r.events p x → slice_get x.instructions x.place ≡ Some (Access flags la) →
     IsUnderWay r.head x.caches la (access_kind flags) (begun r.head x.caches la (access_kind flags) x.way)
 under_of p r x flags la home at = begun_under r.head x.caches la (access_kind flags) x.way (subst (λ o. IsUnderWayFor r.head x.caches x.way o) at home.way)
 
@@ -246,7 +246,7 @@ reads_go_further p r x level home h =
     ]
 
 -- in version 1 each turn does
-pub one_goes_further : (p : ℕ) (r : Recording) (x : Processor) → r.head.version ≡ versions.One → IsAtHome r.head r.events p x → (slice_get x.instructions x.place ≡ None → ⊥) →
+pub one_goes_further : (p : ℕ) (r : Recording) (x : Processor) → r.head.version ≡ versions.One → HasSoundCaches r.head r.events p x → (slice_get x.instructions x.place ≡ None → ⊥) →
     CarriesOr (IsFurther (progress x.way)) x (turned p r x)
 one_goes_further p r x one home due =
     turned_comes (IsFurther (progress x.way)) p r x (slice_get x.instructions x.place) refl due (λ flags la at.

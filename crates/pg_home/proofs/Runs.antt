@@ -6,7 +6,7 @@ use Rattle.pg_event.specs.Heads.{Head}
 use Rattle.pg_home.specs.declared.advance.Advance.{Advance}
 use Rattle.pg_home.specs.Turn.{Processor, IsTurn}
 use Rattle.pg_home.specs.CoreRun.{unwritten}
-use Rattle.pg_home.specs.Home.{IsAtHome}
+use Rattle.pg_home.specs.Home.{HasSoundCaches}
 use Rattle.pg_home.specs.Laws.{IsQuiet, AreFresh, TurnsKeepQuiet, CoreRunsKeepQuiet, CoreRunsAreAccepted, CoreRunsGoOn}
 use Rattle.pg_home.proofs.Turns.{turns_keep_home, fresh_are_at_home}
 
@@ -46,7 +46,7 @@ pub turns_keep_quiet : TurnsKeepQuiet
 turns_keep_quiet r xs p x t quiet here turn =
     let keeps = turns_keep_home p r x t quiet.accepted (quiet.at_home p x here) turn in record {
       accepted = keeps.accepted;
-      at_home = each_processor (λ q z. IsAtHome t.world.head t.world.events q z) xs p x t.processor here keeps.own (λ q z away h. keeps.others q away z (quiet.at_home q z h));
+      at_home = each_processor (λ q z. HasSoundCaches t.world.head t.world.events q z) xs p x t.processor here keeps.own (λ q z away h. keeps.others q away z (quiet.at_home q z h));
     }
 
 pub core_runs_keep_quiet : CoreRunsKeepQuiet
@@ -59,7 +59,7 @@ core_runs_keep_quiet r xs (p ∷ ps) answers end ys quiet run =
 pub fresh_are_quiet : (head : Head) (xs : List Processor) → AreFresh head xs → IsQuiet (unwritten head) xs
 fresh_are_quiet head xs fresh = record {
   accepted = refl;
-  at_home = λ p x h. let new = fresh p x h in subst (IsAtHome head [] p) (sym new.1) (fresh_are_at_home head p new.0);
+  at_home = λ p x h. let new = fresh p x h in subst (HasSoundCaches head [] p) (sym new.1) (fresh_are_at_home head p new.0);
 }
 
 pub core_runs_are_accepted : CoreRunsAreAccepted

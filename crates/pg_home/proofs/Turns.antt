@@ -39,7 +39,7 @@ use Rattle.pg_world.specs.Recording.{Recording, receipt_of, with_event}
 use Rattle.pg_world.specs.Walks.{moments_of, address_of, lacks_dirty, lacks_flags, assist_of, used_entry, found_entry}
 use Rattle.pg_event.proofs.Flags.{flags_are_told}
 use Rattle.pg_home.specs.Turn.{Processor, Turned, fresh, done, assisted, keeps, after_read, goes_on, begun, turned_by, stopped, outcome_of, IsTurn}
-use Rattle.pg_home.specs.Home.{Place, at_root, word_at, IsUnderWay, IsUnderWayFor, AreSound, IsAtHome}
+use Rattle.pg_home.specs.Home.{Place, at_root, word_at, IsUnderWay, IsUnderWayFor, AreSound, HasSoundCaches}
 use Rattle.pg_home.specs.Laws.{GrowsByOne, KeepsOthers, TurnsKeepHome, OthersStayAtHome, FreshAreAtHome}
 use Rattle.pg_home.proofs.Entries.{size_is}
 use Rattle.pg_home.proofs.Hits.{hit_witnesses}
@@ -72,14 +72,14 @@ record KeepsAnyway (p : ℕ) (old new : Recording) (x : Processor) : Type 0 wher
   head : new.head ≡ old.head
   grows : GrowsByOne p old.events new.events
   accepted : Accepted old.head old.events → Accepted new.head new.events
-  own : IsAtHome new.head new.events p x
+  own : HasSoundCaches new.head new.events p x
   others : KeepsOthers p old new
 
 abbrev Keeps : ℕ → Recording → Turned → Type 0
 Keeps p r t = KeepsAnyway p r t.world t.processor
 
 -- a witnessed event of p is recorded
-recorded_keeps : (p : ℕ) (r : Recording) (x y : Processor) (e : Event) → IsAtHome r.head r.events p x → processor_of e ≡ p →
+recorded_keeps : (p : ℕ) (r : Recording) (x y : Processor) (e : Event) → HasSoundCaches r.head r.events p x → processor_of e ≡ p →
     failing_event r.head r.events (length r.events) e ≡ None → y.caches ≡ after e x.caches → IsUnderWayFor r.head y.caches y.way (slice_get y.instructions y.place) →
     KeepsAnyway p r (with_event r e) y
 recorded_keeps p r x y e home own good caches way = record {
@@ -94,13 +94,13 @@ recorded_keeps p r x y e home own good caches way = record {
 }
 
 -- the instruction is carried out
-done_keeps : (p : ℕ) (r : Recording) (x : Processor) (e : Event) → IsAtHome r.head r.events p x → processor_of e ≡ p →
+done_keeps : (p : ℕ) (r : Recording) (x : Processor) (e : Event) → HasSoundCaches r.head r.events p x → processor_of e ≡ p →
     failing_event r.head r.events (length r.events) e ≡ None → Keeps p r (done r x (receipt_of r.events e))
 done_keeps p r x e home own good =
     recorded_keeps p r x (done r x (receipt_of r.events e)).processor e home own good refl (begins r.head (after e x.caches) (slice_get x.instructions (x.place + 1)))
 
 -- nothing is recorded
-quiet_keeps : (p : ℕ) (r : Recording) (y : Processor) → IsAtHome r.head r.events p y → KeepsAnyway p r r y
+quiet_keeps : (p : ℕ) (r : Recording) (y : Processor) → HasSoundCaches r.head r.events p y → KeepsAnyway p r r y
 quiet_keeps p r y home = record { head = refl; grows = inl refl; accepted = λ accepted. accepted; own = home; others = λ q away x h. h }
 
 -- ---- flags that an entry has
@@ -142,7 +142,7 @@ walk_at kind la at ms = record { la = la; kind = kind; level = at.level; table =
 
 -- an access of p is under way, at a place that its walk comes to
 record IsReading (p : ℕ) (r : Recording) (x : Processor) (flags la : ℕ) (way : Found) : Type 0 where
-  home : IsAtHome r.head r.events p x
+  home : HasSoundCaches r.head r.events p x
   instruction : slice_get x.instructions x.place ≡ Some (Access flags la)
   under : IsUnderWay r.head x.caches la (access_kind flags) way
 
@@ -266,7 +266,7 @@ begun_under head s la kind Miss h = found_under head s la kind (found s la head 
 
 -- ---- a turn
 
-turned_by_keeps : (p : ℕ) (r : Recording) (x : Processor) → IsAtHome r.head r.events p x →
+turned_by_keeps : (p : ℕ) (r : Recording) (x : Processor) → HasSoundCaches r.head r.events p x →
     (o : Option Instruction) → slice_get x.instructions x.place ≡ o → Keeps p r (turned_by p r x o)
 turned_by_keeps p r x home None at = quiet_keeps p r x home
 turned_by_keeps p r x home (Some (Write addr value)) at = done_keeps p r x (events.Write p addr value) home refl refl
@@ -281,7 +281,7 @@ turned_by_keeps p r x home (Some (Invlpg la)) at = done_keeps p r x (events.Invl
 turned_by_keeps p r x home (Some (Invpcid kind pcid la)) at = done_keeps p r x (events.Invpcid p kind pcid la) home refl refl
 turned_by_keeps p r x home (Some (MovCr4Pge on)) at = done_keeps p r x (events.MovCr4Pge p on) home refl refl
 
-turn_keeps : (p : ℕ) (r : Recording) (x : Processor) (t : Turned) → IsAtHome r.head r.events p x → IsTurn p r x t → Keeps p r t
+turn_keeps : (p : ℕ) (r : Recording) (x : Processor) (t : Turned) → HasSoundCaches r.head r.events p x → IsTurn p r x t → Keeps p r t
 turn_keeps p r x t home (inl halt) =
     subst (Keeps p r) (sym halt.is)
     (quiet_keeps p r (stopped halt.why r x).processor (record { sound = home.sound; way = begins r.head x.caches (slice_get x.instructions x.place) }))
@@ -289,7 +289,7 @@ turn_keeps p r x t home (inr went) =
     subst (Keeps p r) (sym went.is) (turned_by_keeps p r x home (slice_get x.instructions x.place) refl)
 
 -- a processor stays at home by its turn, whether the record is accepted or not
-pub stays_at_home : (p : ℕ) (r : Recording) (x : Processor) (t : Turned) → IsAtHome r.head r.events p x → IsTurn p r x t → IsAtHome t.world.head t.world.events p t.processor
+pub stays_at_home : (p : ℕ) (r : Recording) (x : Processor) (t : Turned) → HasSoundCaches r.head r.events p x → IsTurn p r x t → HasSoundCaches t.world.head t.world.events p t.processor
 stays_at_home p r x t home turn = (turn_keeps p r x t home turn).own
 
 pub turns_keep_home : TurnsKeepHome

@@ -160,6 +160,6 @@ pub record AreSound (head : Head) (events : List Event) (p : ℕ) (s : Caches) :
       IsSoundLeaf head events p key kept
 
 -- p is at home: what it caches is sound, and its walk has come to what it caches
-pub record IsAtHome (head : Head) (events : List Event) (p : ℕ) (x : Processor) : Type 0 where
+pub record HasSoundCaches (head : Head) (events : List Event) (p : ℕ) (x : Processor) : Type 0 where
   pub sound : AreSound head events p x.caches
   pub way : IsUnderWayFor head x.caches x.way (slice_get x.instructions x.place)

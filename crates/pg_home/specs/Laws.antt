@@ -9,7 +9,7 @@ use Rattle.pg_world.specs.Recording.{Recording}
 use Rattle.pg_home.specs.declared.advance.Advance.{Advance}
 use Rattle.pg_home.specs.Turn.{Processor, Turned, IsTurn, fresh}
 use Rattle.pg_home.specs.CoreRun.{unwritten, IsCoreRun}
-use Rattle.pg_home.specs.Home.{IsAtHome}
+use Rattle.pg_home.specs.Home.{HasSoundCaches}
 
 -- nothing was recorded, or one event of p
 abbrev pub GrowsByOne : ℕ → List Event → List Event → Type 0
@@ -21,13 +21,13 @@ GrowsByOne p events more =
 pub record IsQuiet (r : Recording) (xs : List Processor) : Type 0 where
   pub accepted : Accepted r.head r.events
   pub at_home : (p : ℕ) (x : Processor) → slice_get xs p ≡ Some x →
-      IsAtHome r.head r.events p x
+      HasSoundCaches r.head r.events p x
 
 -- each processor but p that is at home stays so
 abbrev pub KeepsOthers : ℕ → Recording → Recording → Type 0
 KeepsOthers p old new =
-    (q : ℕ) → q ≢ p → (x : Processor) → IsAtHome old.head old.events q x →
-    IsAtHome new.head new.events q x
+    (q : ℕ) → q ≢ p → (x : Processor) → HasSoundCaches old.head old.events q x →
+    HasSoundCaches new.head new.events q x
 
 -- from one record to another, one event of p is added at most, what there is is accepted, p is at
 -- home as it is now, and the others stay at home
@@ -35,24 +35,24 @@ pub record KeepsHome (p : ℕ) (old new : Recording) (x : Processor) : Type 0 wh
   pub head : new.head ≡ old.head
   pub grows : GrowsByOne p old.events new.events
   pub accepted : Accepted new.head new.events
-  pub own : IsAtHome new.head new.events p x
+  pub own : HasSoundCaches new.head new.events p x
   pub others : KeepsOthers p old new
 
 -- a turn keeps the record accepted and all processors at home, also where it is stopped
 abbrev pub TurnsKeepHome : Type 0
 TurnsKeepHome = (p : ℕ) (r : Recording) (x : Processor) (t : Turned) →
-    Accepted r.head r.events → IsAtHome r.head r.events p x → IsTurn p r x t →
+    Accepted r.head r.events → HasSoundCaches r.head r.events p x → IsTurn p r x t →
     KeepsHome p r t.world t.processor
 
 -- an event of another processor leaves a processor at home, whether it is witnessed or not
 abbrev pub OthersStayAtHome : Type 0
 OthersStayAtHome = (head : Head) (events : List Event) (e : Event) (p : ℕ) (x : Processor) →
-    processor_of e ≢ p → IsAtHome head events p x → IsAtHome head (events ++ e ∷ []) p x
+    processor_of e ≢ p → HasSoundCaches head events p x → HasSoundCaches head (events ++ e ∷ []) p x
 
 -- new processors are at home before the first event
 abbrev pub FreshAreAtHome : Type 0
 FreshAreAtHome = (head : Head) (p : ℕ) (instructions : List Instruction) →
-    IsAtHome head [] p (fresh head p instructions)
+    HasSoundCaches head [] p (fresh head p instructions)
 
 -- a turn of one of the processors keeps all quiet
 abbrev pub TurnsKeepQuiet : Type 0

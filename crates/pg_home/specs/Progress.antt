@@ -28,7 +28,7 @@ use Rattle.pg_home.specs.declared.advance.Advance.{Advance}
 use Rattle.pg_home.specs.declared.advance.Advance.TheVariants.{Read, Assisted, Done, Ended, Stopped}
 use Rattle.pg_home.specs.Turn.{Processor, Turned, turned, begun, from_root, from_table, IsTurn}
 use Rattle.pg_home.specs.CoreRun.{IsCoreRun}
-use Rattle.pg_home.specs.Home.{IsAtHome}
+use Rattle.pg_home.specs.Home.{HasSoundCaches}
 use Rattle.pg_home.specs.Laws.{IsQuiet}
 
 -- an entry that is given to a walk is present and has no reserved bit
@@ -59,7 +59,7 @@ pub record GoesFurther (x y : Processor) : Type 0 where
 -- a turn that only reads brings the walk of a processor at home further
 abbrev pub ReadsGoFurther : Type 0
 ReadsGoFurther = (p : ℕ) (r : Recording) (x : Processor) (level : Level) →
-    IsAtHome r.head r.events p x → (turned p r x).answer ≡ Read level →
+    HasSoundCaches r.head r.events p x → (turned p r x).answer ≡ Read level →
     GoesFurther x (turned p r x).processor
 
 abbrev pub is_stopped : Advance → Bool
@@ -117,7 +117,7 @@ pub record ComesNearer (p : ℕ) (r : Recording) (x : Processor) (t : Turned) : 
 -- each turn that is not stopped does one of them, where there is an instruction to carry out
 abbrev pub TurnsComeNearer : Type 0
 TurnsComeNearer = (p : ℕ) (r : Recording) (x : Processor) (t : Turned) →
-    IsHead r.head → IsAtHome r.head r.events p x → IsTurn p r x t →
+    IsHead r.head → HasSoundCaches r.head r.events p x → IsTurn p r x t →
     x.place < length x.instructions → is_stopped t.answer ≡ false →
     CarriesNext x t ⊎ ComesNearer p r x t
 

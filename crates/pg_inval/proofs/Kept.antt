@@ -123,11 +123,6 @@ IsCutAt-cut old new moment next cut = record {
 
 -- ---- a window
 
-pub is_dropped-never : (d : Log) (p : ℕ) (x : CacheEntry) (from to : ℕ) → to ≤ from → is_dropped d p x from to ≡ false
-is_dropped-never d p x from to le =
-    let none : to - from ≡ 0 = omega arith in
-    ap (any_from (is_dropped_at d p x) from) none
-
 -- the first drop that is noted is the first of the run
 pub IsFirstDrop-survives : (d : Log) (head : Head) (events : List Event) (p : ℕ) (x : CacheEntry) (from to : ℕ) (found : Option ℕ) → StandsFor d head events → MayBeCached x →
     IsFirstDrop (is_dropped d p x) from to found → IsFirstDrop (λ a b. not (survives head events p (must_drop x) a b)) from to found

@@ -3,13 +3,13 @@ use Rattle.std.proofs.Common.{◌≡◌, ℕ, ◌+◌, ◌≤◌, List, Option, 
 use Rattle.pg_event.specs.declared.event.Event.{Event}
 use Rattle.pg_event.specs.Spelling.{Recorded}
 use Rattle.pg_event.specs.Values.{control_at}
-use Rattle.pg_search.specs.Ways.{first_or}
+use Rattle.pg_search.specs.ReachableTables.{first_or}
 use Rattle.pg_search.specs.Last.{NoneWitness, IsLastOf}
 use Rattle.pg_search.specs.Law.{AreWitness}
 use Rattle.pg_search.specs.Thinned.{AreFreshestOf}
 use Rattle.pg_reach.specs.declared.walker.Walker.{Walker}
 use Rattle.pg_reach.specs.Asking.{Asks, under}
-use Rattle.pg_reach.specs.Lasting.{IsUpTo, HasWitness, AreUpTo}
+use Rattle.pg_reach.specs.WitnessedUpTo.{IsUpTo, HasWitness, AreUpTo}
 use Rattle.pg_reach.proofs.Cases.{first_low}
 use Rattle.pg_reach.proofs.Passed.{at_number, asks_at}
 

@@ -32,7 +32,7 @@ use Rattle.pg_run_of.proofs.Standing.{seen, given}
 use Rattle.pg_run_of.proofs.Accesses.{guard_none, bar_none, wants_leaf, access_inside, assist_inside, claim_holds, update_holds}
 use Rattle.pg_run_of.proofs.Chains.{reading_at}
 use Rattle.pg_check.proofs.Pages.{IsPaged, kind_paged}
-use Rattle.pg_search.specs.Ways.{first_or}
+use Rattle.pg_search.specs.ReachableTables.{first_or}
 use Rattle.pg_search.specs.Law.{AreWitness}
 use Rattle.pg_reach.specs.declared.walker.Walker.{Walker}
 use Rattle.pg_reach.specs.Asking.{want_by, Asks, last_moment, pcid_of, LastsBy, EndsLate, AreUnder, AreLate, AreGlobal, under}

@@ -14,8 +14,8 @@ use Rattle.pg_event.specs.Walk.{below, root_of}
 use Rattle.pg_event.specs.Wants.{is_table}
 use Rattle.pg_machine.specs.Machine.{may_cache}
 use Rattle.pg_inval.specs.Drops.{IsTableLevel}
-use Rattle.pg_search.specs.Ways as ways
-use Rattle.pg_search.specs.Ways.{entry_at, table_by, first_or, IsLink, IsChain, IsWayFromRoot}
+use Rattle.pg_search.specs.ReachableTables as ways
+use Rattle.pg_search.specs.ReachableTables.{entry_at, table_by, first_or, IsLink, IsChain, IsWayFromRoot}
 use Rattle.pg_search.specs.Freshness.{is_as_fresh}
 use Rattle.pg_search.proofs.Freshness.{fresh_more}
 use Rattle.pg_reach.proofs.Fresh.{up_to-push, later_fresh}

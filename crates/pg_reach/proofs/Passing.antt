@@ -27,7 +27,7 @@ use Rattle.pg_reach.specs.declared.reach.Reach.{Reach}
 use Rattle.pg_reach.specs.Stays.{IsUnder}
 use Rattle.pg_reach.specs.Reaching.{way_of, entry_of, up_to, IsReach}
 use Rattle.pg_reach.specs.Asking.{want_by, Asks}
-use Rattle.pg_reach.specs.Lasting.{IsLastUse}
+use Rattle.pg_reach.specs.WitnessedUpTo.{IsLastUse}
 use Rattle.pg_reach.proofs.Used.{access_end, end_last}
 use Rattle.pg_reach.proofs.Whole.{way_comes}
 

@@ -14,7 +14,7 @@ use Rattle.pg_reach.specs.declared.view.Piece.{Piece}
 use Rattle.pg_reach.specs.declared.reach.Reach.{Reach}
 use Rattle.pg_reach.specs.Reaching.{entry_of, IsLastRead, IsPiece}
 use Rattle.pg_reach.specs.Asking.{want_by}
-use Rattle.pg_reach.specs.Lasting.{IsUpTo, IsPassed, IsPassedBy, ArePassed, IsReadIn}
+use Rattle.pg_reach.specs.WitnessedUpTo.{IsUpTo, IsPassed, IsPassedBy, ArePassed, IsReadIn}
 
 -- how a piece of the table of a reach is read
 

@@ -30,7 +30,7 @@ use Rattle.pg_reach.specs.declared.walker.Walker.{Walker}
 use Rattle.pg_reach.specs.Stays.{IsUnder}
 use Rattle.pg_reach.specs.Asking.{want_by}
 use Rattle.pg_reach.specs.Reaching.{IsLastRead}
-use Rattle.pg_reach.specs.Lasting.{MayUse, IsLastUse, translation_lasts}
+use Rattle.pg_reach.specs.WitnessedUpTo.{MayUse, IsLastUse, translation_lasts}
 use Rattle.pg_search.specs.Lasts.{IsEnd}
 use Rattle.pg_search.proofs.Survival.{survives_within}
 

@@ -37,8 +37,8 @@ use Rattle.pg_run_of.proofs.Accesses.{guard_none, bar_none, claim_holds, update_
 use Rattle.pg_run_of.proofs.Kept.{survives_none}
 use Rattle.pg_run_of.proofs.Chains.{next_or, Comes, Holds, Ends, IsFlagged, reading_at, pass, access_none, assist_none}
 use Rattle.pg_run_of.proofs.Certified.{assist_judged}
-use Rattle.pg_search.specs.Ways as ways
-use Rattle.pg_search.specs.Ways.{first_or, IsChain, IsWayFromRoot}
+use Rattle.pg_search.specs.ReachableTables as ways
+use Rattle.pg_search.specs.ReachableTables.{first_or, IsChain, IsWayFromRoot}
 use Rattle.pg_search.specs.Law.{with_moments}
 use Rattle.pg_reach.specs.declared.walker.Walker.{Walker}
 use Rattle.pg_reach.specs.declared.reach.Reach.{Reach}

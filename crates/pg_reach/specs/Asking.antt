@@ -10,7 +10,7 @@ use Rattle.pg_event.specs.declared.event.Want.TheVariants as wants
 use Rattle.pg_event.specs.Spelling.{Recorded}
 use Rattle.pg_event.specs.Values.{control_at}
 use Rattle.pg_event.specs.Wants.{want_of, uses_last}
-use Rattle.pg_search.specs.Ways.{first_or}
+use Rattle.pg_search.specs.ReachableTables.{first_or}
 use Rattle.pg_search.specs.Law.{AreWitness, names_moments}
 use Rattle.pg_reach.specs.declared.walker.Walker.{Walker}
 use Rattle.pg_reach.specs.Bounds.{translation_up_to}

@@ -4,5 +4,5 @@ pub mod Views
 pub mod Reaching
 pub mod Asking
 pub mod Ends
-pub mod Lasting
+pub mod WitnessedUpTo
 pub mod Bounds

@@ -16,8 +16,8 @@ use Rattle.pg_event.specs.Witness.{survives}
 use Rattle.pg_machine.specs.Machine.{may_cache}
 use Rattle.pg_timeline.specs.declared.timeline.Span.{Span}
 use Rattle.pg_search.specs.Freshness.{is_as_fresh}
-use Rattle.pg_search.specs.Ways as ways
-use Rattle.pg_search.specs.Ways.{entry_at, table_by, IsWayFromRoot}
+use Rattle.pg_search.specs.ReachableTables as ways
+use Rattle.pg_search.specs.ReachableTables.{entry_at, table_by, IsWayFromRoot}
 use Rattle.pg_search.specs.Lasts.{IsEnd}
 use Rattle.pg_reach.specs.declared.walker.Walker.{Walker}
 use Rattle.pg_reach.specs.declared.view.Piece.{Piece}

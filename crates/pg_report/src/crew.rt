@@ -166,7 +166,7 @@ impl<'a, T: Threads + Wait + Sync, G: Gate> Crew<'a, T, G> {
     /// Judges the events that come next, whole segments but for the last of the run, while the
     /// calling thread does a piece of work; that is done once, also after an error. After an error
     /// `judged` may have noted events that it does not count, and is not to be used.
-    pub fn judge_beside<B: Beside>(
+    pub(crate) fn judge_beside<B: Beside>(
         &self,
         judged: &mut Judged,
         events: &[Event],

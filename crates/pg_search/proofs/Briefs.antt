@@ -14,7 +14,7 @@ use Rattle.pg_moment.specs.Versions.{value_at}
 use Rattle.pg_moment.proofs.Known.{mem_at-before, mem_at-push}
 use Rattle.pg_chain.specs.declared.past.Past.{Past}
 use Rattle.pg_chain.specs.Standing.{IsPast}
-use Rattle.pg_search.specs.Bare.{bare}
+use Rattle.pg_search.specs.Placeholders.{with_placeholder}
 use Rattle.pg_search.specs.Seen.{IsSeen}
 use Rattle.pg_search.specs.Briefs.{event_by, IsLeft, pair_at, event_of, events_from, ArePlaced, Extends, IsKept}
 use Rattle.pg_search.specs.declared.brief.Brief.{Brief}
@@ -92,7 +92,7 @@ pairs_count ps qs h =
 
 -- ---- what is kept
 
-left_by : (e : Event) (a before left : ℕ) → left ≡ written a before (bare e) → IsLeft e a left
+left_by : (e : Event) (a before left : ℕ) → left ≡ written a before (with_placeholder e) → IsLeft e a left
 left_by (Write p addr value) a before left h = λ same.
     h ∙ ap (λ b. cond b value before) (eq-eqb addr a same)
 left_by (Access p flags la outcome moments) a before left h = tt
@@ -121,27 +121,27 @@ still p q head ps qs bs cs kept longer briefs now =
 -- one event more
 
 pub one_more : (p q : Past) (head : Head) (ps qs : List Pair) (bs cs : List Brief) (b : Brief) (x : Pair) (e : Event) → IsKept head p ps bs → Extends ps qs → cs ≡ bs ++ b ∷ [] →
-    IsPast q head (events_from p.versions ps 0 bs ++ bare e ∷ []) → length bs + 1 < 2 ^ 32 → slice_get qs b.place ≡ Some x →
-    ((left : ℕ) → IsLeft e x.first left → event_by left b x ≡ bare e) →
-    IsKept head q qs cs × (events_from q.versions qs 0 cs ≡ events_from p.versions ps 0 bs ++ bare e ∷ [])
+    IsPast q head (events_from p.versions ps 0 bs ++ with_placeholder e ∷ []) → length bs + 1 < 2 ^ 32 → slice_get qs b.place ≡ Some x →
+    ((left : ℕ) → IsLeft e x.first left → event_by left b x ≡ with_placeholder e) →
+    IsKept head q qs cs × (events_from q.versions qs 0 cs ≡ events_from p.versions ps 0 bs ++ with_placeholder e ∷ [])
 one_more p q head ps qs bs cs b x e kept longer briefs now room there is =
     let before : List Event = events_from p.versions ps 0 bs in
     let count : length before ≡ length bs = events_count p.versions ps 0 bs in
     let values : (w a : ℕ) → w ≤ 0 + length bs → value_at q.versions w a ≡ value_at p.versions w a = λ w a le.
-    now.versions.values w a ∙ mem_at-before before (bare e ∷ []) w a (omega (arith, le, count)) ∙ sym (kept.seen.stands.versions.values w a) in
+    now.versions.values w a ∙ mem_at-before before (with_placeholder e ∷ []) w a (omega (arith, le, count)) ∙ sym (kept.seen.stands.versions.values w a) in
     let old : events_from q.versions qs 0 bs ≡ before = same_events p.versions q.versions ps qs (length ps) 0 bs kept.placed (pairs_same ps qs longer) values in
     let pair : pair_at qs b.place ≡ x = ap (λ o. unwrap_or o (record { first = 0; second = 0 })) there in
     let w : ℕ = 0 + length bs + 1 in
-    let left : value_at q.versions w x.first ≡ written x.first (mem_at before w x.first) (bare e) =
-    now.versions.values w x.first ∙ mem_at-push before (bare e) w x.first (omega (arith, count)) in
-    let new : event_of q.versions qs (0 + length bs) b ≡ bare e =
+    let left : value_at q.versions w x.first ≡ written x.first (mem_at before w x.first) (with_placeholder e) =
+    now.versions.values w x.first ∙ mem_at-push before (with_placeholder e) w x.first (omega (arith, count)) in
+    let new : event_of q.versions qs (0 + length bs) b ≡ with_placeholder e =
     ap (λ (y : Pair). event_by (value_at q.versions w y.first) b y) pair ∙ is (value_at q.versions w x.first) (left_by e x.first (mem_at before w x.first) _ left) in
-    let here : events_from q.versions qs 0 cs ≡ before ++ bare e ∷ [] =
+    let here : events_from q.versions qs 0 cs ≡ before ++ with_placeholder e ∷ [] =
     ap (events_from q.versions qs 0) briefs ∙ events_more q.versions qs 0 bs b ∙ ap (λ es. es ++ event_of q.versions qs (0 + length bs) b ∷ []) old ∙ ap (λ y. before ++ y ∷ []) new in
     let placed : ArePlaced (length qs) (bs ++ b ∷ []) =
     placed_more (length qs) bs b (placed_below (length ps) (length qs) bs (pairs_count ps qs longer) kept.placed) (slice_get_within qs b.place x there) in (
       record {
-        seen = subst (λ (es : List Event). IsSeen head es q) (sym here) (record { settings = kept.seen.settings; stands = now; count = omega (arith, room, count, length-append before (bare e ∷ [])) });
+        seen = subst (λ (es : List Event). IsSeen head es q) (sym here) (record { settings = kept.seen.settings; stands = now; count = omega (arith, room, count, length-append before (with_placeholder e ∷ [])) });
         placed = subst (ArePlaced (length qs)) (sym briefs) placed;
       },
       here,

@@ -1,10 +1,10 @@
 pub mod Freshness
 pub mod Law
 pub mod Last
-pub mod Ways
+pub mod ReachableTables
 pub mod Lasts
 pub mod Thinned
-pub mod Bare
+pub mod Placeholders
 pub mod Briefs
 pub mod Seen
 pub mod Events

@@ -2,7 +2,7 @@
 
 ghost use Rattle.std.specs.Prelude.{◌≡◌, ℕ};
 ghost use Rattle.pg_search.specs.Law.{names_moments, with_moments};
-ghost use Rattle.pg_search.specs.Bare.{bare};
+ghost use Rattle.pg_search.specs.Placeholders.{with_placeholder};
 ghost use Rattle.pg_search.specs.Briefs.{event_by, IsLeft};
 
 use pg_event::{Event, Moments, Outcome, Request};
@@ -57,8 +57,8 @@ pub fn with_moments(event: &Event, chosen: Moments) -> Event
 }
 
 /// An event with one moment 0 in place of its moments.
-pub fn bare(event: &Event) -> Event
-    ensures { result ≡ bare event.now }
+pub fn with_placeholder(event: &Event) -> Event
+    ensures { result ≡ with_placeholder event.now }
 {
     with_moments(event, Moments::first(0))
 }
@@ -101,7 +101,7 @@ const _: () = prove!(size_of::<Brief>() == 8);
 pub(crate) fn brief_of(event: &Event, place: u32) -> (Brief, Pair)
     ensures place { result.0.place ≡ place }
     ensures event { (left : ℕ) → IsLeft event.now result.1.first left →
-        event_by left result.0 result.1 ≡ bare event.now }
+        event_by left result.0 result.1 ≡ with_placeholder event.now }
 {
     let (sort, p, flags, first, second) = match *event {
         Event::Write { p, addr, .. } => (Sort::Write, p, 0, addr, 0),

@@ -5,11 +5,11 @@ ghost use Rattle.std.specs.Prelude.{Some, None, IfOk, OnOk, OnErr, slice_get};
 ghost use Rattle.pg_event.specs.Form.{broken_rule};
 ghost use Rattle.pg_event.specs.Spelling.{IsHead};
 ghost use Rattle.pg_search.specs.Seen.{IsSeen};
-ghost use Rattle.pg_search.specs.Bare.{bare};
+ghost use Rattle.pg_search.specs.Placeholders.{with_placeholder};
 ghost use Rattle.pg_search.specs.Briefs.{event_by, pair_at};
 ghost use Rattle.pg_moment.specs.Versions.{value_at};
 
-use crate::brief::{Brief, Pair, Sort, bare, brief_of, event_by};
+use crate::brief::{Brief, Pair, Sort, brief_of, event_by, with_placeholder};
 use crate::places::{Places, place_of};
 use pg_chain::Past;
 use pg_event::{Event, Header};
@@ -122,13 +122,13 @@ impl KeptRun {
         requires room { length self.old.events + 1 < 2 ^ 32 }
         ensures ok { OnOk result (self.new ≡ record {
           head = self.old.head;
-          events = self.old.events ++ bare event.now ∷ [];
+          events = self.old.events ++ with_placeholder event.now ∷ [];
         }) }
         ensures err { OnErr result (self.new ≡ self.old) }
     {
         // Room comes first, so that nothing can fail once the event is noted.
         self.briefs.reserve(1)?;
-        let bared = bare(event);
+        let bared = with_placeholder(event);
         let (mut brief, pair) = brief_of(event, 0);
         brief.place = place_of(&mut self.pairs, &mut self.places, pair)?;
         self.past.note(self.briefs.len() as u32, &bared)?;

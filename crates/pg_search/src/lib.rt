@@ -11,7 +11,7 @@ mod lookup;
 mod places;
 mod seen;
 
-pub use brief::{bare, names_moments, with_moments};
+pub use brief::{names_moments, with_moments, with_placeholder};
 pub use fresh::are_as_fresh;
 pub use kept_run::KeptRun;
 pub use last::Last;

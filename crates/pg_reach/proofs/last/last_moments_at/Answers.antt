@@ -7,7 +7,7 @@ use Rattle.pg_search.specs.Law.{AreWitness}
 use Rattle.pg_search.specs.Thinned.{AreFreshestOf}
 use Rattle.pg_reach.specs.declared.walker.Walker.{Walker}
 use Rattle.pg_reach.specs.Asking.{Asks}
-use Rattle.pg_reach.specs.Lasting.{HasWitness}
+use Rattle.pg_reach.specs.WitnessedUpTo.{HasWitness}
 use Rattle.pg_reach.proofs.Before.{AllUpTo, none_before, last_found}
 use Rattle.pg_reach.proofs.last.last_moments_at.Goals as goal
 

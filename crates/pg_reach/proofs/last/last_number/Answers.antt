@@ -11,7 +11,7 @@ use Rattle.pg_timeline.specs.declared.timeline.Span.{Span}
 use Rattle.pg_reach.specs.Views.{Viewed}
 use Rattle.pg_reach.specs.Stays.{IsSteady, ArePcids}
 use Rattle.pg_reach.specs.Asking.{under}
-use Rattle.pg_reach.specs.Lasting.{HasWitness, AreUpTo}
+use Rattle.pg_reach.specs.WitnessedUpTo.{HasWitness, AreUpTo}
 use Rattle.pg_reach.proofs.Pieces.{IsLater}
 use Rattle.pg_reach.specs.Parts.{ArePart, AreParts}
 use Rattle.pg_reach.proofs.Spans.{part_under}

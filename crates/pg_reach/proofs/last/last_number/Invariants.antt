@@ -3,7 +3,7 @@ use Rattle.std.specs.Prelude.{IfSome}
 use Rattle.std.specs.List.{All}
 use Rattle.pg_chain.specs.Standing.{IsPast}
 use Rattle.pg_reach.specs.Asking.{under}
-use Rattle.pg_reach.specs.Lasting.{HasWitness, AreUpTo}
+use Rattle.pg_reach.specs.WitnessedUpTo.{HasWitness, AreUpTo}
 use Rattle.pg_reach.proofs.last.last_number.Given as goal
 
 abbrev pub invariant-loop-pcid : goal.invariant-loop-pcid

@@ -3,7 +3,7 @@ use Rattle.std.specs.List.{All}
 use Rattle.std.proofs.lemmas.List.{take_more, take_all}
 use Rattle.std.proofs.lemmas.List.Elements.{All-push}
 use Rattle.pg_reach.specs.declared.reach.Reach.{Reach}
-use Rattle.pg_reach.specs.Lasting.{ArePassed}
+use Rattle.pg_reach.specs.WitnessedUpTo.{ArePassed}
 use Rattle.pg_reach.proofs.Pieces.{all_later}
 use Rattle.pg_reach.proofs.view.View.last_among.Goals as goal
 

@@ -1,7 +1,7 @@
 use Rattle.std.proofs.Common.{◌≡◌, ◌+◌, take, max, min, ℕ}
 use Rattle.std.specs.Prelude.{IfSome}
 use Rattle.std.specs.List.{All}
-use Rattle.pg_reach.specs.Lasting.{IsUpTo, HasWitness, ArePassed}
+use Rattle.pg_reach.specs.WitnessedUpTo.{IsUpTo, HasWitness, ArePassed}
 use Rattle.pg_reach.proofs.view.View.last_among.Given as goal
 
 abbrev pub invariant-loop-x : goal.invariant-loop-x

@@ -13,7 +13,7 @@ use Rattle.pg_entry.specs.declared.Level.{Level}
 use Rattle.pg_reach.specs.Reaching.{up_to, IsReach}
 use Rattle.pg_reach.specs.Views.{Viewed}
 use Rattle.pg_reach.specs.Asking.{Asks, want_by}
-use Rattle.pg_reach.specs.Lasting.{IsLastUse, IsUpTo, HasWitness, IsReadIn, IsPassedBy}
+use Rattle.pg_reach.specs.WitnessedUpTo.{IsLastUse, IsUpTo, HasWitness, IsReadIn, IsPassedBy}
 use Rattle.pg_reach.proofs.Cases.{processor_there}
 use Rattle.pg_reach.proofs.Passed.{up_to_less}
 use Rattle.pg_reach.proofs.Passing.{passing, IsUsed}

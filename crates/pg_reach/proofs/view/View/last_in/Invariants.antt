@@ -1,6 +1,6 @@
 use Rattle.std.proofs.Common.{◌≡◌, ◌≤◌, ◌+◌, ◌-◌, max, ℕ}
 use Rattle.std.specs.Prelude.{IfSome}
-use Rattle.pg_reach.specs.Lasting.{IsUpTo, HasWitness, ArePassed}
+use Rattle.pg_reach.specs.WitnessedUpTo.{IsUpTo, HasWitness, ArePassed}
 use Rattle.pg_reach.proofs.view.View.last_in.Given as goal
 
 abbrev pub invariant-loop-at : goal.invariant-loop-at

@@ -12,7 +12,7 @@ use Rattle.pg_reach.specs.declared.since.Bounds.{Bounds}
 use Rattle.pg_reach.specs.Views.{Viewed}
 use Rattle.pg_reach.specs.Reaching.{IsReach, AreRoots, AreBelow}
 use Rattle.pg_reach.specs.Bounds.{AreBounds, bound_of}
-use Rattle.pg_reach.specs.Lasting.{ArePassed}
+use Rattle.pg_reach.specs.WitnessedUpTo.{ArePassed}
 use Rattle.pg_reach.proofs.Passed.{ArePassedAll, up_to_all}
 use Rattle.pg_reach.proofs.Pieces.{IsLater, all_later}
 use Rattle.pg_reach.proofs.view.View.last_under.Goals as goal

@@ -18,7 +18,7 @@ use Rattle.pg_reach.specs.Asking.{want_by}
 use Rattle.pg_reach.specs.Reaching.{IsLastRead}
 use Rattle.pg_reach.specs.Stays.{AreStays, IsLatest}
 use Rattle.pg_reach.specs.Views.{Viewed}
-use Rattle.pg_reach.specs.Lasting.{IsLastUse, translation_lasts}
+use Rattle.pg_reach.specs.WitnessedUpTo.{IsLastUse, translation_lasts}
 use Rattle.pg_reach.proofs.Spans.{last_read}
 use Rattle.pg_reach.proofs.Used.{use_global, use_own}
 use Rattle.pg_reach.proofs.view.View.last_use.Goals as goal

@@ -2,7 +2,7 @@ use Rattle.std.proofs.Common.{◌≡◌, ◌+◌, ◌<◌, ◌^◌, List, [], �
 use Rattle.pg_event.specs.declared.event.Event.{Event}
 use Rattle.pg_event.specs.Spelling.{Recorded}
 use Rattle.pg_chain.specs.Standing.{IsPast}
-use Rattle.pg_search.specs.Bare.{bare}
+use Rattle.pg_search.specs.Placeholders.{with_placeholder}
 use Rattle.pg_search.specs.Briefs.{events_from, IsKept}
 use Rattle.pg_search.specs.declared.brief.Brief.{Brief}
 use Rattle.pg_search.proofs.Briefs.{events_count, still, one_more}
@@ -77,7 +77,7 @@ abbrev More : goal.After-push_reserved → Type 0
 More c =
     let s = c.self.inside in
     IsKept s.header c.note.new.self c.place_of.new.pairs.items c.push_reserved.new.self.items
-    × (events_from c.note.new.self.versions c.place_of.new.pairs.items 0 c.push_reserved.new.self.items ≡ events_from s.past.versions s.pairs.items 0 s.briefs.items ++ bare c.args.event.now ∷ [])
+    × (events_from c.note.new.self.versions c.place_of.new.pairs.items 0 c.push_reserved.new.self.items ≡ events_from s.past.versions s.pairs.items 0 s.briefs.items ++ with_placeholder c.args.event.now ∷ [])
 
 more : (c : goal.After-push_reserved) → More c
 more c =
@@ -87,8 +87,8 @@ more c =
     let here : c.len.result ≡ length s.briefs.items = (search rules ∙ ap length c.reserve.ensures.items) in
     let all : length before ≡ length s.briefs.items = events_count s.past.versions s.pairs.items 0 s.briefs.items in
     let room : length before + 1 < 2 ^ 32 = subst (λ (r : Recorded). length r.events + 1 < 2 ^ 32) (sym c.self.view_is) c.requires.room in
-    let noted : IsPast c.note.new.self s.header (before ++ c.bare-bared.result ∷ []) = c.in_ok-note.ensures.ok s.header before c.self.invariant.seen.stands (here ∙ sym all) in
-    let now : IsPast c.note.new.self s.header (before ++ bare e ∷ []) = subst (λ (x : Event). IsPast c.note.new.self s.header (before ++ x ∷ [])) c.bare-bared.ensures noted in
+    let noted : IsPast c.note.new.self s.header (before ++ c.with_placeholder-bared.result ∷ []) = c.in_ok-note.ensures.ok s.header before c.self.invariant.seen.stands (here ∙ sym all) in
+    let now : IsPast c.note.new.self s.header (before ++ with_placeholder e ∷ []) = subst (λ (x : Event). IsPast c.note.new.self s.header (before ++ x ∷ [])) c.with_placeholder-bared.ensures noted in
     let b : Brief = record c.brief_of.result.0 { place = c.in_ok-brief.field-0 } in
     let items : c.push_reserved.new.self.items ≡ s.briefs.items ++ b ∷ [] = c.push_reserved.ensures.items ∙ ap (λ (bs : List Brief). bs ++ b ∷ []) c.reserve.ensures.items in
     one_more s.past c.note.new.self s.header s.pairs.items c.place_of.new.pairs.items s.briefs.items c.push_reserved.new.self.items b c.brief_of.result.1 e c.self.invariant c.place_of.ensures.more items now
@@ -100,4 +100,4 @@ invariant_of-self-2 c = (more c).0
 pub returns-clause-ok : goal.returns-clause-ok
 returns-clause-ok c =
     ap (λ (es : List Event). record { head = c.self.inside.header; events = es }) (more c).1
-    ∙ ap (λ (r : Recorded). record { head = r.head; events = r.events ++ bare c.args.event.now ∷ [] }) c.self.view_is
+    ∙ ap (λ (r : Recorded). record { head = r.head; events = r.events ++ with_placeholder c.args.event.now ∷ [] }) c.self.view_is

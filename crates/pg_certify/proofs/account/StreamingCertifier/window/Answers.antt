@@ -4,7 +4,7 @@ use Rattle.pg_event.specs.declared.event.Event.{Event}
 use Rattle.pg_certify.specs.Windows.{IsCertifying}
 use Rattle.pg_certify.specs.Accounts.{Account, IsAccount}
 use Rattle.pg_certify.proofs.Accounts.{denied_now, denied_stays}
-use Rattle.pg_certify.proofs.account.Accounting.window.Goals as goal
+use Rattle.pg_certify.proofs.account.StreamingCertifier.window.Goals as goal
 
 none_of : (o : Option ℕ) → is_none o ≡ true → o ≡ None
 none_of None h = refl
