@@ -1,10 +1,10 @@
 -- The stamps of words, shared out by address among several lists.
 use Rattle.std.specs.Prelude.{◌≡◌, ℕ, ◌/◌, ◌%◌, ◌⊎◌, nat_eq, if◌then◌else◌}
-use Rattle.std.specs.Prelude.{List, [], ◌∷◌, ◌++◌, map, Some, None, slice_index_or}
+use Rattle.std.specs.Prelude.{List, [], ◌∷◌, ◌++◌, map, Option, Some, None, slice_index_or}
 use Rattle.std.specs.Map.{lookup}
 use Rattle.pg_timeline.specs.declared.timeline.Stamp.{Stamp}
 use Rattle.pg_timeline.specs.Timelines.{cut_at}
-use Rattle.pg_timeline.specs.Keyed.{stamps_in}
+use Rattle.pg_timeline.specs.Keyed.{stamps_in, AreBelow}
 
 -- the number of the list that has a word
 abbrev pub home_of : ℕ → ℕ
@@ -33,3 +33,13 @@ pub record IsAdded (old new : List (ℕ × List (Stamp ℕ))) (addr : ℕ) (stam
 -- each word's stamps below a moment
 abbrev pub cut_each : ℕ → List (ℕ × List (Stamp ℕ)) → List (ℕ × List (Stamp ℕ))
 cut_each moment entries = map (λ e. (e.0, cut_at moment e.1)) entries
+
+-- the last stamp of a word as a list, if it stands by itself
+abbrev pub last_of : Option (Stamp ℕ) → List (Stamp ℕ)
+last_of None = []
+last_of (Some s) = s ∷ []
+
+-- the other stamps of a word are earlier than the last, if that stands by itself
+abbrev pub AreEarlier : List (Stamp ℕ) → Option (Stamp ℕ) → Type 0
+AreEarlier stamps None = Unit {0}
+AreEarlier stamps (Some s) = AreBelow s.moment stamps

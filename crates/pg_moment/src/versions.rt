@@ -84,7 +84,7 @@ impl Versions {
         ensures probes { (probes.old ≤ probes.new) × (probes.new ≤ probes.old + 34) }
     {
         match self.words.get(addr) {
-            Some(timeline) => timeline.last_before(moment, probes).unwrap_or(0),
+            Some(word) => word.last_before(moment, probes).unwrap_or(0),
             None => 0,
         }
     }
@@ -98,7 +98,7 @@ impl Versions {
         ensures probes { (probes.old ≤ probes.new) × (probes.new ≤ probes.old + 35) }
     {
         match self.words.get(addr) {
-            Some(timeline) => timeline.span_at(moment, 0, probes),
+            Some(word) => word.span_at(moment, 0, probes),
             None => Span {
                 value: 0,
                 from: 0,

@@ -8,7 +8,7 @@ ghost use Rattle.pg_timeline.specs.Timelines.{end_of};
 ghost use Rattle.pg_timeline.specs.Keyed.{stamps_in, IsPushed, AreCut};
 ghost use Rattle.pg_moment.specs.Words.{home_of, cut_each, IsAdded};
 
-use pg_timeline::Timeline;
+use crate::word::Word;
 use std::alloc::{AllocError, Global};
 use std::collections::HashMap;
 use std::marker::Model;
@@ -16,11 +16,11 @@ use std::marker::Model;
 /// So many maps there are.
 const MAPS: usize = 4;
 
-/// The timelines of words, by address, in several maps: while one grows, what it moves about fits
+/// The values of words, by address, in several maps: while one grows, what it moves about fits
 /// a cache. The words of a page stand in one.
 #[derive(Drop)]
 pub(crate) struct Words {
-    maps: [HashMap<u64, Timeline<u64>>; MAPS],
+    maps: [HashMap<u64, Word>; MAPS],
 }
 
 impl Model for Words {
@@ -42,9 +42,9 @@ fn home_of(addr: u64) -> usize
     (addr / 4096) as usize % MAPS
 }
 
-/// Adds a value at the end of the timeline of an address, which may be its first.
+/// Adds a value behind those of an address, which may be its first.
 fn push_at(
-    map: &mut HashMap<u64, Timeline<u64>>,
+    map: &mut HashMap<u64, Word>,
     alloc: Global,
     addr: u64,
     moment: u32,
@@ -56,22 +56,20 @@ fn push_at(
     ensures err { OnErr result (IsUnchanged map.old map.new) }
 {
     match map.get_mut(&addr) {
-        Some(timeline) => timeline.push(moment, value),
+        Some(word) => word.push(moment, value),
         None => {
-            let mut timeline = Timeline::new(alloc);
-            timeline.push(moment, value)?;
-            map.insert(addr, timeline)?;
+            map.insert(addr, Word::first(alloc, moment, value))?;
             Ok(())
         }
     }
 }
 
 /// Forgets the values of every address from a moment on.
-fn cut_all(map: &mut HashMap<u64, Timeline<u64>>, moment: u32)
+fn cut_all(map: &mut HashMap<u64, Word>, moment: u32)
     ensures { map.new.entries ≡ cut_each moment map.old.entries }
 {
-    map.retain(|_, timeline| {
-        timeline.forget_from(moment);
+    map.retain(|_, word| {
+        word.forget_from(moment);
         true
     });
 }
@@ -91,14 +89,14 @@ impl Words {
         }
     }
 
-    /// The timeline of an address.
-    pub(crate) fn get(&self, addr: u64) -> Option<&Timeline<u64>>
+    /// The values of an address.
+    pub(crate) fn get(&self, addr: u64) -> Option<&Word>
         ensures value { option_copied result ≡ lookup (nat_eq addr) self.now }
     {
         self.maps[home_of(addr)].get(&addr)
     }
 
-    /// Adds a value at the end of the timeline of an address, which may be its first. Fails where
+    /// Adds a value behind those of an address, which may be its first. Fails where
     /// memory is refused, and then nothing is added.
     pub(crate) fn push(
         &mut self,

@@ -11,8 +11,8 @@ use Rattle.pg_moment.proofs.versions.Versions.span_at.Goals as goal
 pub returns-in-Some-clause-value : goal.returns-in-Some-clause-value
 returns-in-Some-clause-value c =
     let entries = c.self.inside.words in
-    let found : lookup (nat_eq c.args.addr) entries ≡ Some c.in-Some.timeline.now = sym c.in-Some.ensures.value in
-    IsSpan-same (λ w. unwrap_or (last_before w c.in-Some.timeline.now) 0) (λ w. value_at c.args.self.now w c.args.addr) c.args.moment c.span_at.result
+    let found : lookup (nat_eq c.args.addr) entries ≡ Some c.in-Some.word.now = sym c.in-Some.ensures.value in
+    IsSpan-same (λ w. unwrap_or (last_before w c.in-Some.word.now) 0) (λ w. value_at c.args.self.now w c.args.addr) c.args.moment c.span_at.result
     (λ w. ap (λ (v : Keyed ℕ ℕ). value_at v w c.args.addr) (sym c.self.view_is) ∙ ap (λ o. unwrap_or (last_before w (unwrap_or o [])) 0) found)
     c.span_at.ensures.span
 

@@ -1,0 +1,115 @@
+//! The values of one word.
+
+ghost use Rattle.std.specs.Prelude.{◌≡◌, ◌+◌, ◌≤◌, [], ◌∷◌, ◌++◌, OnOk, OnErr};
+ghost use Rattle.std.specs.Option.{unwrap_or};
+ghost use Rattle.pg_timeline.specs.Timelines.{end_of, last_before, cut_at, IsSpan};
+
+use pg_timeline::{Probes, Span, Stamp, Timeline};
+use std::alloc::{AllocError, Global};
+use std::marker::Model;
+
+/// The values of a word, by the moments of the events that left them there. The last stands by
+/// itself: most look-ups ask of a moment behind it, and then the others are not read.
+#[derive(Drop)]
+pub(crate) struct Word {
+    last: Option<Stamp<u64>>,
+    /// The others; all of them, once the last was forgotten.
+    earlier: Timeline<u64>,
+}
+
+impl Model for Word {
+    ghost use Rattle.std.specs.Prelude.{ℕ, List};
+    ghost use Rattle.pg_timeline.specs.declared.timeline.Stamp.{Stamp};
+
+    ghost Value = { List (Stamp ℕ) };
+
+    ghost use Rattle.std.specs.Prelude.{◌++◌};
+    ghost use Rattle.pg_moment.specs.Words.{last_of, AreEarlier};
+
+    ghost view = { λ w. w.earlier ++ last_of w.last };
+
+    ghost invariant = { λ w. AreEarlier w.earlier w.last };
+}
+
+impl Word {
+    /// One value.
+    pub(crate) fn first(alloc: Global, moment: u32, value: u64) -> Word
+        ensures { result ≡ record { moment = moment; value = value } ∷ [] }
+    {
+        Word {
+            last: Some(Stamp { moment, value }),
+            earlier: Timeline::new(alloc),
+        }
+    }
+
+    /// Adds a value from a moment on. Fails where memory is refused, and then nothing is added.
+    pub(crate) fn push(&mut self, moment: u32, value: u64) -> Result<(), AllocError>
+        requires { end_of self.old ≤ moment }
+        ensures ok { OnOk result
+            (self.new ≡ self.old ++ record { moment = moment; value = value } ∷ []) }
+        ensures err { OnErr result (self.new ≡ self.old) }
+    {
+        let Some(stamp) = self.last else {
+            return self.earlier.push(moment, value);
+        };
+        self.earlier.push(stamp.moment, stamp.value)?;
+        self.last = Some(Stamp { moment, value });
+        Ok(())
+    }
+
+    /// The value of the last stamp below a moment.
+    #[inline(always)]
+    pub(crate) fn last_before(&self, moment: u32, probes: &mut Probes) -> Option<u64>
+        ensures value { result ≡ last_before moment self.now }
+        ensures probes { (probes.old ≤ probes.new) × (probes.new ≤ probes.old + 34) }
+    {
+        match self.last {
+            Some(stamp) => {
+                if stamp.moment < moment {
+                    probes.tick();
+                    Some(stamp.value)
+                } else {
+                    self.earlier.last_before(moment, probes)
+                }
+            }
+            None => self.earlier.last_before(moment, probes),
+        }
+    }
+
+    /// The value of the last stamp below a moment, or another where there is none, and the moments
+    /// around it at which it is the same.
+    pub(crate) fn span_at(&self, moment: u32, start: u64, probes: &mut Probes) -> Span<u64>
+        ensures span { IsSpan (λ w. unwrap_or (last_before w self.now) start) moment result }
+        ensures probes { (probes.old ≤ probes.new) × (probes.new ≤ probes.old + 35) }
+    {
+        let Some(stamp) = self.last else {
+            return self.earlier.span_at(moment, start, probes);
+        };
+        if stamp.moment < moment {
+            probes.tick();
+            return Span {
+                value: stamp.value,
+                from: stamp.moment + 1,
+                to: u32::MAX,
+            };
+        }
+        let span = self.earlier.span_at(moment, start, probes);
+        Span {
+            value: span.value,
+            from: span.from,
+            to: span.to.min(stamp.moment),
+        }
+    }
+
+    /// Forgets the values from a moment on.
+    pub(crate) fn forget_from(&mut self, moment: u32)
+        ensures { self.new ≡ cut_at moment self.old }
+    {
+        self.earlier.forget_from(moment);
+        if let Some(stamp) = self.last {
+            if moment <= stamp.moment {
+                self.last = None;
+            }
+        }
+    }
+}
