@@ -42,6 +42,7 @@ pub struct Past {
 }
 
 /// Whether an event leaves memory, control registers and caches as they are.
+#[inline(always)]
 fn changes_nothing(event: &Event) -> bool
     ensures { result ≡ changes_nothing event.now }
 {
@@ -71,6 +72,7 @@ impl Past {
     /// Notes the event with this number, which is the next. Fails where memory is refused, and then
     /// nothing is noted. An access that got its answer takes no memory. The lists
     /// of large and global pages that it drops are made by `catch_up` alone.
+    #[inline(always)]
     pub fn note_later(&mut self, moment: u32, event: &Event) -> Result<(), AllocError>
         requires next { IsNext self.old moment }
         requires processor { processor_of event.now < processor_count self.old }
@@ -81,9 +83,24 @@ impl Past {
             moment ≡ length events → OnErr result (IsPast self.new head events)) }
         ensures nothing { changes_nothing event.now ≡ true → IsOk result }
     {
+        // Most events change nothing: whoever notes them one by one makes no call for these.
         if changes_nothing(event) {
             return Ok(());
         }
+        self.note_change(moment, event)
+    }
+
+    /// The same of an event that may change something.
+    #[inline(never)]
+    fn note_change(&mut self, moment: u32, event: &Event) -> Result<(), AllocError>
+        requires next { IsNext self.old moment }
+        requires processor { processor_of event.now < processor_count self.old }
+        ensures ok { InEachRun self.old (λ head events.
+            moment ≡ length events →
+            OnOk result (IsPast self.new head (events ++ event.now ∷ []))) }
+        ensures err { InEachRun self.old (λ head events.
+            moment ≡ length events → OnErr result (IsPast self.new head events)) }
+    {
         match event.memory_change() {
             MemoryChange::Value { addr, value } => self.versions.note(moment, addr, value),
             MemoryChange::Flags { addr, dirty } => {
