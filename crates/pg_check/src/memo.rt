@@ -245,6 +245,16 @@ impl<'a> Memo<'a> {
         self.reader.past()
     }
 
+    /// Counts a walk that was made.
+    fn count_walk(&mut self)
+        ensures { self.new ≡ self.old }
+    {
+        if self.kept.count_walk() {
+            let alloc = self.past().alloc;
+            self.kept.grow(alloc, self.most);
+        }
+    }
+
     /// How many moments its look-ups in the past have read: none for a walk that it kept.
     pub fn probes(&self) -> u64 {
         self.reader.probes()
@@ -357,8 +367,7 @@ impl<'a> Memo<'a> {
         match lasting_walk(&mut self.reader, number, to, p, page, moments, Want::Leaf) {
             Ok(walk) => {
                 self.remember(first, p, page, moments, walk);
-                let alloc = self.past().alloc;
-                self.kept.count_walk(alloc, self.most);
+                self.count_walk();
                 Ok(walk)
             }
             Err(reason) => Err(reason),

@@ -52,6 +52,9 @@ impl Kept {
             HaveWalks past limit self.new.slots.items }
         ensures stems { self.new.stems ≡ self.old.stems }
     {
+        if self.slots.len() >= MOST_FIRST_SLOTS {
+            return;
+        }
         let count = first_slots(past, walks_before(number));
         if self.slots.len() < count {
             self.slots = empty_slots(past.alloc, count);
@@ -107,16 +110,27 @@ impl Kept {
         }
     }
 
-    /// Counts a walk that was made. Where as many were made as there are slots, there are more from
-    /// now on, unless memory is refused: then it is asked for again after so many walks more.
-    pub(crate) fn count_walk(&mut self, alloc: Global, most: usize)
+    /// Counts a walk that was made, and tells whether there may be more slots from now on: as many
+    /// walks were made as there are slots.
+    #[inline(always)]
+    pub(crate) fn count_walk(&mut self) -> bool
+        ensures slots { self.new.slots ≡ self.old.slots }
+        ensures stems { self.new.stems ≡ self.old.stems }
+    {
+        self.made = self.made.saturating_add(1);
+        self.made > self.slots.len()
+    }
+
+    /// Makes room for more walks, up to so many, unless memory is refused: then it is asked for
+    /// again after as many walks more as there are slots.
+    #[inline(never)]
+    pub(crate) fn grow(&mut self, alloc: Global, most: usize)
         ensures walks { (past : Past) (limit : ℕ) → HaveWalks past limit self.old.slots.items →
             HaveWalks past limit self.new.slots.items }
         ensures stems { self.new.stems ≡ self.old.stems }
     {
-        self.made = self.made.saturating_add(1);
         let count = self.slots.len();
-        if self.made <= count || count >= most {
+        if count >= most {
             return;
         }
         let mut more = empty_slots(alloc, next_count(count, most));

@@ -3,7 +3,8 @@
 
 ghost use Rattle.std.specs.Prelude.{◌≡◌, ◌<◌, ◌≤◌, ◌^◌, ℕ, List, length, Ok, Some, None, IfSome};
 ghost use Rattle.std.specs.Prelude.{IsTrue, true};
-ghost use Rattle.pg_entry.specs.Kinds.{IsPageShift};
+ghost use Rattle.pg_entry.specs.declared.Kind.TheVariants as kinds;
+ghost use Rattle.pg_entry.specs.Kinds.{IsPageShift, kind_of};
 ghost use Rattle.pg_event.specs.declared.event.Event.{Event};
 ghost use Rattle.pg_event.specs.declared.event.Want.TheVariants.{Leaf};
 ghost use Rattle.pg_event.specs.Form.{processor_of};
@@ -13,7 +14,8 @@ ghost use Rattle.pg_event.specs.Invalidation.{translation_key, must_drop_transla
 ghost use Rattle.pg_event.specs.Witness.{failing_access, failing_event, is_in_order, survives};
 ghost use Rattle.pg_chain.specs.declared.past.Past.{Past};
 ghost use Rattle.pg_chain.specs.Standing.{InEachRun, IsNext, processor_count};
-ghost use Rattle.pg_check.specs.Lasting.{IsAsked, IsLasting, IsWalk};
+ghost use Rattle.pg_chain.specs.Walked.{chain_of};
+ghost use Rattle.pg_check.specs.Lasting.{IsLasting, IsWalk};
 ghost use Rattle.pg_check.specs.Remembered.{HasWalk, HaveWalks, IsLeaf, IsWithin, lasting_to};
 ghost use Rattle.pg_check.specs.Remembered.{page_bits, page_start};
 ghost use Rattle.pg_check.specs.Stems.{HaveStems};
@@ -21,11 +23,11 @@ ghost use Rattle.pg_check.specs.Stems.{HaveStems};
 use crate::access::failing_leaf_chain;
 use crate::judge::failing;
 use crate::lasting::Lasting;
-use crate::memo::{Memo, Slot, is_within, slot_at, slot_of, walk_in};
+use crate::memo::{Memo, Slot, slot_at, slot_of, walk_in};
 use crate::places::{Kept, most_slots, page_of, place_of};
 use crate::stems::{Region, Stem, split_last, stem_of};
-use pg_chain::{Chain, Past, chain_further, kind_at};
-use pg_entry::Kind;
+use pg_chain::{Chain, EntryRead, Past, chain_further, kind_at};
+use pg_entry::{Cfg, Kind};
 use pg_event::{
     Claim, Event, Moments, Reason, Request, Want, processor_of, translation_key, want_of,
 };
@@ -172,50 +174,80 @@ fn failing_by_past(past: &Past, kept: &mut Kept, number: u32, event: &Event) -> 
     found
 }
 
-/// What the walk of an access gives that is read last at the event that comes next, if it ends with
-/// a leaf.
+/// The page that a leaf maps.
+#[derive(Clone, Copy)]
+struct LeafPage {
+    /// Its first physical address.
+    frame: u64,
+    /// The binary logarithm of its size.
+    shift: u8,
+    global_bit: bool,
+}
+
+/// The page that an entry maps, if it is a leaf. `cfg` is that of the run.
 #[inline(always)]
-fn lasting_now(past: &Past, number: u32, p: u16, la: u64, chain: Chain) -> Option<Lasting>
+fn leaf_at(cfg: Cfg, step: EntryRead) -> Option<LeafPage>
+    requires { (36 ≤ cfg.m) × (cfg.m ≤ 52) }
+    ensures kind { IfSome result (λ leaf. kind_of cfg step.level step.value
+        ≡ kinds.Leaf leaf.frame leaf.shift leaf.global_bit) }
+    ensures frame { IfSome result (λ leaf. leaf.frame < 2 ^ 52) }
+    ensures shift { IfSome result (λ leaf. IsPageShift leaf.shift) }
+{
+    match kind_at(cfg, step) {
+        Kind::Leaf {
+            frame,
+            shift,
+            global_bit,
+        } => Some(LeafPage {
+            frame,
+            shift,
+            global_bit,
+        }),
+        Kind::Table { .. } | Kind::Absent | Kind::Reserved => None,
+    }
+}
+
+/// What a walk to a leaf gives that is read last at the event that comes next.
+#[inline(always)]
+fn lasting_now(past: &Past, number: u32, p: u16, la: u64, chain: Chain, leaf: LeafPage) -> Lasting
     requires next { IsNext past.now number }
     requires processor { p < processor_count past.now }
-    ensures asked { IfSome result (IsAsked number) }
-    ensures chain { IfSome result (λ l. l.chain ≡ chain) }
-    ensures lasting { InEachRun past.now (λ head events.
-        IfSome result (IsLasting head events p la)) }
+    requires moment { chain.end.moment ≡ number }
+    requires leaf { InEachRun past.now (λ head events.
+        kind_of head.cfg chain.end.level chain.end.value
+        ≡ kinds.Leaf leaf.frame leaf.shift leaf.global_bit) }
+    ensures chain { result.chain ≡ chain }
+    ensures asked { (result.asked ≡ number) × (result.dropped ≡ None) }
+    ensures lasting { InEachRun past.now (λ head events. IsLasting head events p la result) }
 {
-    if chain.end.moment != number {
-        return None;
-    }
-    let Kind::Leaf { global_bit, .. } = kind_at(past.cfg(), chain.end) else {
-        return None;
-    };
-    Some(Lasting {
+    Lasting {
         chain,
-        global: global_bit && past.latest_control(p).pge,
+        global: leaf.global_bit && past.latest_control(p).pge,
         asked: number,
         dropped: None,
-    })
+    }
 }
 
 /// The walk of an access to a page that is read last at the event that comes next, by the walk of
 /// its other moments. None says nothing.
 #[inline(always)]
-fn walk_at_event(
+fn chain_at_event(
     past: &Past,
     stems: &mut Vec<Option<Stem>>,
     current: u16,
     claim: &Claim,
     moments: &Moments,
-) -> Option<Lasting>
+) -> Option<Chain>
     requires next { IsNext past.now claim.now.number }
     requires processor { claim.now.p < processor_count past.now }
     requires stems { HaveStems past.now claim.now.number stems.old.items }
     ensures stems { HaveStems past.now claim.now.number stems.new.items }
-    ensures asked { IfSome result (IsAsked claim.now.number) }
-    ensures ordered { IfSome result (λ l. is_in_order moments.now claim.now.number ≡ true) }
+    ensures moment { IfSome result (λ chain. chain.end.moment ≡ claim.now.number) }
+    ensures ordered { IfSome result
+        (λ chain. is_in_order moments.now claim.now.number ≡ true) }
     ensures walk { let page = page_start (page_bits (length moments.now)) claim.now.la in
-        InEachRun past.now (λ head events. IfSome result (λ l.
-        IsWalk head events claim.now.p page Leaf moments.now (Ok l))) }
+        InEachRun past.now (λ head events. IfSome result (λ chain.
+        chain_of head events claim.now.p page moments.now Leaf ≡ Ok chain)) }
 {
     let Claim { number, p, la, .. } = *claim;
     let (upper, last) = split_last(moments)?;
@@ -226,7 +258,11 @@ fn walk_at_event(
     let first = page_of(page, upper.len());
     let stem = stem_of(past, stems, number, current, Region { p, first }, &upper)?;
     match chain_further(past, p, page, stem, number, Want::Leaf) {
-        Ok(chain) => lasting_now(past, number, p, page, chain),
+        Ok(chain) => if chain.end.moment == number {
+            Some(chain)
+        } else {
+            None
+        },
         Err(_) => None,
     }
 }
@@ -250,24 +286,23 @@ fn failing_anew(
     ensures failing { InEachRun past.now (λ head events. IfSome result (λ found.
         found ≡ failing_access head events claim.now moments.now)) }
 {
-    let current = past.latest_control(claim.p).pcid;
-    let walk = walk_at_event(past, &mut kept.stems, current, claim, moments)?;
-    let Kind::Leaf { frame, shift, .. } = kind_at(past.cfg(), walk.chain.end) else {
-        return None;
-    };
-    let page = page_of(claim.la, moments.len());
-    let slot = slot_of(claim.p, page, moments, walk, frame, shift);
-    keep_walk(past, kept, current, claim.number, slot);
+    let Claim { number, p, la, .. } = *claim;
+    let current = past.latest_control(p).pcid;
+    let chain = chain_at_event(past, &mut kept.stems, current, claim, moments)?;
+    let leaf = leaf_at(past.cfg(), chain.end)?;
+    let page = page_of(la, moments.len());
+    let walk = lasting_now(past, number, p, page, chain, leaf);
+    let slot = slot_of(p, page, moments, walk, leaf.frame, leaf.shift);
+    keep_walk(past, kept, current, number, slot);
+    let LeafPage { frame, shift, .. } = leaf;
     Some(failing_leaf_chain(past, current, claim, walk, frame, shift))
 }
 
 /// Keeps a walk that was made at the event that comes next.
 #[inline(always)]
 fn keep_walk(past: &Past, kept: &mut Kept, current: u16, number: u32, slot: Slot)
-    requires frame { slot.frame < 2 ^ 52 }
-    requires shift { IsPageShift slot.shift }
     requires walks { HaveWalks past.now number kept.old.slots.items }
-    requires slot { IsWithin number slot → HasWalk past.now number (Some slot) }
+    requires slot { HasWalk past.now number (Some slot) }
     ensures walks { HaveWalks past.now number kept.new.slots.items }
     ensures stems { kept.new.stems ≡ kept.old.stems }
 {
@@ -275,10 +310,10 @@ fn keep_walk(past: &Past, kept: &mut Kept, current: u16, number: u32, slot: Slot
     let levels = slot.moments.len();
     let first = place_of(kept.slots.len(), slot.p, slot.page, levels, current);
     let place = kept.room_for(first, slot.p, slot.page, slot.pcid);
-    if is_within(&slot, number) {
-        kept.put(place, slot);
+    kept.put(place, slot);
+    if kept.count_walk() {
+        kept.grow(past.alloc, most_slots(past));
     }
-    kept.count_walk(past.alloc, most_slots(past));
 }
 
 /// The least reason that fails for the event that comes next, where no walk that was kept tells it:

@@ -19,10 +19,5 @@ pub returns-in-Err-clause-walk : goal.returns-in-Err-clause-walk
 returns-in-Err-clause-walk c = λ head events h.
     c.in-Err.ensures.walk head events (subst (λ (x : Past). IsPast x head events) (sym c.self.view_is) h)
 
-pub invariant_of-self-in-Ok : goal.invariant_of-self-in-Ok
-invariant_of-self-in-Ok c =
-    let memo = c.self-in-Ok.inside in
-    c.count_walk.ensures.walks memo.reader memo.limit c.self-in-Ok.invariant
-
 pub invariant_of-self-in-Err : goal.invariant_of-self-in-Err
 invariant_of-self-in-Err c = subst (λ (x : Past). HaveWalks x c.self.inside.limit c.self.inside.kept.slots.items) (sym c.lasting_walk.ensures.past) c.self.invariant
