@@ -316,12 +316,10 @@ fn keep_walk(past: &Past, kept: &mut Kept, current: u16, number: u32, slot: Slot
     }
 }
 
-/// The least reason that fails for the event that comes next, where no walk that was kept tells it:
-/// by a walk that is made from the upper part of others, or else by what the past says. The lists
-/// of large and global pages are made once they were asked.
+/// The least reason that fails for the event that comes next, by what the past says. The lists of
+/// large and global pages are made once they were asked.
 #[inline(never)]
 fn failing_slow(past: &mut Past, kept: &mut Kept, number: u32, event: &Event) -> Option<Reason>
-    requires next { IsNext past.old number }
     requires processor { processor_of event.now < processor_count past.old }
     requires walks { HaveWalks past.old number kept.old.slots.items }
     requires stems { HaveStems past.old number kept.old.stems.items }
@@ -331,9 +329,6 @@ fn failing_slow(past: &mut Past, kept: &mut Kept, number: u32, event: &Event) ->
     ensures failing { InEachRun past.old (λ head events.
         result ≡ failing_event head events number event.now) }
 {
-    if let Some(found) = failing_page(past, kept, number, event) {
-        return found;
-    }
     let found = failing_by_past(past, kept, number, event);
     if kept.wide {
         past.catch_up();
@@ -341,40 +336,35 @@ fn failing_slow(past: &mut Past, kept: &mut Kept, number: u32, event: &Event) ->
     found
 }
 
-/// What is known of the event that comes next by a walk that is made from the upper part of others,
-/// if it is an access that asks for a leaf. None says nothing.
-#[inline(always)]
-fn failing_page(past: &Past, kept: &mut Kept, number: u32, event: &Event) -> Option<Option<Reason>>
-    requires next { IsNext past.now number }
-    requires processor { processor_of event.now < processor_count past.now }
-    requires walks { HaveWalks past.now number kept.old.slots.items }
-    requires stems { HaveStems past.now number kept.old.stems.items }
-    ensures walks { HaveWalks past.now number kept.new.slots.items }
-    ensures stems { HaveStems past.now number kept.new.stems.items }
-    ensures failing { InEachRun past.now (λ head events. IfSome result (λ found.
-        found ≡ failing_event head events number event.now)) }
+/// The least reason that fails for the event that comes next, an access to a page, where no walk
+/// that was kept tells it: by a walk that is made from the upper part of others, or else by what
+/// the past says.
+#[inline(never)]
+fn failing_made(
+    past: &mut Past,
+    kept: &mut Kept,
+    claim: &Claim,
+    moments: &Moments,
+    event: &Event,
+) -> Option<Reason>
+    requires next { IsNext past.old claim.now.number }
+    requires claimant { claim.now.p < processor_count past.old }
+    requires processor { processor_of event.now < processor_count past.old }
+    requires walks { HaveWalks past.old claim.now.number kept.old.slots.items }
+    requires stems { HaveStems past.old claim.now.number kept.old.stems.items }
+    requires leaf { want_of claim.now.outcome ≡ Leaf }
+    requires event { (head : Head) (events : List Event) →
+        failing_access head events claim.now moments.now
+        ≡ failing_event head events claim.now.number event.now }
+    ensures past { past.new ≡ past.old }
+    ensures walks { HaveWalks past.old claim.now.number kept.new.slots.items }
+    ensures stems { HaveStems past.old claim.now.number kept.new.stems.items }
+    ensures failing { InEachRun past.old (λ head events.
+        result ≡ failing_event head events claim.now.number event.now) }
 {
-    let p = processor_of(event);
-    match event.request() {
-        Request::Nothing | Request::Update { .. } => None,
-        Request::Access {
-            kind,
-            la,
-            outcome,
-            moments,
-        } => {
-            if !is_leaf(want_of(outcome)) {
-                return None;
-            }
-            let claim = Claim {
-                number,
-                p,
-                kind,
-                la,
-                outcome,
-            };
-            failing_anew(past, kept, &claim, &moments)
-        }
+    match failing_anew(past, kept, claim, moments) {
+        Some(found) => found,
+        None => failing_slow(past, kept, claim.number, event),
     }
 }
 
@@ -419,7 +409,7 @@ pub(crate) fn failing_next(
             };
             match failing_standing(past, kept, &claim, &moments) {
                 Some(found) => found,
-                None => failing_slow(past, kept, number, event),
+                None => failing_made(past, kept, &claim, &moments, event),
             }
         }
     }
