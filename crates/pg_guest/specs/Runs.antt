@@ -18,7 +18,8 @@ use Rattle.pg_guest.specs.Steps.{IsOfRun}
 -- where the record is accepted and p is at home, both hold afterwards, and all others stay at home
 abbrev pub StaysAtHome : ℕ → Recording → Recording → Processor → Processor → Type 0
 StaysAtHome p old new before after =
-    Accepted old.head old.events → HasSoundCaches old.head old.events p before → KeepsHome p old new after
+    Accepted old.head old.events → HasSoundCaches old.head old.events p before →
+    KeepsHome p old new after
 
 -- a turn that was stopped left the record as it was, and of the processor all but the walk under
 -- way, which was given up: the next turn begins the instruction again

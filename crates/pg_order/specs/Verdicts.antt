@@ -16,8 +16,8 @@ pub record IsOrderedRun (s : Spanned) (order : List ℕ) : Type 0 where
   pub certified : CanBeCertified s.head (ordered s.events order)
   pub run : HasOrderedRun s
 
--- in no order a run comes to the event, so no order has a run, and the edges are deduced; where they
--- have one order alone, it is the least that no moments witness in it
+-- in no order a run comes to the event, so no order has a run, and the edges are deduced; where
+-- they have one order alone, it is the least that no moments witness in it
 pub record HasNoRunTo (s : Spanned) (event : ℕ) (edges : List Edge) : Type 0 where
   pub within : event < length s.events
   pub never : NeverComes s event

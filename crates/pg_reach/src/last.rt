@@ -14,8 +14,8 @@ ghost use Rattle.pg_search.specs.Last.{NoneWitness, IsLastOf, IsLast, HasNoLast}
 ghost use Rattle.pg_reach.specs.Stays.{IsUnder};
 ghost use Rattle.pg_reach.specs.Reaching.{IsReach};
 ghost use Rattle.pg_reach.specs.Asking.{Asks, under};
-ghost use Rattle.pg_reach.specs.WitnessedUpTo.{IsLastUse, IsPassedBy, ArePassed, HasWitness, AreUpTo};
-ghost use Rattle.pg_reach.specs.WitnessedUpTo.{IsUpTo, IsReadIn};
+ghost use Rattle.pg_reach.specs.WitnessedUpTo.{IsLastUse, IsPassedBy, ArePassed, HasWitness};
+ghost use Rattle.pg_reach.specs.WitnessedUpTo.{AreUpTo, IsUpTo, IsReadIn};
 
 use crate::finder::{WALKS, freshest_moments_at, walk_of};
 use crate::parts::{part_of, parts_of};

@@ -62,8 +62,8 @@ MayBeUnwritten s slot a = (i : ℕ) → WritesTo s.events a i → IsPast s slot 
 abbrev pub MayBeLeft : Spanned → Slot → ℕ → ℕ → Type 0
 MayBeLeft s slot a v = ((j : ℕ) × MayBeLast s slot a v j) ⊎ ((v ≡ 0) × MayBeUnwritten s slot a)
 
--- the word may hold the value in the slot: what a write left, or that with the flags that assists may
--- have set since (Intel SDM, vol. 3, 4.8)
+-- the word may hold the value in the slot: what a write left, or that with the flags that assists
+-- may have set since (Intel SDM, vol. 3, 4.8)
 abbrev pub MayHold : Spanned → Slot → ℕ → ℕ → Type 0
 MayHold s slot a v =
     MayBeLeft s slot a v

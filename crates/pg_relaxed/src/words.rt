@@ -112,7 +112,8 @@ fn may_be_last(
 ) -> bool
     requires within { written.number < length run.now.events }
     requires writes { AreBelow (length run.now.events) writes.now }
-    ensures { IsFalse result → (written.number < bound) ⊎ (IsToCome run.now slot.entry written.number
+    ensures { IsFalse result → (written.number < bound)
+        ⊎ (IsToCome run.now slot.entry written.number
         ⊎ IsOverwritten run.now slot.entry writes.now written.number) }
 {
     if written.number < bound || is_to_come(run, slot, written.number) {
