@@ -32,20 +32,14 @@ pub(crate) const MOST_INSTRUCTIONS: usize = 1_048_576;
 fn in_line<T: Copy>(line: u32, read: Result<T, ScriptRefusal>) -> Result<T, ScriptError>
     ensures { result ≡ in_line line read }
 {
-    match read {
-        Ok(value) => Ok(value),
-        Err(refusal) => Err(ScriptError { line, refusal }),
-    }
+    read.map_err(|refusal| ScriptError { line, refusal })
 }
 
 /// Any refusal of words as that of their line's place.
 fn placed<T: Copy>(place: ScriptRefusal, read: Result<T, ScriptRefusal>) -> Result<T, ScriptRefusal>
     ensures { result ≡ placed place read }
 {
-    match read {
-        Ok(value) => Ok(value),
-        Err(_) => Err(place),
-    }
+    read.map_err(|_| place)
 }
 
 /// A front that must be a line.

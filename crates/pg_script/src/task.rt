@@ -20,10 +20,8 @@ fn processor_word<'a>(words: &Words<'a>) -> Result<(u64, Words<'a>), ScriptRefus
     ensures { Agrees (λ x. (x.0, x.1)) result (processor_at words.now) }
 {
     let (word, rest) = word_of(words)?;
-    match dec_of(word) {
-        Some(p) => Ok((p, rest)),
-        None => Err(ScriptRefusal::Instruction),
-    }
+    let p = dec_of(word).ok_or(ScriptRefusal::Instruction)?;
+    Ok((p, rest))
 }
 
 /// An access of an operation, by the word of its mode.
