@@ -50,16 +50,10 @@ fn line_of<'a>(place: ScriptRefusal, front: Front<'a>) -> Result<Told<'a, Words<
         (line_or_refusal place (front_in told_in front.entry)) }
 {
     match front {
-        Front::Line(
-            Told {
-                number,
-                value,
-                rest,
-            },
-        ) => Ok(Told {
-            number,
-            value: Words::new(value),
-            rest,
+        Front::Line(line) => Ok(Told {
+            number: line.number,
+            value: Words::new(line.value),
+            rest: line.rest,
         }),
         Front::Ended(line) => Err(ScriptError {
             line,
@@ -112,26 +106,19 @@ fn next_start<'a>(m: u8, text: &Text<'a>) -> Result<Option<Told<'a, (u64, bool)>
         (next_start_at m (told_in text.now)) }
     ensures range { IfOk result (λ next. IfSome next (λ x. x.value.0 < 2 ^ m)) }
 {
-    let Front::Line(
-        Told {
-            number,
-            value: line,
-            rest,
-        },
-    ) = text.told_front()?
-    else {
+    let Front::Line(line) = text.told_front()? else {
         return Ok(None);
     };
-    let words = Words::new(line);
+    let words = Words::new(line.value);
     if !names_processor(&words) {
         return Ok(None);
     }
     let place = ScriptRefusal::Cpu;
-    let value = in_line(number, placed(place, start_of(m, &words)))?;
+    let value = in_line(line.number, placed(place, start_of(m, &words)))?;
     Ok(Some(Told {
-        number,
+        number: line.number,
         value,
-        rest,
+        rest: line.rest,
     }))
 }
 
@@ -145,16 +132,12 @@ fn first_start<'a>(m: u8, text: &Text<'a>) -> Result<Told<'a, (u64, bool)>, Scri
     ensures range { IfOk result (λ x. x.value.0 < 2 ^ m) }
 {
     let place = ScriptRefusal::Cpu;
-    let Told {
-        number,
-        value: words,
-        rest,
-    } = line_of(place, text.told_front()?)?;
-    let value = in_line(number, placed(place, start_of(m, &words)))?;
+    let line = line_of(place, text.told_front()?)?;
+    let value = in_line(line.number, placed(place, start_of(m, &line.value)))?;
     Ok(Told {
-        number,
+        number: line.number,
         value,
-        rest,
+        rest: line.rest,
     })
 }
 
@@ -257,21 +240,17 @@ fn next_task<'a>(
     ensures less { IfOk result (λ next. IfSome next
         (λ x. length x.rest.1 < length text.now.1)) }
 {
-    let Front::Line(
-        Told {
-            number,
-            value: line,
-            rest,
-        },
-    ) = text.told_front()?
-    else {
+    let Front::Line(line) = text.told_front()? else {
         return Ok(None);
     };
-    let value = in_line(number, task_after(count, header, &Words::new(line)))?;
+    let value = in_line(
+        line.number,
+        task_after(count, header, &Words::new(line.value)),
+    )?;
     Ok(Some(Told {
-        number,
+        number: line.number,
         value,
-        rest,
+        rest: line.rest,
     }))
 }
 
