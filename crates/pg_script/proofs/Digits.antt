@@ -1,192 +1,156 @@
--- The digits of a number spell it.
-use Rattle.std.proofs.Common.{◌≡◌, ◌∙◌, ◌<◌, ◌≤◌, ◌+◌, ◌*◌, ◌/◌, ◌%◌, ◌^◌, ℕ, zero, suc, Bool, true, false, List, [], ◌∷◌, ◌++◌, Option, Some, None, length, refl, sym, ap, subst, arith, ltb, leb, eqb, lit<}
-use Rattle.std.specs.Prelude.{if◌then◌else◌, ◌&&◌, option_and_then}
-use Rattle.std.specs.List.{AllByRecursion}
-use Rattle.std.proofs.Math.Nat.{pow-zero, pow-suc}
-use Rattle.std.proofs.lemmas.Bool.{lt-ltb, le-leb, eqb-true}
-use Rattle.std.proofs.lemmas.List.{length-append}
-use Rattle.pg_script.specs.Numbers.{worth, below_base, digit, spelled, dec_of, hex_of}
-use Rattle.pg_script.specs.Spelling.{digit_byte, last_digits, without_zeros, dec_word, hex_word}
+-- What std reads of digits is the number that they spell, and the digits of a number spell it.
+use Rattle.std.proofs.Common.{◌≡◌, ◌<◌, ◌≤◌, ◌+◌, ◌/◌, ◌%◌, ◌^◌, ℕ, zero, suc, Bool, true, false, List, [], ◌∷◌, Option, Some, None, length, refl, sym, ap, arith, ltb, leb, eqb}
+use Rattle.std.specs.Prelude.{if◌then◌else◌, Result, Ok, Err}
+use Rattle.std.specs.Bool.{Decides}
+use Rattle.std.specs.Char.{is_digit, digit_value}
+use Rattle.std.specs.Fmt.{digit_glyph, digits_onto, digits}
+use Rattle.std.specs.List.{AllByRecursion, list_all}
+use Rattle.std.specs.Option.{SomeIff}
+use Rattle.std.specs.Result.{OkIff, result_ok}
+use Rattle.std.specs.Str.{IsAscii, IsUtf8}
+use Rattle.std.specs.Str.Parse.{AllDigits, IsNumeral, digits_value}
+use Rattle.std.proofs.Math.Nat.{pow-zero, pow-suc, pow-le-pow_right, mod-lt, div-lt_iff_lt-mul}
+use Rattle.std.proofs.lemmas.Bool.{le-leb, leb-true, eqb-false}
+use Rattle.std.proofs.lemmas.Bool.Decides.{Decides-and, Decides-like, Decides-ltb, nat_tests}
+use Rattle.std.proofs.lemmas.Fmt.{digits_is_IsNumeral}
+use Rattle.std.proofs.lemmas.Int.Digits.{digits_value-lt}
+use Rattle.std.proofs.lemmas.Str.{IsUtf8-from_ascii}
+use Rattle.std.proofs.lemmas.Str.Ascii.{IsAscii-nil, IsAscii-cons}
+use Rattle.pg_script.specs.Numbers.{are_digits, spelled, dec_of, hex_of}
+use Rattle.pg_script.specs.Spelling.{dec_word, hex_word}
 
-worth_digit : (d : ℕ) → d < 16 → worth (digit_byte d) ≡ Some d
-worth_digit zero lt = refl
-worth_digit (suc zero) lt = refl
-worth_digit (suc (suc zero)) lt = refl
-worth_digit (suc (suc (suc zero))) lt = refl
-worth_digit (suc (suc (suc (suc zero)))) lt = refl
-worth_digit (suc (suc (suc (suc (suc zero))))) lt = refl
-worth_digit (suc (suc (suc (suc (suc (suc zero)))))) lt = refl
-worth_digit (suc (suc (suc (suc (suc (suc (suc zero))))))) lt = refl
-worth_digit (suc (suc (suc (suc (suc (suc (suc (suc zero)))))))) lt = refl
-worth_digit (suc (suc (suc (suc (suc (suc (suc (suc (suc zero))))))))) lt = refl
-worth_digit (suc (suc (suc (suc (suc (suc (suc (suc (suc (suc zero)))))))))) lt = refl
-worth_digit (suc (suc (suc (suc (suc (suc (suc (suc (suc (suc (suc zero))))))))))) lt = refl
-worth_digit (suc (suc (suc (suc (suc (suc (suc (suc (suc (suc (suc (suc zero)))))))))))) lt = refl
-worth_digit (suc (suc (suc (suc (suc (suc (suc (suc (suc (suc (suc (suc (suc zero))))))))))))) lt = refl
-worth_digit (suc (suc (suc (suc (suc (suc (suc (suc (suc (suc (suc (suc (suc (suc zero)))))))))))))) lt = refl
-worth_digit (suc (suc (suc (suc (suc (suc (suc (suc (suc (suc (suc (suc (suc (suc (suc zero))))))))))))))) lt = refl
-worth_digit (suc (suc (suc (suc (suc (suc (suc (suc (suc (suc (suc (suc (suc (suc (suc (suc n)))))))))))))))) lt = absurd (omega arith)
+-- one digit or more, but at most so many
+abbrev AreDigits : ℕ → ℕ → List ℕ → Type 0
+AreDigits base most word = IsNumeral base word × (length word ≤ most)
 
-digit_is : (base d : ℕ) → d < base → base ≤ 16 → digit base (digit_byte d) ≡ Some d
-digit_is base d lt le = ap (option_and_then (below_base base)) (worth_digit d (omega arith)) ∙ ap (λ b. if b then Some d else None) (lt-ltb d base lt)
+all_digits : (base : ℕ) (word : List ℕ) → Decides (list_all (λ b. is_digit b base) word) (AllDigits base word)
+all_digits base [] = (λ e. tt, λ a. refl)
+all_digits base (b ∷ word) = Decides-and (is_digit b base) (list_all (λ x. is_digit x base) word) (Decides-ltb (digit_value b) base) (all_digits base word)
 
-then_then : (f g : ℕ → Option ℕ) (o : Option ℕ) → option_and_then g (option_and_then f o) ≡ option_and_then (λ n. option_and_then g (f n)) o
-then_then f g None = refl
-then_then f g (Some n) = refl
+decided : (base most : ℕ) (word : List ℕ) → Decides (are_digits base most word) (AreDigits base most word)
+decided base most word =
+    let some : Decides (leb 1 (length word)) (1 ≤ length word) = (leb-true 1 (length word), le-leb 1 (length word)) in
+    let few : Decides (leb (length word) most) (length word ≤ most) = (leb-true (length word) most, le-leb (length word) most) in
+    Decides-like (are_digits base most word) (λ h. ((omega (arith, h.0.0), h.1), h.0.1)) (λ h. ((omega (arith, h.0.0), h.1), h.0.1))
+    (Decides-and _ _ (Decides-and _ _ some few) (all_digits base word))
 
-spelled-append : (base n : ℕ) (xs ys : List ℕ) → spelled base n (xs ++ ys) ≡ option_and_then (λ k. spelled base k ys) (spelled base n xs)
-spelled-append base n [] ys = refl
-spelled-append base n (x ∷ xs) ys = go (digit base x) (λ d. spelled-append base (n * base + d) xs ys)
+-- what is read is what is spelled
+pub spelled_is : (base most : ℕ) (word : List ℕ) (read : Option ℕ) → SomeIff read (AreDigits base most word) (digits_value base word) → read ≡ spelled base most word
+spelled_is base most word read is = go read is (are_digits base most word) refl
   where
-    go : (o : Option ℕ) → ((d : ℕ) → spelled base (n * base + d) (xs ++ ys) ≡ option_and_then (λ k. spelled base k ys) (spelled base (n * base + d) xs))
-        → option_and_then (λ d. spelled base (n * base + d) (xs ++ ys)) o ≡ option_and_then (λ k. spelled base k ys) (option_and_then (λ d. spelled base (n * base + d) xs) o)
-    go None later = refl
-    go (Some d) later = later d
+    go : (o : Option ℕ) → SomeIff o (AreDigits base most word) (digits_value base word) → (z : Bool) → are_digits base most word ≡ z → o ≡ (if z then Some (digits_value base word) else None)
+    go None none true e = absurd (none ((decided base most word).0 e))
+    go None none false e = refl
+    go (Some n) h true e = ap Some h.1
+    go (Some n) h false e = let yes = (decided base most word).1 h.0 in cc
 
--- a base, whose digits divide as they should
-record IsBase (base : ℕ) : Type 0 where
-  pub some : 0 < base
-  pub high : base ≤ 16
-  pub rest : (n : ℕ) → n % base < base
-  pub whole : (n : ℕ) → n / base * base + n % base ≡ n
-  pub small : (n p : ℕ) → n < p * base → n / base < p
+-- ---- the code
 
-ten : IsBase 10
-ten = record {
-  some = lit< tt;
-  high = omega arith;
-  rest = λ n. omega arith;
-  whole = λ n. omega arith;
-  small = λ n p lt. omega arith;
-}
-
-sixteen : IsBase 16
-sixteen = record {
-  some = lit< tt;
-  high = omega arith;
-  rest = λ n. omega arith;
-  whole = λ n. omega arith;
-  small = λ n p lt. omega arith;
-}
-
-spelled_digits : (base : ℕ) → IsBase base → (k n : ℕ) → n < base ^ k → spelled base 0 (last_digits base k n) ≡ Some n
-unfolding last_digits
-spelled_digits base is zero n lt = let one : base ^ 0 ≡ 1 = pow-zero base in ap Some (omega arith)
-spelled_digits base is (suc k) n lt =
-    let fewer = is.small n (base ^ k) (subst (λ p. n < p) (pow-suc base k) lt) in
-    spelled-append base 0 (last_digits base k (n / base)) (digit_byte (n % base) ∷ [])
-    ∙ ap (option_and_then (λ h. spelled base h (digit_byte (n % base) ∷ []))) (spelled_digits base is k (n / base) fewer)
-    ∙ ap (option_and_then (λ d. Some (n / base * base + d))) (digit_is base (n % base) (is.rest n) is.high)
-    ∙ ap Some (is.whole n)
-
-length_digits : (base k n : ℕ) → length (last_digits base k n) ≡ k
-unfolding last_digits
-length_digits base zero n = refl
-length_digits base (suc k) n = length-append (last_digits base k (n / base)) (digit_byte (n % base) ∷ []) ∙ ap (λ l. l + 1) (length_digits base k (n / base)) ∙ omega arith
-
--- leading zeros spell nothing
-spelled_without : (base : ℕ) → 0 < base → (bytes : List ℕ) → spelled base 0 (without_zeros bytes) ≡ spelled base 0 bytes
-spelled_without base some [] = refl
-spelled_without base some (b ∷ []) = refl
-spelled_without base some (b ∷ c ∷ bytes) = go (eqb b 0x30) refl (spelled_without base some (c ∷ bytes))
-  where
-    go : (z : Bool) → eqb b 0x30 ≡ z → spelled base 0 (without_zeros (c ∷ bytes)) ≡ spelled base 0 (c ∷ bytes)
-        → spelled base 0 (if z then without_zeros (c ∷ bytes) else b ∷ c ∷ bytes) ≡ spelled base 0 (b ∷ c ∷ bytes)
-    go true is later =
-        let nil : 0 * base + 0 ≡ 0 = omega arith in
-        later
-        ∙ sym (ap (λ x. spelled base 0 (x ∷ c ∷ bytes)) (eqb-true b 0x30 is)
-        ∙ ap (λ z. option_and_then (λ d. spelled base (0 * base + d) (c ∷ bytes)) (if z then Some 0 else None)) (lt-ltb 0 base some)
-        ∙ ap (λ n. spelled base n (c ∷ bytes)) nil)
-    go false is later = refl
-
--- one digit at least is left, and no more than there were
-record IsCut (bytes : List ℕ) (all : ℕ) : Type 0 where
-  pub some : 1 ≤ length bytes
-  pub few : length bytes ≤ all
-
-length_without : (b : ℕ) (bytes : List ℕ) → IsCut (without_zeros (b ∷ bytes)) (length (b ∷ bytes))
-length_without b [] = record { some = omega arith; few = omega arith }
-length_without b (c ∷ bytes) = go (eqb b 0x30) (length_without c bytes)
-  where
-    go : (z : Bool) → IsCut (without_zeros (c ∷ bytes)) (length (c ∷ bytes)) → IsCut (if z then without_zeros (c ∷ bytes) else b ∷ c ∷ bytes) (length (b ∷ c ∷ bytes))
-    go true later = let le = later.few in record { some = later.some; few = omega arith }
-    go false later = record { some = omega arith; few = omega arith }
-
-cut_of : (bytes : List ℕ) (k : ℕ) → length bytes ≡ suc k → IsCut (without_zeros bytes) (suc k)
-cut_of [] k is = absurd (omega arith)
-cut_of (b ∷ bytes) k is = subst (IsCut (without_zeros (b ∷ bytes))) is (length_without b bytes)
-
-pub both_true : (a b : Bool) → a ≡ true → b ≡ true → (a && b) ≡ true
-both_true a b x y = rw (x, y) refl
-
-pub dec_said : (n : ℕ) → n < 10 ^ 10 → dec_of (dec_word n) ≡ Some n
-unfolding dec_of dec_word
-dec_said n lt =
-    let digits = last_digits 10 10 n in
-    let cut = cut_of digits 9 (length_digits 10 10 n) in
-    ap (λ b. if b then spelled 10 0 (without_zeros digits) else None) (both_true (leb 1 (length (without_zeros digits))) (leb (length (without_zeros digits)) 10) (le-leb _ _ cut.some) (le-leb _ _ cut.few))
-    ∙ spelled_without 10 (lit< tt) digits
-    ∙ spelled_digits 10 ten 10 n lt
-
-pub hex_said : (n : ℕ) → n < 2 ^ 64 → hex_of (hex_word n) ≡ Some n
-unfolding hex_of hex_word
-hex_said n lt =
-    let digits = last_digits 16 16 n in
-    let cut = cut_of digits 15 (length_digits 16 16 n) in
-    let some = cut.some in
-    let few = cut.few in
-    ap (λ b. if b then spelled 16 0 (without_zeros digits) else None) (both_true (leb 3 (length (0x30 ∷ 0x78 ∷ without_zeros digits))) (leb (length (0x30 ∷ 0x78 ∷ without_zeros digits)) 18) (le-leb _ _ (omega arith)) (le-leb _ _ (omega arith)))
-    ∙ spelled_without 16 (lit< tt) digits
-    ∙ spelled_digits 16 sixteen 16 n (omega (arith, lt))
-
--- ---- the bytes of numbers are those of words
-
+-- a byte of a word: none of them is a space or `#`
 abbrev pub IsVisible : ℕ → Type 0
 IsVisible b = (0x24 ≤ b) × (b ≤ 0x7E)
 
-visible_digit : (d : ℕ) → d < 16 → IsVisible (digit_byte d)
-visible_digit d lt = go (ltb d 10)
+visible_digit : (b : ℕ) → digit_value b < 16 → IsVisible b
+visible_digit b lt = (grind (arith, nat_tests), grind (arith, nat_tests))
+
+digits_ascii : (base : ℕ) (word : List ℕ) → base ≤ 16 → AllDigits base word → IsAscii word
+digits_ascii base [] high all = IsAscii-nil
+digits_ascii base (b ∷ word) high all =
+    let visible = visible_digit b (omega (arith, all.0)) in
+    IsAscii-cons b word (omega (arith, visible.1)) (digits_ascii base word high all.1)
+
+-- what is no text is no number
+pub spelled_none : (base most : ℕ) (word : List ℕ) → base ≤ 16 → (IsUtf8 word → ⊥) → None ≡ spelled base most word
+spelled_none base most word high bad = spelled_is base most word None (λ are. bad (IsUtf8-from_ascii word (digits_ascii base word high are.0.1)))
+
+-- what std reads behind no sign fits 64 bits
+pub spelled_parsed : {E : Type 0} (base most : ℕ) (word : List ℕ) (r : Result ℕ E) → 2 ≤ base → base ^ most ≤ 2 ^ 64 → length word ≤ most
+    → OkIff r (IsNumeral base word × (digits_value base word < 2 ^ 64)) (digits_value base word) → result_ok r ≡ spelled base most word
+spelled_parsed {E} base most word r low fits few is = spelled_is base most word (result_ok r) (go r is)
   where
-    go : (z : Bool) → IsVisible (if z then 0x30 + d else 0x57 + d)
-    go true = (omega arith, omega arith)
-    go false = (omega arith, omega arith)
+    go : (q : Result ℕ E) → OkIff q (IsNumeral base word × (digits_value base word < 2 ^ 64)) (digits_value base word) → SomeIff (result_ok q) (AreDigits base most word) (digits_value base word)
+    go (Ok n) h = ((h.0.0, few), h.1)
+    go (Err e) none = λ are.
+        let some : 0 < base = omega arith in
+        let all = digits_value-lt base word are.0.1 in
+        let whole : base ^ length word ≤ base ^ most = pow-le-pow_right {n = base} some {i = length word} {j = most} few in
+        none (are.0, omega (arith, all, whole, fits))
 
-visible-append : (xs ys : List ℕ) → AllByRecursion IsVisible xs → AllByRecursion IsVisible ys → AllByRecursion IsVisible (xs ++ ys)
-visible-append [] ys a b = b
-visible-append (x ∷ xs) ys a b = (a.0, visible-append xs ys a.1 b)
+-- ---- the digits of a number
 
-visible_digits : (base : ℕ) → IsBase base → (k n : ℕ) → AllByRecursion IsVisible (last_digits base k n)
-unfolding last_digits
-visible_digits base is zero n = tt
-visible_digits base is (suc k) n =
-    let rest = is.rest n in
-    let high = is.high in
-    visible-append (last_digits base k (n / base)) (digit_byte (n % base) ∷ []) (visible_digits base is k (n / base)) (visible_digit (n % base) (omega arith), tt)
-
-visible_without : (bytes : List ℕ) → AllByRecursion IsVisible bytes → AllByRecursion IsVisible (without_zeros bytes)
-visible_without [] a = a
-visible_without (b ∷ []) a = a
-visible_without (b ∷ c ∷ bytes) a = go (eqb b 0x30) (visible_without (c ∷ bytes) a.1)
-  where
-    go : (z : Bool) → AllByRecursion IsVisible (without_zeros (c ∷ bytes)) → AllByRecursion IsVisible (if z then without_zeros (c ∷ bytes) else b ∷ c ∷ bytes)
-    go true later = later
-    go false later = a
-
--- a word: at least one byte, none of them a space or `#`
+-- a word: at least one byte, and each is visible
 pub record IsWord (word : List ℕ) : Type 0 where
   pub some : 0 < length word
   pub visible : AllByRecursion IsVisible word
 
+either : (b : Bool) {xs ys : List ℕ} → IsWord xs → IsWord ys → IsWord (if b then xs else ys)
+either true x y = x
+either false x y = y
+
+module _ (base : ℕ) (low : 2 ≤ base) (high : base ≤ 16) where
+  base_some : 0 < base
+  base_some = omega arith
+
+  visible_glyph : (n : ℕ) → IsVisible (digit_glyph false (n % base))
+  visible_glyph n = let rest = mod-lt n base_some in go (ltb (n % base) 10) rest
+    where
+      go : (z : Bool) → n % base < base → IsVisible (if z then 48 + n % base else 87 + n % base)
+      go true rest = (omega arith, omega arith)
+      go false rest = (omega arith, omega arith)
+
+  one_more : (n : ℕ) (bytes : List ℕ) → AllByRecursion IsVisible bytes → IsWord (digit_glyph false (n % base) ∷ bytes)
+  one_more n bytes all = record { some = omega arith; visible = (visible_glyph n, all) }
+
+  onto_is_word : (k n : ℕ) (bytes : List ℕ) → AllByRecursion IsVisible bytes → IsWord (digits_onto (suc k) base false n bytes)
+  onto_is_word zero n bytes all = either (eqb (n / base) 0) (one_more n bytes all) (one_more n bytes all)
+  onto_is_word (suc k) n bytes all = either (eqb (n / base) 0) (one_more n bytes all) (onto_is_word k (n / base) (digit_glyph false (n % base) ∷ bytes) (visible_glyph n, all))
+
+  length-onto : (k most n : ℕ) (bytes : List ℕ) → 0 < most → n < base ^ most → length (digits_onto k base false n bytes) ≤ most + length bytes
+  length-onto zero most n bytes some lt = omega arith
+  length-onto (suc k) zero n bytes some lt = absurd (omega arith)
+  length-onto (suc k) (suc most) n bytes some lt = go (eqb (n / base) 0) refl (length-onto k most (n / base) (digit_glyph false (n % base) ∷ bytes))
+    where
+      more : List ℕ
+      more = digit_glyph false (n % base) ∷ bytes
+
+      fewer : n / base < base ^ most
+      fewer = (div-lt_iff_lt-mul base_some).1 (omega (arith, pow-suc base most, lt))
+
+      left : (m : ℕ) → n / base < base ^ m → (n / base ≡ 0 → ⊥) → 0 < m
+      left zero less other = absurd (other (omega (arith, pow-zero base, less)))
+      left (suc m) less other = omega arith
+
+      go : (z : Bool) → eqb (n / base) 0 ≡ z → (0 < most → n / base < base ^ most → length (digits_onto k base false (n / base) more) ≤ most + length more)
+          → length (if z then more else digits_onto k base false (n / base) more) ≤ suc most + length bytes
+      go true e later = omega arith
+      go false e later = let rest = later (left most fewer (eqb-false (n / base) 0 e)) fewer in omega arith
+
+  digits_are_word : (n : ℕ) → IsWord (digits base false n)
+  unfolding digits
+  digits_are_word n = onto_is_word 63 n [] tt
+
+  length-digits : (most n : ℕ) → 0 < most → n < base ^ most → length (digits base false n) ≤ most
+  unfolding digits
+  length-digits most n some lt = let few = length-onto 64 most n [] some lt in omega arith
+
+  spelled_digits : (most n : ℕ) → 0 < most → most ≤ 64 → n < base ^ most → spelled base most (digits base false n) ≡ Some n
+  spelled_digits most n some few lt =
+      let wide : base ^ most ≤ base ^ 64 = pow-le-pow_right {n = base} base_some {i = most} {j = 64} few in
+      let is = digits_is_IsNumeral base false low high n (omega (arith, lt, wide)) in
+      sym (spelled_is base most (digits base false n) (Some n) ((is.0, length-digits most n some lt), sym is.1))
+
+pub dec_said : (n : ℕ) → n < 10 ^ 10 → dec_of (dec_word n) ≡ Some n
+unfolding dec_of
+dec_said n lt = spelled_digits 10 (omega arith) (omega arith) 10 n (omega arith) (omega arith) lt
+
+pub hex_said : (n : ℕ) → n < 2 ^ 64 → hex_of (hex_word n) ≡ Some n
+unfolding hex_of
+hex_said n lt = spelled_digits 16 (omega arith) (omega arith) 16 n (omega arith) (omega arith) (omega (arith, lt))
+
 pub dec_is_word : (n : ℕ) → IsWord (dec_word n)
-unfolding dec_word
-dec_is_word n =
-    let cut = cut_of (last_digits 10 10 n) 9 (length_digits 10 10 n) in
-    record { some = cut.some; visible = visible_without (last_digits 10 10 n) (visible_digits 10 ten 10 n) }
+dec_is_word n = digits_are_word 10 (omega arith) (omega arith) n
 
 pub hex_is_word : (n : ℕ) → IsWord (hex_word n)
-unfolding hex_word
-hex_is_word n = record {
-  some = omega arith;
-  visible = ((omega arith, omega arith), ((omega arith, omega arith), visible_without (last_digits 16 16 n) (visible_digits 16 sixteen 16 n)));
-}
+hex_is_word n =
+    let is = digits_are_word 16 (omega arith) (omega arith) n in
+    record { some = omega arith; visible = ((omega arith, omega arith), ((omega arith, omega arith), is.visible)) }

@@ -1,6 +1,5 @@
 mod SameInstructions
 mod Pieces
-mod Powers
 mod Fronts
 mod Lists
 mod Deals

@@ -1,6 +1,7 @@
 -- Worked scripts, and what they are read as.
 use Rattle.std.proofs.Common.{◌≡◌, true, [], ◌∷◌, refl}
 use Rattle.std.specs.Prelude.{codes, Ok}
+use Rattle.std.specs.Fmt.{digits}
 use Rattle.pg_event.specs.declared.version.Version.TheVariants as versions
 use Rattle.pg_script.specs.declared.instruction.Instruction.TheVariants.{Write, Access, Invlpg}
 use Rattle.pg_script.specs.Numbers.{dec_of, hex_of}
@@ -8,7 +9,7 @@ use Rattle.pg_script.specs.Words.{dec_at, hex_at, bit_at, keyword_at}
 use Rattle.pg_script.specs.Heading.{version_in, settings_at, machine_in, segment_in, start_in}
 use Rattle.pg_script.specs.Instructions.{processor_at, kind_at, write_in, access_in, invlpg_in, instruction_in, task_in}
 use Rattle.pg_script.specs.Reading.{Scripted, heading_at, next_start_at, starts_at, processors_at, head_at, next_task_at, tasks_at, reading}
-use Rattle.pg_script.specs.Spelling.{last_digits, dec_word, hex_word, text_of}
+use Rattle.pg_script.specs.Spelling.{text_of}
 
 stale_leaf : Scripted
 stale_leaf = record {
@@ -38,5 +39,5 @@ stale_leaf_is_read = refl
 
 stale_leaf_is_said : text_of stale_leaf
     ≡ codes "pcid-guest 1\nmachine 40 wp nxe\nsegment 16\ncpu 0x1001 1\n0 write 0x1000 0x2007\n0 write 0x2000 0x3007\n0 write 0x3000 0x4007\n0 write 0x4028 0x9007\n0 read 0x5123 user\n0 write 0x4028 0x0\n0 read 0x5123 user\n0 invlpg 0x5000\n0 read 0x5123 user\n"
-unfolding stale_leaf dec_word hex_word last_digits
+unfolding stale_leaf digits
 stale_leaf_is_said = refl

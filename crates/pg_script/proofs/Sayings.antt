@@ -1,5 +1,5 @@
 -- What the words of each canonical line say.
-use Rattle.std.proofs.Common.{◌≡◌, ◌∙◌, ◌≢◌, ◌<◌, ◌≤◌, ◌%◌, ◌^◌, ◌/◌, ◌||◌, ℕ, zero, suc, Bool, true, false, not, [], ◌∷◌, Option, Some, None, length, refl, ap, arith, leb, ltb, eqb, lit<}
+use Rattle.std.proofs.Common.{◌≡◌, ◌∙◌, ◌≢◌, ◌<◌, ◌≤◌, ◌%◌, ◌^◌, ◌/◌, ◌||◌, ℕ, zero, suc, Bool, true, false, not, [], ◌∷◌, Option, Some, None, length, refl, ap, arith, eqb, lit<}
 use Rattle.std.specs.Prelude.{Result, Ok, Err, if◌then◌else◌, nat_lt, ◌&&◌, codes}
 use Rattle.std.proofs.Math.Nat.{pow-le-pow_right}
 use Rattle.std.proofs.lemmas.Bool.{le-leb, lt-ltb, eqb-true, eqb-false}
@@ -24,7 +24,8 @@ use Rattle.pg_script.specs.Heading.{IsCfg, version_in, settings_at, cfg_of, mach
 use Rattle.pg_script.specs.Instructions.{processor_at, processor_or_refusal, kind_at, write_in, access_in, mov_cr3_in, invlpg_in, invpcid_in, mov_cr4_pge_in, instruction_in, well_formed_or_refusal, fitting_task, task_in}
 use Rattle.pg_script.specs.Tasks.{event_of, IsWellFormed}
 use Rattle.pg_script.specs.Spelling.{dec_word, hex_word, bit_word, version_word, settings_words, start_words, op_word, mode_word, instruction_words, task_words, FitsInstruction}
-use Rattle.pg_script.proofs.Digits.{dec_said, hex_said, both_true}
+use Rattle.std.specs.Cmp.Derive.{both_true}
+use Rattle.pg_script.proofs.Digits.{dec_said, hex_said}
 use Rattle.pg_script.proofs.Wells.{processor_is, shape_is, within}
 
 -- ---- numbers as words
@@ -78,14 +79,14 @@ unfolding machine_in keyword_at
 machine_read cfg is =
     let high = is.high in
     rw (dec_read cfg.m (settings_words cfg.flags.0) (omega (arith, high)))
-    (rw (both_true (leb 36 cfg.m) (leb cfg.m 52) (le-leb 36 cfg.m is.low) (le-leb cfg.m 52 is.high))
+    (rw (both_true (le-leb 36 cfg.m is.low) (le-leb cfg.m 52 is.high))
     (ap (cfg_of cfg.m) (settings_read cfg.flags.0 is.flags)))
 
 pub segment_read : (size : ℕ) → 1 ≤ size → size ≤ 65536 → segment_in (codes "segment" ∷ dec_word size ∷ []) ≡ Ok size
 unfolding segment_in keyword_at
 segment_read size some few =
     rw (dec_read size [] (omega (arith, few)))
-    (rw (both_true (leb 1 size) (leb size 65536) (le-leb 1 size some) (le-leb size 65536 few)) refl)
+    (rw (both_true (le-leb 1 size some) (le-leb size 65536 few)) refl)
 
 pub start_read : (m : ℕ) (start : ℕ × Bool) → m ≤ 52 → start.0 < 2 ^ m → start_in m (start_words start) ≡ Ok start
 unfolding start_in keyword_at
@@ -147,7 +148,7 @@ instruction_read (Invpcid kind pcid la) fits flags =
     rw (dec_read kind (hex_word pcid ∷ hex_word la ∷ []) (omega (arith, small)))
     (rw (hex_read pcid (hex_word la ∷ []) (omega (arith, fits.1)))
     (rw (hex_read la [] fits.2)
-    (rw (both_true (ltb kind 256) (ltb pcid 65536) (lt-ltb kind 256 fits.0) (lt-ltb pcid 65536 fits.1)) refl)))
+    (rw (both_true (lt-ltb kind 256 fits.0) (lt-ltb pcid 65536 fits.1)) refl)))
 instruction_read (MovCr4Pge on) fits flags = rw (bit_read on []) refl
 
 -- ---- well formed instructions

@@ -1,7 +1,7 @@
 -- The canonical text of a script: no comments, no leading zeros, digits in lower case.
-use Rattle.std.specs.Prelude.{◌≡◌, ℕ, zero, suc, ◌+◌, ◌/◌, ◌%◌, ◌^◌, ◌<◌, Bool, false}
-use Rattle.std.specs.Prelude.{◌&&◌, ◌==◌, nat_lt, if◌then◌else◌, List, [], ◌∷◌, ◌++◌, map}
-use Rattle.std.specs.Prelude.{codes, Ok}
+use Rattle.std.specs.Prelude.{◌≡◌, ℕ, ◌^◌, ◌<◌, Bool, false, ◌&&◌, if◌then◌else◌}
+use Rattle.std.specs.Prelude.{List, [], ◌∷◌, ◌++◌, map, codes, Ok}
+use Rattle.std.specs.Fmt.{digits}
 use Rattle.std.specs.List.{AllByRecursion}
 use Rattle.pg_entry.specs.declared.Op.{Op}
 use Rattle.pg_entry.specs.declared.Op.TheVariants as ops
@@ -16,26 +16,12 @@ use Rattle.pg_script.specs.declared.instruction.Task.{Task}
 use Rattle.pg_script.specs.Words.{Words}
 use Rattle.pg_script.specs.Reading.{Scripted, IsScript, reading}
 
--- `0` to `9`, and `a` to `f`
-abbrev pub digit_byte : ℕ → ℕ
-digit_byte d = if nat_lt d 10 then 0x30 + d else 0x57 + d
+-- what std writes of a number: no leading zeros, and letters in lower case
+abbrev pub dec_word : ℕ → List ℕ
+dec_word n = digits 10 false n
 
--- so many digits of a number to a base: the last ones
-unfoldable pub last_digits : ℕ → ℕ → ℕ → List ℕ
-last_digits base zero n = []
-last_digits base (suc k) n = last_digits base k (n / base) ++ digit_byte (n % base) ∷ []
-
--- leading zeros go; the last digit stays
-abbrev pub without_zeros : List ℕ → List ℕ
-without_zeros [] = []
-without_zeros (b ∷ []) = b ∷ []
-without_zeros (b ∷ c ∷ bytes) = if b == 0x30 then without_zeros (c ∷ bytes) else b ∷ c ∷ bytes
-
-unfoldable pub dec_word : ℕ → List ℕ
-dec_word n = without_zeros (last_digits 10 10 n)
-
-unfoldable pub hex_word : ℕ → List ℕ
-hex_word n = 0x30 ∷ 0x78 ∷ without_zeros (last_digits 16 16 n)
+abbrev pub hex_word : ℕ → List ℕ
+hex_word n = 0x30 ∷ 0x78 ∷ digits 16 false n
 
 abbrev pub bit_word : Bool → List ℕ
 bit_word b = if b then codes "1" else codes "0"

@@ -20,14 +20,11 @@ pub(crate) fn version_of(words: &Words) -> Result<Version, ScriptRefusal>
 {
     let rest = after_keyword(b"pcid-guest", words)?;
     let (word, rest) = word_of(&rest)?;
-    let word = ended(word, &rest)?;
-    if same_bytes(word, b"1") {
-        return Ok(Version::One);
+    match ended(word, &rest)? {
+        b"1" => Ok(Version::One),
+        b"2" => Ok(Version::Two),
+        _ => Err(ScriptRefusal::Instruction),
     }
-    if same_bytes(word, b"2") {
-        return Ok(Version::Two);
-    }
-    Err(ScriptRefusal::Instruction)
 }
 
 /// The bit of a setting if its word comes next, else 0; and the words behind it.
@@ -35,12 +32,10 @@ fn setting_of<'a>(name: &[u8], bit: u8, words: Words<'a>) -> (u8, Words<'a>)
     ensures value { result ≡ setting_at name.now bit words.entry }
     ensures bound { result.0 ≤ bit }
 {
-    if let Some((word, rest)) = words.split_first() {
-        if same_bytes(word, name) {
-            return (bit, rest);
-        }
+    match words.split_first() {
+        Some((word, rest)) if same_bytes(word, name) => (bit, rest),
+        _ => (0, words),
     }
-    (0, words)
 }
 
 /// The flags of any of the settings in their order.
@@ -107,8 +102,5 @@ pub(crate) fn start_of(m: u8, words: &Words) -> Result<(u64, bool), ScriptRefusa
 pub(crate) fn names_processor(words: &Words) -> bool
     ensures { result ≡ names_processor words.now }
 {
-    match words.split_first() {
-        Some((word, _)) => same_bytes(word, b"cpu"),
-        None => false,
-    }
+    matches!(words.split_first(), Some((b"cpu", _)))
 }

@@ -32,20 +32,14 @@ pub(crate) const MOST_INSTRUCTIONS: usize = 1_048_576;
 fn in_line<T: Copy>(line: u32, read: Result<T, ScriptRefusal>) -> Result<T, ScriptError>
     ensures { result ≡ in_line line read }
 {
-    match read {
-        Ok(value) => Ok(value),
-        Err(refusal) => Err(ScriptError { line, refusal }),
-    }
+    read.map_err(|refusal| ScriptError { line, refusal })
 }
 
 /// Any refusal of words as that of their line's place.
 fn placed<T: Copy>(place: ScriptRefusal, read: Result<T, ScriptRefusal>) -> Result<T, ScriptRefusal>
     ensures { result ≡ placed place read }
 {
-    match read {
-        Ok(value) => Ok(value),
-        Err(_) => Err(place),
-    }
+    read.map_err(|_| place)
 }
 
 /// A front that must be a line.
@@ -56,16 +50,10 @@ fn line_of<'a>(place: ScriptRefusal, front: Front<'a>) -> Result<Told<'a, Words<
         (line_or_refusal place (front_in told_in front.entry)) }
 {
     match front {
-        Front::Line(
-            Told {
-                number,
-                value,
-                rest,
-            },
-        ) => Ok(Told {
-            number,
-            value: Words::new(value),
-            rest,
+        Front::Line(line) => Ok(Told {
+            number: line.number,
+            value: Words::new(line.value),
+            rest: line.rest,
         }),
         Front::Ended(line) => Err(ScriptError {
             line,
@@ -118,26 +106,19 @@ fn next_start<'a>(m: u8, text: &Text<'a>) -> Result<Option<Told<'a, (u64, bool)>
         (next_start_at m (told_in text.now)) }
     ensures range { IfOk result (λ next. IfSome next (λ x. x.value.0 < 2 ^ m)) }
 {
-    let Front::Line(
-        Told {
-            number,
-            value: line,
-            rest,
-        },
-    ) = text.told_front()?
-    else {
+    let Front::Line(line) = text.told_front()? else {
         return Ok(None);
     };
-    let words = Words::new(line);
+    let words = Words::new(line.value);
     if !names_processor(&words) {
         return Ok(None);
     }
     let place = ScriptRefusal::Cpu;
-    let value = in_line(number, placed(place, start_of(m, &words)))?;
+    let value = in_line(line.number, placed(place, start_of(m, &words)))?;
     Ok(Some(Told {
-        number,
+        number: line.number,
         value,
-        rest,
+        rest: line.rest,
     }))
 }
 
@@ -151,16 +132,12 @@ fn first_start<'a>(m: u8, text: &Text<'a>) -> Result<Told<'a, (u64, bool)>, Scri
     ensures range { IfOk result (λ x. x.value.0 < 2 ^ m) }
 {
     let place = ScriptRefusal::Cpu;
-    let Told {
-        number,
-        value: words,
-        rest,
-    } = line_of(place, text.told_front()?)?;
-    let value = in_line(number, placed(place, start_of(m, &words)))?;
+    let line = line_of(place, text.told_front()?)?;
+    let value = in_line(line.number, placed(place, start_of(m, &line.value)))?;
     Ok(Told {
-        number,
+        number: line.number,
         value,
-        rest,
+        rest: line.rest,
     })
 }
 
@@ -263,21 +240,17 @@ fn next_task<'a>(
     ensures less { IfOk result (λ next. IfSome next
         (λ x. length x.rest.1 < length text.now.1)) }
 {
-    let Front::Line(
-        Told {
-            number,
-            value: line,
-            rest,
-        },
-    ) = text.told_front()?
-    else {
+    let Front::Line(line) = text.told_front()? else {
         return Ok(None);
     };
-    let value = in_line(number, task_after(count, header, &Words::new(line)))?;
+    let value = in_line(
+        line.number,
+        task_after(count, header, &Words::new(line.value)),
+    )?;
     Ok(Some(Told {
-        number,
+        number: line.number,
         value,
-        rest,
+        rest: line.rest,
     }))
 }
 

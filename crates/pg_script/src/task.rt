@@ -20,10 +20,8 @@ fn processor_word<'a>(words: &Words<'a>) -> Result<(u64, Words<'a>), ScriptRefus
     ensures { Agrees (λ x. (x.0, x.1)) result (processor_at words.now) }
 {
     let (word, rest) = word_of(words)?;
-    match dec_of(word) {
-        Some(p) => Ok((p, rest)),
-        None => Err(ScriptRefusal::Instruction),
-    }
+    let p = dec_of(word).ok_or(ScriptRefusal::Instruction)?;
+    Ok((p, rest))
 }
 
 /// An access of an operation, by the word of its mode.
@@ -89,11 +87,8 @@ fn invpcid_of(words: &Words) -> Result<Instruction, ScriptRefusal>
     let (pcid, rest) = hex_word(&rest)?;
     let (la, rest) = hex_word(&rest)?;
     let la = ended(la, &rest)?;
-    if kind >= 1 << 8 || pcid >= 1 << 16 {
-        return Err(ScriptRefusal::Malformed);
-    }
-    let kind = kind as u8;
-    let pcid = pcid as u16;
+    let kind = u8::try_from(kind).map_err(|_| ScriptRefusal::Malformed)?;
+    let pcid = u16::try_from(pcid).map_err(|_| ScriptRefusal::Malformed)?;
     Ok(Instruction::Invpcid { kind, pcid, la })
 }
 
@@ -161,12 +156,7 @@ pub(crate) fn task_of(header: &Header, words: &Words) -> Result<Task, ScriptRefu
     let (p, rest) = processor_word(words)?;
     let (name, rest) = word_of(&rest)?;
     let instruction = instruction_of(name, &rest)?;
-    if p >= 1 << 16 {
-        return Err(ScriptRefusal::Malformed);
-    }
-    let p = p as u16;
-    match well_formed(header, &event_of(p, &instruction)) {
-        Ok(()) => Ok(Task { p, instruction }),
-        Err(_) => Err(ScriptRefusal::Malformed),
-    }
+    let p = u16::try_from(p).map_err(|_| ScriptRefusal::Malformed)?;
+    well_formed(header, &event_of(p, &instruction)).map_err(|_| ScriptRefusal::Malformed)?;
+    Ok(Task { p, instruction })
 }

@@ -60,32 +60,20 @@ impl<'a> Text<'a> {
         ensures less { IfOk result (ShortensTo (length self.now.1)) }
     {
         let number = self.number;
-        let unended = ScriptError {
-            line: number,
-            refusal: ScriptRefusal::LineEnd,
-        };
-        let (line, behind) = cut(self.bytes, b'\n');
-        match behind {
-            None => {
-                if !line.is_empty() {
-                    return Err(unended);
-                }
-                Ok(Front::Ended(number))
-            }
-            Some(bytes) => {
-                if !is_plain(line) {
-                    return Err(unended);
-                }
-                let rest = Text {
+        match cut(self.bytes, b'\n') {
+            (line, Some(bytes)) if is_plain(line) => Ok(Front::Line(Told {
+                number,
+                value: line,
+                rest: Text {
                     bytes,
                     number: number + 1,
-                };
-                Ok(Front::Line(Told {
-                    number,
-                    value: line,
-                    rest,
-                }))
-            }
+                },
+            })),
+            ([], None) => Ok(Front::Ended(number)),
+            _ => Err(ScriptError {
+                line: number,
+                refusal: ScriptRefusal::LineEnd,
+            }),
         }
     }
 
@@ -100,13 +88,8 @@ impl<'a> Text<'a> {
         };
         'lines: loop {
             match text.front()? {
-                Front::Ended(number) => return Ok(Front::Ended(number)),
-                Front::Line(line) => {
-                    if !is_skipped(line.value) {
-                        return Ok(Front::Line(line));
-                    }
-                    text = line.rest;
-                }
+                Front::Line(line) if is_skipped(line.value) => text = line.rest,
+                front => return Ok(front),
             }
         }
     }
@@ -123,8 +106,5 @@ fn is_plain(line: &[u8]) -> bool
 fn is_skipped(line: &[u8]) -> bool
     ensures { result ≡ is_skipped line.now }
 {
-    match line {
-        [] => true,
-        [first, ..] => *first == b'#',
-    }
+    matches!(line, [] | [b'#', ..])
 }

@@ -1,7 +1,6 @@
 //! The words of a line, from left to right.
 
-ghost use Rattle.std.specs.Prelude.{◌≡◌, ◌<◌, ◌∷◌, [], length, IfSome, MatchOption, ◌==◌};
-ghost use Rattle.std.specs.Prelude.{position};
+ghost use Rattle.std.specs.Prelude.{◌≡◌, ◌<◌, ◌∷◌, [], length, IfSome, MatchOption};
 ghost use Rattle.std.specs.Option.{option_copied};
 ghost use Rattle.std.specs.Str.{bytes_eq};
 ghost use Rattle.pg_script.specs.Lines.{pieces, words_of};
@@ -39,22 +38,9 @@ impl<'a> Words<'a> {
     pub(crate) fn split_first(&self) -> Option<(&'a [u8], Words<'a>)>
         ensures { MatchOption result (self.now ≡ []) (λ x. self.now ≡ x.0.now ∷ x.1) }
     {
-        match self.rest {
-            None => None,
-            Some(line) => {
-                let (word, rest) = cut(line, b' ');
-                Some((word, Words { rest }))
-            }
-        }
+        let (word, rest) = cut(self.rest?, b' ');
+        Some((word, Words { rest }))
     }
-}
-
-/// The place of the first byte that is this one.
-fn place_of(byte: u8, bytes: &[u8]) -> Option<usize>
-    ensures place { result ≡ position (λ b. b == byte) bytes.now }
-    ensures within { IfSome result (λ at. at < length bytes.now) }
-{
-    bytes.iter().position(|b| *b == byte)
 }
 
 /// The piece before the first separator, and what stands behind it, if there is one.
@@ -63,7 +49,7 @@ pub(crate) fn cut(bytes: &[u8], separator: u8) -> (&[u8], Option<&[u8]>)
         ≡ result.0.now ∷ pieces_behind separator (option_copied result.1) }
     ensures less { IfSome result.1 (λ rest. length rest.now < length bytes.now) }
 {
-    match place_of(separator, bytes) {
+    match bytes.iter().position(|byte| *byte == separator) {
         Some(at) => (&bytes[..at], Some(&bytes[at + 1..])),
         None => (bytes, None),
     }
@@ -78,10 +64,7 @@ pub(crate) fn same_bytes(xs: &[u8], ys: &[u8]) -> bool
 pub(crate) fn word_of<'a>(words: &Words<'a>) -> Result<(&'a [u8], Words<'a>), ScriptRefusal>
     ensures { Agrees (λ x. (x.0.now, x.1)) result (word_at words.now) }
 {
-    match words.split_first() {
-        Some((word, rest)) => Ok((word, rest)),
-        None => Err(ScriptRefusal::Instruction),
-    }
+    words.split_first().ok_or(ScriptRefusal::Instruction)
 }
 
 #[tactic(auto, unfolding(crate::specs::Words::dec_at))]
@@ -89,10 +72,8 @@ pub(crate) fn dec_word<'a>(words: &Words<'a>) -> Result<(u64, Words<'a>), Script
     ensures { Agrees (λ x. (x.0, x.1)) result (dec_at words.now) }
 {
     let (word, rest) = word_of(words)?;
-    match dec_of(word) {
-        Some(number) => Ok((number, rest)),
-        None => Err(ScriptRefusal::Number),
-    }
+    let number = dec_of(word).ok_or(ScriptRefusal::Number)?;
+    Ok((number, rest))
 }
 
 #[tactic(auto, unfolding(crate::specs::Words::hex_at))]
@@ -100,10 +81,8 @@ pub(crate) fn hex_word<'a>(words: &Words<'a>) -> Result<(u64, Words<'a>), Script
     ensures { Agrees (λ x. (x.0, x.1)) result (hex_at words.now) }
 {
     let (word, rest) = word_of(words)?;
-    match hex_of(word) {
-        Some(number) => Ok((number, rest)),
-        None => Err(ScriptRefusal::Number),
-    }
+    let number = hex_of(word).ok_or(ScriptRefusal::Number)?;
+    Ok((number, rest))
 }
 
 #[tactic(auto, unfolding(crate::specs::Words::bit_at))]
@@ -111,13 +90,11 @@ pub(crate) fn bit_word<'a>(words: &Words<'a>) -> Result<(bool, Words<'a>), Scrip
     ensures { Agrees (λ x. (x.0, x.1)) result (bit_at words.now) }
 {
     let (word, rest) = word_of(words)?;
-    if same_bytes(word, b"0") {
-        return Ok((false, rest));
+    match word {
+        b"0" => Ok((false, rest)),
+        b"1" => Ok((true, rest)),
+        _ => Err(ScriptRefusal::Instruction),
     }
-    if same_bytes(word, b"1") {
-        return Ok((true, rest));
-    }
-    Err(ScriptRefusal::Instruction)
 }
 
 /// What stands behind this very word.

@@ -1,19 +1,15 @@
-use Rattle.std.proofs.Common.{◌*◌, ◌+◌, arith, lit<}
-use Rattle.pg_script.proofs.Powers.{digit_more, sixteen_fit}
+use Rattle.std.proofs.Common.{◌≡◌, ◌≤◌, length, rules, arith}
+use Rattle.std.specs.Str.Parse.{ParsesUnsigned, without_leading_plus}
+use Rattle.pg_script.proofs.Digits.{spelled_none, spelled_parsed}
 use Rattle.pg_script.proofs.number.spelled.Goals as goal
 
-pub overflow_mul-number : goal.overflow_mul-number
-overflow_mul-number c =
-    let l = c.loop-byte in
-    let more = digit_more l.number c.args.base 0 l.byte-index l.invariant.small c.requires.base (lit< tt) in
-    let few = c.requires.few in
-    let at = c.loop-byte-test.true in
-    omega (arith, sixteen_fit (l.number * c.args.base + 0) l.byte-index more (omega arith))
+pub returns-in_default : goal.returns-in_default
+returns-in_default c = spelled_none c.args.base c.args.most c.args.digits.now c.requires.high c.in_default.ensures.cases.0
 
-pub overflow_add-number : goal.overflow_add-number
-overflow_add-number c =
-    let l = c.loop-byte in
-    let more = digit_more l.number c.args.base c.in_ok-number.field-0 l.byte-index l.invariant.small c.requires.base c.in_ok-number.ensures.less in
-    let few = c.requires.few in
-    let at = c.loop-byte-test.true in
-    omega (arith, sixteen_fit (l.number * c.args.base + c.in_ok-number.field-0) l.byte-index more (omega arith))
+pub returns : goal.returns
+returns c =
+    let word = c.args.digits.now in
+    let few : length word ≤ c.args.most = omega arith in
+    let bare : without_leading_plus word ≡ word = search rules in
+    let read : ParsesUnsigned 64 c.args.base word c.from_str_radix.result = rw c.in-Ok.ensures.cases.0 at c.from_str_radix.ensures.value in
+    rw c.ok.ensures.value (spelled_parsed c.args.base c.args.most word c.from_str_radix.result c.requires.low c.requires.fits few (rw bare at read))
