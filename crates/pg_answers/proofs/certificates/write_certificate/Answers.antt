@@ -1,7 +1,6 @@
 use Rattle.std.proofs.Common.{◌∙◌, ℕ, subst, sym}
 use Rattle.pg_report.specs.Changes.{drawn, filled}
-use Rattle.pg_answers.specs.Certificates.{IsCertificate, IsCertificateOf}
-use Rattle.pg_answers.specs.Texts.{IsTextGivenBy}
+use Rattle.pg_answers.specs.Certificates.{IsCertificate}
 use Rattle.pg_answers.proofs.OneCertificate.{is_certificate}
 use Rattle.pg_answers.proofs.certificates.write_certificate.Goals as goal
 
