@@ -1,4 +1,3 @@
-use Rattle.std.proofs.Common.{sym}
 use Rattle.pg_tool.proofs.Guested.{by_one, by_many, stopped_by_one, stopped_by_many}
 use Rattle.pg_tool.proofs.guests.run_by.Goals as goal
 
