@@ -1,14 +1,14 @@
 //! The auditor alone: what `pcid-audit check` does of a record, for who has not yet built the rest.
 #![tactic(auto)]
 
-ghost use Rattle.pg_pool.specs.Rounds.{AreCheckers};
-
 use pg_auditing::{
     MEMORY, REFUSED, UNOPENED, USAGE, check, tell, tell_memory, tell_no_words, tell_spans,
     tell_text, tell_unopened,
 };
 use pg_codec::{Sink, Source, Watched};
-use pg_plan::{Command, NoWords, Plan, Telling, Usage, arguments, plan, words_of};
+use pg_plan::{
+    CheckOptions, Checkers, Command, NoWords, Plan, Usage, arguments, plan, words_of,
+};
 use pg_report::AuditError;
 use pg_span_codec::Peeked;
 use std::alloc::AllocGlobal;
@@ -20,22 +20,30 @@ use std::thread::Threads;
 /// Of words that ask for what the whole program does.
 const OTHERS: u8 = 79;
 
-/// Whether a plan asks for a check and nothing else. All fields are named, so that a new option is
-/// not left out here: the others are of other commands.
-fn is_own(plan: Plan) -> bool {
-    let Plan {
-        command,
-        checkers: _,
-        single: _,
-        bytes: _,
-        order: _,
-        error: _,
-        selection: _,
-        telling,
-        progress,
-        json,
-    } = plan;
-    command == Command::Check && telling == Telling::First && !progress && !json
+/// How many checkers judge, where a plan asks for a check and nothing else. All options are named,
+/// so that a new one is not left out here.
+fn own_checkers(plan: &Plan) -> Option<Checkers> {
+    let Plan { command, progress } = plan;
+    match command {
+        Command::Check(asked) => {
+            let CheckOptions {
+                checkers,
+                all,
+                json,
+            } = asked;
+            if *all || *json || *progress {
+                return None;
+            }
+            Some(*checkers)
+        }
+        Command::Certify(_)
+        | Command::Run(_)
+        | Command::RunOf
+        | Command::Explain(_)
+        | Command::Show(_)
+        | Command::Upgrade
+        | Command::Merge { .. } => None,
+    }
 }
 
 /// What is told, and the exit status, where there is no plan. The texts that are asked for are the
@@ -58,13 +66,11 @@ fn tell_usage<E: Sink>(errors: &mut E, usage: Usage) -> u8 {
 /// refused.
 fn check_on<T: AllocGlobal + Threads + Wait + Sync, R: Source + Drop, O: Sink, E: Sink>(
     rt: &T,
-    checkers: u16,
+    checkers: Checkers,
     source: R,
     output: &mut O,
     errors: &mut E,
-) -> u8
-    requires { AreCheckers checkers }
-{
+) -> u8 {
     let mut input = Peeked::new(source);
     match input.says_spans() {
         Ok(false) => check(rt, checkers, &mut input, output, errors),
@@ -90,11 +96,12 @@ fn main(rt: HostRuntime) -> ExitCode {
         return ExitCode::from(tell_no_words(&mut errors, NoWords::Memory));
     };
     let asked = match plan(rt.alloc(), words.as_slice()) {
-        Ok(asked) if is_own(asked.plan) => asked,
-        Ok(_) => return ExitCode::from(OTHERS),
+        Ok(asked) => asked,
         Err(usage) => return ExitCode::from(tell_usage(&mut errors, usage)),
     };
-    let checkers = asked.plan.checkers;
+    let Some(checkers) = own_checkers(&asked.plan) else {
+        return ExitCode::from(OTHERS);
+    };
     let Some(name) = asked.file else {
         let input = Watched::new(rt.reader());
         return ExitCode::from(check_on(&rt, checkers, input, &mut output, &mut errors));

@@ -1,5 +1,5 @@
 -- The record with moments that were found for its events.
-use Rattle.std.proofs.Common.{◌≡◌, List, refl}
+use Rattle.std.proofs.Common.{List, refl}
 use Rattle.pg_event.specs.declared.event.Event.{Event}
 use Rattle.pg_event.specs.Spelling.{Recorded, IsRecord, record_bytes}
 use Rattle.pg_check.specs.Kept.{AreWellFormed}

@@ -1,5 +1,5 @@
 -- Whatever certifies a record comes to one answer, and to one text.
-use Rattle.std.proofs.Common.{◌≡◌, ℕ, ◌+◌, ◌<◌, List, ◌++◌, map, take, Option, Some, None, IfSome, Ok, Err, refl, ap, sym, ◌∙◌, subst, inl, inr, arith}
+use Rattle.std.proofs.Common.{◌≡◌, ℕ, ◌+◌, ◌<◌, List, ◌++◌, take, Option, Some, None, IfSome, Ok, Err, refl, ap, sym, ◌∙◌, subst, inl, inr, arith}
 use Rattle.std.specs.Prelude.{Result}
 use Rattle.std.specs.List.{take-map}
 use Rattle.std.proofs.lemmas.Bool.{cases_lt}
@@ -12,7 +12,6 @@ use Rattle.pg_run_of.specs.Converse.{without_moments, AreSameButMoments}
 use Rattle.pg_machine.specs.Machine.{visible}
 use Rattle.pg_search.specs.Law.{RunBeginsWith}
 use Rattle.pg_certify.specs.Certified.{IsDenied, HasRunButMoments}
-use Rattle.pg_explain.specs.Denied.{denial_text}
 use Rattle.pg_answers.specs.Certificates.{IsCertificate, IsCertificateOf, IsDeniedRecord, IsDenialText, IsTheCertificate, denied_report}
 use Rattle.pg_answers.specs.Texts.{GivesText, IsTextGivenBy}
 use Rattle.pg_answers.proofs.OneDenial.{one_denial}

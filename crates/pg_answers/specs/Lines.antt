@@ -3,7 +3,7 @@ use Rattle.std.specs.Prelude.{◌≡◌, ℕ, List, Result}
 use Rattle.pg_event.specs.Spelling.{Recorded}
 use Rattle.pg_explain.specs.declared.filter.Filter.{Filter}
 use Rattle.pg_explain.specs.Filters.{shown_text}
-use Rattle.pg_plan.specs.declared.request.Plan.{Plan}
+use Rattle.pg_plan.specs.declared.request.Selection.{Selection}
 use Rattle.pg_report.specs.declared.error.AuditError.{AuditError}
 use Rattle.pg_report.specs.declared.report.Verdict.{Verdict}
 use Rattle.pg_report.specs.Text.{report_of}
@@ -12,14 +12,14 @@ use Rattle.pg_auditing.specs.Status.{status_of}
 use Rattle.pg_auditing.specs.Streams.{Streams}
 use Rattle.pg_answers.specs.Texts.{IsTextGiven}
 
--- what a plan asks of the events that are shown
-abbrev pub filter_of : Plan → Filter
-filter_of plan = record {
-  from = plan.selection.from;
-  to = plan.selection.to;
-  cpu = plan.selection.cpu;
-  page = plan.selection.page;
-  word = plan.selection.word;
+-- what is asked of the events that are shown
+abbrev pub filter_of : Selection → Filter
+filter_of asked = record {
+  from = asked.from;
+  to = asked.to;
+  cpu = asked.cpu;
+  page = asked.page;
+  word = asked.word;
 }
 
 -- the lines of a record's events that a filter lets through; the verdict is the record's

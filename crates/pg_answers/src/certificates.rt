@@ -3,7 +3,6 @@
 ghost use Rattle.std.specs.Prelude.{◌≡◌, ◌<◌, ◌++◌, true, length, IfOk, IfSome, IfNone, slice_get};
 ghost use Rattle.std.specs.Prelude.{string_bytes};
 ghost use Rattle.pg_certify.specs.Certified.{IsDenied, CanBeCertified};
-ghost use Rattle.pg_pool.specs.Rounds.{AreCheckers};
 ghost use Rattle.pg_search.specs.Law.{names_moments};
 ghost use Rattle.pg_report.specs.Audits.{WritesText};
 ghost use Rattle.pg_report.specs.Changes.{drawn, filled};
@@ -30,6 +29,7 @@ use pg_check::History;
 use pg_codec::{Sink, Source};
 use pg_event::Event;
 use pg_explain::{denial_text, deny};
+use pg_plan::Checkers;
 use pg_report::{AuditError, Report, Verdict, read_record, write_text};
 use std::alloc::{AllocError, AllocGlobal, Global};
 use std::sync::Wait;
@@ -179,15 +179,15 @@ fn give_certificate<O: Sink>(
 /// before that is known.
 fn write_judged<T: AllocGlobal + Threads + Wait + Sync, O: Sink>(
     rt: &T,
-    checkers: u16,
+    checkers: Checkers,
     history: &History,
     output: &mut O,
 ) -> Result<Option<u64>, AuditError>
-    requires { AreCheckers checkers }
     ensures { GivesTextOf IsCertificateOf checkers history.now
         (filled O.Sink output.old output.new) result }
 {
-    let denied = match first_denied_by(rt, rt.alloc(), history, checkers as u32) {
+    let number = checkers.number();
+    let denied = match first_denied_by(rt, rt.alloc(), history, number as u32) {
         Ok(denied) => denied,
         Err(CertifyError::Memory) => return Err(AuditError::Memory),
         Err(CertifyError::Thread) => return Err(AuditError::Thread),
@@ -199,11 +199,10 @@ fn write_judged<T: AllocGlobal + Threads + Wait + Sync, O: Sink>(
 /// Reads a record, and writes whether it can be certified, by so many checkers.
 fn write_by_checkers<T: AllocGlobal + Threads + Wait + Sync, R: Source, O: Sink>(
     rt: &T,
-    checkers: u16,
+    checkers: Checkers,
     input: &mut R,
     output: &mut O,
 ) -> Result<Option<u64>, AuditError>
-    requires { AreCheckers checkers }
     ensures { IsTextGivenBy IsCertificateOf checkers
         (drawn R.Source input.old input.new) (filled O.Sink output.old output.new) result }
 {
@@ -247,15 +246,14 @@ fn write_as_read<R: Source, O: Sink>(
 /// the events of one that was read whole.
 fn write_certificate<T: AllocGlobal + Threads + Wait + Sync, R: Source, O: Sink>(
     rt: &T,
-    checkers: u16,
+    checkers: Checkers,
     input: &mut R,
     output: &mut O,
 ) -> Result<Option<u64>, AuditError>
-    requires { AreCheckers checkers }
     ensures { IsCertificate checkers
         (drawn R.Source input.old input.new) (filled O.Sink output.old output.new) result }
 {
-    if checkers == 1 {
+    if checkers.number() == 1 {
         write_as_read(rt.alloc(), input, output)
     } else {
         write_by_checkers(rt, checkers, input, output)
@@ -279,12 +277,11 @@ fn certificate_status(answer: Result<Option<u64>, AuditError>) -> u8
 /// the exit status: 0 yes, 1 no, 2 refused, 3 memory or a thread.
 pub fn certify<T: AllocGlobal + Threads + Wait + Sync, R: Source, O: Sink, E: Sink>(
     rt: &T,
-    checkers: u16,
+    checkers: Checkers,
     input: &mut R,
     output: &mut O,
     errors: &mut E,
 ) -> u8
-    requires { AreCheckers checkers }
     ensures { CertifiesRecord checkers (streams R.Source O.Sink E.Sink
         (input.old, output.old, errors.old) (input.new, output.new, errors.new)) result }
 {

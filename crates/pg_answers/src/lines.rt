@@ -11,15 +11,14 @@ use pg_auditing::{status_of, tell_error};
 use pg_check::History;
 use pg_codec::{Sink, Source};
 use pg_explain::{Filter, shown_text};
-use pg_plan::Plan;
+use pg_plan::Selection;
 use pg_report::{AuditError, Verdict, read_record, report_of};
 use std::alloc::{AllocError, Global};
 
-/// What a plan asks of the events that are shown.
-pub fn filter_of(plan: Plan) -> Filter
-    ensures { result ≡ filter_of plan }
+/// What is asked of the events that are shown.
+pub fn filter_of(asked: Selection) -> Filter
+    ensures { result ≡ filter_of asked }
 {
-    let asked = plan.selection;
     Filter {
         from: asked.from,
         to: asked.to,

@@ -1,6 +1,5 @@
 //! A record's report, by one checker or by several.
 
-ghost use Rattle.pg_pool.specs.Rounds.{AreCheckers};
 ghost use Rattle.pg_report.specs.Audits.{IsAudit};
 ghost use Rattle.pg_report.specs.Changes.{drawn, filled};
 ghost use Rattle.pg_auditing.specs.Status.{Checks, IsAbleBy};
@@ -9,6 +8,7 @@ ghost use Rattle.pg_auditing.specs.Streams.{streams};
 use crate::refusals::tell_error;
 use crate::statuses::status_of;
 use pg_codec::{Sink, Source};
+use pg_plan::Checkers;
 use pg_report::{AuditError, Verdict, audit, audit_one};
 use std::alloc::AllocGlobal;
 use std::sync::Wait;
@@ -17,19 +17,19 @@ use std::thread::Threads;
 /// The audit by so many checkers: by one, on the calling thread.
 fn audit_by<T: AllocGlobal + Threads + Wait + Sync, R: Source, O: Sink>(
     rt: &T,
-    checkers: u16,
+    checkers: Checkers,
     input: &mut R,
     output: &mut O,
 ) -> Result<Verdict, AuditError>
-    requires { AreCheckers checkers }
     ensures audit { IsAudit
         (drawn R.Source input.old input.new) (filled O.Sink output.old output.new) result }
     ensures able { IsAbleBy checkers result }
 {
-    if checkers == 1 {
+    let number = checkers.number();
+    if number == 1 {
         audit_one(rt.alloc(), input, output)
     } else {
-        audit(rt, rt.alloc(), input, output, checkers as u32)
+        audit(rt, rt.alloc(), input, output, number as u32)
     }
 }
 
@@ -38,12 +38,11 @@ fn audit_by<T: AllocGlobal + Threads + Wait + Sync, R: Source, O: Sink>(
 /// memory or a thread. One checker is the calling thread.
 pub fn check<T: AllocGlobal + Threads + Wait + Sync, R: Source, O: Sink, E: Sink>(
     rt: &T,
-    checkers: u16,
+    checkers: Checkers,
     input: &mut R,
     output: &mut O,
     errors: &mut E,
 ) -> u8
-    requires { AreCheckers checkers }
     ensures { Checks checkers (streams R.Source O.Sink E.Sink
         (input.old, output.old, errors.old) (input.new, output.new, errors.new)) result }
 {

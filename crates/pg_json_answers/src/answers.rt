@@ -9,7 +9,6 @@ ghost use Rattle.pg_explain.specs.declared.denial.Denial.{Denial};
 ghost use Rattle.pg_explain.specs.declared.tallier.Tally.{Tally};
 ghost use Rattle.pg_explain.specs.Denied.{IsDenialOf};
 ghost use Rattle.pg_explain.specs.Tallies.{AreTallies};
-ghost use Rattle.pg_pool.specs.Rounds.{AreCheckers};
 ghost use Rattle.pg_json.specs.Tree.{Json, Fields as ToldFields, data_of, members_of};
 ghost use Rattle.pg_json.specs.Tree.{json_line};
 ghost use Rattle.pg_json.specs.Reports.{report_json};
@@ -26,6 +25,7 @@ use pg_check::History;
 use pg_explain::{Bad, Filter, bads, tallies};
 use pg_json::{Fields, line_of, list_of, put_count, put_counts, put_no, put_report, report_json};
 use pg_json_causes::tallies_json;
+use pg_plan::Checkers;
 use pg_report::{AuditError, Report, Verdict, report_of};
 use serde_json::{Map, Value, put};
 use std::alloc::{AllocError, AllocGlobal, Global};
@@ -195,15 +195,15 @@ fn certificate(alloc: Global, history: &History, denied: Option<u64>) -> Result<
 
 fn certified<T: AllocGlobal + Threads + Wait + Sync>(
     rt: &T,
-    checkers: u16,
+    checkers: Checkers,
     history: &History,
 ) -> Result<Told, AuditError>
-    requires { AreCheckers checkers }
     ensures ok { IfOk result (λ told. IsCertificateJson history.now told.bad
         (string_bytes told.text)) }
     ensures err { IfErr result (MayFail checkers) }
 {
-    let denied = match first_denied_by(rt, rt.alloc(), history, checkers as u32) {
+    let number = checkers.number();
+    let denied = match first_denied_by(rt, rt.alloc(), history, number as u32) {
         Ok(denied) => denied,
         Err(CertifyError::Memory) => return Err(AuditError::Memory),
         Err(CertifyError::Thread) => return Err(AuditError::Thread),
@@ -225,11 +225,10 @@ fn shown(alloc: Global, history: &History, filter: Filter) -> Result<Told, Alloc
 /// The answer of a question, by so many checkers where it is whether some run has the events.
 pub(crate) fn answer_of<T: AllocGlobal + Threads + Wait + Sync>(
     rt: &T,
-    checkers: u16,
+    checkers: Checkers,
     question: Question,
     history: &History,
 ) -> Result<Told, AuditError>
-    requires { AreCheckers checkers }
     ensures ok { IfOk result (λ told. IsJsonOf question history.now told.bad
         (string_bytes told.text)) }
     ensures err { IfErr result (MayFail checkers) }

@@ -1,7 +1,6 @@
 //! A record's answer as JSON, over any streams.
 
 ghost use Rattle.std.specs.Prelude.{◌≡◌, IfOk, string_bytes};
-ghost use Rattle.pg_pool.specs.Rounds.{AreCheckers};
 ghost use Rattle.pg_report.specs.Audits.{WritesText};
 ghost use Rattle.pg_report.specs.Changes.{drawn, filled};
 ghost use Rattle.pg_report.specs.Intake.{TellsDevice};
@@ -17,6 +16,7 @@ use crate::refusals::tell_error_json;
 use pg_auditing::{NO, YES, error_status};
 use pg_check::History;
 use pg_codec::{Sink, Source};
+use pg_plan::Checkers;
 use pg_report::{AuditError, read_record, write_text};
 use std::alloc::AllocGlobal;
 use std::sync::Wait;
@@ -38,12 +38,11 @@ fn give<O: Sink>(output: &mut O, told: Told) -> Result<Option<u64>, AuditError>
 /// Writes the answer of a question of a history. Nothing is written before it is ready.
 fn write_answer<T: AllocGlobal + Threads + Wait + Sync, O: Sink>(
     rt: &T,
-    checkers: u16,
+    checkers: Checkers,
     question: Question,
     history: &History,
     output: &mut O,
 ) -> Result<Option<u64>, AuditError>
-    requires { AreCheckers checkers }
     ensures { GivesTextOf (IsJsonOf question) checkers history.now
         (filled O.Sink output.old output.new) result }
 {
@@ -56,12 +55,11 @@ fn write_answer<T: AllocGlobal + Threads + Wait + Sync, O: Sink>(
 /// Reads a record, and writes the answer of a question of it.
 fn write_asked<T: AllocGlobal + Threads + Wait + Sync, R: Source, O: Sink>(
     rt: &T,
-    checkers: u16,
+    checkers: Checkers,
     question: Question,
     input: &mut R,
     output: &mut O,
 ) -> Result<Option<u64>, AuditError>
-    requires { AreCheckers checkers }
     ensures { IsTextGivenBy (IsJsonOf question) checkers
         (drawn R.Source input.old input.new) (filled O.Sink output.old output.new) result }
 {
@@ -87,13 +85,12 @@ fn status_of(answer: Result<Option<u64>, AuditError>) -> u8
 /// memory or a thread.
 pub fn answer_json<T: AllocGlobal + Threads + Wait + Sync, R: Source, O: Sink, E: Sink>(
     rt: &T,
-    checkers: u16,
+    checkers: Checkers,
     question: Question,
     input: &mut R,
     output: &mut O,
     errors: &mut E,
 ) -> u8
-    requires { AreCheckers checkers }
     ensures { AnswersJson question checkers (streams R.Source O.Sink E.Sink
         (input.old, output.old, errors.old) (input.new, output.new, errors.new)) result }
 {

@@ -8,10 +8,12 @@ use Rattle.clap.specs.declared.error.kind.ErrorKind.TheVariants.{DisplayHelp, Di
 use Rattle.clap.proofs.OnLiterals.{clap_on_literals}
 use Rattle.pg_plan.specs.Commands.{AreAsked, Asks, IsAsked, command_line}
 use Rattle.pg_plan.specs.Values.{IsCpuIn, IsOptional, IsPageIn}
+use Rattle.pg_plan.specs.declared.request.CheckOptions.{CheckOptions}
+use Rattle.pg_plan.specs.declared.request.Command.{Command}
 use Rattle.pg_plan.specs.declared.request.Plan.{Plan}
 use Rattle.pg_plan.specs.declared.request.Selection.{Selection}
 use Rattle.pg_plan.specs.declared.request.Command.TheVariants.{Check, Certify, Explain, Run, Show}
-use Rattle.pg_plan.specs.declared.request.Telling.TheVariants.{First, All, Picture}
+use Rattle.pg_plan.specs.declared.request.Telling.TheVariants.{All, Picture}
 
 abbrev Gives : List Text → Kinds → Type 0
 Gives words kinds = fault_of command_line words ≡ kinds
@@ -24,9 +26,16 @@ options (Some found) = found.1
 abbrev every : Selection
 every = record { from = 0; to = 4294967295; cpu = None; page = None; word = None }
 
--- the plan of `check`
-abbrev bare : Plan
-bare = record { command = Check; checkers = 1; single = false; bytes = false; order = false; error = 0; selection = every; telling = First; progress = false; json = false }
+-- `check` with no option
+abbrev bare : CheckOptions
+bare = record { checkers = 1; all = false; json = false }
+
+-- nothing is told meanwhile
+abbrev quiet : Command → Plan
+quiet command = record { command = command; progress = false }
+
+abbrev telling : Command → Plan
+telling command = record { command = command; progress = true }
 
 check : Gives (codes "check" ∷ []) []
 unfolding clap_on_literals
@@ -40,9 +49,9 @@ certify_bytes : Gives (codes "certify" ∷ codes "--bytes" ∷ []) []
 unfolding clap_on_literals
 certify_bytes = refl
 
-asks_certify : Asks (codes "certify" ∷ codes "--bytes" ∷ []) (record bare { command = Certify; bytes = true }) None
+asks_certify : Asks (codes "certify" ∷ codes "--bytes" ∷ []) (quiet (Certify (record { checkers = 1; bytes = true; order = false; json = false }))) None
 unfolding clap_on_literals
-asks_certify = (refl, record { rows = options (subcommand_of command_line (codes "certify" ∷ codes "--bytes" ∷ [])); command = refl; checkers = refl; single = refl; bytes = refl; order = refl; error = refl; selection = record { from = refl; to = refl; cpu = tt; page = tt; word = tt }; telling = (refl, refl, refl); progress = refl; json = refl }, refl)
+asks_certify = (refl, ((refl, record { checkers = refl; bytes = refl; order = refl; json = refl }), refl), refl)
 
 certify_single : Gives (codes "certify" ∷ codes "--single" ∷ []) (UnknownArgument ∷ [])
 unfolding clap_on_literals
@@ -143,9 +152,9 @@ checkers_of_run_of : Gives (codes "run-of" ∷ codes "--checkers" ∷ codes "2" 
 unfolding clap_on_literals
 checkers_of_run_of = refl
 
-asks_one : Asks (codes "check" ∷ []) bare None
+asks_one : Asks (codes "check" ∷ []) (quiet (Check bare)) None
 unfolding clap_on_literals
-asks_one = (refl, record { rows = options (subcommand_of command_line (codes "check" ∷ [])); command = refl; checkers = refl; single = refl; bytes = refl; order = refl; error = refl; selection = record { from = refl; to = refl; cpu = tt; page = tt; word = tt }; telling = (refl, refl, refl); progress = refl; json = refl }, refl)
+asks_one = (refl, ((refl, record { checkers = refl; all = refl; json = refl }), refl), refl)
 
 -- ---- the switches of `run`
 
@@ -167,9 +176,9 @@ two : first_of (codes "checkers") run_options ≡ Some (codes "2")
 unfolding clap_on_literals
 two = refl
 
-asks_run : Asks run_words (record bare { command = Run; checkers = 2; single = true; bytes = true }) None
+asks_run : Asks run_words (quiet (Run (record { checkers = 2; single = true; bytes = true }))) None
 unfolding clap_on_literals
-asks_run = (refl, record { rows = run_options; command = refl; checkers = subst (λ o. AreAsked o 2) (sym two) (((omega arith, (omega arith, tt)), refl, omega arith), (omega arith, omega arith)); single = refl; bytes = refl; order = refl; error = refl; selection = record { from = refl; to = refl; cpu = tt; page = tt; word = tt }; telling = (refl, refl, refl); progress = refl; json = refl }, refl)
+asks_run = (refl, ((refl, record { checkers = subst (λ o. AreAsked o 2) (sym two) (((omega arith, (omega arith, tt)), refl, omega arith), (omega arith, omega arith)); single = refl; bytes = refl }), refl), refl)
 
 -- ---- the event numbers of `show`
 
@@ -199,9 +208,9 @@ seven : first_of (codes "to") show_options ≡ Some (codes "7")
 unfolding clap_on_literals
 seven = refl
 
-asks_show : Asks show_words (record bare { command = Show; selection = record every { from = 5; to = 7 } }) None
+asks_show : Asks show_words (quiet (Show (record { selection = record every { from = 5; to = 7 }; json = false }))) None
 unfolding clap_on_literals
-asks_show = (refl, record { rows = show_options; command = refl; checkers = refl; single = refl; bytes = refl; order = refl; error = refl; selection = record { from = subst (λ o. IsAsked 0 o 5) (sym five) ((omega arith, (omega arith, tt)), refl, omega arith); to = subst (λ o. IsAsked 4294967295 o 7) (sym seven) ((omega arith, (omega arith, tt)), refl, omega arith); cpu = tt; page = tt; word = tt }; telling = (refl, refl, refl); progress = refl; json = refl }, refl)
+asks_show = (refl, ((refl, record { selection = record { from = subst (λ o. IsAsked 0 o 5) (sym five) ((omega arith, (omega arith, tt)), refl, omega arith); to = subst (λ o. IsAsked 4294967295 o 7) (sym seven) ((omega arith, (omega arith, tt)), refl, omega arith); cpu = tt; page = tt; word = tt }; json = refl }), refl), refl)
 
 -- ---- what is asked of the events themselves
 
@@ -238,9 +247,9 @@ is_3 = (((omega arith, (omega arith, tt)), refl, omega arith), omega arith)
 is_5f0 : IsPageIn (codes "0x5F0") 1520
 is_5f0 = ((codes "5F0", refl, (omega arith, (omega arith, (omega arith, (omega arith, (omega arith, tt)))), refl, omega arith)), refl)
 
-asks_filter : Asks filter_words (record bare { command = Show; selection = record every { cpu = Some 3; page = Some 1520 } }) None
+asks_filter : Asks filter_words (quiet (Show (record { selection = record every { cpu = Some 3; page = Some 1520 }; json = false }))) None
 unfolding clap_on_literals
-asks_filter = (refl, record { rows = filter_options; command = refl; checkers = refl; single = refl; bytes = refl; order = refl; error = refl; selection = record { from = refl; to = refl; cpu = subst (λ o. IsOptional IsCpuIn o (Some 3)) (sym third) is_3; page = subst (λ o. IsOptional IsPageIn o (Some 1520)) (sym paged) is_5f0; word = tt }; telling = (refl, refl, refl); progress = refl; json = refl }, refl)
+asks_filter = (refl, ((refl, record { selection = record { from = refl; to = refl; cpu = subst (λ o. IsOptional IsCpuIn o (Some 3)) (sym third) is_3; page = subst (λ o. IsOptional IsPageIn o (Some 1520)) (sym paged) is_5f0; word = tt }; json = refl }), refl), refl)
 
 -- ---- what is told of bad events
 
@@ -252,13 +261,13 @@ none_at_most : Gives (codes "explain" ∷ codes "--all" ∷ codes "--most" ∷ c
 unfolding clap_on_literals
 none_at_most = refl
 
-asks_all : Asks (codes "explain" ∷ codes "--all" ∷ []) (record bare { command = Explain; telling = All 100 }) None
+asks_all : Asks (codes "explain" ∷ codes "--all" ∷ []) (quiet (Explain (record { telling = All 100; json = false }))) None
 unfolding clap_on_literals
-asks_all = (refl, record { rows = options (subcommand_of command_line (codes "explain" ∷ codes "--all" ∷ [])); command = refl; checkers = refl; single = refl; bytes = refl; order = refl; error = refl; selection = record { from = refl; to = refl; cpu = tt; page = tt; word = tt }; telling = (refl, refl, refl); progress = refl; json = refl }, refl)
+asks_all = (refl, ((refl, record { telling = (refl, refl, refl); json = refl }), refl), refl)
 
-asks_picture : Asks (codes "explain" ∷ codes "--svg" ∷ []) (record bare { command = Explain; telling = Picture }) None
+asks_picture : Asks (codes "explain" ∷ codes "--svg" ∷ []) (quiet (Explain (record { telling = Picture; json = false }))) None
 unfolding clap_on_literals
-asks_picture = (refl, record { rows = options (subcommand_of command_line (codes "explain" ∷ codes "--svg" ∷ [])); command = refl; checkers = refl; single = refl; bytes = refl; order = refl; error = refl; selection = record { from = refl; to = refl; cpu = tt; page = tt; word = tt }; telling = (refl, refl, refl); progress = refl; json = refl }, refl)
+asks_picture = (refl, ((refl, record { telling = (refl, refl, refl); json = refl }), refl), refl)
 
 picture_of_certify : Gives (codes "certify" ∷ codes "--svg" ∷ []) (UnknownArgument ∷ [])
 unfolding clap_on_literals
@@ -282,17 +291,17 @@ all_drawn = refl
 
 -- ---- what is told meanwhile
 
-asks_progress : Asks (codes "check" ∷ codes "--progress" ∷ []) (record bare { progress = true }) None
+asks_progress : Asks (codes "check" ∷ codes "--progress" ∷ []) (telling (Check bare)) None
 unfolding clap_on_literals
-asks_progress = (refl, record { rows = options (subcommand_of command_line (codes "check" ∷ codes "--progress" ∷ [])); command = refl; checkers = refl; single = refl; bytes = refl; order = refl; error = refl; selection = record { from = refl; to = refl; cpu = tt; page = tt; word = tt }; telling = (refl, refl, refl); progress = refl; json = refl }, refl)
+asks_progress = (refl, ((refl, record { checkers = refl; all = refl; json = refl }), refl), refl)
 
-asks_progress_of_run : Asks (codes "run" ∷ codes "--progress" ∷ []) (record bare { command = Run; progress = true }) None
+asks_progress_of_run : Asks (codes "run" ∷ codes "--progress" ∷ []) (telling (Run (record { checkers = 1; single = false; bytes = false }))) None
 unfolding clap_on_literals
-asks_progress_of_run = (refl, record { rows = options (subcommand_of command_line (codes "run" ∷ codes "--progress" ∷ [])); command = refl; checkers = refl; single = refl; bytes = refl; order = refl; error = refl; selection = record { from = refl; to = refl; cpu = tt; page = tt; word = tt }; telling = (refl, refl, refl); progress = refl; json = refl }, refl)
+asks_progress_of_run = (refl, ((refl, record { checkers = refl; single = refl; bytes = refl }), refl), refl)
 
-asks_json : Asks (codes "show" ∷ codes "--json" ∷ []) (record bare { command = Show; json = true }) None
+asks_json : Asks (codes "show" ∷ codes "--json" ∷ []) (quiet (Show (record { selection = every; json = true }))) None
 unfolding clap_on_literals
-asks_json = (refl, record { rows = options (subcommand_of command_line (codes "show" ∷ codes "--json" ∷ [])); command = refl; checkers = refl; single = refl; bytes = refl; order = refl; error = refl; selection = record { from = refl; to = refl; cpu = tt; page = tt; word = tt }; telling = (refl, refl, refl); progress = refl; json = refl }, refl)
+asks_json = (refl, ((refl, record { selection = record { from = refl; to = refl; cpu = tt; page = tt; word = tt }; json = refl }), refl), refl)
 
 json_of_run : Gives (codes "run" ∷ codes "--json" ∷ []) (UnknownArgument ∷ [])
 unfolding clap_on_literals
@@ -304,18 +313,18 @@ progress_of_show = refl
 
 -- ---- the file
 
-file : Asks (codes "check" ∷ codes "a.record" ∷ []) bare (Some (codes "a.record"))
+file : Asks (codes "check" ∷ codes "a.record" ∷ []) (quiet (Check bare)) (Some (codes "a.record"))
 unfolding clap_on_literals
-file = (refl, record { rows = options (subcommand_of command_line (codes "check" ∷ codes "a.record" ∷ [])); command = refl; checkers = refl; single = refl; bytes = refl; order = refl; error = refl; selection = record { from = refl; to = refl; cpu = tt; page = tt; word = tt }; telling = (refl, refl, refl); progress = refl; json = refl }, refl)
+file = (refl, ((refl, record { checkers = refl; all = refl; json = refl }), refl), refl)
 
-dash : Asks (codes "check" ∷ codes "-" ∷ []) bare None
+dash : Asks (codes "check" ∷ codes "-" ∷ []) (quiet (Check bare)) None
 unfolding clap_on_literals
-dash = (refl, record { rows = options (subcommand_of command_line (codes "check" ∷ codes "-" ∷ [])); command = refl; checkers = refl; single = refl; bytes = refl; order = refl; error = refl; selection = record { from = refl; to = refl; cpu = tt; page = tt; word = tt }; telling = (refl, refl, refl); progress = refl; json = refl }, refl)
+dash = (refl, ((refl, record { checkers = refl; all = refl; json = refl }), refl), refl)
 
 -- behind `--` each word is a name
-dashes : Asks (codes "check" ∷ codes "--" ∷ codes "--help" ∷ []) bare (Some (codes "--help"))
+dashes : Asks (codes "check" ∷ codes "--" ∷ codes "--help" ∷ []) (quiet (Check bare)) (Some (codes "--help"))
 unfolding clap_on_literals
-dashes = (refl, record { rows = options (subcommand_of command_line (codes "check" ∷ codes "--" ∷ codes "--help" ∷ [])); command = refl; checkers = refl; single = refl; bytes = refl; order = refl; error = refl; selection = record { from = refl; to = refl; cpu = tt; page = tt; word = tt }; telling = (refl, refl, refl); progress = refl; json = refl }, refl)
+dashes = (refl, ((refl, record { checkers = refl; all = refl; json = refl }), refl), refl)
 
 file_of_upgrade : Gives (codes "upgrade" ∷ codes "a.record" ∷ []) []
 unfolding clap_on_literals

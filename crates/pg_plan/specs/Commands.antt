@@ -7,31 +7,28 @@ use Rattle.clap.specs.Kinds.{IsAmong, Kinds}
 use Rattle.clap.specs.Simple.{App, new_app, new_rule, on_top, subcommand_of, with_rule}
 use Rattle.clap.specs.Simple.{with_subcommand}
 use Rattle.clap.specs.Lexer.{usize_max}
-use Rattle.clap.specs.Walk.{Row, Rule, Text, all_of, first_of}
+use Rattle.clap.specs.Matches.{found_of}
+use Rattle.clap.specs.Walk.{Row, Rule, Text, all_of, first_of, rows_of}
 use Rattle.clap.specs.declared.builder.action.ArgAction.TheVariants.{Append, Set, SetTrue}
 use Rattle.clap.specs.declared.builder.value_parser.ValueParser.TheVariants as parsers
 use Rattle.clap.specs.declared.error.kind.ErrorKind.TheVariants.{DisplayHelp, DisplayVersion}
+use Rattle.clap.specs.declared.parser.matches.ArgMatches.{ArgMatches}
 use Rattle.pg_plan.specs.declared.request.Command.{Command}
 use Rattle.pg_plan.specs.declared.request.Command.TheVariants.{Check, Certify, Run, RunOf}
 use Rattle.pg_plan.specs.declared.request.Command.TheVariants.{Explain, Show, Upgrade, Merge}
+use Rattle.pg_plan.specs.declared.request.CertifyOptions.{CertifyOptions}
+use Rattle.pg_plan.specs.declared.request.CheckOptions.{CheckOptions}
+use Rattle.pg_plan.specs.declared.request.ExplainOptions.{ExplainOptions}
 use Rattle.pg_plan.specs.declared.request.Plan.{Plan}
+use Rattle.pg_plan.specs.declared.request.RunOptions.{RunOptions}
 use Rattle.pg_plan.specs.declared.request.Selection.{Selection}
+use Rattle.pg_plan.specs.declared.request.ShowOptions.{ShowOptions}
 use Rattle.pg_plan.specs.declared.request.Telling.{Telling}
 use Rattle.pg_plan.specs.declared.request.Usage.{Usage}
 use Rattle.pg_plan.specs.declared.request.Usage.TheVariants.{Help, Version, Fault, Memory}
 pub use Rattle.clap.specs.Walk.{texts}
-pub use Rattle.pg_plan.specs.Values.{AreAsked, AreFrom1To64, IsAsked, IsNumberIn, IsAddressIn}
-pub use Rattle.pg_plan.specs.Values.{IsCpuIn, IsPageIn, IsOptional, IsTelling}
-
-abbrev pub command_word : Command → List ℕ
-command_word Check = codes "check"
-command_word Certify = codes "certify"
-command_word Run = codes "run"
-command_word RunOf = codes "run-of"
-command_word Explain = codes "explain"
-command_word Show = codes "show"
-command_word Upgrade = codes "upgrade"
-command_word Merge = codes "merge"
+pub use Rattle.pg_plan.specs.Values.{AreAsked, IsAsked, IsNumberIn, IsAddressIn}
+pub use Rattle.pg_plan.specs.Values.{IsCpuIn, IsPageIn, IsOptional, IsTelling, Reads}
 
 -- ---- the command line: one of the commands, of which some have options
 
@@ -80,20 +77,20 @@ plain_line name = with_progress (new_app name)
 
 abbrev pub check_line : App
 check_line =
-    let line = with_rule (new_app (command_word Check)) checkers_rule in
+    let line = with_rule (new_app (codes "check")) checkers_rule in
     let all = with_rule line (switch_rule (codes "all")) in
     with_progress (with_json all)
 
 abbrev pub certify_line : App
 certify_line =
-    let line = with_rule (new_app (command_word Certify)) checkers_rule in
+    let line = with_rule (new_app (codes "certify")) checkers_rule in
     let bytes = with_rule line (switch_rule (codes "bytes")) in
     let order = with_rule bytes (switch_rule (codes "order")) in
     with_progress (with_json order)
 
 abbrev pub run_line : App
 run_line =
-    let line = with_rule (new_app (command_word Run)) checkers_rule in
+    let line = with_rule (new_app (codes "run")) checkers_rule in
     let single = with_rule line (switch_rule (codes "single")) in
     with_progress (with_rule single (switch_rule (codes "bytes")))
 
@@ -112,7 +109,7 @@ cpu_rule = record (value_rule (codes "cpu")) {
 -- `show` with what is asked of the events themselves
 abbrev pub filter_line : App
 filter_line =
-    let cpu = with_rule (new_app (command_word Show)) cpu_rule in
+    let cpu = with_rule (new_app (codes "show")) cpu_rule in
     let page = with_rule cpu (value_rule (codes "page")) in
     with_rule page (value_rule (codes "word"))
 
@@ -130,7 +127,7 @@ most_rule = record (value_rule (codes "most")) {
 
 abbrev pub explain_line : App
 explain_line =
-    let all = with_rule (new_app (command_word Explain)) (switch_rule (codes "all")) in
+    let all = with_rule (new_app (codes "explain")) (switch_rule (codes "all")) in
     let most = with_rule all most_rule in
     let svg = with_rule most (switch_rule (codes "svg")) in
     with_progress (with_json svg)
@@ -149,7 +146,7 @@ logs_rule = record (new_rule (codes "log")) {
 }
 
 abbrev pub merge_line : App
-merge_line = with_rule (with_rule (new_app (command_word Merge)) error_rule) logs_rule
+merge_line = with_rule (with_rule (new_app (codes "merge")) error_rule) logs_rule
 
 -- the commands that judge a record
 abbrev pub judging_line : App
@@ -159,7 +156,7 @@ judging_line = with_subcommand (with_subcommand bare_line check_line.top) certif
 abbrev pub running_line : App
 running_line =
     with_subcommand (with_subcommand judging_line run_line.top)
-    (plain_line (command_word RunOf)).top
+    (plain_line (codes "run-of")).top
 
 -- and those that say more of a record
 abbrev pub telling_line : App
@@ -168,7 +165,7 @@ telling_line =
 
 abbrev pub command_line : App
 command_line =
-    with_subcommand (with_subcommand telling_line (plain_line (command_word Upgrade)).top)
+    with_subcommand (with_subcommand telling_line (plain_line (codes "upgrade")).top)
     merge_line.top
 
 -- the kinds of error that `clap` gives for the words: none where they are taken
@@ -181,10 +178,18 @@ AreTaken words = faults words ≡ []
 
 -- ---- what words ask for
 
+-- the options that matches have
+abbrev pub options_of : ArgMatches → List Row
+options_of own = rows_of (found_of own)
+
 -- a switch was given
 abbrev pub is_on : Option Text → Bool
 is_on None = false
 is_on (Some text) = bytes_eq text (codes "true")
+
+-- it is among options
+abbrev pub has : Text → List Row → Bool
+has switch rows = is_on (first_of switch rows)
 
 -- these are the events that options ask for
 pub record IsSelectionOf (rows : List Row) (asked : Selection) : Type 0 where
@@ -196,24 +201,58 @@ pub record IsSelectionOf (rows : List Row) (asked : Selection) : Type 0 where
 
 -- this is what options ask to be told of bad events
 abbrev pub IsTellingOf : List Row → Telling → Type 0
-IsTellingOf rows =
-    let all = is_on (first_of (codes "all") rows) in
-    let svg = is_on (first_of (codes "svg") rows) in
-    IsTelling all svg (first_of (codes "most") rows)
+IsTellingOf rows = IsTelling (has (codes "all") rows) (has (codes "svg") rows)
+    (first_of (codes "most") rows)
 
--- this is the plan of a command and its options
-pub record IsPlanOf (found : Option (Text × List Row)) (plan : Plan) : Type 0 where
-  pub rows : List Row
-  pub command : found ≡ Some (command_word plan.command, rows)
-  pub checkers : AreAsked (first_of (codes "checkers") rows) plan.checkers
-  pub single : plan.single ≡ is_on (first_of (codes "single") rows)
-  pub bytes : plan.bytes ≡ is_on (first_of (codes "bytes") rows)
-  pub order : plan.order ≡ is_on (first_of (codes "order") rows)
-  pub error : IsAsked 0 (first_of (codes "error") rows) plan.error
-  pub selection : IsSelectionOf rows plan.selection
-  pub telling : IsTellingOf rows plan.telling
-  pub progress : plan.progress ≡ is_on (first_of (codes "progress") rows)
-  pub json : plan.json ≡ is_on (first_of (codes "json") rows)
+-- so many checkers are asked for
+abbrev pub AreCheckersOf : List Row → ℕ → Type 0
+AreCheckersOf rows = AreAsked (first_of (codes "checkers") rows)
+
+-- ---- this is what options ask of each command
+
+pub record IsAskedOfCheck (rows : List Row) (asked : CheckOptions) : Type 0 where
+  pub checkers : AreCheckersOf rows asked.checkers
+  pub all : asked.all ≡ has (codes "all") rows
+  pub json : asked.json ≡ has (codes "json") rows
+
+pub record IsAskedOfCertify (rows : List Row) (asked : CertifyOptions) : Type 0 where
+  pub checkers : AreCheckersOf rows asked.checkers
+  pub bytes : asked.bytes ≡ has (codes "bytes") rows
+  pub order : asked.order ≡ has (codes "order") rows
+  pub json : asked.json ≡ has (codes "json") rows
+
+pub record IsAskedOfRun (rows : List Row) (asked : RunOptions) : Type 0 where
+  pub checkers : AreCheckersOf rows asked.checkers
+  pub single : asked.single ≡ has (codes "single") rows
+  pub bytes : asked.bytes ≡ has (codes "bytes") rows
+
+pub record IsAskedOfExplain (rows : List Row) (asked : ExplainOptions) : Type 0 where
+  pub telling : IsTellingOf rows asked.telling
+  pub json : asked.json ≡ has (codes "json") rows
+
+pub record IsAskedOfShow (rows : List Row) (asked : ShowOptions) : Type 0 where
+  pub selection : IsSelectionOf rows asked.selection
+  pub json : asked.json ≡ has (codes "json") rows
+
+abbrev pub IsAskedOfMerge : List Row → ℕ → Type 0
+IsAskedOfMerge rows = IsAsked 0 (first_of (codes "error") rows)
+
+-- a name and options ask for this command
+abbrev pub IsCommandOf : Text → List Row → Command → Type 0
+IsCommandOf name rows (Check asked) = (name ≡ codes "check") × IsAskedOfCheck rows asked
+IsCommandOf name rows (Certify asked) = (name ≡ codes "certify") × IsAskedOfCertify rows asked
+IsCommandOf name rows (Run asked) = (name ≡ codes "run") × IsAskedOfRun rows asked
+IsCommandOf name rows RunOf = name ≡ codes "run-of"
+IsCommandOf name rows (Explain asked) = (name ≡ codes "explain") × IsAskedOfExplain rows asked
+IsCommandOf name rows (Show asked) = (name ≡ codes "show") × IsAskedOfShow rows asked
+IsCommandOf name rows Upgrade = name ≡ codes "upgrade"
+IsCommandOf name rows (Merge error) = (name ≡ codes "merge") × IsAskedOfMerge rows error
+
+-- this is the plan of a command that was found, with its options
+abbrev pub IsPlanOf : Option (Text × List Row) → Plan → Type 0
+IsPlanOf None plan = ⊥
+IsPlanOf (Some (name, rows)) plan =
+    IsCommandOf name rows plan.command × (plan.progress ≡ has (codes "progress") rows)
 
 -- the file of a name: none for `-`, which is standard input
 abbrev pub named_file : Option Text → Option Text

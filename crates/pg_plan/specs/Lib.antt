@@ -1,3 +1,4 @@
+pub mod Counts
 pub mod Values
 pub mod Commands
 pub mod Making

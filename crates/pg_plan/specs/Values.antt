@@ -1,14 +1,16 @@
 -- What the values of options spell.
-use Rattle.std.specs.Prelude.{◌≡◌, ℕ, ◌≤◌, ◌<◌, ◌^◌, Bool, true, false, ◌++◌, length}
+use Rattle.std.specs.Prelude.{◌≡◌, ◌↔◌, ℕ, ◌≤◌, ◌<◌, ◌^◌, Bool, true, false, ◌++◌, length}
 use Rattle.std.specs.Prelude.{Option, Some, None, codes}
 use Rattle.std.specs.Str.Parse.{IsNumeral, digits_value}
 use Rattle.clap.specs.Walk.{Text}
 use Rattle.pg_event.specs.Form.{is_canonical}
+pub use Rattle.pg_plan.specs.Counts.{AreFrom1To64}
 use Rattle.pg_plan.specs.declared.request.Telling.{Telling}
 use Rattle.pg_plan.specs.declared.request.Telling.TheVariants.{First, All, Picture}
 
-abbrev pub AreFrom1To64 : ℕ → Type 0
-AreFrom1To64 n = (1 ≤ n) × (n ≤ 64)
+-- what was read is some value just where that value is so
+abbrev pub Reads : {A : Type 0} → Option A → (A → Type 0) → Type 0
+Reads {A} read Is = (x : A) → (read ≡ Some x) ↔ Is x
 
 -- a text spells a number of 32 bits by digits alone, without a sign
 abbrev pub IsNumberIn : Text → ℕ → Type 0

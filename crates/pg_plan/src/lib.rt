@@ -1,12 +1,17 @@
 //! What the words of the command line are, and what they ask for.
 #![tactic(auto)]
 
+mod checkers;
 mod lines;
 mod planner;
 mod request;
 mod values;
 mod words;
 
+pub use checkers::Checkers;
 pub use planner::plan;
-pub use request::{Command, Invocation, Plan, Selection, Telling, Usage};
+pub use request::{
+    CertifyOptions, CheckOptions, Command, ExplainOptions, Invocation, Plan, RunOptions, Selection,
+    ShowOptions, Telling, Usage,
+};
 pub use words::{NoWords, arguments, words_of};

@@ -1,28 +1,30 @@
 //! What the words of a command line ask for.
 
-ghost use Rattle.std.specs.Prelude.{◌≡◌, ◌↔◌, ◌⊎◌, ℕ, List, Option, IfOk, IfErr, Some, false};
+ghost use Rattle.std.specs.Prelude.{◌≡◌, ◌⊎◌, ℕ, List, Option, IfOk, IfErr};
 ghost use Rattle.std.specs.Prelude.{option_map, map};
 ghost use Rattle.clap.specs.Values.{kind_of};
 ghost use Rattle.clap.specs.Simple.{subcommand_of, subcommand_rows_of};
-ghost use Rattle.clap.specs.Matches.{first_value, found_of};
-ghost use Rattle.clap.specs.Walk.{rows_of};
+ghost use Rattle.clap.specs.Walk.{first_of};
 ghost use Rattle.pg_plan.specs.Commands.{texts, command_line, file_in, named_file};
-ghost use Rattle.pg_plan.specs.Commands.{logs_in, names_in};
-ghost use Rattle.pg_plan.specs.Commands.{command_word, AreFrom1To64, is_on, IsSelectionOf};
-ghost use Rattle.pg_plan.specs.Commands.{Asks, AsksOnly, IsPlanOf, IsTellingOf};
+ghost use Rattle.pg_plan.specs.Commands.{logs_in, names_in, options_of, is_on, has, Reads};
+ghost use Rattle.pg_plan.specs.Commands.{IsSelectionOf, IsTellingOf, IsAskedOfCheck};
+ghost use Rattle.pg_plan.specs.Commands.{IsAskedOfCertify, IsAskedOfRun, IsAskedOfExplain};
+ghost use Rattle.pg_plan.specs.Commands.{IsAskedOfShow, IsAskedOfMerge, IsCommandOf, IsPlanOf};
+ghost use Rattle.pg_plan.specs.Commands.{Asks, AsksOnly, AreCheckersOf};
 ghost use Rattle.pg_plan.specs.Commands.{AsksHelp, AsksVersion, NamesHelp, NamesVersion, AreTaken};
 ghost use Rattle.pg_plan.specs.Commands.{IsHelp, IsVersion, IsFault};
 ghost use Rattle.pg_plan.specs.Texts.{HasVersionText, IsFaultOf, IsWrong, TellsWrong, version_text};
-ghost use Rattle.pg_plan.specs.declared.request.Command.{Command as Asked};
 ghost use Rattle.pg_plan.specs.declared.request.Plan.{Plan as Planned};
-ghost use Rattle.pg_plan.specs.declared.request.Selection.{Selection as Selected};
-ghost use Rattle.pg_plan.specs.declared.request.Telling.{Telling as Told};
 
+use crate::checkers::Checkers;
 use crate::lines::{
     ALL, BYTES, CERTIFY, CHECK, CHECKERS, CPU, ERROR, EXPLAIN, FILE, FROM, JSON, LOG, MERGE, MOST,
     ORDER, PAGE, PROGRESS, RUN, RUN_OF, SHOW, SINGLE, SVG, TO, UPGRADE, WORD, command_line,
 };
-use crate::request::{Command, Invocation, Plan, Selection, Telling, Usage};
+use crate::request::{
+    CertifyOptions, CheckOptions, Command, ExplainOptions, Invocation, Plan, RunOptions, Selection,
+    ShowOptions, Telling, Usage,
+};
 use crate::values::{checkers_of, cpu_of, number_of, page_of, telling_of, word_of};
 use clap::error::ErrorKind;
 use clap::{ArgMatches, Error};
@@ -74,23 +76,6 @@ fn usage_of(alloc: Global, error: Error) -> Usage
     }
 }
 
-/// The command of that name.
-fn command_of(name: &str) -> Option<Command>
-    ensures { (command : Asked) → (result ≡ Some command) ↔ (name.now ≡ command_word command) }
-{
-    match name {
-        CHECK => Some(Command::Check),
-        CERTIFY => Some(Command::Certify),
-        RUN => Some(Command::Run),
-        RUN_OF => Some(Command::RunOf),
-        EXPLAIN => Some(Command::Explain),
-        SHOW => Some(Command::Show),
-        UPGRADE => Some(Command::Upgrade),
-        MERGE => Some(Command::Merge),
-        _ => None,
-    }
-}
-
 /// Whether a switch was given. (`get_flag` says nothing of other texts than `true` and `false`.)
 fn is_on(text: Option<&str>) -> bool
     ensures { result ≡ is_on (option_map (λ s. s.now) text.entry) }
@@ -101,16 +86,29 @@ fn is_on(text: Option<&str>) -> bool
     }
 }
 
+/// The first text that an option was given.
+fn text_of<'a>(own: &ArgMatches<'a>, option: &str) -> Option<&'a str>
+    ensures { option_map (λ s. s.now) result ≡ first_of option.now (options_of own.now) }
+{
+    own.get_str(option)
+}
+
+/// Whether a switch is among the options.
+fn has(own: &ArgMatches<'_>, switch: &str) -> bool
+    ensures { result ≡ has switch.now (options_of own.now) }
+{
+    is_on(text_of(own, switch))
+}
+
 /// Which events the options ask for.
 fn selection_of(own: &ArgMatches<'_>) -> Option<Selection>
-    ensures { (asked : Selected) → (result ≡ Some asked)
-        ↔ IsSelectionOf (rows_of (found_of own.now)) asked }
+    ensures { Reads result (IsSelectionOf (options_of own.now)) }
 {
-    let from = number_of(own.get_str(FROM), 0)?;
-    let to = number_of(own.get_str(TO), PAST_EVENTS)?;
-    let cpu = cpu_of(own.get_str(CPU))?;
-    let page = page_of(own.get_str(PAGE))?;
-    let word = word_of(own.get_str(WORD))?;
+    let from = number_of(text_of(own, FROM), 0)?;
+    let to = number_of(text_of(own, TO), PAST_EVENTS)?;
+    let cpu = cpu_of(text_of(own, CPU))?;
+    let page = page_of(text_of(own, PAGE))?;
+    let word = word_of(text_of(own, WORD))?;
     Some(Selection {
         from,
         to,
@@ -122,36 +120,101 @@ fn selection_of(own: &ArgMatches<'_>) -> Option<Selection>
 
 /// What the options ask to be told of bad events.
 fn telling_in(own: &ArgMatches<'_>) -> Option<Telling>
-    ensures { (telling : Told) → (result ≡ Some telling)
-        ↔ IsTellingOf (rows_of (found_of own.now)) telling }
+    ensures { Reads result (IsTellingOf (options_of own.now)) }
 {
-    let all = is_on(own.get_str(ALL));
-    let svg = is_on(own.get_str(SVG));
-    telling_of(all, svg, own.get_str(MOST))
+    telling_of(has(own, ALL), has(own, SVG), text_of(own, MOST))
+}
+
+/// How many checkers the options ask for.
+fn checkers_in(own: &ArgMatches<'_>) -> Option<Checkers>
+    ensures { Reads result (AreCheckersOf (options_of own.now)) }
+{
+    checkers_of(text_of(own, CHECKERS))
+}
+
+fn asked_of_check(own: &ArgMatches<'_>) -> Option<CheckOptions>
+    ensures { Reads result (IsAskedOfCheck (options_of own.now)) }
+{
+    Some(CheckOptions {
+        checkers: checkers_in(own)?,
+        all: has(own, ALL),
+        json: has(own, JSON),
+    })
+}
+
+fn asked_of_certify(own: &ArgMatches<'_>) -> Option<CertifyOptions>
+    ensures { Reads result (IsAskedOfCertify (options_of own.now)) }
+{
+    Some(CertifyOptions {
+        checkers: checkers_in(own)?,
+        bytes: has(own, BYTES),
+        order: has(own, ORDER),
+        json: has(own, JSON),
+    })
+}
+
+fn asked_of_run(own: &ArgMatches<'_>) -> Option<RunOptions>
+    ensures { Reads result (IsAskedOfRun (options_of own.now)) }
+{
+    Some(RunOptions {
+        checkers: checkers_in(own)?,
+        single: has(own, SINGLE),
+        bytes: has(own, BYTES),
+    })
+}
+
+fn asked_of_explain(own: &ArgMatches<'_>) -> Option<ExplainOptions>
+    ensures { Reads result (IsAskedOfExplain (options_of own.now)) }
+{
+    Some(ExplainOptions {
+        telling: telling_in(own)?,
+        json: has(own, JSON),
+    })
+}
+
+fn asked_of_show(own: &ArgMatches<'_>) -> Option<ShowOptions>
+    ensures { Reads result (IsAskedOfShow (options_of own.now)) }
+{
+    Some(ShowOptions {
+        selection: selection_of(own)?,
+        json: has(own, JSON),
+    })
+}
+
+/// By how many ticks `merge` is to widen spans.
+fn asked_of_merge(own: &ArgMatches<'_>) -> Option<u32>
+    ensures { Reads result (IsAskedOfMerge (options_of own.now)) }
+{
+    number_of(text_of(own, ERROR), 0)
+}
+
+/// The command of that name, with what its options ask of it.
+fn command_of(name: &str, own: &ArgMatches<'_>) -> Option<Command>
+    ensures { Reads result (IsCommandOf name.now (options_of own.now)) }
+{
+    match name {
+        CHECK => Some(Command::Check(asked_of_check(own)?)),
+        CERTIFY => Some(Command::Certify(asked_of_certify(own)?)),
+        RUN => Some(Command::Run(asked_of_run(own)?)),
+        RUN_OF => Some(Command::RunOf),
+        EXPLAIN => Some(Command::Explain(asked_of_explain(own)?)),
+        SHOW => Some(Command::Show(asked_of_show(own)?)),
+        UPGRADE => Some(Command::Upgrade),
+        MERGE => Some(Command::Merge {
+            error: asked_of_merge(own)?,
+        }),
+        _ => None,
+    }
 }
 
 /// What the matches ask for.
 fn plan_of(matches: &ArgMatches<'_>) -> Option<Plan>
-    ensures { (plan : Planned) → (result ≡ Some plan)
-        ↔ IsPlanOf (subcommand_rows_of matches.now) plan }
+    ensures { Reads result (IsPlanOf (subcommand_rows_of matches.now)) }
 {
     let (name, own) = matches.subcommand()?;
-    let command = command_of(name)?;
-    let checkers = checkers_of(own.get_str(CHECKERS))?;
-    let selection = selection_of(own)?;
-    let telling = telling_in(own)?;
-    let error = number_of(own.get_str(ERROR), 0)?;
     Some(Plan {
-        command,
-        checkers,
-        single: is_on(own.get_str(SINGLE)),
-        bytes: is_on(own.get_str(BYTES)),
-        order: is_on(own.get_str(ORDER)),
-        error,
-        selection,
-        telling,
-        progress: is_on(own.get_str(PROGRESS)),
-        json: is_on(own.get_str(JSON)),
+        command: command_of(name, own)?,
+        progress: has(own, PROGRESS),
     })
 }
 
@@ -221,7 +284,6 @@ fn fault(alloc: Global, text: &str) -> Usage
 pub fn plan<'a>(alloc: Global, words: &'a [&'a str]) -> Result<Invocation<'a>, Usage>
     ensures asked { IfOk result (λ asked. AsksOnly (texts words.now) asked.plan
         (option_map (λ s. s.now) asked.file)) }
-    ensures checkers { IfOk result (λ asked. AreFrom1To64 asked.plan.checkers) }
     ensures logs { IfOk result (λ asked. map (λ s. s.now) asked.logs.items
         ≡ logs_in (subcommand_of command_line (texts words.now))) }
     ensures taken { IfErr result (λ why. (plan : Planned) (file : Option (List ℕ)) →

@@ -1,26 +1,4 @@
-/// What the program is asked to do.
-#[derive(Clone, Copy, Debug, PartialEq, Eq)]
-pub enum Command {
-    /// Read a record, and write its report.
-    Check,
-    /// Read a record, take no notice of the moments that it names, and write whether any run of the
-    /// manual's machine has its events and, where none has, what stands behind that. Of a record
-    /// with spans, whether its events have an order in which some run has them.
-    Certify,
-    /// Read a guest script, run it, and write the report of the run's record, or the record.
-    Run,
-    /// Read a record, and write a run of the manual's machine that has its events.
-    RunOf,
-    /// Read a record, and write its report and, where it is no, what stands behind it.
-    Explain,
-    /// Read a record, and write its events, a line each.
-    Show,
-    /// Read a version 1 record, and write the version 2 record of the same events; its report goes
-    /// to standard error.
-    Upgrade,
-    /// Read the logs of single processors, and write the record with spans that they make.
-    Merge,
-}
+use crate::checkers::Checkers;
 
 /// Which events are written. Of several things that are asked all must hold.
 #[derive(Clone, Copy, Debug, PartialEq, Eq)]
@@ -38,45 +16,100 @@ pub struct Selection {
     pub word: Option<u64>,
 }
 
-/// What is told of bad events.
+/// What `explain` tells of bad events.
 #[derive(Clone, Copy, Debug, PartialEq, Eq)]
 pub enum Telling {
-    /// `check` names the first, and `explain` says what stands behind it.
+    /// What stands behind the first.
     First,
-    /// All are judged, and summed up. So many of them at most, 1 to 1,000,000, `explain` explains,
-    /// which is 100 where the words say nothing.
+    /// What stands behind so many of them at most, 1 to 1,000,000, and a summary of all. It is 100
+    /// where the words say nothing.
     All(u32),
-    /// `explain` draws the first. No other command is asked for this.
+    /// The first, drawn.
     Picture,
+}
+
+/// What is asked of `check`.
+#[derive(Clone, Copy, Debug, PartialEq, Eq)]
+pub struct CheckOptions {
+    pub checkers: Checkers,
+    /// Whether all events are judged, and the bad ones summed up.
+    pub all: bool,
+    /// Whether JSON is written in the place of text.
+    pub json: bool,
+}
+
+/// What is asked of `certify`.
+#[derive(Clone, Copy, Debug, PartialEq, Eq)]
+pub struct CertifyOptions {
+    pub checkers: Checkers,
+    /// Whether the record is written in the place of its report.
+    pub bytes: bool,
+    /// Whether the order that was found is written of a record with spans, in the place of the
+    /// report or of the record. Of a record with one order the report is written as ever.
+    pub order: bool,
+    /// Whether the report is written as JSON. It has no effect where the record or the order is
+    /// asked for.
+    pub json: bool,
+}
+
+/// What is asked of `run`.
+#[derive(Clone, Copy, Debug, PartialEq, Eq)]
+pub struct RunOptions {
+    pub checkers: Checkers,
+    /// Whether one thread alone carries out the script's lines in their order.
+    pub single: bool,
+    /// Whether the record is written in the place of its report.
+    pub bytes: bool,
+}
+
+/// What is asked of `explain`.
+#[derive(Clone, Copy, Debug, PartialEq, Eq)]
+pub struct ExplainOptions {
+    pub telling: Telling,
+    /// Whether JSON is written in the place of text. A picture is drawn all the same.
+    pub json: bool,
+}
+
+/// What is asked of `show`.
+#[derive(Clone, Copy, Debug, PartialEq, Eq)]
+pub struct ShowOptions {
+    pub selection: Selection,
+    /// Whether JSON is written in the place of text, an object a line.
+    pub json: bool,
+}
+
+/// What the program is asked to do.
+#[derive(Clone, Copy, Debug, PartialEq, Eq)]
+pub enum Command {
+    /// Read a record, and write its report.
+    Check(CheckOptions),
+    /// Read a record, take no notice of the moments that it names, and write whether any run of the
+    /// manual's machine has its events and, where none has, what stands behind that. Of a record
+    /// with spans, whether its events have an order in which some run has them.
+    Certify(CertifyOptions),
+    /// Read a guest script, run it, and write the report of the run's record, or the record.
+    Run(RunOptions),
+    /// Read a record, and write a run of the manual's machine that has its events.
+    RunOf,
+    /// Read a record, and write its report and, where it is no, what stands behind it.
+    Explain(ExplainOptions),
+    /// Read a record, and write its events, a line each.
+    Show(ShowOptions),
+    /// Read a version 1 record, and write the version 2 record of the same events; its report goes
+    /// to standard error.
+    Upgrade,
+    /// Read the logs of single processors, and write the record with spans that they make. Each
+    /// span is widened at both ends by so many ticks of its clock, 0 where the words say nothing.
+    Merge { error: u32 },
 }
 
 /// What the words of a command line ask for.
 #[derive(Clone, Copy, Debug, PartialEq, Eq)]
 pub struct Plan {
-    /// The command.
     pub command: Command,
-    /// How many checkers `check`, `certify` and `run` may have, 1 to 64, and 1 where the words say
-    /// nothing.
-    pub checkers: u16,
-    /// Whether `run` keeps to one thread, and carries out the script's lines in their order.
-    pub single: bool,
-    /// Whether `run` and `certify` write the record in the place of its report.
-    pub bytes: bool,
-    /// Whether `certify` of a record with spans writes the order that it found, in the place of the
-    /// report or of the record.
-    pub order: bool,
-    /// By how many ticks of their clocks `merge` widens each span at both ends. It is 0 where the
-    /// words say nothing.
-    pub error: u32,
-    /// Which events `show` writes.
-    pub selection: Selection,
-    /// What `check` and `explain` tell of bad events.
-    pub telling: Telling,
-    /// Whether all commands but `show` tell meanwhile how many events they have read, or `run` has
-    /// recorded, where it does not keep to one thread.
+    /// Whether it is told meanwhile how many events have been read, or `run` has recorded, where it
+    /// does not keep to one thread. It is never asked of `show` and `merge`.
     pub progress: bool,
-    /// Whether `check`, `certify`, `explain` and `show` write JSON in the place of text.
-    pub json: bool,
 }
 
 /// What the words of a command line ask for, and of which files.

@@ -1,17 +1,16 @@
 //! What the values of options spell.
 
-ghost use Rattle.std.specs.Prelude.{◌≡◌, ◌≢◌, ◌↔◌, ◌++◌, ℕ, List, Option, Some, codes};
-ghost use Rattle.std.specs.Prelude.{option_map, MatchOption};
-ghost use Rattle.pg_plan.specs.declared.request.Telling.{Telling as Asked};
+ghost use Rattle.std.specs.Prelude.{◌≡◌, ◌≢◌, ◌++◌, ℕ, List, codes, option_map, MatchOption};
 ghost use Rattle.pg_plan.specs.Values.{IsNumberIn, AreAsked, IsAsked, AreHexDigits, IsAddressIn};
-ghost use Rattle.pg_plan.specs.Values.{IsCpuIn, IsMost, IsPageIn, IsOptional, IsTelling};
+ghost use Rattle.pg_plan.specs.Values.{IsCpuIn, IsMost, IsPageIn, IsOptional, IsTelling, Reads};
 
+use crate::checkers::Checkers;
 use crate::request::Telling;
 use pg_event::is_canonical;
 
 /// The number that a text spells by digits alone.
 fn number_in(text: &str) -> Option<u32>
-    ensures { (n : ℕ) → (result ≡ Some n) ↔ IsNumberIn text.now n }
+    ensures { Reads result (IsNumberIn text.now) }
 {
     // `parse` takes a plus sign too.
     if text.as_bytes().first() == Some(&b'+') {
@@ -21,22 +20,18 @@ fn number_in(text: &str) -> Option<u32>
 }
 
 /// So many checkers, if the text spells their number by digits alone.
-pub(crate) fn checkers_of(text: Option<&str>) -> Option<u16>
-    ensures { (n : ℕ) → (result ≡ Some n) ↔ AreAsked (option_map (λ s. s.now) text.entry) n }
+pub(crate) fn checkers_of(text: Option<&str>) -> Option<Checkers>
+    ensures { Reads result (AreAsked (option_map (λ s. s.now) text.entry)) }
 {
-    let Some(text) = text else {
-        return Some(1);
-    };
-    let checkers = number_in(text)?;
-    if checkers < 1 || checkers > 64 {
-        return None;
+    match text {
+        Some(text) => Checkers::new(number_in(text)?),
+        None => Some(Checkers::default()),
     }
-    Some(checkers as u16)
 }
 
 /// So many, if the text spells their number by digits alone.
 fn most_of(text: Option<&str>) -> Option<u32>
-    ensures { (n : ℕ) → (result ≡ Some n) ↔ IsMost (option_map (λ s. s.now) text.entry) n }
+    ensures { Reads result (IsMost (option_map (λ s. s.now) text.entry)) }
 {
     let Some(text) = text else {
         return Some(100);
@@ -51,8 +46,7 @@ fn most_of(text: Option<&str>) -> Option<u32>
 /// What is told of bad events, where `--all` and `--svg` are given or not, and `--most` with this
 /// text.
 pub(crate) fn telling_of(all: bool, svg: bool, most: Option<&str>) -> Option<Telling>
-    ensures { (telling : Asked) → (result ≡ Some telling)
-        ↔ IsTelling all svg (option_map (λ s. s.now) most.entry) telling }
+    ensures { Reads result (IsTelling all svg (option_map (λ s. s.now) most.entry)) }
 {
     if all && svg {
         return None;
@@ -71,7 +65,7 @@ pub(crate) fn telling_of(all: bool, svg: bool, most: Option<&str>) -> Option<Tel
 
 /// The event number that the text spells by digits alone, and `other` where there is no text.
 pub(crate) fn number_of(text: Option<&str>, other: u32) -> Option<u32>
-    ensures { (n : ℕ) → (result ≡ Some n) ↔ IsAsked other (option_map (λ s. s.now) text.entry) n }
+    ensures { Reads result (IsAsked other (option_map (λ s. s.now) text.entry)) }
 {
     match text {
         Some(text) => number_in(text),
@@ -89,7 +83,7 @@ fn after_0x(text: &str) -> Option<&str>
 
 /// The number that 1 to 16 hexadecimal digits spell.
 fn hex_in(digits: &str) -> Option<u64>
-    ensures { (n : ℕ) → (result ≡ Some n) ↔ AreHexDigits digits.now n }
+    ensures { Reads result (AreHexDigits digits.now) }
 {
     // `from_str_radix` takes a plus sign too.
     if digits.len() > 16 || digits.as_bytes().first() == Some(&b'+') {
@@ -100,13 +94,13 @@ fn hex_in(digits: &str) -> Option<u64>
 
 /// The address that a text spells by `0x` and its digits.
 fn address_in(text: &str) -> Option<u64>
-    ensures { (n : ℕ) → (result ≡ Some n) ↔ IsAddressIn text.now n }
+    ensures { Reads result (IsAddressIn text.now) }
 {
     hex_in(after_0x(text)?)
 }
 
 fn cpu_in(text: &str) -> Option<u16>
-    ensures { (n : ℕ) → (result ≡ Some n) ↔ IsCpuIn text.now n }
+    ensures { Reads result (IsCpuIn text.now) }
 {
     let cpu = number_in(text)?;
     if cpu > 65_535 {
@@ -116,7 +110,7 @@ fn cpu_in(text: &str) -> Option<u16>
 }
 
 fn page_in(text: &str) -> Option<u64>
-    ensures { (n : ℕ) → (result ≡ Some n) ↔ IsPageIn text.now n }
+    ensures { Reads result (IsPageIn text.now) }
 {
     let address = address_in(text)?;
     if !is_canonical(address) {
@@ -127,8 +121,7 @@ fn page_in(text: &str) -> Option<u64>
 
 /// The processor that the text spells, if there is a text.
 pub(crate) fn cpu_of(text: Option<&str>) -> Option<Option<u16>>
-    ensures { (cpu : Option ℕ) → (result ≡ Some cpu)
-        ↔ IsOptional IsCpuIn (option_map (λ s. s.now) text.entry) cpu }
+    ensures { Reads result (IsOptional IsCpuIn (option_map (λ s. s.now) text.entry)) }
 {
     match text {
         Some(text) => Some(Some(cpu_in(text)?)),
@@ -138,8 +131,7 @@ pub(crate) fn cpu_of(text: Option<&str>) -> Option<Option<u16>>
 
 /// The address of a page that the text spells, if there is a text.
 pub(crate) fn page_of(text: Option<&str>) -> Option<Option<u64>>
-    ensures { (page : Option ℕ) → (result ≡ Some page)
-        ↔ IsOptional IsPageIn (option_map (λ s. s.now) text.entry) page }
+    ensures { Reads result (IsOptional IsPageIn (option_map (λ s. s.now) text.entry)) }
 {
     match text {
         Some(text) => Some(Some(page_in(text)?)),
@@ -149,8 +141,7 @@ pub(crate) fn page_of(text: Option<&str>) -> Option<Option<u64>>
 
 /// The address of a word that the text spells, if there is a text.
 pub(crate) fn word_of(text: Option<&str>) -> Option<Option<u64>>
-    ensures { (word : Option ℕ) → (result ≡ Some word)
-        ↔ IsOptional IsAddressIn (option_map (λ s. s.now) text.entry) word }
+    ensures { Reads result (IsOptional IsAddressIn (option_map (λ s. s.now) text.entry)) }
 {
     match text {
         Some(text) => Some(Some(address_in(text)?)),

@@ -1,4 +1,7 @@
-use pg_plan::{Command, Invocation, Plan, Selection, Telling, Usage, plan};
+use pg_plan::{
+    CertifyOptions, CheckOptions, Checkers, Command, ExplainOptions, Invocation, Plan, RunOptions,
+    Selection, ShowOptions, Telling, Usage, plan,
+};
 use std::alloc::Global;
 use std::test::Fail;
 
@@ -11,181 +14,148 @@ const EVERY: Selection = Selection {
     word: None,
 };
 
-/// A command with no option.
-const BARE: Plan = Plan {
-    command: Command::Check,
-    checkers: 1,
-    single: false,
-    bytes: false,
-    order: false,
-    error: 0,
-    selection: EVERY,
-    telling: Telling::First,
-    progress: false,
-    json: false,
-};
+/// A command that tells nothing meanwhile.
+fn quiet(command: Command) -> Plan {
+    Plan {
+        command,
+        progress: false,
+    }
+}
 
-/// Command lines and their plans.
-const PLANNED: [(&[&str], Plan); 28] = [
-    (&["check"], BARE),
+/// Whether a command line asks for this, and names no file and no log.
+fn asks_for(alloc: Global, words: &[&str], wanted: Plan) -> bool {
+    let wanted = Invocation {
+        plan: wanted,
+        file: None,
+        logs: Vec::new(alloc),
+    };
+    plan(alloc, words).ok() == Some(wanted)
+}
+
+/// Command lines of `check`: how many checkers they ask for, and whether for all events and for
+/// progress.
+const CHECKED: [(&[&str], u32, bool, bool); 6] = [
+    (&["check"], 1, false, false),
+    (&["check", "--checkers", "2"], 2, false, false),
+    (&["check", "--checkers=02"], 2, false, false),
+    (&["check", "--checkers", "64"], 64, false, false),
+    (&["check", "--all"], 1, true, false),
     (
-        &["certify"],
-        Plan {
-            command: Command::Certify,
-            ..BARE
-        },
+        &["check", "--progress", "--all", "--checkers", "2"],
+        2,
+        true,
+        true,
     ),
-    (
-        &["certify", "--checkers", "2"],
-        Plan {
-            command: Command::Certify,
-            checkers: 2,
-            ..BARE
-        },
-    ),
-    (
-        &["certify", "--bytes"],
-        Plan {
-            command: Command::Certify,
-            bytes: true,
-            ..BARE
-        },
-    ),
-    (
-        &["certify", "--order"],
-        Plan {
-            command: Command::Certify,
-            order: true,
-            ..BARE
-        },
-    ),
-    (
-        &["run-of"],
-        Plan {
-            command: Command::RunOf,
-            ..BARE
-        },
-    ),
-    (
-        &["explain"],
-        Plan {
-            command: Command::Explain,
-            ..BARE
-        },
-    ),
-    (
-        &["upgrade"],
-        Plan {
-            command: Command::Upgrade,
-            ..BARE
-        },
-    ),
-    (
-        &["show"],
-        Plan {
-            command: Command::Show,
-            ..BARE
-        },
-    ),
-    (
-        &["run"],
-        Plan {
-            command: Command::Run,
-            ..BARE
-        },
-    ),
-    (
-        &["check", "--checkers", "2"],
-        Plan {
-            checkers: 2,
-            ..BARE
-        },
-    ),
-    (
-        &["check", "--checkers=02"],
-        Plan {
-            checkers: 2,
-            ..BARE
-        },
-    ),
-    (
-        &["check", "--checkers", "64"],
-        Plan {
-            checkers: 64,
-            ..BARE
-        },
-    ),
+];
+
+#[test]
+fn plans_of_check(rt: HostRuntime) -> Result<(), Fail> {
+    for (words, number, all, progress) in CHECKED {
+        let checkers = Checkers::new(number).ok_or("no number of checkers")?;
+        let asked = CheckOptions {
+            checkers,
+            all,
+            json: false,
+        };
+        let wanted = Plan {
+            command: Command::Check(asked),
+            progress,
+        };
+        assert!(rt; asks_for(rt.alloc(), words, wanted), "{words:?}");
+    }
+    Ok(())
+}
+
+/// Command lines of `certify`: how many checkers they ask for, and whether for the record and for
+/// the order.
+const CERTIFIED: [(&[&str], u32, bool, bool); 4] = [
+    (&["certify"], 1, false, false),
+    (&["certify", "--checkers", "2"], 2, false, false),
+    (&["certify", "--bytes"], 1, true, false),
+    (&["certify", "--order"], 1, false, true),
+];
+
+#[test]
+fn plans_of_certify(rt: HostRuntime) -> Result<(), Fail> {
+    for (words, number, bytes, order) in CERTIFIED {
+        let checkers = Checkers::new(number).ok_or("no number of checkers")?;
+        let asked = CertifyOptions {
+            checkers,
+            bytes,
+            order,
+            json: false,
+        };
+        let wanted = quiet(Command::Certify(asked));
+        assert!(rt; asks_for(rt.alloc(), words, wanted), "{words:?}");
+    }
+    Ok(())
+}
+
+/// Command lines of `run`: how many checkers they ask for, and whether for a single thread and the
+/// record, and for progress.
+const RUNS: [(&[&str], u32, bool, bool); 3] = [
+    (&["run"], 1, false, false),
     (
         &["run", "--bytes", "--checkers", "3", "--single"],
-        Plan {
-            command: Command::Run,
-            checkers: 3,
-            single: true,
-            bytes: true,
-            ..BARE
-        },
+        3,
+        true,
+        false,
     ),
+    (&["run", "--progress"], 1, false, true),
+];
+
+#[test]
+fn plans_of_run(rt: HostRuntime) -> Result<(), Fail> {
+    for (words, number, both, progress) in RUNS {
+        let checkers = Checkers::new(number).ok_or("no number of checkers")?;
+        let asked = RunOptions {
+            checkers,
+            single: both,
+            bytes: both,
+        };
+        let wanted = Plan {
+            command: Command::Run(asked),
+            progress,
+        };
+        assert!(rt; asks_for(rt.alloc(), words, wanted), "{words:?}");
+    }
+    Ok(())
+}
+
+/// Command lines of `show`, and the events that they ask for.
+const SHOWN: [(&[&str], Selection); 8] = [
+    (&["show"], EVERY),
     (
         &["show", "--from", "3", "--to", "12"],
-        Plan {
-            command: Command::Show,
-            selection: Selection {
-                from: 3,
-                to: 12,
-                ..EVERY
-            },
-            ..BARE
+        Selection {
+            from: 3,
+            to: 12,
+            ..EVERY
         },
     ),
     (
         &["show", "--to=3", "--from=012"],
-        Plan {
-            command: Command::Show,
-            selection: Selection {
-                from: 12,
-                to: 3,
-                ..EVERY
-            },
-            ..BARE
+        Selection {
+            from: 12,
+            to: 3,
+            ..EVERY
         },
     ),
-    (
-        &["show", "--from", "7"],
-        Plan {
-            command: Command::Show,
-            selection: Selection { from: 7, ..EVERY },
-            ..BARE
-        },
-    ),
-    (
-        &["show", "--to", "0"],
-        Plan {
-            command: Command::Show,
-            selection: Selection { to: 0, ..EVERY },
-            ..BARE
-        },
-    ),
+    (&["show", "--from", "7"], Selection { from: 7, ..EVERY }),
+    (&["show", "--to", "0"], Selection { to: 0, ..EVERY }),
     (
         &["show", "--from", "4294967295"],
-        Plan {
-            command: Command::Show,
-            selection: Selection {
-                from: 4_294_967_295,
-                ..EVERY
-            },
-            ..BARE
+        Selection {
+            from: 4_294_967_295,
+            ..EVERY
         },
     ),
     (
         &["show", "--cpu", "65535", "--page", "0x00000000000050aB"],
-        Plan {
-            command: Command::Show,
-            selection: Selection {
-                cpu: Some(65_535),
-                page: Some(0x50ab),
-                ..EVERY
-            },
-            ..BARE
+        Selection {
+            cpu: Some(65_535),
+            page: Some(0x50ab),
+            ..EVERY
         },
     ),
     (
@@ -195,84 +165,67 @@ const PLANNED: [(&[&str], Plan); 28] = [
             "--page",
             "0xffff800000000000",
         ],
-        Plan {
-            command: Command::Show,
-            selection: Selection {
-                page: Some(0xffff_8000_0000_0000),
-                word: Some(0xffff_ffff_ffff_ffff),
-                ..EVERY
-            },
-            ..BARE
-        },
-    ),
-    (
-        &["check", "--all"],
-        Plan {
-            telling: Telling::All(100),
-            ..BARE
-        },
-    ),
-    (
-        &["explain", "--most=01000000", "--all"],
-        Plan {
-            command: Command::Explain,
-            telling: Telling::All(1_000_000),
-            ..BARE
-        },
-    ),
-    (
-        &["explain", "--svg", "--progress"],
-        Plan {
-            command: Command::Explain,
-            telling: Telling::Picture,
-            progress: true,
-            ..BARE
-        },
-    ),
-    (
-        &["check", "--progress", "--all", "--checkers", "2"],
-        Plan {
-            checkers: 2,
-            telling: Telling::All(100),
-            progress: true,
-            ..BARE
-        },
-    ),
-    (
-        &["run-of", "--progress"],
-        Plan {
-            command: Command::RunOf,
-            progress: true,
-            ..BARE
-        },
-    ),
-    (
-        &["run", "--progress"],
-        Plan {
-            command: Command::Run,
-            progress: true,
-            ..BARE
-        },
-    ),
-    (
-        &["upgrade", "--progress"],
-        Plan {
-            command: Command::Upgrade,
-            progress: true,
-            ..BARE
+        Selection {
+            page: Some(0xffff_8000_0000_0000),
+            word: Some(0xffff_ffff_ffff_ffff),
+            ..EVERY
         },
     ),
 ];
 
 #[test]
-fn plans(rt: HostRuntime) -> Result<(), Fail> {
-    for (words, plan_of_words) in PLANNED {
-        let wanted = Invocation {
-            plan: plan_of_words,
-            file: None,
-            logs: Vec::new(rt.alloc()),
+fn plans_of_show(rt: HostRuntime) -> Result<(), Fail> {
+    for (words, selection) in SHOWN {
+        let asked = ShowOptions {
+            selection,
+            json: false,
         };
-        assert_eq!(rt; plan(rt.alloc(), words).ok(), Some(wanted), "{words:?}");
+        let wanted = quiet(Command::Show(asked));
+        assert!(rt; asks_for(rt.alloc(), words, wanted), "{words:?}");
+    }
+    Ok(())
+}
+
+/// Command lines of `explain`: what they ask to be told, and whether for progress.
+const EXPLAINED: [(&[&str], Telling, bool); 3] = [
+    (&["explain"], Telling::First, false),
+    (
+        &["explain", "--most=01000000", "--all"],
+        Telling::All(1_000_000),
+        false,
+    ),
+    (&["explain", "--svg", "--progress"], Telling::Picture, true),
+];
+
+#[test]
+fn plans_of_explain(rt: HostRuntime) -> Result<(), Fail> {
+    for (words, telling, progress) in EXPLAINED {
+        let asked = ExplainOptions {
+            telling,
+            json: false,
+        };
+        let wanted = Plan {
+            command: Command::Explain(asked),
+            progress,
+        };
+        assert!(rt; asks_for(rt.alloc(), words, wanted), "{words:?}");
+    }
+    Ok(())
+}
+
+/// Command lines of commands that have no options of their own, and whether they ask for progress.
+const PLAIN: [(&[&str], Command, bool); 4] = [
+    (&["run-of"], Command::RunOf, false),
+    (&["run-of", "--progress"], Command::RunOf, true),
+    (&["upgrade"], Command::Upgrade, false),
+    (&["upgrade", "--progress"], Command::Upgrade, true),
+];
+
+#[test]
+fn plans_of_plain_commands(rt: HostRuntime) -> Result<(), Fail> {
+    for (words, command, progress) in PLAIN {
+        let wanted = Plan { command, progress };
+        assert!(rt; asks_for(rt.alloc(), words, wanted), "{words:?}");
     }
     Ok(())
 }
@@ -293,7 +246,11 @@ const NAMED: [(&[&str], Option<&str>); 8] = [
 fn names_of_files(rt: HostRuntime) -> Result<(), Fail> {
     for (words, file) in NAMED {
         let wanted = Invocation {
-            plan: BARE,
+            plan: quiet(Command::Check(CheckOptions {
+                checkers: Checkers::default(),
+                all: false,
+                json: false,
+            })),
             file,
             logs: Vec::new(rt.alloc()),
         };
@@ -319,11 +276,7 @@ fn names_of_logs(rt: HostRuntime) -> Result<(), Fail> {
         let mut logs = Vec::new(rt.alloc());
         logs.extend_from_slice(names)?;
         let wanted = Invocation {
-            plan: Plan {
-                command: Command::Merge,
-                error,
-                ..BARE
-            },
+            plan: quiet(Command::Merge { error }),
             file: None,
             logs,
         };

@@ -6,7 +6,10 @@ use Rattle.std.specs.Io.KnownBytes.{Keeps}
 use Rattle.pg_plan.specs.declared.request.Command.{Command}
 use Rattle.pg_plan.specs.declared.request.Command.TheVariants.{Check, Certify, Run, RunOf}
 use Rattle.pg_plan.specs.declared.request.Command.TheVariants.{Explain, Show, Upgrade, Merge}
-use Rattle.pg_plan.specs.declared.request.Plan.{Plan}
+use Rattle.pg_plan.specs.declared.request.CertifyOptions.{CertifyOptions}
+use Rattle.pg_plan.specs.declared.request.CheckOptions.{CheckOptions}
+use Rattle.pg_plan.specs.declared.request.ExplainOptions.{ExplainOptions}
+use Rattle.pg_plan.specs.declared.request.ShowOptions.{ShowOptions}
 use Rattle.pg_plan.specs.declared.request.Telling.{Telling}
 use Rattle.pg_plan.specs.declared.request.Telling.TheVariants.{First, All, Picture}
 use Rattle.pg_report.specs.declared.error.AuditError.TheVariants.{Device}
@@ -41,12 +44,10 @@ abbrev pub CertifiesBy : ℕ → Bool → Streams → ℕ → Type 0
 CertifiesBy checkers false = CertifiesRecord checkers
 CertifiesBy checkers true = NamesRecord
 
--- by so many checkers the record's report; or that with a summary of all bad events (and a picture
--- is asked of `explain` alone)
-abbrev pub ChecksBy : ℕ → Telling → Streams → ℕ → Type 0
-ChecksBy checkers First = Checks checkers
-ChecksBy checkers (All most) = ChecksAll
-ChecksBy checkers Picture = Checks checkers
+-- by so many checkers the record's report; or that with a summary of all bad events
+abbrev pub ChecksBy : ℕ → Bool → Streams → ℕ → Type 0
+ChecksBy checkers false = Checks checkers
+ChecksBy checkers true = ChecksAll
 
 -- what stands behind the first bad event; or behind so many at most, with that summary; or behind
 -- the first as a picture
@@ -55,57 +56,75 @@ ExplainsBy First = ExplainsRecord
 ExplainsBy (All most) = ExplainsAll most
 ExplainsBy Picture = DrawsRecord
 
-abbrev pub DoesPlain : Command → Plan → Streams → ℕ → Type 0
-DoesPlain Check plan s status = ChecksBy plan.checkers plan.telling s status
-DoesPlain Certify plan s status = CertifiesBy plan.checkers plan.bytes s status
-DoesPlain Run plan s status = ⊥
-DoesPlain RunOf plan s status = ShowsRun s status
-DoesPlain Explain plan s status = ExplainsBy plan.telling s status
-DoesPlain Show plan s status = ShowsRecord (filter_of plan) s status
-DoesPlain Upgrade plan s status = Upgrades s status
-DoesPlain Merge plan s status = ⊥
+-- what a command does
+abbrev pub DoesPlain : Command → Streams → ℕ → Type 0
+DoesPlain (Check asked) s status = ChecksBy asked.checkers asked.all s status
+DoesPlain (Certify asked) s status = CertifiesBy asked.checkers asked.bytes s status
+DoesPlain (Run asked) s status = ⊥
+DoesPlain RunOf s status = ShowsRun s status
+DoesPlain (Explain asked) s status = ExplainsBy asked.telling s status
+DoesPlain (Show asked) s status = ShowsRecord (filter_of asked.selection) s status
+DoesPlain Upgrade s status = Upgrades s status
+DoesPlain (Merge error) s status = ⊥
 
--- ---- JSON
+-- ---- JSON: what is asked to be answered by it, if anything is
 
--- what is asked of bad events
-abbrev pub check_question : Telling → Option Question
-check_question First = Some questions.Check
-check_question (All most) = Some questions.CheckAll
-check_question Picture = Some questions.Check
+abbrev pub check_question : CheckOptions → Option Question
+check_question asked =
+    if not asked.json then None
+    else if asked.all then Some questions.CheckAll else Some questions.Check
 
-abbrev pub explain_question : Telling → Option Question
-explain_question First = Some questions.Explain
-explain_question (All most) = Some (questions.ExplainAll most)
-explain_question Picture = None
+-- the report alone, and neither a record nor an order
+abbrev pub certify_question : CertifyOptions → Option Question
+certify_question asked =
+    if not asked.json || asked.bytes || asked.order then None else Some questions.Certify
 
-abbrev pub command_question : Command → Plan → Option Question
-command_question Check plan = check_question plan.telling
-command_question Certify plan = Some questions.Certify
-command_question Run plan = None
-command_question RunOf plan = None
-command_question Explain plan = explain_question plan.telling
-command_question Show plan = Some (questions.Show (filter_of plan))
-command_question Upgrade plan = None
-command_question Merge plan = None
+-- what is asked of bad events: a picture is none
+abbrev pub telling_question : Telling → Option Question
+telling_question First = Some questions.Explain
+telling_question (All most) = Some (questions.ExplainAll most)
+telling_question Picture = None
 
--- what a plan asks to be answered as JSON: nothing where it asks for a record, an order or a
--- picture
-abbrev pub question_of : Plan → Option Question
-question_of plan =
-    if not plan.json || plan.bytes || plan.order then None
-    else command_question plan.command plan
+abbrev pub explain_question : ExplainOptions → Option Question
+explain_question asked = if not asked.json then None else telling_question asked.telling
 
--- what a plan's command does of a record with one order, as JSON where that is asked for
-abbrev pub DoesOrdered : Option Question → Plan → Streams → ℕ → Type 0
-DoesOrdered None plan s status = DoesPlain plan.command plan s status
-DoesOrdered (Some question) plan s status = AnswersJson question plan.checkers s status
+abbrev pub show_question : ShowOptions → Option Question
+show_question asked =
+    if not asked.json then None else Some (questions.Show (filter_of asked.selection))
+
+abbrev pub question_of : Command → Option Question
+question_of (Check asked) = check_question asked
+question_of (Certify asked) = certify_question asked
+question_of (Run asked) = None
+question_of RunOf = None
+question_of (Explain asked) = explain_question asked
+question_of (Show asked) = show_question asked
+question_of Upgrade = None
+question_of (Merge error) = None
+
+-- so many checkers answer: one, where a command has no such option
+abbrev pub checkers_of : Command → ℕ
+checkers_of (Check asked) = asked.checkers
+checkers_of (Certify asked) = asked.checkers
+checkers_of (Run asked) = asked.checkers
+checkers_of RunOf = 1
+checkers_of (Explain asked) = 1
+checkers_of (Show asked) = 1
+checkers_of Upgrade = 1
+checkers_of (Merge error) = 1
+
+-- what a command does of a record with one order, as JSON where that is asked for
+abbrev pub DoesOrdered : Option Question → Command → Streams → ℕ → Type 0
+DoesOrdered None command s status = DoesPlain command s status
+DoesOrdered (Some question) command s status =
+    AnswersJson question (checkers_of command) s status
 
 -- ---- a record with spans
 
 -- what `certify` writes of a yes: an order, or the record in that order, where it is asked for
-abbrev pub asked_of : Plan → Asked
-asked_of plan =
-    if plan.order then asking.Order else if plan.bytes then asking.Record else asking.Report
+abbrev pub asked_of : CertifyOptions → Asked
+asked_of asked =
+    if asked.order then asking.Order else if asked.bytes then asking.Record else asking.Report
 
 -- what `explain` writes of a no: its report, whose cause is that of one event; or the picture of
 -- that cause
@@ -119,20 +138,21 @@ abbrev pub RefusesSpans : Change → Change → ℕ → Type 0
 RefusesSpans output errors status =
     StaysSame output × Tells errors spans_line × (status ≡ 2)
 
-abbrev pub DoesSpanned : Command → Plan → Streams → ℕ → Type 0
-DoesSpanned Check plan s status = RefusesSpans s.output s.errors status
-DoesSpanned Certify plan s status = OrdersRecord (asked_of plan) s status
-DoesSpanned Run plan s status = ⊥
-DoesSpanned RunOf plan s status = RefusesSpans s.output s.errors status
-DoesSpanned Explain plan s status = OrdersRecord (told_of plan.telling) s status
-DoesSpanned Show plan s status = ShowsSpans (filter_of plan) s status
-DoesSpanned Upgrade plan s status = RefusesSpans s.output s.errors status
-DoesSpanned Merge plan s status = ⊥
+-- what a command does
+abbrev pub DoesSpanned : Command → Streams → ℕ → Type 0
+DoesSpanned (Check asked) s status = RefusesSpans s.output s.errors status
+DoesSpanned (Certify asked) s status = OrdersRecord (asked_of asked) s status
+DoesSpanned (Run asked) s status = ⊥
+DoesSpanned RunOf s status = RefusesSpans s.output s.errors status
+DoesSpanned (Explain asked) s status = OrdersRecord (told_of asked.telling) s status
+DoesSpanned (Show asked) s status = ShowsSpans (filter_of asked.selection) s status
+DoesSpanned Upgrade s status = RefusesSpans s.output s.errors status
+DoesSpanned (Merge error) s status = ⊥
 
 -- the same as JSON, where that is asked for
-abbrev pub DoesUnordered : Option Question → Plan → Streams → ℕ → Type 0
-DoesUnordered None plan s status = DoesSpanned plan.command plan s status
-DoesUnordered (Some question) plan s status = AnswersSpans question s status
+abbrev pub DoesUnordered : Option Question → Command → Streams → ℕ → Type 0
+DoesUnordered None command s status = DoesSpanned command s status
+DoesUnordered (Some question) command s status = AnswersSpans question s status
 
 -- ---- by the version
 
@@ -156,22 +176,22 @@ abbrev pub FailsToLook : Option Question → Streams → ℕ → Type 0
 FailsToLook asked s status = Fails s.input × StaysSame s.output
     × Tells s.errors (device_line asked) × (status ≡ 2)
 
--- what a plan's command does of the record, by its version; or the input failed
-abbrev pub DoesOfRecord : Plan → Streams → ℕ → Type 0
-DoesOfRecord plan s status =
+-- what a command does of the record, by its version; or the input failed
+abbrev pub DoesOfRecord : Command → Streams → ℕ → Type 0
+DoesOfRecord command s status =
     (Says true s.input × (looked : Change) × IsLookedAt s.input looked
-    × DoesUnordered (question_of plan) plan (record s { input = looked }) status)
+    × DoesUnordered (question_of command) command (record s { input = looked }) status)
     ⊎ (Says false s.input × (looked : Change) × IsLookedAt s.input looked
-    × DoesOrdered (question_of plan) plan (record s { input = looked }) status)
-    ⊎ FailsToLook (question_of plan) s status
+    × DoesOrdered (question_of command) command (record s { input = looked }) status)
+    ⊎ FailsToLook (question_of command) s status
 
 -- the commands that read a record
 abbrev pub reads_record : Command → Bool
-reads_record Check = true
-reads_record Certify = true
-reads_record Run = false
+reads_record (Check asked) = true
+reads_record (Certify asked) = true
+reads_record (Run asked) = false
 reads_record RunOf = true
-reads_record Explain = true
-reads_record Show = true
+reads_record (Explain asked) = true
+reads_record (Show asked) = true
 reads_record Upgrade = true
-reads_record Merge = false
+reads_record (Merge error) = false

@@ -2,7 +2,6 @@
 
 ghost use Rattle.std.specs.Prelude.{◌≡◌, ◌≢◌, ◌⊎◌, IfOk, IfErr, Err};
 ghost use Rattle.pg_event.specs.Spelling.{IsRecord, record_bytes};
-ghost use Rattle.pg_pool.specs.Rounds.{AreCheckers};
 ghost use Rattle.pg_progress.specs.Seats.{counts};
 ghost use Rattle.pg_report.specs.Changes.{drawn, filled};
 ghost use Rattle.pg_report.specs.Text.{report_text};
@@ -14,7 +13,7 @@ ghost use Rattle.pg_tool.specs.Guests.{IsGuestRun, IsResultBy, StopsBy, TakesScr
 use crate::guest_error::GuestError;
 use pg_codec::{IntakeError, Sink, Source, pull_all, put_all, write_record};
 use pg_event::Record;
-use pg_plan::Plan;
+use pg_plan::{Checkers, RunOptions};
 use pg_pool::OpenGate;
 use pg_progress::Onlooker;
 use pg_report::Report;
@@ -70,23 +69,23 @@ fn write_trace<O: Sink>(output: &mut O, trace: &Record) -> Result<(), GuestError
 }
 
 /// A run of a script by a thread for each processor, whose record so many checkers judge. The
-/// onlooker sees how far it has come where the plan asks for that.
+/// onlooker sees how far it has come where progress is asked for.
 fn run_by_threads<T: AllocGlobal + Threads + Wait + Sync, P: Onlooker + Drop>(
     rt: &T,
-    plan: Plan,
+    checkers: Checkers,
+    progress: bool,
     script: &Script,
     onlooker: P,
 ) -> Result<RunResult, RunError>
-    requires checkers { AreCheckers plan.checkers }
-    requires onlooker { P.told onlooker ≡ counts 0 0 }
+    requires { P.told onlooker ≡ counts 0 0 }
     ensures ok { IfOk result (λ run. IsThreadsRun script.now run) }
     ensures formed { IfOk result (λ run. IsRecord (record_of run.trace)) }
     ensures able { result ≢ Err RunError.Checkers }
     ensures err { IfErr result (λ e. (e ≡ RunError.Checkers) ⊎ IsWant e) }
 {
     let alloc = rt.alloc();
-    let checkers = plan.checkers as u32;
-    if plan.progress {
+    let checkers = checkers.number() as u32;
+    if progress {
         run_guest_followed(rt, alloc, script, checkers, &OpenGate, &OpenGate, onlooker)
     } else {
         run_guest(rt, alloc, script, checkers, &OpenGate)
@@ -96,20 +95,20 @@ fn run_by_threads<T: AllocGlobal + Threads + Wait + Sync, P: Onlooker + Drop>(
 /// A run of a script by the calling thread alone, or by a thread for each processor.
 fn run_by<T: AllocGlobal + Threads + Wait + Sync, P: Onlooker + Drop>(
     rt: &T,
-    plan: Plan,
+    asked: &RunOptions,
+    progress: bool,
     script: &Script,
     onlooker: P,
 ) -> Result<RunResult, RunError>
-    requires checkers { AreCheckers plan.checkers }
-    requires onlooker { P.told onlooker ≡ counts 0 0 }
-    ensures ok { IfOk result (λ run. IsResultBy plan.single script.now run) }
+    requires { P.told onlooker ≡ counts 0 0 }
+    ensures ok { IfOk result (λ run. IsResultBy asked.now.single script.now run) }
     ensures formed { IfOk result (λ run. IsRecord (record_of run.trace)) }
-    ensures err { IfErr result (StopsBy plan.single) }
+    ensures err { IfErr result (StopsBy asked.now.single) }
 {
-    if plan.single {
+    if asked.single {
         run_single(rt.alloc(), script)
     } else {
-        run_by_threads(rt, plan, script, onlooker)
+        run_by_threads(rt, asked.checkers, progress, script, onlooker)
     }
 }
 
@@ -119,21 +118,27 @@ pub(crate) fn run_script<
     R: Source,
     O: Sink,
     P: Onlooker + Drop,
->(rt: &T, plan: Plan, input: &mut R, output: &mut O, onlooker: P) -> Result<(), GuestError>
-    requires checkers { AreCheckers plan.checkers }
-    requires onlooker { P.told onlooker ≡ counts 0 0 }
-    ensures { IsGuestRun plan.single plan.bytes
+>(
+    rt: &T,
+    asked: &RunOptions,
+    progress: bool,
+    input: &mut R,
+    output: &mut O,
+    onlooker: P,
+) -> Result<(), GuestError>
+    requires { P.told onlooker ≡ counts 0 0 }
+    ensures { IsGuestRun asked.now.single asked.now.bytes
         (drawn R.Source input.old input.new) (filled O.Sink output.old output.new) result }
 {
     let script = match read_script(rt.alloc(), input) {
         Ok(script) => script,
         Err(error) => return Err(error),
     };
-    let run = match run_by(rt, plan, &script, onlooker) {
+    let run = match run_by(rt, asked, progress, &script, onlooker) {
         Ok(run) => run,
         Err(error) => return Err(GuestError::Run(error)),
     };
-    if plan.bytes {
+    if asked.bytes {
         write_trace(output, &run.trace)
     } else {
         write_report(rt.alloc(), output, run.report)

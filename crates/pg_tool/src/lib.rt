@@ -11,5 +11,8 @@ mod records;
 
 pub use followers::Followers;
 pub use guest_error::GuestError;
-pub use pg_plan::{Command, Invocation, Plan, Telling, Usage, plan};
+pub use pg_plan::{
+    CertifyOptions, CheckOptions, Checkers, Command, ExplainOptions, Invocation, Plan, RunOptions,
+    Selection, ShowOptions, Telling, Usage, plan,
+};
 pub use program::{pcid_audit, pcid_audit_followed, run, run_followed};

@@ -1,12 +1,10 @@
 //! The program by what its words ask for: a command, and what it reads.
 
-ghost use Rattle.std.specs.Prelude.{◌≡◌, IfOk, false};
-ghost use Rattle.pg_plan.specs.Commands.{AreFrom1To64};
-ghost use Rattle.pg_pool.specs.Rounds.{AreCheckers};
+ghost use Rattle.std.specs.Prelude.{◌≡◌, None};
 ghost use Rattle.pg_progress.specs.Seats.{counts};
 ghost use Rattle.pg_report.specs.Changes.{filled};
-ghost use Rattle.pg_tool.specs.Answers.{Answers, Does, DoesFile, DoesNamed, GivesText, GivesUsage};
-ghost use Rattle.pg_tool.specs.Answers.{MergesAsked, opens, reads_logs};
+ghost use Rattle.pg_tool.specs.Answers.{Answers, DoesCommand, DoesFile, DoesNamed, GivesText};
+ghost use Rattle.pg_tool.specs.Answers.{GivesUsage, MergesAsked, opens, widening_of};
 ghost use Rattle.pg_tool.specs.Guests.{guest_error_status, run_error_status};
 ghost use Rattle.pg_tool.specs.Guests.{RunsGuest, TellsGuest};
 ghost use Rattle.pg_auditing.specs.Streams.{streams};
@@ -21,7 +19,7 @@ use pg_auditing::{
 };
 use pg_codec::{Sink, Source, put_all};
 use pg_ordering::merge;
-use pg_plan::{Command, Invocation, Plan, Usage};
+use pg_plan::{Command, Invocation, Plan, RunOptions, Usage};
 use pg_progress::{Nobody, Onlooker};
 use pg_report::AuditError;
 use pg_runner::RunError;
@@ -72,37 +70,43 @@ fn tell_run<E: Sink>(errors: &mut E, answer: Result<(), GuestError>) -> u8
 /// Runs the guest script on `input`, each of its processors in a thread, or all in this one, and
 /// writes the report of the run's record to `output`, or that record; or one line to `errors` that
 /// says why there is none. It gives the exit status: 0 a run, which is a yes, 2 refused, 3 memory
-/// or a thread. Where the plan asks for progress, the onlooker, which was told nothing before, sees
-/// how far threads have come.
+/// or a thread. Where progress is asked for, the onlooker, which was told nothing before, sees how
+/// far threads have come.
 pub fn run_followed<
     T: AllocGlobal + Threads + Wait + Sync,
     R: Source,
     O: Sink,
     E: Sink,
     P: Onlooker + Drop,
->(rt: &T, plan: Plan, input: &mut R, output: &mut O, errors: &mut E, onlooker: P) -> u8
-    requires checkers { AreCheckers plan.checkers }
-    requires onlooker { P.told onlooker ≡ counts 0 0 }
-    ensures { RunsGuest plan.single plan.bytes (streams R.Source O.Sink E.Sink
+>(
+    rt: &T,
+    asked: &RunOptions,
+    progress: bool,
+    input: &mut R,
+    output: &mut O,
+    errors: &mut E,
+    onlooker: P,
+) -> u8
+    requires { P.told onlooker ≡ counts 0 0 }
+    ensures { RunsGuest asked.now.single asked.now.bytes (streams R.Source O.Sink E.Sink
         (input.old, output.old, errors.old) (input.new, output.new, errors.new)) result }
 {
-    let answer = run_script(rt, plan, input, output, onlooker);
+    let answer = run_script(rt, asked, progress, input, output, onlooker);
     tell_run(errors, answer)
 }
 
 /// The same, with no onlooker.
 pub fn run<T: AllocGlobal + Threads + Wait + Sync, R: Source, O: Sink, E: Sink>(
     rt: &T,
-    plan: Plan,
+    asked: &RunOptions,
     input: &mut R,
     output: &mut O,
     errors: &mut E,
 ) -> u8
-    requires { AreCheckers plan.checkers }
-    ensures { RunsGuest plan.single plan.bytes (streams R.Source O.Sink E.Sink
+    ensures { RunsGuest asked.now.single asked.now.bytes (streams R.Source O.Sink E.Sink
         (input.old, output.old, errors.old) (input.new, output.new, errors.new)) result }
 {
-    run_followed(rt, plan, input, output, errors, Nobody)
+    run_followed(rt, asked, false, input, output, errors, Nobody)
 }
 
 /// Gives a text that was asked for: help, or the version.
@@ -122,27 +126,28 @@ fn give_text<O: Sink, E: Sink>(text: &str, output: &mut O, errors: &mut E) -> u8
 /// Does what a plan says that reads one input.
 fn perform<T: AllocGlobal + Threads + Wait + Sync, R: Source, O: Sink, E: Sink, P: Onlooker + Drop>(
     rt: &T,
-    plan: Plan,
+    plan: &Plan,
     input: &mut Peeked<R>,
     output: &mut O,
     errors: &mut E,
     onlooker: P,
 ) -> u8
-    requires checkers { AreFrom1To64 plan.checkers }
-    requires logs { reads_logs plan.command ≡ false }
+    requires logs { widening_of plan.now.command ≡ None }
     requires onlooker { P.told onlooker ≡ counts 0 0 }
-    ensures { Does plan (streams ⟦<Peeked<R> as Source>⟧ O.Sink E.Sink
+    ensures { DoesCommand plan.now.command (streams ⟦<Peeked<R> as Source>⟧ O.Sink E.Sink
         (input.old, output.old, errors.old) (input.new, output.new, errors.new)) result }
 {
-    match plan.command {
-        Command::Run => run_followed(rt, plan, input, output, errors, onlooker),
-        Command::Check
-        | Command::Certify
+    match &plan.command {
+        Command::Run(asked) => {
+            run_followed(rt, asked, plan.progress, input, output, errors, onlooker)
+        }
+        Command::Check(_)
+        | Command::Certify(_)
         | Command::RunOf
-        | Command::Explain
-        | Command::Show
-        | Command::Upgrade => do_of_record(rt, plan, input, output, errors),
-        Command::Merge => unreachable!(),
+        | Command::Explain(_)
+        | Command::Show(_)
+        | Command::Upgrade => do_of_record(rt, &plan.command, input, output, errors),
+        Command::Merge { .. } => unreachable!(),
     }
 }
 
@@ -154,12 +159,11 @@ fn perform_on<
     O: Sink,
     E: Sink,
     P: Onlooker + Drop,
->(rt: &T, plan: Plan, name: &str, opener: F, output: &mut O, errors: &mut E, onlooker: P) -> u8
-    requires checkers { AreFrom1To64 plan.checkers }
-    requires logs { reads_logs plan.command ≡ false }
+>(rt: &T, plan: &Plan, name: &str, opener: F, output: &mut O, errors: &mut E, onlooker: P) -> u8
+    requires logs { widening_of plan.now.command ≡ None }
     requires opener { F.IsAlwaysCallable opener }
     requires onlooker { P.told onlooker ≡ counts 0 0 }
-    ensures { DoesNamed (opens F.Fn ⟦<Peeked<S> as Source>⟧ opener) plan name.now
+    ensures { DoesNamed (opens F.Fn ⟦<Peeked<S> as Source>⟧ opener) plan.now.command name.now
         (filled O.Sink output.old output.new) (filled E.Sink errors.old errors.new) result }
 {
     match opener(name) {
@@ -171,47 +175,50 @@ fn perform_on<
     }
 }
 
-/// Whether a command reads the logs that it names.
-fn reads_logs(command: Command) -> bool
-    ensures { result ≡ reads_logs command }
+/// By how many ticks a command widens the spans of the logs that it reads, where it reads logs.
+fn widening_of(command: &Command) -> Option<u32>
+    ensures { result ≡ widening_of command.now }
 {
     match command {
-        Command::Merge => true,
-        Command::Check
-        | Command::Certify
-        | Command::Run
+        Command::Merge { error } => Some(*error),
+        Command::Check(_)
+        | Command::Certify(_)
+        | Command::Run(_)
         | Command::RunOf
-        | Command::Explain
-        | Command::Show
-        | Command::Upgrade => false,
+        | Command::Explain(_)
+        | Command::Show(_)
+        | Command::Upgrade => None,
     }
 }
 
-/// Merges the logs that are named.
+/// Merges the logs that are named, with spans that are so much wider.
 fn merge_asked<F: Fn(&str) -> Option<S>, S: Source + Drop, O: Sink, E: Sink>(
     alloc: Global,
     asked: &Invocation<'_>,
+    error: u32,
     opener: &F,
     output: &mut O,
     errors: &mut E,
 ) -> u8
     requires { F.IsAlwaysCallable opener.now }
-    ensures { MergesAsked (opens F.Fn S.Source opener.now) asked.now
+    ensures { MergesAsked (opens F.Fn S.Source opener.now) asked.now error
         (filled O.Sink output.old output.new) (filled E.Sink errors.old errors.new) result }
 {
-    merge(
-        alloc,
-        asked.logs.as_slice(),
-        asked.plan.error,
-        opener,
-        output,
-        errors,
-    )
+    merge(alloc, asked.logs.as_slice(), error, opener, output, errors)
 }
 
 /// Whether what is read is a record whose reading is to be told of: `run` reads a script.
-fn tells_of_reading(plan: Plan) -> bool {
-    plan.progress && plan.command != Command::Run
+fn tells_of_reading(plan: &Plan) -> bool {
+    match &plan.command {
+        Command::Run(_) => false,
+        Command::Check(_)
+        | Command::Certify(_)
+        | Command::RunOf
+        | Command::Explain(_)
+        | Command::Show(_)
+        | Command::Upgrade
+        | Command::Merge { .. } => plan.progress,
+    }
 }
 
 /// Tells why words give no plan, and gives the exit status.
@@ -251,8 +258,7 @@ fn perform_asked<
     errors: &mut E,
     onlooker: P,
 ) -> u8
-    requires checkers { AreFrom1To64 asked.now.plan.checkers }
-    requires logs { reads_logs asked.now.plan.command ≡ false }
+    requires logs { widening_of asked.now.plan.command ≡ None }
     requires opener { F.IsAlwaysCallable opener }
     requires onlooker { P.told onlooker ≡ counts 0 0 }
     ensures { DoesFile (opens F.Fn ⟦<Peeked<S> as Source>⟧ opener) (input.new ≡ input.old) asked.now
@@ -260,8 +266,8 @@ fn perform_asked<
         (input.old, output.old, errors.old) (input.new, output.new, errors.new)) result }
 {
     match asked.file {
-        None => perform(rt, asked.plan, input, output, errors, onlooker),
-        Some(name) => perform_on(rt, asked.plan, name, opener, output, errors, onlooker),
+        None => perform(rt, &asked.plan, input, output, errors, onlooker),
+        Some(name) => perform_on(rt, &asked.plan, name, opener, output, errors, onlooker),
     }
 }
 
@@ -287,7 +293,6 @@ pub fn pcid_audit_followed<
     output: &mut O,
     errors: &mut E,
 ) -> u8
-    requires checkers { IfOk planned (λ asked. AreFrom1To64 asked.plan.checkers) }
     requires opener { F.IsAlwaysCallable opener }
     requires onlooker { P.told followers.onlooker ≡ counts 0 0 }
     ensures { Answers planned.entry (opens F.Fn ⟦<Peeked<S> as Source>⟧ opener)
@@ -300,11 +305,10 @@ pub fn pcid_audit_followed<
         Ok(asked) => asked,
         Err(why) => return tell_usage(why, output, errors),
     };
-    reading.set(tells_of_reading(asked.plan));
-    if reads_logs(asked.plan.command) {
-        merge_asked(rt.alloc(), &asked, &opener, output, errors)
-    } else {
-        perform_asked(rt, &asked, opener, input, output, errors, onlooker)
+    reading.set(tells_of_reading(&asked.plan));
+    match widening_of(&asked.plan.command) {
+        Some(error) => merge_asked(rt.alloc(), &asked, error, &opener, output, errors),
+        None => perform_asked(rt, &asked, opener, input, output, errors, onlooker),
     }
 }
 
@@ -324,8 +328,7 @@ pub fn pcid_audit<
     output: &mut O,
     errors: &mut E,
 ) -> u8
-    requires checkers { IfOk planned (λ asked. AreFrom1To64 asked.plan.checkers) }
-    requires opener { F.IsAlwaysCallable opener }
+    requires { F.IsAlwaysCallable opener }
     ensures { Answers planned.entry (opens F.Fn ⟦<Peeked<S> as Source>⟧ opener)
         (input.new ≡ input.old)
         (streams ⟦<Peeked<R> as Source>⟧ O.Sink E.Sink

@@ -1,4 +1,4 @@
-use Rattle.std.proofs.Common.{◌≡◌, ◌≢◌, ℕ, Option, Err, refl, subst, string_bytes}
+use Rattle.std.proofs.Common.{◌≡◌, ◌≢◌, ◌∙◌, ℕ, Option, Err, refl, subst, string_bytes}
 use Rattle.std.specs.Prelude.{Result}
 use Rattle.std.proofs.KnownBytes.{Keeps-refl}
 use Rattle.std.proofs.lemmas.Result.{err_from_is_err_and}
@@ -18,7 +18,7 @@ returns-in-Err-Memory g c = λ input reads read. memory_fails IsCertificateOf c.
 pub returns-in-Err-Thread : goal.returns-in-Err-Thread
 returns-in-Err-Thread g c = λ input reads read.
     let refused = c.in-Err-Thread in
-    let several : c.args.checkers ≢ 1 = λ one. is_refused (Err refused.field-0) refused.field-0 refl refused.field-0-is (refused.ensures.alone one) in
+    let several : c.args.checkers ≢ 1 = λ one. is_refused (Err refused.field-0) refused.field-0 refl refused.field-0-is (refused.ensures.alone (c.number-number.ensures.value ∙ one)) in
     thread_fails IsCertificateOf c.args.checkers input _ c.args.history.now read several (Keeps-refl _) refl
 
 pub returns-in_err-told : goal.returns-in_err-told

@@ -1,14 +1,11 @@
-use Rattle.std.proofs.Common.{◌≡◌, ◌∙◌, ℕ, List, Global, String, ap, codes, length, string_bytes}
+use Rattle.std.proofs.Common.{◌≡◌, ◌∙◌, ℕ, Global, String, ap, length, string_bytes}
 use Rattle.std.proofs.lemmas.Result.{IfOk-weaker}
 use Rattle.serde_json.specs.Data.{object}
-use Rattle.serde_json.specs.View.{members_view}
 use Rattle.serde_json.proofs.Views.{view-Object}
-use Rattle.pg_event.specs.declared.event.Event.{Event}
-use Rattle.pg_event.specs.Heads.{Head}
 use Rattle.pg_event.specs.Spelling.{Recorded, segment_count}
 use Rattle.pg_explain.specs.declared.denial.Denial.{Denial}
 use Rattle.pg_explain.specs.Denied.{IsDenialOf}
-use Rattle.pg_json.specs.Reports.{with_counts, with_no}
+use Rattle.pg_json.specs.Reports.{with_counts}
 use Rattle.pg_json.specs.Tree.{Fields, json_line, members_of}
 use Rattle.pg_json_causes.specs.Causes.{denial_json}
 use Rattle.pg_json_answers.specs.Answers.{denied_json, with_cause}

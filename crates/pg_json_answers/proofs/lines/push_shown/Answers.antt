@@ -1,4 +1,4 @@
-use Rattle.std.proofs.Common.{◌≡◌, ◌∙◌, ◌++◌, ℕ, Bool, List, ap, sym, string_bytes}
+use Rattle.std.proofs.Common.{◌∙◌, ◌++◌, ℕ, Bool, List, ap, sym, string_bytes}
 use Rattle.pg_event.specs.declared.event.Event.{Event}
 use Rattle.pg_json.specs.Events.{event_json}
 use Rattle.pg_json_answers.specs.Answers.{shown_line}

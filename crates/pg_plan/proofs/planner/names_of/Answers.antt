@@ -1,7 +1,6 @@
 use Rattle.std.proofs.Common.{List, codes, sym, ap, ◌∙◌}
 use Rattle.clap.specs.Matches.{found_of}
 use Rattle.clap.specs.Walk.{Row, rows_of}
-use Rattle.clap.specs.Simple.{subcommand_rows_of}
 use Rattle.clap.specs.declared.parser.matches.ArgMatches.TheViews.{out-ArgMatches}
 use Rattle.clap.proofs.WalkLemmas.{raw_values-rows}
 use Rattle.pg_plan.specs.Commands.{names_in}

@@ -1,12 +1,12 @@
-use Rattle.std.proofs.Common.{⊎_elim, codes, refl, sym, ap, subst, ◌≡◌, ◌∙◌, List, [], ◌∷◌, Option, None, Some}
+use Rattle.std.proofs.Common.{⊎_elim, sym, ap, subst, ◌≡◌, ◌∙◌, List, [], ◌∷◌, Option, None, Some}
 use Rattle.clap.specs.Kinds.{Kinds}
-use Rattle.clap.specs.Walk.{Row, Text, first_of}
+use Rattle.clap.specs.Walk.{Row, Text}
 use Rattle.clap.specs.Simple.{app_of, subcommand_of, subcommand_rows_of}
 use Rattle.clap.specs.declared.error.kind.ErrorKind.TheVariants.{DisplayHelp, DisplayVersion}
 use Rattle.pg_plan.specs.Commands.{IsFault, command_line, file_in, logs_in, texts}
 use Rattle.pg_plan.specs.Texts.{TellsWrong}
 use Rattle.pg_plan.specs.declared.request.Usage.{Usage}
-use Rattle.pg_plan.proofs.Parses.{asked_range, fails_by_memory, text_named, gives_text, is_asked, parsed_taken, parsed_rows, plans_of}
+use Rattle.pg_plan.proofs.Parses.{fails_by_memory, text_named, gives_text, is_asked, parsed_taken, parsed_rows, plans_of}
 use Rattle.pg_plan.proofs.Told.{tells_wrong}
 use Rattle.pg_plan.proofs.planner.plan.Goals as goal
 
@@ -18,11 +18,6 @@ returns-in-Ok-logs_of-clause-asked c =
     let taken = parsed_taken app words c.in-Ok.ensures.made.form parsed.ensures.kinds in
     let rows = parsed_rows app words parsed.matches c.in-Ok.ensures.made.form parsed.ensures.matches in
     is_asked words c.in-Some.plan _ taken (plans_of (Some c.in-Some.plan) (subcommand_rows_of parsed.matches) words rows c.in-Some.ensures) (c.file_of.ensures ∙ ap file_in rows)
-
-pub returns-in-Ok-logs_of-clause-checkers : goal.returns-in-Ok-logs_of-clause-checkers
-returns-in-Ok-logs_of-clause-checkers c =
-    let planned = (c.in-Some.ensures c.in-Some.plan).0 refl in
-    asked_range (first_of (codes "checkers") planned.rows) c.in-Some.plan.checkers planned.checkers
 
 pub returns-in-Ok-logs_of-clause-logs : goal.returns-in-Ok-logs_of-clause-logs
 returns-in-Ok-logs_of-clause-logs c =

@@ -2,15 +2,17 @@ use Rattle.std.proofs.Common.{sym, subst, ◌∙◌}
 use Rattle.std.specs.Prelude.{Option}
 use Rattle.pg_auditing.specs.Streams.{streams}
 use Rattle.pg_json_answers.specs.declared.question.Question.{Question}
+use Rattle.pg_json_answers.specs.Commands.{AnswersJson}
 use Rattle.pg_tool.specs.Records.{DoesOrdered}
 use Rattle.pg_tool.proofs.records.do_of_ordered.Goals as goal
 
 pub returns-in-None : goal.returns-in-None
 returns-in-None g c =
     let s = streams g.R.Source g.O.Sink g.E.Sink (c.args.input.now, c.args.output.now, c.args.errors.now) (c.do_of_plain.new.input, c.do_of_plain.new.output, c.do_of_plain.new.errors) in
-    subst (λ (q : Option Question). DoesOrdered q c.args.plan s c.do_of_plain.result) (sym c.in-None.is ∙ c.question_of.ensures) c.do_of_plain.ensures
+    subst (λ (q : Option Question). DoesOrdered q c.args.command.now s c.do_of_plain.result) (sym c.in-None.is ∙ c.question_of.ensures) c.do_of_plain.ensures
 
 pub returns-in-Some : goal.returns-in-Some
 returns-in-Some g c =
     let s = streams g.R.Source g.O.Sink g.E.Sink (c.args.input.now, c.args.output.now, c.args.errors.now) (c.answer_json.new.input, c.answer_json.new.output, c.answer_json.new.errors) in
-    subst (λ (q : Option Question). DoesOrdered q c.args.plan s c.answer_json.result) (sym c.in-Some.is ∙ c.question_of.ensures) c.answer_json.ensures
+    let answers = subst (λ n. AnswersJson c.in-Some.question n s c.answer_json.result) c.checkers_of.ensures c.answer_json.ensures in
+    subst (λ (q : Option Question). DoesOrdered q c.args.command.now s c.answer_json.result) (sym c.in-Some.is ∙ c.question_of.ensures) answers
