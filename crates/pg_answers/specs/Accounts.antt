@@ -49,7 +49,8 @@ abbrev pub taken_told : Numbers → List Event → Option Last → Option Last �
 taken_told n changes None last = None
 taken_told n changes (Some among) None = None
 taken_told n changes (Some among) (Some last) =
-    option_map (λ e. whole_of n.named last.number (with_placeholder e)) (slice_get changes among.number)
+    option_map (λ e. whole_of n.named last.number (with_placeholder e))
+    (slice_get changes among.number)
 
 -- what stands behind event n, and its text
 abbrev pub IsDenialTold : Recorded → ℕ → List ℕ → Type 0

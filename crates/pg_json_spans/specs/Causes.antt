@@ -5,12 +5,12 @@
 --     read_after           the event behind which its walk reads in every order, with its span, or
 --                          null
 --     if_not_global        whether global translations may stay there
---     may_read             the entries that the walk may read since: level, word, value, is (what it
---                          is), page (of a leaf, the address of its page), written_by
+--     may_read             the entries that the walk may read since: level, word, value, is (what
+--                          it is), page (of a leaf, the address of its page), written_by
 --     cannot_read          those of these words that it can't: word, value, written_by,
 --                          overwritten_by, and before: the event that this one comes before
---     as_written           whether assists may have set accessed and dirty flags in these values, as
---                          in version 4
+--     as_written           whether assists may have set accessed and dirty flags in these values,
+--                          as in version 4
 --
 -- An event that names no walk has the first alone. Both lists are whole, where the text cuts them.
 use Rattle.std.specs.Prelude.{ℕ, Bool, true, false, List, map, Option, Some, None, codes}

@@ -1,5 +1,5 @@
--- The texts of this program's own that are told where words give no plan. (`clap` makes those of help
--- and of words that it does not take.)
+-- The texts of this program's own that are told where words give no plan. (`clap` makes those of
+-- help and of words that it does not take.)
 use Rattle.std.specs.Prelude.{◌≡◌, ◌⊎◌, List, ◌++◌, Option, Some, None, codes, string_bytes}
 use Rattle.clap.specs.Walk.{Row, Text}
 use Rattle.pg_plan.specs.Commands.{IsTellingOf}
