@@ -6,9 +6,7 @@ use pg_auditing::{
     tell_text, tell_unopened,
 };
 use pg_codec::{Sink, Source, Watched};
-use pg_plan::{
-    CheckOptions, Checkers, Command, NoWords, Plan, Usage, arguments, plan, words_of,
-};
+use pg_plan::{CheckOptions, Checkers, Command, NoWords, Plan, Usage, arguments, plan, words_of};
 use pg_report::AuditError;
 use pg_span_codec::Peeked;
 use std::alloc::AllocGlobal;

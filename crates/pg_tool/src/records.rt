@@ -206,7 +206,7 @@ fn do_of_ordered<T: AllocGlobal + Threads + Wait + Sync, R: Source, O: Sink, E: 
 {
     match question_of(command) {
         None => do_of_plain(rt, command, input, output, errors),
-        Some(question) => { answer_json(rt, checkers_of(command), question, input, output, errors) }
+        Some(question) => answer_json(rt, checkers_of(command), question, input, output, errors),
     }
 }
 
