@@ -66,24 +66,26 @@ fn plans_of_check(rt: HostRuntime) -> Result<(), Fail> {
     Ok(())
 }
 
-/// Command lines of `certify`: how many checkers they ask for, and whether for the record and for
-/// the order.
-const CERTIFIED: [(&[&str], u32, bool, bool); 4] = [
-    (&["certify"], 1, false, false),
-    (&["certify", "--checkers", "2"], 2, false, false),
-    (&["certify", "--bytes"], 1, true, false),
-    (&["certify", "--order"], 1, false, true),
+/// Command lines of `certify`: how many checkers they ask for, whether for the record, for the
+/// order, and for JSON.
+const CERTIFIED: [(&[&str], u32, [bool; 3]); 6] = [
+    (&["certify"], 1, [false, false, false]),
+    (&["certify", "--checkers", "2"], 2, [false, false, false]),
+    (&["certify", "--bytes"], 1, [true, false, false]),
+    (&["certify", "--order"], 1, [false, true, false]),
+    (&["certify", "--json"], 1, [false, false, true]),
+    (&["certify", "--json", "--bytes"], 1, [true, false, true]),
 ];
 
 #[test]
 fn plans_of_certify(rt: HostRuntime) -> Result<(), Fail> {
-    for (words, number, bytes, order) in CERTIFIED {
+    for (words, number, [bytes, order, json]) in CERTIFIED {
         let checkers = Checkers::new(number).ok_or("no number of checkers")?;
         let asked = CertifyOptions {
             checkers,
             bytes,
             order,
-            json: false,
+            json,
         };
         let wanted = quiet(Command::Certify(asked));
         assert!(rt; asks_for(rt.alloc(), words, wanted), "{words:?}");
@@ -91,27 +93,28 @@ fn plans_of_certify(rt: HostRuntime) -> Result<(), Fail> {
     Ok(())
 }
 
-/// Command lines of `run`: how many checkers they ask for, and whether for a single thread and the
+/// Command lines of `run`: how many checkers they ask for, whether for a single thread, for the
 /// record, and for progress.
-const RUNS: [(&[&str], u32, bool, bool); 3] = [
-    (&["run"], 1, false, false),
+const RUNS: [(&[&str], u32, [bool; 3]); 5] = [
+    (&["run"], 1, [false, false, false]),
     (
         &["run", "--bytes", "--checkers", "3", "--single"],
         3,
-        true,
-        false,
+        [true, true, false],
     ),
-    (&["run", "--progress"], 1, false, true),
+    (&["run", "--single"], 1, [true, false, false]),
+    (&["run", "--bytes"], 1, [false, true, false]),
+    (&["run", "--progress"], 1, [false, false, true]),
 ];
 
 #[test]
 fn plans_of_run(rt: HostRuntime) -> Result<(), Fail> {
-    for (words, number, both, progress) in RUNS {
+    for (words, number, [single, bytes, progress]) in RUNS {
         let checkers = Checkers::new(number).ok_or("no number of checkers")?;
         let asked = RunOptions {
             checkers,
-            single: both,
-            bytes: both,
+            single,
+            bytes,
         };
         let wanted = Plan {
             command: Command::Run(asked),

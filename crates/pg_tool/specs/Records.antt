@@ -102,11 +102,11 @@ question_of (Show asked) = show_question asked
 question_of Upgrade = None
 question_of (Merge error) = None
 
--- so many checkers answer: one, where a command has no such option
+-- so many checkers answer a command as JSON: those of `certify`, and one of each other
 abbrev pub checkers_of : Command → ℕ
-checkers_of (Check asked) = asked.checkers
+checkers_of (Check asked) = 1
 checkers_of (Certify asked) = asked.checkers
-checkers_of (Run asked) = asked.checkers
+checkers_of (Run asked) = 1
 checkers_of RunOf = 1
 checkers_of (Explain asked) = 1
 checkers_of (Show asked) = 1

@@ -175,15 +175,15 @@ fn question_of(command: &Command) -> Option<Question>
     }
 }
 
-/// How many checkers answer a command.
+/// How many checkers answer a command as JSON: `check` judges on the calling thread then.
 fn checkers_of(command: &Command) -> Checkers
     ensures { result ≡ checkers_of command.now }
 {
     match command {
-        Command::Check(asked) => asked.checkers,
         Command::Certify(asked) => asked.checkers,
-        Command::Run(asked) => asked.checkers,
-        Command::RunOf
+        Command::Check(_)
+        | Command::Run(_)
+        | Command::RunOf
         | Command::Explain(_)
         | Command::Show(_)
         | Command::Upgrade
