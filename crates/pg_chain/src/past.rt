@@ -2,6 +2,7 @@ ghost use Rattle.std.specs.Prelude.{◌≡◌, ◌+◌, ◌-◌, ◌<◌, ◌≤
 ghost use Rattle.std.specs.Prelude.{not, true, ℕ};
 ghost use Rattle.std.specs.Prelude.{IfOk, IsOk, IsTrue, OnOk, OnErr};
 ghost use Rattle.std.specs.List.{AllByRecursion};
+ghost use Rattle.pg_entry.specs.Permission.{is_allowed};
 ghost use Rattle.pg_event.specs.declared.event.Event.{Event};
 ghost use Rattle.pg_event.specs.Form.{processor_of};
 ghost use Rattle.pg_event.specs.Heads.{Head};
@@ -17,7 +18,7 @@ ghost use Rattle.pg_inval.specs.Lists.{IsFirstDrop};
 ghost use Rattle.pg_chain.specs.Standing.{IsPast, InEachRun, IsNext, processor_count};
 ghost use Rattle.pg_chain.specs.Standing.{changes_nothing};
 
-use pg_entry::{Cfg, Entry, Level, marked};
+use pg_entry::{AccessKind, Cfg, Entry, Level, Rights, marked};
 use pg_event::{
     Control, Event, Header, MemoryChange, Outcome, Request, TranslationKey, Version, processor_of,
 };
@@ -200,6 +201,15 @@ impl Past {
         ensures within { (36 ≤ result.m) × (result.m ≤ 52) }
     {
         self.controls.cfg()
+    }
+
+    /// Whether the rights of a whole walk allow an access in the run (Intel SDM, vol. 3, 4.6.1).
+    #[inline(always)]
+    pub fn allow(&self, rights: Rights, kind: AccessKind) -> bool
+        ensures { InEachRun self.now (λ head events.
+            result ≡ is_allowed head.cfg rights kind) }
+    {
+        self.controls.allow(rights, kind)
     }
 
     /// The version of the run's record.

@@ -1,5 +1,6 @@
 ghost use Rattle.std.specs.Prelude.{◌≡◌, ◌+◌, ◌<◌, ◌≤◌, ◌^◌, false, List, [], ◌∷◌, ◌++◌, map};
 ghost use Rattle.std.specs.Prelude.{length, replicate, slice_set, IsOk, IfOk, OnOk, OnErr, ℕ};
+ghost use Rattle.pg_entry.specs.Permission.{is_allowed};
 ghost use Rattle.pg_event.specs.declared.event.Event.{Event};
 ghost use Rattle.pg_event.specs.Form.{processor_of};
 ghost use Rattle.pg_event.specs.Heads.{Head};
@@ -10,9 +11,11 @@ ghost use Rattle.pg_state.specs.Controls.{is_change, start_in, cfg_of, version_o
 ghost use Rattle.pg_state.specs.Controls.{processor_count, changes_of, control_in, IsNoted, IsSame};
 ghost use Rattle.pg_state.specs.Controls.{IsCutAt, StandsFor};
 
-use pg_entry::Cfg;
+use crate::changes::Changes;
+use crate::permissions::Permissions;
+use pg_entry::{AccessKind, Cfg, Rights};
 use pg_event::{Control, Event, Header, Version, controlled, loaded, processor_of};
-use pg_timeline::{Probes, Span, Timeline};
+use pg_timeline::{Probes, Span};
 use std::alloc::{AllocError, Global};
 use std::marker::Model;
 
@@ -22,10 +25,12 @@ pub struct Controls {
     header: Header,
     next: u64,
     /// The registers that each processor's changes left, by the processors' numbers.
-    by_processor: Vec<Timeline<Control>>,
+    by_processor: Vec<Changes>,
+    permissions: Permissions,
 }
 
 impl Model for Controls {
+    ghost use Rattle.std.specs.Prelude.{◌≡◌};
     ghost use Rattle.pg_state.specs.Controls.{Registers, AreKept};
 
     ghost Value = { Registers };
@@ -36,7 +41,8 @@ impl Model for Controls {
       next = a.next;
     } };
 
-    ghost invariant = { λ a. AreKept a.header a.by_processor.items a.next };
+    ghost invariant = { λ a. AreKept a.header a.by_processor.items a.next
+        × (a.permissions ≡ a.header.cfg) };
 }
 
 /// Whether an event may change the control registers of its processor: MOV to CR3, and MOV to CR4
@@ -54,24 +60,24 @@ fn is_change(event: &Event) -> bool
     }
 }
 
-/// A timeline without changes for each of some processors.
+/// No changes of each of some processors.
 fn unchanged(
     alloc: Global,
     processors: &[(u64, bool)],
-) -> Result<Vec<Timeline<Control>>, AllocError>
+) -> Result<Vec<Changes>, AllocError>
     ensures { IfOk result
         (λ by_processor. by_processor.items ≡ replicate (length processors.now) []) }
 {
     let mut by_processor = Vec::with_capacity(alloc, processors.len())?;
     for _ in processors {
-        by_processor.push(Timeline::new(alloc))?;
+        by_processor.push(Changes::new(alloc))?;
     }
     Ok(by_processor)
 }
 
-/// Adds registers at the end of the timeline of a processor.
+/// Adds registers behind those of a processor.
 fn push_at(
-    by_processor: &mut Vec<Timeline<Control>>,
+    by_processor: &mut Vec<Changes>,
     p: u16,
     moment: u32,
     control: Control,
@@ -87,7 +93,7 @@ fn push_at(
 }
 
 /// The registers that the changes of a processor left.
-fn changes_at(by_processor: &Vec<Timeline<Control>>, p: u16) -> &Timeline<Control>
+fn changes_at(by_processor: &Vec<Changes>, p: u16) -> &Changes
     requires { p < length by_processor.now.items }
     ensures { result.now ≡ changes_of by_processor.now.items p }
 {
@@ -95,11 +101,11 @@ fn changes_at(by_processor: &Vec<Timeline<Control>>, p: u16) -> &Timeline<Contro
 }
 
 /// Forgets the registers of every processor from a moment on.
-fn cut_all(by_processor: &mut Vec<Timeline<Control>>, moment: u32)
+fn cut_all(by_processor: &mut Vec<Changes>, moment: u32)
     ensures { by_processor.new.items ≡ map (cut_at moment) by_processor.old.items }
 {
-    for timeline in by_processor.iter_mut() {
-        timeline.forget_from(moment);
+    for changes in by_processor.iter_mut() {
+        changes.forget_from(moment);
     }
 }
 
@@ -114,6 +120,7 @@ impl Controls {
             header: header.clone()?,
             next: 0,
             by_processor,
+            permissions: Permissions::new(header.cfg),
         })
     }
 
@@ -125,6 +132,16 @@ impl Controls {
         ensures width { (36 ≤ result.m) × (result.m ≤ 52) }
     {
         self.header.cfg
+    }
+
+    /// Whether the rights of a whole walk allow an access in this run (Intel SDM, vol. 3, 4.6.1).
+    #[inline(always)]
+    pub fn allow(&self, rights: Rights, kind: AccessKind) -> bool
+        ensures value { result ≡ is_allowed (cfg_of self.now) rights kind }
+        ensures run { (head : Head) (events : List Event) → StandsFor self.now head events →
+            result ≡ is_allowed head.cfg rights kind }
+    {
+        self.permissions.allow(rights, kind)
     }
 
     /// The version of the run's record.

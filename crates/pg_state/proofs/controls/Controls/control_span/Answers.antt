@@ -1,4 +1,4 @@
-use Rattle.std.proofs.Common.{◌≡◌, ◌^◌, ◌<◌, ap, sym, subst, ◌∙◌}
+use Rattle.std.proofs.Common.{◌^◌, ◌<◌, ap, sym, subst, ◌∙◌}
 use Rattle.std.specs.Option.{unwrap_or}
 use Rattle.pg_event.specs.declared.control.Control.{Control}
 use Rattle.pg_event.specs.Values.{control_at}
@@ -28,4 +28,4 @@ pub returns-clause-root : goal.returns-clause-root
 returns-clause-root c =
     let span = returns-clause-value c in
     subst (λ (x : Control). x.root < 2 ^ 52) (span.same c.args.moment span.low span.high)
-    (rw (← c.self.view_is) (control_in-low _ c.args.p c.args.moment c.self.invariant))
+    (rw (← c.self.view_is) (control_in-low _ c.args.p c.args.moment c.self.invariant.0))

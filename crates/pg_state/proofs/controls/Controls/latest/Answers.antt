@@ -1,10 +1,10 @@
-use Rattle.std.proofs.Common.{◌≡◌, ◌≤◌, ℕ, List, ap, sym, subst, ◌∙◌}
+use Rattle.std.proofs.Common.{◌≡◌, List, ap, sym, subst, ◌∙◌}
 use Rattle.std.specs.Option.{unwrap_or}
 use Rattle.pg_event.specs.declared.control.Control.{Control}
 use Rattle.pg_timeline.specs.declared.timeline.Stamp.{Stamp}
 use Rattle.pg_timeline.specs.Timelines.{last_before}
 use Rattle.pg_timeline.specs.Keyed.{AreBelow}
-use Rattle.pg_state.specs.Controls.{Registers, next_moment, changes_of, control_in, start_in}
+use Rattle.pg_state.specs.Controls.{Registers, start_in}
 use Rattle.pg_state.proofs.Known.{latest-read}
 use Rattle.pg_state.proofs.controls.Controls.latest.Goals as goal
 
@@ -13,7 +13,7 @@ returns-in-Some-clause-value c = λ w le.
     let s = c.self.inside in
     let old : Registers = record { head = s.header; changes = s.by_processor.items; next = s.next } in
     ap (λ o. unwrap_or o (start_in c.args.self.now.head c.args.p)) (sym c.in-Some.is)
-    ∙ latest-read old c.args.self.now c.args.p w c.last.result c.self.view_is c.self.invariant le
+    ∙ latest-read old c.args.self.now c.args.p w c.last.result c.self.view_is c.self.invariant.0 le
     (subst (λ (xs : List (Stamp Control)). AreBelow w xs → c.last.result ≡ last_before w xs) c.changes_at.ensures (c.last.ensures w))
 
 pub returns-in-Some-clause-run : goal.returns-in-Some-clause-run
@@ -25,7 +25,7 @@ returns-in-None-clause-value c = λ w le.
     let old : Registers = record { head = s.header; changes = s.by_processor.items; next = s.next } in
     c.start.ensures
     ∙ ap (λ o. unwrap_or o (start_in c.args.self.now.head c.args.p)) (sym c.in-None.is)
-    ∙ latest-read old c.args.self.now c.args.p w c.last.result c.self.view_is c.self.invariant le
+    ∙ latest-read old c.args.self.now c.args.p w c.last.result c.self.view_is c.self.invariant.0 le
     (subst (λ (xs : List (Stamp Control)). AreBelow w xs → c.last.result ≡ last_before w xs) c.changes_at.ensures (c.last.ensures w))
 
 pub returns-in-None-clause-run : goal.returns-in-None-clause-run
