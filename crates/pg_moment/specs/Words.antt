@@ -1,10 +1,12 @@
 -- The stamps of words, shared out by address among several lists.
 use Rattle.std.specs.Prelude.{◌≡◌, ℕ, ◌/◌, ◌%◌, ◌⊎◌, nat_eq, if◌then◌else◌}
-use Rattle.std.specs.Prelude.{List, [], ◌∷◌, ◌++◌, map, Option, Some, None, slice_index_or}
+use Rattle.std.specs.Prelude.{List, [], ◌∷◌, ◌++◌, map, Some, None, slice_index_or}
 use Rattle.std.specs.Map.{lookup}
 use Rattle.pg_timeline.specs.declared.timeline.Stamp.{Stamp}
 use Rattle.pg_timeline.specs.Timelines.{cut_at}
 use Rattle.pg_timeline.specs.Keyed.{stamps_in, AreBelow}
+use Rattle.pg_moment.specs.declared.word.Last.{Last}
+use Rattle.pg_moment.specs.declared.word.Last.TheVariants.{Forgotten, At}
 
 -- the number of the list that has a word
 abbrev pub home_of : ℕ → ℕ
@@ -35,11 +37,11 @@ abbrev pub cut_each : ℕ → List (ℕ × List (Stamp ℕ)) → List (ℕ × Li
 cut_each moment entries = map (λ e. (e.0, cut_at moment e.1)) entries
 
 -- the last stamp of a word as a list, if it stands by itself
-abbrev pub last_of : Option (Stamp ℕ) → List (Stamp ℕ)
-last_of None = []
-last_of (Some s) = s ∷ []
+abbrev pub last_of : Last → List (Stamp ℕ)
+last_of Forgotten = []
+last_of (At moment value) = record { moment = moment; value = value } ∷ []
 
 -- the other stamps of a word are earlier than the last, if that stands by itself
-abbrev pub AreEarlier : List (Stamp ℕ) → Option (Stamp ℕ) → Type 0
-AreEarlier stamps None = Unit {0}
-AreEarlier stamps (Some s) = AreBelow s.moment stamps
+abbrev pub AreEarlier : List (Stamp ℕ) → Last → Type 0
+AreEarlier stamps Forgotten = Unit {0}
+AreEarlier stamps (At moment value) = AreBelow moment stamps

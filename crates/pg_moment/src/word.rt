@@ -4,7 +4,7 @@ ghost use Rattle.std.specs.Prelude.{◌≡◌, ◌+◌, ◌≤◌, [], ◌∷◌
 ghost use Rattle.std.specs.Option.{unwrap_or};
 ghost use Rattle.pg_timeline.specs.Timelines.{end_of, last_before, cut_at, IsSpan};
 
-use pg_timeline::{Probes, Span, Stamp, Timeline};
+use pg_timeline::{Probes, Span, Timeline};
 use std::alloc::{AllocError, Global};
 use std::marker::Model;
 
@@ -12,9 +12,17 @@ use std::marker::Model;
 /// itself: most look-ups ask of a moment behind it, and then the others are not read.
 #[derive(Drop)]
 pub(crate) struct Word {
-    last: Option<Stamp<u64>>,
+    last: Last,
     /// The others; all of them, once the last was forgotten.
     earlier: Timeline<u64>,
+}
+
+/// The last value of a word, if it was not forgotten. A map holds one for each word of memory, and
+/// this takes 16 bytes where an `Option<Stamp<u64>>` takes 24.
+#[derive(Clone, Copy)]
+enum Last {
+    Forgotten,
+    At { moment: u32, value: u64 },
 }
 
 impl Model for Word {
@@ -37,7 +45,7 @@ impl Word {
         ensures { result ≡ record { moment = moment; value = value } ∷ [] }
     {
         Word {
-            last: Some(Stamp { moment, value }),
+            last: Last::At { moment, value },
             earlier: Timeline::new(alloc),
         }
     }
@@ -49,11 +57,16 @@ impl Word {
             (self.new ≡ self.old ++ record { moment = moment; value = value } ∷ []) }
         ensures err { OnErr result (self.new ≡ self.old) }
     {
-        let Some(stamp) = self.last else {
-            return self.earlier.push(moment, value);
-        };
-        self.earlier.push(stamp.moment, stamp.value)?;
-        self.last = Some(Stamp { moment, value });
+        match self.last {
+            Last::Forgotten => self.earlier.push(moment, value)?,
+            Last::At {
+                moment: last,
+                value: kept,
+            } => {
+                self.earlier.push(last, kept)?;
+                self.last = Last::At { moment, value };
+            }
+        }
         Ok(())
     }
 
@@ -64,15 +77,14 @@ impl Word {
         ensures probes { (probes.old ≤ probes.new) × (probes.new ≤ probes.old + 34) }
     {
         match self.last {
-            Some(stamp) => {
-                if stamp.moment < moment {
-                    probes.tick();
-                    Some(stamp.value)
-                } else {
-                    self.earlier.last_before(moment, probes)
-                }
+            Last::At {
+                moment: last,
+                value,
+            } if last < moment => {
+                probes.tick();
+                Some(value)
             }
-            None => self.earlier.last_before(moment, probes),
+            Last::At { .. } | Last::Forgotten => self.earlier.last_before(moment, probes),
         }
     }
 
@@ -82,14 +94,18 @@ impl Word {
         ensures span { IsSpan (λ w. unwrap_or (last_before w self.now) start) moment result }
         ensures probes { (probes.old ≤ probes.new) × (probes.new ≤ probes.old + 35) }
     {
-        let Some(stamp) = self.last else {
+        let Last::At {
+            moment: last,
+            value,
+        } = self.last
+        else {
             return self.earlier.span_at(moment, start, probes);
         };
-        if stamp.moment < moment {
+        if last < moment {
             probes.tick();
             return Span {
-                value: stamp.value,
-                from: stamp.moment + 1,
+                value,
+                from: last + 1,
                 to: u32::MAX,
             };
         }
@@ -97,7 +113,7 @@ impl Word {
         Span {
             value: span.value,
             from: span.from,
-            to: span.to.min(stamp.moment),
+            to: span.to.min(last),
         }
     }
 
@@ -106,9 +122,9 @@ impl Word {
         ensures { self.new ≡ cut_at moment self.old }
     {
         self.earlier.forget_from(moment);
-        if let Some(stamp) = self.last {
-            if moment <= stamp.moment {
-                self.last = None;
+        if let Last::At { moment: last, .. } = self.last {
+            if moment <= last {
+                self.last = Last::Forgotten;
             }
         }
     }
