@@ -1,13 +1,13 @@
 //! Upper parts of walks, kept so that the pages of a region share them.
 
-ghost use Rattle.std.specs.Prelude.{◌≡◌, ◌<◌, ◌++◌, ◌∷◌, ℕ, [], IfSome, IsTrue};
+ghost use Rattle.std.specs.Prelude.{◌≡◌, ◌<◌, ◌≤◌, ◌++◌, ◌∷◌, ℕ, [], length, IfSome, IsTrue};
 ghost use Rattle.pg_chain.specs.declared.past.Past.{Past};
-ghost use Rattle.pg_chain.specs.Standing.{processor_count};
+ghost use Rattle.pg_chain.specs.Standing.{IsNext, processor_count};
 ghost use Rattle.pg_check.specs.Stems.{HaveStems, IsStem};
 
-use crate::places::spread;
+use crate::places::{page_of, spread};
 use crate::walk::is_in_order;
-use pg_chain::{Chain, Past, chain};
+use pg_chain::{Chain, Past, chain, chain_further};
 use pg_event::{Moments, Want};
 use std::alloc::Global;
 
@@ -65,7 +65,8 @@ fn empty_stems(alloc: Global, count: usize) -> Vec<Option<Stem>>
 /// All moments but the last, and the last, if there are two or more.
 #[inline(always)]
 pub(crate) fn split_last(moments: &Moments) -> Option<(Moments, u32)>
-    ensures { IfSome result (λ parts. moments.now ≡ parts.0 ++ parts.1 ∷ []) }
+    ensures whole { IfSome result (λ parts. moments.now ≡ parts.0 ++ parts.1 ∷ []) }
+    ensures few { length moments.now ≤ 4 }
 {
     let all = moments.as_slice();
     match all.len() {
@@ -150,10 +151,39 @@ pub(crate) struct Region {
     pub first: u64,
 }
 
+/// The upper part that is kept of the walks to a region by these moments. `current` is the PCID:
+/// upper parts are placed by it.
+#[inline(always)]
+fn kept_stem(
+    stems: &[Option<Stem>],
+    current: u16,
+    region: Region,
+    moments: &Moments,
+) -> Option<Chain>
+    ensures { (past : Past) (limit : ℕ) → HaveStems past limit stems.now →
+        IfSome result (IsStem past limit region.p region.first moments.now) }
+{
+    let Region { p, first } = region;
+    let place = spread(stems.len(), p, first, moments.len(), current as u64);
+    stem_at(stems, place, p, first, moments)
+}
+
+/// Keeps an upper part that was made at the event with this number.
+fn keep_stem(past: &Past, stems: &mut Vec<Option<Stem>>, number: u32, current: u16, stem: Stem)
+    requires stem { IsStem past.now number stem.p stem.region stem.moments stem.chain }
+    requires stems { HaveStems past.now number stems.old.items }
+    ensures { HaveStems past.now number stems.new.items }
+{
+    make_room(past, stems, number);
+    let levels = stem.moments.len();
+    let place = spread(stems.len(), stem.p, stem.region, levels, current as u64);
+    put(stems, place, stem);
+}
+
 /// The upper part of a processor's walks to a region by these moments, at the event with this
-/// number: one that is kept, or one that is made and kept. `current` is the PCID: they are placed
-/// by it.
-pub(crate) fn stem_of(
+/// number: one that is kept, or one that is made by all its moments and kept.
+#[inline(never)]
+fn shorter_stem(
     past: &Past,
     stems: &mut Vec<Option<Stem>>,
     number: u32,
@@ -166,21 +196,85 @@ pub(crate) fn stem_of(
     ensures stems { HaveStems past.now number stems.new.items }
     ensures stem { IfSome result (IsStem past.now number region.p region.first moments.now) }
 {
-    let Region { p, first } = region;
-    let levels = moments.len();
-    let place = spread(stems.len(), p, first, levels, current as u64);
-    if let Some(chain) = stem_at(stems.as_slice(), place, p, first, moments) {
+    if let Some(chain) = kept_stem(stems.as_slice(), current, region, moments) {
         return Some(chain);
     }
+    let Region { p, first } = region;
     let chain = stem_anew(past, number, p, first, moments)?;
-    make_room(past, stems, number);
-    let place = spread(stems.len(), p, first, levels, current as u64);
     let stem = Stem {
         region: first,
         moments: *moments,
         p,
         chain,
     };
-    put(stems, place, stem);
+    keep_stem(past, stems, number, current, stem);
+    Some(chain)
+}
+
+/// The upper part that is read last at the event that comes next, by that of its other moments:
+/// regions that lie in a wider one share it. None says nothing.
+#[inline(always)]
+fn stem_at_event(
+    past: &Past,
+    stems: &mut Vec<Option<Stem>>,
+    number: u32,
+    current: u16,
+    region: Region,
+    moments: &Moments,
+) -> Option<Chain>
+    requires next { IsNext past.now number }
+    requires processor { region.p < processor_count past.now }
+    requires stems { HaveStems past.now number stems.old.items }
+    ensures stems { HaveStems past.now number stems.new.items }
+    ensures stem { IfSome result (IsStem past.now number region.p region.first moments.now) }
+{
+    let (upper, last) = split_last(moments)?;
+    if last != number {
+        return None;
+    }
+    let Region { p, first } = region;
+    let wider = Region {
+        p,
+        first: page_of(first, upper.len()),
+    };
+    let stem = shorter_stem(past, stems, number, current, wider, &upper)?;
+    match chain_further(past, p, first, stem, number, Want::Present) {
+        Ok(chain) => Some(chain),
+        Err(_) => None,
+    }
+}
+
+/// The upper part of a processor's walks to a region by these moments, at the event that comes
+/// next: one that is kept, or one that is made and kept. `current` is the PCID: they are placed by
+/// it.
+pub(crate) fn stem_of(
+    past: &Past,
+    stems: &mut Vec<Option<Stem>>,
+    number: u32,
+    current: u16,
+    region: Region,
+    moments: &Moments,
+) -> Option<Chain>
+    requires next { IsNext past.now number }
+    requires processor { region.p < processor_count past.now }
+    requires stems { HaveStems past.now number stems.old.items }
+    ensures stems { HaveStems past.now number stems.new.items }
+    ensures stem { IfSome result (IsStem past.now number region.p region.first moments.now) }
+{
+    if let Some(chain) = kept_stem(stems.as_slice(), current, region, moments) {
+        return Some(chain);
+    }
+    let Region { p, first } = region;
+    let chain = match stem_at_event(past, stems, number, current, region, moments) {
+        Some(chain) => chain,
+        None => stem_anew(past, number, p, first, moments)?,
+    };
+    let stem = Stem {
+        region: first,
+        moments: *moments,
+        p,
+        chain,
+    };
+    keep_stem(past, stems, number, current, stem);
     Some(chain)
 }

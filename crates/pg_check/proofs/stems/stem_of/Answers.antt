@@ -6,7 +6,3 @@ use Rattle.pg_check.proofs.stems.stem_of.Goals as goal
 pub returns-in-Some-clause-stem : goal.returns-in-Some-clause-stem
 returns-in-Some-clause-stem c =
     c.in-Some.ensures c.args.past.now c.args.number (subst (λ (xs : List (Option Stem)). HaveStems c.args.past.now c.args.number xs) (sym c.as_slice.ensures.value) c.requires.stems)
-
-pub returns-clause-stems : goal.returns-clause-stems
-returns-clause-stems c =
-    c.put.ensures c.args.past.now c.args.number c.in_ok-chain.ensures (c.make_room.ensures c.args.past.now c.args.number c.requires.stems)
