@@ -1,16 +1,19 @@
 -- Whether a number in a window passes a test.
 use Rattle.std.proofs.Common.{◌≡◌, ℕ, suc, zero, ◌+◌, ◌-◌, ◌<◌, ◌≤◌, Bool, true, false, not, ◌&&◌, ◌||◌, nat_lt, nat_le, nat_eq, min, Option, Some, None, refl, ap, sym, ◌∙◌, arith, inl, inr}
-use Rattle.std.specs.Option.{is_some}
+use Rattle.std.specs.Option.{is_some, unwrap_or, option_or}
 use Rattle.std.proofs.lemmas.Bool.{cases_eq, or_cases, or_left, or_right, and_parts, and_from, leb-true, le-leb, ltb-true, lt-ltb, eqb-true, eq-eqb, false≢true, false_from_ne_true}
 use Rattle.pg_event.specs.Witness.{any_from}
 use Rattle.pg_timeline.specs.Timelines.{IsLeastFrom}
-use Rattle.pg_inval.specs.Lists.{IsFirstDrop}
+use Rattle.pg_inval.specs.Lists.{IsFirstDrop, IsLeastBetween}
 
 pub same_truth : (x y : Bool) → (x ≡ true → y ≡ true) → (y ≡ true → x ≡ true) → x ≡ y
 same_truth true true f g = refl
 same_truth true false f g = sym (f refl)
 same_truth false true f g = g refl
 same_truth false false f g = refl
+
+pub neither : (a b : Bool) → a ≡ false → b ≡ false → (a || b) ≡ false
+neither a b e f = ap (λ x. x || b) e ∙ f
 
 pub not-not : (x : Bool) → not (not x) ≡ x
 not-not true = refl
@@ -126,15 +129,14 @@ none_before test from to h =
 one_wide : (test : ℕ → Bool) (m : ℕ) → test m ≡ true → windows test m (m + 1) ≡ true
 one_wide test m h = any_from-at test m (m + 1 - m) m (omega arith) (omega arith) h
 
--- the least number from the start of the window on is the first in it, if it lies in it
-pub IsFirstDrop-inside : (test : ℕ → Bool) (from to m : ℕ) → IsLeastFrom test from (Some m) → m < to → IsFirstDrop (windows test) from to (Some m)
-IsFirstDrop-inside test from to m least inside = (least.0, inside, none_before test from m least.2, one_wide test m least.1)
+-- the least number of a window is the first in it
+pub IsFirstDrop-least : (test : ℕ → Bool) (from to : ℕ) (found : Option ℕ) → IsLeastBetween test from to found → IsFirstDrop (windows test) from to found
+IsFirstDrop-least test from to None least = none_before test from to least
+IsFirstDrop-least test from to (Some m) least = (least.0, least.1, none_before test from m least.3, one_wide test m least.2)
 
-pub IsFirstDrop-past : (test : ℕ → Bool) (from to m : ℕ) → IsLeastFrom test from (Some m) → to ≤ m → IsFirstDrop (windows test) from to None
-IsFirstDrop-past test from to m least past = none_before test from to (λ j low high. least.2 j low (omega arith))
-
-pub IsFirstDrop-none : (test : ℕ → Bool) (from to : ℕ) → IsLeastFrom test from None → IsFirstDrop (windows test) from to None
-IsFirstDrop-none test from to least = none_before test from to (λ j low high. least j low)
+-- a window that has no number
+pub IsFirstDrop-narrow : (test : ℕ → Bool) (from to : ℕ) → to ≤ from → IsFirstDrop (windows test) from to None
+IsFirstDrop-narrow test from to narrow = none_before test from to (λ j low high. absurd (omega arith))
 
 -- whether there is one
 pub is_some-dropped : (test : ℕ → Bool) (from to : ℕ) (found : Option ℕ) → IsFirstDrop (windows test) from to found → is_some found ≡ windows test from to
@@ -151,7 +153,49 @@ pub IsFirstDrop-same : (f g : ℕ → ℕ → Bool) (from to : ℕ) (found : Opt
 IsFirstDrop-same f g from to None h first = sym (h from to) ∙ first
 IsFirstDrop-same f g from to (Some m) h first = (first.0, first.1, sym (h from m) ∙ first.2, sym (h m (m + 1)) ∙ first.3)
 
--- two tests that agree have the same least number
-pub IsLeastFrom-same : (p q : ℕ → Bool) (from : ℕ) (found : Option ℕ) → ((j : ℕ) → p j ≡ q j) → IsLeastFrom p from found → IsLeastFrom q from found
-IsLeastFrom-same p q from None h least = λ j low. sym (h j) ∙ least j low
-IsLeastFrom-same p q from (Some m) h least = (least.0, sym (h m) ∙ least.1, λ j low high. sym (h j) ∙ least.2 j low high)
+-- ---- the least number of a window
+
+-- two tests that agree from its start on have the same
+pub IsLeastBetween-same : (p q : ℕ → Bool) (from to : ℕ) (found : Option ℕ) → ((j : ℕ) → from ≤ j → p j ≡ q j) → IsLeastBetween p from to found → IsLeastBetween q from to found
+IsLeastBetween-same p q from to None h least = λ j low high. sym (h j low) ∙ least j low high
+IsLeastBetween-same p q from to (Some m) h least = (
+  least.0,
+  least.1,
+  sym (h m least.0) ∙ least.2,
+  λ j low high. sym (h j low) ∙ least.3 j low high,
+)
+
+-- the least number from the start of the window on, if it lies in it
+pub IsLeastBetween-inside : (test : ℕ → Bool) (from to m : ℕ) → IsLeastFrom test from (Some m) → m < to → IsLeastBetween test from to (Some m)
+IsLeastBetween-inside test from to m least inside = (least.0, inside, least.1, least.2)
+
+pub IsLeastBetween-past : (test : ℕ → Bool) (from to m : ℕ) → IsLeastFrom test from (Some m) → to ≤ m → IsLeastBetween test from to None
+IsLeastBetween-past test from to m least past = λ j low high. least.2 j low (omega arith)
+
+pub IsLeastBetween-none : (test : ℕ → Bool) (from to : ℕ) → IsLeastFrom test from None → IsLeastBetween test from to None
+IsLeastBetween-none test from to least = λ j low high. least j low
+
+-- where one test has a least number, the other need only be tried below it
+pub IsLeastBetween-both : (p q : ℕ → Bool) (from to : ℕ) (found more : Option ℕ) → IsLeastBetween p from to found → IsLeastBetween q from (unwrap_or found to) more →
+    IsLeastBetween (λ j. p j || q j) from to (option_or more found)
+IsLeastBetween-both p q from to None None first second = λ j low high. neither (p j) (q j) (first j low high) (second j low high)
+IsLeastBetween-both p q from to None (Some n) first second = (
+  second.0,
+  second.1,
+  or_right (p n) (q n) second.2,
+  λ j low high. neither (p j) (q j) (first j low (omega (arith, high, second.1))) (second.3 j low high),
+)
+IsLeastBetween-both p q from to (Some m) None first second = (
+  first.0,
+  first.1,
+  or_left (p m) (q m) first.2,
+  λ j low high. neither (p j) (q j) (first.3 j low high) (second j low high),
+)
+IsLeastBetween-both p q from to (Some m) (Some n) first second =
+    let below : n < m = second.1 in
+    let inside : m < to = first.1 in (
+      second.0,
+      omega arith,
+      or_right (p n) (q n) second.2,
+      λ j low high. neither (p j) (q j) (first.3 j low (omega arith)) (second.3 j low high),
+    )

@@ -1,8 +1,7 @@
 -- Up to which moment keys may have been dropped, as a run grows or is cut.
-use Rattle.std.proofs.Common.{◌≡◌, ℕ, suc, zero, ◌+◌, ◌-◌, ◌<◌, ◌≤◌, Bool, true, false, not, cond, ◌&&◌, ◌||◌, nat_eq, nat_lt, List, [], ◌∷◌, ◌++◌, length, get_or, set, None, refl, ap, sym, subst, ◌∙◌, arith, inl, inr}
+use Rattle.std.proofs.Common.{◌≡◌, ℕ, suc, zero, ◌+◌, ◌-◌, ◌<◌, ◌≤◌, Bool, true, false, not, cond, ◌&&◌, ◌||◌, nat_eq, nat_lt, List, [], ◌∷◌, ◌++◌, None, refl, ap, sym, subst, ◌∙◌, arith, inl, inr}
 use Rattle.std.proofs.lemmas.List.Folds.{list_any-append}
-use Rattle.std.proofs.lemmas.Bool.{cases_Bool, or_cases, cases_eq, and_parts, eqb-true, false≢true}
-use Rattle.std.proofs.lemmas.List.{length-set, get_or-set_same, get_or-set_other}
+use Rattle.std.proofs.lemmas.Bool.{cases_Bool, or_cases, and_parts, eqb-true, false≢true}
 use Rattle.pg_timeline.specs.Timelines.{IsLeastFrom}
 use Rattle.pg_inval.specs.declared.log.LogEntry.{LogEntry}
 use Rattle.pg_inval.specs.declared.key.DropKey.{DropKey}
@@ -13,34 +12,10 @@ use Rattle.pg_inval.specs.declared.key.DropKey.TheVariants.{NotGlobal, Globals, 
 use Rattle.pg_inval.specs.Keys.{is_same_key, has_key, structure_at, global_at, local_at, structure_keys, translation_keys}
 use Rattle.pg_inval.specs.SameKey.{same_key}
 use Rattle.pg_inval.specs.Lists.{has_drop, has_among, has_between, cut_log}
-use Rattle.pg_inval.specs.Lasts.{place_of, MayHave, AreRaised, AreBounded}
+use Rattle.pg_inval.specs.Lasts.{MayHave, AreRaised, AreBounded}
+use Rattle.pg_inval.proofs.AnyFrom.{neither}
 use Rattle.pg_inval.proofs.Logs.{keys_at, has_drop-push, has_drop-cut}
 use Rattle.pg_inval.proofs.Pushes.{has_key-more}
-
--- ---- one place
-
--- what a place tells stays where a later moment takes it
-pub MayHave-set : (lasts : List ℕ) (i x : ℕ) (k : DropKey) (m : ℕ) → get_or lasts i 0 ≤ x → MayHave lasts k m → MayHave (set lasts i x) k m
-MayHave-set lasts i x k m le may = λ within.
-    let here : place_of k < length lasts = subst (λ (n : ℕ). place_of k < n) (length-set lasts i x) within in
-    let most : m ≤ get_or lasts (place_of k) 0 = may here in
-    elim (cases_eq (place_of k) i) [
-      | inl same ↦
-          let old : get_or lasts (place_of k) 0 ≡ get_or lasts i 0 = ap (λ j. get_or lasts j 0) same in
-          let inside : i < length lasts = subst (λ (j : ℕ). j < length lasts) same here in
-          let new : get_or (set lasts i x) (place_of k) 0 ≡ x = ap (λ j. get_or (set lasts i x) j 0) same ∙ get_or-set_same lasts i x 0 inside in
-          omega (arith, most, old, new, le)
-      | inr other ↦
-          let new : get_or (set lasts i x) (place_of k) 0 ≡ get_or lasts (place_of k) 0 = get_or-set_other lasts i (place_of k) x 0 other in
-          omega (arith, most, new)
-    ]
-
--- and a key may have the moment that its place takes
-pub MayHave-own : (lasts : List ℕ) (k : DropKey) (x m : ℕ) → m ≤ x → MayHave (set lasts (place_of k) x) k m
-MayHave-own lasts k x m le = λ within.
-    let here : place_of k < length lasts = subst (λ (n : ℕ). place_of k < n) (length-set lasts (place_of k) x) within in
-    let new : get_or (set lasts (place_of k) x) (place_of k) 0 ≡ x = get_or-set_same lasts (place_of k) x 0 here in
-    omega (arith, le, new)
 
 -- ---- keys one after another
 
@@ -111,9 +86,6 @@ none-over lasts log key from bounded over = λ j le.
 nowhere : (test : ℕ → Bool) (from n : ℕ) → ((j : ℕ) → from ≤ j → test j ≡ false) → any_from test from n ≡ false
 nowhere test from zero h = refl
 nowhere test from (suc n) h = ap (λ b. b || any_from test (from + 1) n) (h from (omega arith)) ∙ nowhere test (from + 1) n (λ j le. h j (omega (arith, le)))
-
-neither : (a b : Bool) → a ≡ false → b ≡ false → (a || b) ≡ false
-neither a b e f = ap (λ x. x || b) e ∙ f
 
 pub not_false : (x : Bool) → not x ≡ false → x ≡ true
 not_false true h = refl

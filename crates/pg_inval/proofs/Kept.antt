@@ -1,5 +1,5 @@
 -- What is known of drops, as a run grows or is cut.
-use Rattle.std.proofs.Common.{◌≡◌, ℕ, ◌+◌, ◌-◌, ◌<◌, ◌≤◌, Bool, true, false, not, ◌&&◌, ◌||◌, nat_lt, nat_le, nat_eq, min, List, [], ◌∷◌, ◌++◌, length, length-append, Option, Result, Ok, Err, refl, ap, sym, ◌∙◌, arith, inl, inr}
+use Rattle.std.proofs.Common.{◌≡◌, ℕ, ◌+◌, ◌-◌, ◌<◌, Bool, true, false, not, ◌&&◌, ◌||◌, nat_lt, nat_le, nat_eq, min, List, [], ◌∷◌, ◌++◌, length, length-append, Option, Result, Ok, Err, refl, ap, sym, ◌∙◌, arith, inl, inr}
 use Rattle.std.specs.Result.{OnErr}
 use Rattle.std.proofs.lemmas.Bool.{false≢true, and_from, eq-eqb}
 use Rattle.pg_event.specs.declared.event.Event.{Event}
@@ -14,7 +14,7 @@ use Rattle.pg_event.specs.Form.{processor_of}
 use Rattle.pg_event.specs.Values.{control_at}
 use Rattle.pg_event.specs.Invalidation.{structure_key, bits_from, must_drop_structure, must_drop_translation}
 use Rattle.pg_event.specs.Meaning.{takes_structure, takes_translation}
-use Rattle.pg_event.specs.Witness.{any_from, survives}
+use Rattle.pg_event.specs.Witness.{survives}
 use Rattle.pg_inval.specs.declared.packed.Packed.{Packed}
 use Rattle.pg_inval.specs.Keys.{dropped_keys}
 use Rattle.pg_inval.specs.Packed.{invalidation_of}

@@ -1,9 +1,9 @@
 -- The lists of a class and the log that they are made from.
-use Rattle.std.proofs.Common.{◌≡◌, ℕ, length, take, drop, get_or, ◌+◌, ◌-◌, ◌<◌, ◌≤◌, min, ◌||◌, cond, Option, List, [], ◌∷◌, ◌++◌, length-append, length-drop, refl, ap, sym, subst, ◌∙◌, arith, inl, inr}
+use Rattle.std.proofs.Common.{◌≡◌, ℕ, length, take, drop, get_or, ◌+◌, ◌-◌, ◌<◌, ◌≤◌, min, ◌||◌, cond, List, [], ◌∷◌, ◌++◌, length-append, length-drop, refl, ap, sym, subst, ◌∙◌, arith, inl, inr}
 use Rattle.std.proofs.lemmas.Bool.{cases_lt}
 use Rattle.std.proofs.lemmas.List.{take_more, take_all, take-append-le}
 use Rattle.pg_timeline.specs.declared.timeline.Stamp.{Stamp}
-use Rattle.pg_timeline.specs.Timelines.{cut_at, has_moment, IsLeastFrom}
+use Rattle.pg_timeline.specs.Timelines.{cut_at, has_moment}
 use Rattle.pg_timeline.specs.Keyed.{stamps_in, AreBelow, EndsBefore, AreCut}
 use Rattle.pg_inval.specs.declared.class.Class.{Class}
 use Rattle.pg_inval.specs.declared.key.DropKey.{DropKey}
@@ -14,7 +14,6 @@ use Rattle.pg_inval.specs.Classes.{class_of, keys_in}
 use Rattle.pg_inval.specs.Packed.{invalidation_of}
 use Rattle.pg_inval.specs.Lists.{Moments, has_drop, cut_log, IsRisingFrom, ArePushed, AreSame, stamps_of, IsListed}
 use Rattle.pg_inval.specs.Listed.{AreListed}
-use Rattle.pg_inval.proofs.AnyFrom.{IsLeastFrom-same}
 use Rattle.pg_inval.proofs.Logs.{has_drop-parts, stamps_of-push, stamps_of-drop, stamps_of-cut, stamps_of-below, taken-before, cut-take}
 
 pub IsListed-start : (c : Class) (log : List LogEntry) → IsListed c log 0 []
@@ -74,16 +73,13 @@ IsListed-cut c log known left w old new rising count listed cut = record {
       ∙ ap (stamps_of c k) (cut-take w 0 known log rising ∙ take_min known left (cut_log w log) count);
 }
 
--- the least moment of the lists and of the rest of the log is that of the log
-pub IsListed-first : (k : DropKey) (log : List LogEntry) (known : ℕ) (lists : Moments) (from : ℕ) (found : Option ℕ) → IsListed (class_of k) log known lists →
-    IsLeastFrom (λ j. has_moment (stamps_in is_same_key lists k) j || has_drop (drop known log) k j) from found → IsLeastFrom (has_drop log k) from found
-IsListed-first k log known lists from found listed least =
-    IsLeastFrom-same (λ j. has_moment (stamps_in is_same_key lists k) j || has_drop (drop known log) k j) (has_drop log k) from found
-    (λ j.
+-- what a key has in the lists or in the rest of the log it has in the log
+pub IsListed-parts : (k : DropKey) (log : List LogEntry) (known : ℕ) (lists : Moments) (j : ℕ) → IsListed (class_of k) log known lists →
+    (has_moment (stamps_in is_same_key lists k) j || has_drop (drop known log) k j) ≡ has_drop log k j
+IsListed-parts k log known lists j listed =
     ap (λ S. has_moment S j || has_drop (drop known log) k j) (listed.at k)
     ∙ ap (λ b. b || has_drop (drop known log) k j) (stamps_of-drop k (take known log) j)
-    ∙ has_drop-parts log k known j)
-    least
+    ∙ has_drop-parts log k known j
 
 -- ---- all classes
 

@@ -1,13 +1,13 @@
 -- What a log has of each key, as it grows or is cut.
-use Rattle.std.proofs.Common.{◌≡◌, ℕ, zero, suc, length, take, drop, get_or, ◌+◌, ◌<◌, ◌≤◌, Bool, true, false, ◌&&◌, ◌||◌, nat_lt, nat_eq, min, cond, Some, None, List, [], ◌∷◌, ◌++◌, refl, ap, sym, subst, ◌∙◌, arith, inl, inr}
+use Rattle.std.proofs.Common.{◌≡◌, ℕ, zero, suc, length, take, drop, get_or, ◌+◌, ◌<◌, ◌≤◌, Bool, true, false, ◌&&◌, ◌||◌, nat_lt, nat_eq, min, cond, List, [], ◌∷◌, ◌++◌, refl, ap, sym, subst, ◌∙◌, arith, inl, inr}
 use Rattle.std.specs.List.{list_any}
-use Rattle.std.proofs.lemmas.Bool.{cases_Bool, cases_lt, and_from, lt-ltb, le-ltb, eqb-true, eq-eqb, false_from_ne_true}
+use Rattle.std.proofs.lemmas.Bool.{cases_Bool, cases_lt, lt-ltb, le-ltb, eqb-true}
 use Rattle.std.proofs.lemmas.List.{take_more, take-append-drop}
 use Rattle.std.proofs.lemmas.List.Folds.{list_any-append}
 use Rattle.pg_event.specs.declared.invalidation.Invalidation.{Invalidation}
 use Rattle.pg_event.specs.declared.invalidation.Invalidation.TheVariants.{Nothing, Address, Page, Pcid, Everything}
 use Rattle.pg_timeline.specs.declared.timeline.Stamp.{Stamp}
-use Rattle.pg_timeline.specs.Timelines.{cut_at, has_moment, IsLeastFrom}
+use Rattle.pg_timeline.specs.Timelines.{cut_at, has_moment}
 use Rattle.pg_timeline.specs.Keyed.{AreBelow}
 use Rattle.pg_timeline.proofs.Least.{has_moment-cut_at}
 use Rattle.pg_inval.specs.declared.class.Class.{Class}
@@ -82,24 +82,6 @@ has_drop-more log k i d j h =
 pub has_drop-parts : (log : List LogEntry) (k : DropKey) (i j : ℕ) → (has_drop (take i log) k j || has_drop (drop i log) k j) ≡ has_drop log k j
 has_drop-parts log k i j =
     sym (list_any-append (λ x. nat_eq x.moment j && has_key (keys_at x) k) (take i log) (drop i log)) ∙ ap (λ es. has_drop es k j) (take-append-drop i log)
-
--- ---- one entry
-
-differ : (m j : ℕ) → (m ≡ j → ⊥) → nat_eq m j ≡ false
-differ m j h = false_from_ne_true (nat_eq m j) (λ e. h (eqb-true m j e))
-
-pub entry-early : (m from : ℕ) (b : Bool) → m < from → IsLeastFrom (λ j. nat_eq m j && b) from None
-entry-early m from b h = λ j low. ap (λ x. x && b) (differ m j (λ e. absurd (omega arith)))
-
-pub entry-without : (m from : ℕ) (b : Bool) → b ≡ false → IsLeastFrom (λ j. nat_eq m j && b) from None
-entry-without m from b h = λ j low. ap (λ x. nat_eq m j && x) h ∙ never (nat_eq m j)
-
-pub entry-with : (m from : ℕ) (b : Bool) → from ≤ m → b ≡ true → IsLeastFrom (λ j. nat_eq m j && b) from (Some m)
-entry-with m from b le h = (
-  le,
-  and_from (nat_eq m m) b (eq-eqb m m refl) h,
-  λ j low high. ap (λ x. x && b) (differ m j (λ e. absurd (omega arith))),
-)
 
 -- ---- the keys of a class
 

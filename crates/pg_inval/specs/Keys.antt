@@ -18,6 +18,16 @@ use Rattle.pg_inval.specs.contracts.key.DropKeyPartialEq.TheImpl as impl
 abbrev pub is_same_key : DropKey → DropKey → Bool
 is_same_key a b = impl.eq-value.it a b
 
+-- the processor of a key
+abbrev pub processor_in : DropKey → ℕ
+processor_in (NotGlobal p) = p
+processor_in (Globals p) = p
+processor_in (StructuresOf p pcid) = p
+processor_in (Structure shift p pcid prefix) = p
+processor_in (LocalsOf p pcid) = p
+processor_in (Local shift p pcid number) = p
+processor_in (Global shift p number) = p
+
 -- whether a key is among some
 abbrev pub has_key : List DropKey → DropKey → Bool
 has_key keys k = list_any (λ d. is_same_key d k) keys

@@ -13,9 +13,21 @@ place_of k =
     (number_of k * 11400714819323198485 % 2 ^ 64 + owner_of k * 14029467366897019727 % 2 ^ 64)
     % 2 ^ 64 / 2 ^ 49
 
--- a key may have a moment, as far as its place tells
-abbrev pub MayHave : List ℕ → DropKey → ℕ → Type 0
-MayHave lasts k m = place_of k < length lasts → m ≤ get_or lasts (place_of k) 0
+-- its other place, among as many others
+abbrev pub other_place_of : DropKey → ℕ
+other_place_of k =
+    32768
+    + (number_of k * 18397679294719823053 % 2 ^ 64 + owner_of k * 15485907386658061715 % 2 ^ 64)
+    % 2 ^ 64 / 2 ^ 49
+
+-- a key of a place may have a moment, as far as the place tells
+abbrev pub MayBeAt : List ℕ → ℕ → ℕ → Type 0
+MayBeAt lasts place m = place < length lasts → m ≤ get_or lasts place 0
+
+-- a key may have a moment, as far as both of its places tell
+pub record MayHave (lasts : List ℕ) (k : DropKey) (m : ℕ) : Type 0 where
+  pub place : MayBeAt lasts (place_of k) m
+  pub other_place : MayBeAt lasts (other_place_of k) m
 
 -- whatever a key may have had it may still have, and each of some keys a moment more
 pub record AreRaised (old new : List ℕ) (keys : List DropKey) (moment : ℕ) : Type 0 where

@@ -41,6 +41,13 @@ IsFirstDrop holds from to found =
     MatchOption found (holds from to ≡ false)
     (λ m. (from ≤ m) × (m < to) × (holds from m ≡ false) × (holds m (m + 1) ≡ true))
 
+-- the least number from one up to, not with, another that passes a test, if any does
+abbrev pub IsLeastBetween : (ℕ → Bool) → ℕ → ℕ → Option ℕ → Type 0
+IsLeastBetween test from to found =
+    MatchOption found ((j : ℕ) → from ≤ j → j < to → test j ≡ false)
+    (λ m. (from ≤ m) × (m < to) × (test m ≡ true)
+    × ((j : ℕ) → from ≤ j → j < m → test j ≡ false))
+
 -- the entries below a moment
 abbrev pub cut_log : ℕ → List LogEntry → List LogEntry
 cut_log w log = filter (λ e. nat_lt e.moment w) log

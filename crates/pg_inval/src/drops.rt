@@ -13,7 +13,6 @@ ghost use Rattle.pg_inval.specs.Drops.{next_moment, is_dropped, IsNoted, IsSame,
 ghost use Rattle.pg_inval.specs.Drops.{StandsFor};
 ghost use Rattle.pg_inval.specs.Lists.{IsFirstDrop};
 
-use crate::class::{Class, class_of};
 use crate::key::{DropKey, global_at, local_at, structure_at, structure_keys, translation_keys};
 use crate::lasts::Lasts;
 use crate::listed::Listed;
@@ -29,8 +28,9 @@ use std::alloc::{AllocError, Global};
 use std::marker::Model;
 
 /// What a run's events dropped from the caches of their processors, as far as they were noted: a
-/// log of them, and for each key the moments of its events. The lists of a class of keys are made
-/// from the log by `catch_up`; what they lack, look-ups find in the log.
+/// log of them, for each key a bound of its last moment, and for each key the moments of its
+/// events. The last moments answer most look-ups. The lists of a class of keys are made from the
+/// log by `catch_up`; what they lack, look-ups find in the log.
 #[derive(Drop)]
 pub struct Drops {
     alloc: Global,
@@ -98,36 +98,21 @@ impl Drops {
             before ≡ control_at head events (processor_of event.now) moment →
             OnOk result (StandsFor self.new head (events ++ event.now ∷ [])) }
     {
-        let noted = self.note_in_log(moment, event, before);
+        let noted = self.note_later(moment, event, before);
         self.catch_up();
         noted
     }
 
-    /// The same, and makes the lists alone that most look-ups ask: those of paging-structure-cache
-    /// entries, and of translations of 4-KiB pages that are not global. The others wait for
-    /// `catch_up`. Until then look-ups that the last moments do not answer go through the log.
+    /// The same, in the log and in the last moments of keys alone: lists wait for `catch_up`. Until
+    /// then look-ups that the last moments do not answer go through the part of the log that their
+    /// window has. How many entries they pass over is counted in their `Probes`, so that whoever
+    /// asks can tell when lists are worth making.
     pub fn note_later(
         &mut self,
         moment: u32,
         event: &Event,
         before: Control,
     ) -> Result<(), AllocError>
-        requires { next_moment self.old ≤ moment }
-        ensures ok { OnOk result (IsNoted self.old self.new moment event.now before) }
-        ensures err { OnErr result (IsSame self.old self.new) }
-        ensures none { DropsNothing before event.now → IsOk result }
-        ensures run { (head : Head) (events : List Event) → StandsFor self.old head events →
-            moment ≡ length events →
-            before ≡ control_at head events (processor_of event.now) moment →
-            OnOk result (StandsFor self.new head (events ++ event.now ∷ [])) }
-    {
-        let noted = self.note_in_log(moment, event, before);
-        self.catch_up_pages();
-        noted
-    }
-
-    /// The same, in the log and in the last moments of keys alone.
-    fn note_in_log(&mut self, moment: u32, event: &Event, before: Control) -> Result<(), AllocError>
         requires { next_moment self.old ≤ moment }
         ensures ok { OnOk result (IsNoted self.old self.new moment event.now before) }
         ensures err { OnErr result (IsSame self.old self.new) }
@@ -160,18 +145,7 @@ impl Drops {
     pub fn catch_up(&mut self)
         ensures { self.new ≡ self.old }
     {
-        self.listed.catch_up_all(self.alloc, self.log.as_slice());
-    }
-
-    /// The same of the lists that are asked of paging-structure-cache entries, and of translations
-    /// of 4-KiB pages that are not global.
-    fn catch_up_pages(&mut self)
-        ensures { self.new ≡ self.old }
-    {
-        let log = self.log.as_slice();
-        self.listed.catch_up(Class::Spaces, self.alloc, log);
-        self.listed.catch_up(Class::Regions, self.alloc, log);
-        self.listed.catch_up(Class::Pages, self.alloc, log);
+        self.listed.catch_up(self.alloc, self.log.as_slice());
     }
 
     /// Whether no event from a moment on drops a translation of processor `p`, as the last moments

@@ -1,7 +1,7 @@
 ghost use Rattle.std.specs.Prelude.{◌≡◌};
 ghost use Rattle.pg_inval.specs.Keys.{structure_at, local_at, global_at, structure_keys};
-ghost use Rattle.pg_inval.specs.Keys.{translation_keys};
-ghost use Rattle.pg_inval.specs.Lasts.{place_of};
+ghost use Rattle.pg_inval.specs.Keys.{translation_keys, processor_in};
+ghost use Rattle.pg_inval.specs.Lasts.{place_of, other_place_of};
 ghost use Rattle.pg_inval.specs.Hashed.{numbered, owner_of, number_of, hashed, hashed-alike};
 
 use arrayvec::ArrayVec;
@@ -93,7 +93,7 @@ impl DropKey {
         }
     }
 
-    /// The place of its last moment. Keys that follow each other are spread evenly.
+    /// A place of its last moment. Keys that follow each other are spread evenly.
     #[inline(always)]
     pub(crate) fn place(&self) -> usize
         ensures { result ≡ place_of self.now }
@@ -101,6 +101,32 @@ impl DropKey {
         let number = self.number().wrapping_mul(0x9e37_79b9_7f4a_7c15);
         let owner = self.owner().wrapping_mul(0xc2b2_ae3d_27d4_eb4f);
         (number.wrapping_add(owner) / 0x2_0000_0000_0000) as usize
+    }
+
+    /// Another place of it, among as many others: keys that share one place rarely share both.
+    #[inline(always)]
+    pub(crate) fn other_place(&self) -> usize
+        ensures { result ≡ other_place_of self.now }
+    {
+        let number = self.number().wrapping_mul(0xff51_afd7_ed55_8ccd);
+        let owner = self.owner().wrapping_mul(0xd6e8_feb8_6659_fd93);
+        32_768 + (number.wrapping_add(owner) / 0x2_0000_0000_0000) as usize
+    }
+
+    /// Its processor.
+    #[inline(always)]
+    pub(crate) fn processor(&self) -> u16
+        ensures { result ≡ processor_in self.now }
+    {
+        match *self {
+            DropKey::NotGlobal { p }
+            | DropKey::Globals { p }
+            | DropKey::StructuresOf { p, .. }
+            | DropKey::Structure { p, .. }
+            | DropKey::LocalsOf { p, .. }
+            | DropKey::Local { p, .. }
+            | DropKey::Global { p, .. } => p,
+        }
     }
 }
 

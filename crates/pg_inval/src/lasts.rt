@@ -3,7 +3,7 @@
 ghost use Rattle.std.specs.Prelude.{◌<◌, ℕ, IsTrue};
 ghost use Rattle.pg_inval.specs.declared.key.DropKey.{DropKey};
 ghost use Rattle.pg_inval.specs.Keys.{structures_for, locals_for, globals_for, dropped_keys};
-ghost use Rattle.pg_inval.specs.Lasts.{MayHave, AreRaised};
+ghost use Rattle.pg_inval.specs.Lasts.{MayBeAt, MayHave, AreRaised};
 
 use crate::key::{DropKey, global_at, local_at, structure_at};
 use pg_entry::Level;
@@ -11,12 +11,13 @@ use pg_event::{Invalidation, structure_key, translation_key};
 use std::alloc::Global;
 use std::marker::Model;
 
-/// So many places there are.
-const PLACES: usize = 32_768;
+/// So many places there are: of the two that a key has, one lies in each half.
+const PLACES: usize = 65_536;
 
 /// For each place the last moment of the keys that have it, or a later one: keys share places, and
-/// what is forgotten stays. So a key has no later moment, which is told without looking it up.
-/// Where memory is refused there is no place, and nothing is told.
+/// what is forgotten stays. So a key has no later moment, which is told without looking it up. A
+/// key has two places, by two hashes: what shares one with it rarely shares the other, and the
+/// lower of the two bounds it. Where memory is refused there is no place, and nothing is told.
 #[derive(Drop)]
 pub(crate) struct Lasts {
     moments: Vec<u32>,
@@ -46,7 +47,15 @@ impl Lasts {
     pub(crate) fn is_over(&self, key: DropKey, from: u32) -> bool
         ensures { IsTrue result → (m : ℕ) → MayHave self.now key m → m < from }
     {
-        match self.moments.get(key.place()) {
+        self.is_below(key.place(), from) || self.is_below(key.other_place(), from)
+    }
+
+    /// Whether no key of a place has a moment from one on.
+    #[inline(always)]
+    fn is_below(&self, place: usize, from: u32) -> bool
+        ensures { IsTrue result → (m : ℕ) → MayBeAt self.now place m → m < from }
+    {
+        match self.moments.get(place) {
             Some(last) => *last < from,
             None => false,
         }
@@ -67,7 +76,16 @@ impl Lasts {
         ensures kept { (k : DropKey) (m : ℕ) → MayHave self.old k m → MayHave self.new k m }
         ensures own { MayHave self.new key moment }
     {
-        let place = key.place();
+        self.raise_at(key.place(), moment);
+        self.raise_at(key.other_place(), moment);
+    }
+
+    /// A key of a place may have this moment too.
+    #[inline(always)]
+    fn raise_at(&mut self, place: usize, moment: u32)
+        ensures kept { (i m : ℕ) → MayBeAt self.old i m → MayBeAt self.new i m }
+        ensures own { MayBeAt self.new place moment }
+    {
         if place < self.moments.len() {
             self.moments[place] = self.moments[place].max(moment);
         }

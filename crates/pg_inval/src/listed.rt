@@ -1,15 +1,13 @@
-ghost use Rattle.std.specs.Prelude.{◌≡◌, ◌+◌, ◌-◌, ◌*◌, ◌≤◌, ℕ, Bool, List, length};
-ghost use Rattle.pg_event.specs.Witness.{any_from};
-ghost use Rattle.pg_timeline.specs.Timelines.{IsLeastFrom};
+ghost use Rattle.std.specs.Prelude.{◌≡◌, ◌+◌, ◌*◌, ◌≤◌, List, length};
 ghost use Rattle.pg_inval.specs.declared.log.LogEntry.{LogEntry};
 ghost use Rattle.pg_inval.specs.Lists.{has_drop, has_among, has_between, IsFirstDrop};
-ghost use Rattle.pg_inval.specs.Lists.{cut_log, IsRisingFrom};
+ghost use Rattle.pg_inval.specs.Lists.{cut_log, IsRisingFrom, IsLeastBetween};
 ghost use Rattle.pg_inval.specs.Listed.{AreListed};
 
 use crate::class::{Class, class_of};
 use crate::key::DropKey;
 use crate::lists::Lists;
-use crate::log::{LogEntry, earliest};
+use crate::log::LogEntry;
 use pg_timeline::Probes;
 use std::alloc::Global;
 
@@ -37,24 +35,9 @@ impl Listed {
         }
     }
 
-    /// Goes through the rest of the log for a class. Where memory is refused, the class stays
+    /// Goes through the rest of the log for each class. Where memory is refused, a class stays
     /// behind.
-    pub(crate) fn catch_up(&mut self, class: Class, alloc: Global, log: &[LogEntry])
-        requires listed { AreListed log.now self.old }
-        requires rising { IsRisingFrom 0 log.now }
-        ensures { AreListed log.now self.new }
-    {
-        match class {
-            Class::Pages => self.pages.catch_up(class, alloc, log),
-            Class::LargePages => self.large_pages.catch_up(class, alloc, log),
-            Class::GlobalPages => self.global_pages.catch_up(class, alloc, log),
-            Class::Regions => self.regions.catch_up(class, alloc, log),
-            Class::Spaces => self.spaces.catch_up(class, alloc, log),
-        }
-    }
-
-    /// The same for each class.
-    pub(crate) fn catch_up_all(&mut self, alloc: Global, log: &[LogEntry])
+    pub(crate) fn catch_up(&mut self, alloc: Global, log: &[LogEntry])
         requires listed { AreListed log.now self.old }
         requires rising { IsRisingFrom 0 log.now }
         ensures { AreListed log.now self.new }
@@ -79,43 +62,49 @@ impl Listed {
         self.spaces.forget_from(moment, left);
     }
 
-    /// The least moment of a key from one on.
+    /// The least moment of a key from one up to, not with, another.
     fn first_at(
         &self,
         log: &[LogEntry],
         key: DropKey,
         from: u32,
+        to: u32,
         probes: &mut Probes,
     ) -> Option<u32>
-        requires { AreListed log.now self.now }
-        ensures least { IsLeastFrom (has_drop log.now key) from result }
+        requires listed { AreListed log.now self.now }
+        requires rising { IsRisingFrom 0 log.now }
+        ensures least { IsLeastBetween (has_drop log.now key) from to result }
         ensures probes { (probes.old ≤ probes.new) × (probes.new ≤ probes.old + 34) }
     {
         match class_of(key) {
-            Class::Pages => self.pages.first_from(log, key, from, probes),
-            Class::LargePages => self.large_pages.first_from(log, key, from, probes),
-            Class::GlobalPages => self.global_pages.first_from(log, key, from, probes),
-            Class::Regions => self.regions.first_from(log, key, from, probes),
-            Class::Spaces => self.spaces.first_from(log, key, from, probes),
+            Class::Pages => self.pages.first_between(log, key, from, to, probes),
+            Class::LargePages => self.large_pages.first_between(log, key, from, to, probes),
+            Class::GlobalPages => self.global_pages.first_between(log, key, from, to, probes),
+            Class::Regions => self.regions.first_between(log, key, from, to, probes),
+            Class::Spaces => self.spaces.first_between(log, key, from, to, probes),
         }
     }
 
-    /// The least moment of some keys from one on.
+    /// The least moment of some keys from one up to, not with, another. A moment that was found
+    /// ends the search of the keys after it: only an earlier one is of use.
     fn first_among(
         &self,
         log: &[LogEntry],
         keys: &[DropKey],
         from: u32,
+        to: u32,
         probes: &mut Probes,
     ) -> Option<u32>
-        requires { AreListed log.now self.now }
-        ensures least { IsLeastFrom (has_among log.now keys.now) from result }
+        requires listed { AreListed log.now self.now }
+        requires rising { IsRisingFrom 0 log.now }
+        ensures least { IsLeastBetween (has_among log.now keys.now) from to result }
         ensures probes { (probes.old ≤ probes.new)
             × (probes.new ≤ probes.old + 34 * length keys.now) }
     {
         let mut found = None;
         for key in keys {
-            found = earliest(found, self.first_at(log, *key, from, probes));
+            let end = found.unwrap_or(to);
+            found = self.first_at(log, *key, from, end, probes).or(found);
         }
         found
     }
@@ -130,7 +119,8 @@ impl Listed {
         to: u32,
         probes: &mut Probes,
     ) -> Option<u32>
-        requires { AreListed log.now self.now }
+        requires listed { AreListed log.now self.now }
+        requires rising { IsRisingFrom 0 log.now }
         ensures first { IsFirstDrop (has_between log.now keys.now) from to result }
         ensures probes { (probes.old ≤ probes.new)
             × (probes.new ≤ probes.old + 34 * length keys.now) }
@@ -138,17 +128,6 @@ impl Listed {
         if from >= to {
             return None;
         }
-        below(self.first_among(log, keys, from, probes), to)
-    }
-}
-
-/// A moment, where it is below another.
-fn below(found: Option<u32>, to: u32) -> Option<u32>
-    ensures { (test : ℕ → Bool) (from : ℕ) → IsLeastFrom test from found →
-        IsFirstDrop (λ a b. any_from test a (b - a)) from to result }
-{
-    match found {
-        Some(moment) => if moment < to { Some(moment) } else { None },
-        None => None,
+        self.first_among(log, keys, from, to, probes)
     }
 }

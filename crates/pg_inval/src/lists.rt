@@ -1,4 +1,4 @@
-ghost use Rattle.std.specs.Prelude.{◌≡◌, ◌+◌, ◌≤◌, ℕ, OnOk, OnErr, List, [], length, IsOk};
+ghost use Rattle.std.specs.Prelude.{◌≡◌, ◌+◌, ◌≤◌, ℕ, Bool, OnOk, OnErr, List, [], length, IsOk};
 ghost use Rattle.std.specs.HashMap.{IsUnchanged};
 ghost use Rattle.pg_timeline.specs.Timelines.{end_of, has_moment, IsLeastFrom};
 ghost use Rattle.pg_timeline.specs.Keyed.{stamps_in, IsPushed, AreCut, EndsBefore};
@@ -7,12 +7,12 @@ ghost use Rattle.pg_inval.specs.Classes.{class_of};
 ghost use Rattle.pg_inval.specs.declared.class.Class.{Class};
 ghost use Rattle.pg_inval.specs.declared.log.LogEntry.{LogEntry};
 ghost use Rattle.pg_inval.specs.Lists.{AreDistinct, ArePushed, AreSame, has_drop, cut_log};
-ghost use Rattle.pg_inval.specs.Lists.{IsRisingFrom, IsListed};
+ghost use Rattle.pg_inval.specs.Lists.{IsRisingFrom, IsListed, IsLeastBetween};
 
 use crate::class::Class;
 use crate::dropped::keys_in;
 use crate::key::DropKey;
-use crate::log::{LogEntry, earliest, first_in};
+use crate::log::{LogEntry, first_in};
 use crate::packed::invalidation_of;
 use pg_timeline::{Probes, Timeline};
 use std::alloc::{AllocError, Global};
@@ -90,6 +90,17 @@ fn first_at(
     by_key.get(&key)?.first_from(from, probes)
 }
 
+/// A moment, where it is below another.
+fn below(found: Option<u32>, to: u32) -> Option<u32>
+    ensures { (test : ℕ → Bool) (from : ℕ) → IsLeastFrom test from found →
+        IsLeastBetween test from to result }
+{
+    match found {
+        Some(moment) => if moment < to { Some(moment) } else { None },
+        None => None,
+    }
+}
+
 /// For each key of a class the moments of its events, as far as the log was gone through.
 #[derive(Drop)]
 pub(crate) struct Lists {
@@ -138,20 +149,23 @@ impl Lists {
         self.known = self.known.min(left);
     }
 
-    /// The least moment of a key from one on. The entries that are not in the lists are gone
-    /// through.
-    pub(crate) fn first_from(
+    /// The least moment of a key from one up to, not with, another. What the lists lack is looked
+    /// for in the log, up to what they have.
+    pub(crate) fn first_between(
         &self,
         log: &[LogEntry],
         key: DropKey,
         from: u32,
+        to: u32,
         probes: &mut Probes,
     ) -> Option<u32>
-        requires { IsListed (class_of key) log.now self.now.known self.now.by_key.entries }
-        ensures least { IsLeastFrom (has_drop log.now key) from result }
+        requires listed { IsListed (class_of key) log.now self.now.known self.now.by_key.entries }
+        requires rising { IsRisingFrom 0 log.now }
+        ensures least { IsLeastBetween (has_drop log.now key) from to result }
         ensures probes { (probes.old ≤ probes.new) × (probes.new ≤ probes.old + 34) }
     {
-        let listed = first_at(&self.by_key, key, from, probes);
-        earliest(listed, first_in(&log[self.known..], key, from))
+        let listed = below(first_at(&self.by_key, key, from, probes), to);
+        let end = listed.unwrap_or(to);
+        first_in(&log[self.known..], key, from, end, probes).or(listed)
     }
 }

@@ -1,15 +1,16 @@
 //! The log of what events dropped.
 
-ghost use Rattle.std.specs.Prelude.{◌≡◌, ◌&&◌, ◌||◌, ℕ, Bool, nat_eq};
-ghost use Rattle.pg_timeline.specs.Timelines.{IsLeastFrom};
+ghost use Rattle.std.specs.Prelude.{◌≡◌, ◌<◌, ◌≤◌, ℕ, take, drop, length, slice_get, Some, true, false};
+ghost use Rattle.pg_inval.specs.declared.log.LogEntry.{LogEntry};
 ghost use Rattle.pg_inval.specs.Keys.{has_key, dropped_keys};
 ghost use Rattle.pg_inval.specs.Packed.{invalidation_of};
-ghost use Rattle.pg_inval.specs.Lists.{has_drop, cut_log};
+ghost use Rattle.pg_inval.specs.Lists.{has_drop, cut_log, IsRisingFrom, AreBefore, IsLeastBetween};
 
 use crate::class::class_of;
 use crate::dropped::keys_in;
 use crate::key::DropKey;
 use crate::packed::{Packed, invalidation_of};
+use pg_timeline::Probes;
 
 /// What one event dropped from the caches of its processor `p`.
 #[derive(Clone, Copy)]
@@ -20,44 +21,87 @@ pub(crate) struct LogEntry {
     pub packed: Packed,
 }
 
-/// The lesser of two moments, where one may be missing.
-pub(crate) fn earliest(a: Option<u32>, b: Option<u32>) -> Option<u32>
-    ensures { (p q : ℕ → Bool) (from : ℕ) → IsLeastFrom p from a → IsLeastFrom q from b →
-        IsLeastFrom (λ j. p j || q j) from result }
+/// Whether an entry has a key. It has keys of its own processor alone, so for others they are not
+/// made.
+fn has_key(entry: LogEntry, key: DropKey) -> bool
+    ensures { result ≡ has_key (dropped_keys entry.p (invalidation_of entry.packed)) key }
 {
-    match (a, b) {
-        (Some(x), Some(y)) => Some(x.min(y)),
-        (a, b) => a.or(b),
-    }
-}
-
-/// The moment of an entry, where that is not below one and the entry has a key.
-fn moment_in(entry: LogEntry, key: DropKey, from: u32) -> Option<u32>
-    ensures { IsLeastFrom
-        (λ j. nat_eq entry.moment j
-        && has_key (dropped_keys entry.p (invalidation_of entry.packed)) key)
-        from result }
-{
-    if entry.moment < from {
-        return None;
+    if entry.p != key.processor() {
+        return false;
     }
     let keys = keys_in(class_of(key), entry.p, invalidation_of(entry.packed));
-    if keys.as_slice().contains(&key) {
+    keys.as_slice().contains(&key)
+}
+
+/// How many entries lie below a moment, by halving.
+fn count_below(log: &[LogEntry], moment: u32) -> usize
+    requires { IsRisingFrom 0 log.now }
+    ensures within { result ≤ length log.now }
+    ensures below { AreBefore moment (take result log.now) }
+    ensures rest { IsRisingFrom moment (drop result log.now) }
+{
+    let mut low = 0;
+    let mut high = log.len();
+    while low < high {
+        let middle = low + (high - low) / 2;
+        if log[middle].moment < moment {
+            low = middle + 1;
+        } else {
+            high = middle;
+        }
+    }
+    low
+}
+
+/// How many entries at the front are below a moment and lack a key.
+fn count_without(log: &[LogEntry], key: DropKey, to: u32) -> usize
+    ensures within { result ≤ length log.now }
+    ensures without { (j : ℕ) → has_drop (take result log.now) key j ≡ false }
+    ensures stop { (e : LogEntry) → slice_get log.now result ≡ Some e → e.moment < to →
+        has_key (dropped_keys e.p (invalidation_of e.packed)) key ≡ true }
+{
+    let mut count = 0;
+    while count < log.len() {
+        let entry = log[count];
+        if entry.moment >= to || has_key(entry, key) {
+            return count;
+        }
+        count += 1;
+    }
+    count
+}
+
+/// The least moment below one at which some entries have a key. The first entry that has the key is
+/// the least, since their moments rise. It counts the entries that it passes over, which are no
+/// probes.
+fn first_of(log: &[LogEntry], key: DropKey, to: u32, probes: &mut Probes) -> Option<u32>
+    ensures least { (from : ℕ) → IsRisingFrom from log.now →
+        IsLeastBetween (has_drop log.now key) from to result }
+    ensures probes { probes.new ≡ probes.old }
+{
+    let count = count_without(log, key, to);
+    probes.pass(count);
+    let entry = log.get(count)?;
+    if entry.moment < to {
         Some(entry.moment)
     } else {
         None
     }
 }
 
-/// The least moment from one on at which some entries have a key.
-pub(crate) fn first_in(log: &[LogEntry], key: DropKey, from: u32) -> Option<u32>
-    ensures { IsLeastFrom (has_drop log.now key) from result }
+/// The least moment from one up to, not with, another at which some entries have a key.
+pub(crate) fn first_in(
+    log: &[LogEntry],
+    key: DropKey,
+    from: u32,
+    to: u32,
+    probes: &mut Probes,
+) -> Option<u32>
+    requires { IsRisingFrom 0 log.now }
+    ensures least { IsLeastBetween (has_drop log.now key) from to result }
+    ensures probes { probes.new ≡ probes.old }
 {
-    let mut found = None;
-    for entry in log {
-        found = earliest(found, moment_in(*entry, key, from));
-    }
-    found
+    first_of(&log[count_below(log, from)..], key, to, probes)
 }
 
 /// Forgets the entries from a moment on.

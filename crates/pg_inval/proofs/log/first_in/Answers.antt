@@ -1,11 +1,16 @@
-use Rattle.std.proofs.Common.{◌+◌, take}
-use Rattle.pg_inval.specs.Lists.{has_drop}
-use Rattle.pg_inval.proofs.AnyFrom.{IsLeastFrom-same}
-use Rattle.pg_inval.proofs.Logs.{has_drop-more}
+use Rattle.std.proofs.Common.{List, drop, subst}
+use Rattle.pg_inval.specs.declared.log.LogEntry.{LogEntry}
+use Rattle.pg_inval.specs.Lists.{has_drop, IsRisingFrom, IsLeastBetween}
+use Rattle.pg_inval.proofs.AnyFrom.{IsLeastBetween-same}
+use Rattle.pg_inval.proofs.Listings.{take_rest}
+use Rattle.pg_inval.proofs.Search.{has_drop-from}
 use Rattle.pg_inval.proofs.log.first_in.Goals as goal
 
-pub loop-entry-preserved : goal.loop-entry-preserved
-loop-entry-preserved c =
-    IsLeastFrom-same _ (has_drop (take (c.loop-entry.entry-index + 1) c.args.log.now) c.args.key) c.args.from c.earliest-found.result
-    (λ j. has_drop-more c.args.log.now c.args.key c.loop-entry.entry-index _ j c.loop-entry-test.true)
-    (c.earliest-found.ensures _ _ c.args.from c.loop-entry.invariant c.moment_in.ensures)
+pub returns-clause-least : goal.returns-clause-least
+returns-clause-least c =
+    let log = c.args.log.now in
+    let start = c.count_below.result in
+    let late : IsRisingFrom c.args.from (drop start log) → IsLeastBetween (has_drop (drop start log) c.args.key) c.args.from c.args.to c.first_of.result
+    = subst (λ (es : List LogEntry). IsRisingFrom c.args.from es → IsLeastBetween (has_drop es c.args.key) c.args.from c.args.to c.first_of.result) (take_rest start log) (c.first_of.ensures.least c.args.from) in
+    IsLeastBetween-same (has_drop (drop start log) c.args.key) (has_drop log c.args.key) c.args.from c.args.to c.first_of.result
+    (λ j low. has_drop-from start c.args.from log c.args.key j c.count_below.ensures.below low) (late c.count_below.ensures.rest)

@@ -1,9 +1,8 @@
 use Rattle.std.proofs.Common.{take, ◌≤◌, ◌+◌, ◌*◌}
-use Rattle.pg_timeline.specs.Timelines.{IsLeastFrom}
-use Rattle.pg_inval.specs.Lists.{has_among}
+use Rattle.pg_inval.specs.Lists.{has_among, IsLeastBetween}
 use Rattle.pg_inval.proofs.listed.Listed.first_among.Given as goal
 
 abbrev pub invariant-loop-key : goal.invariant-loop-key
 invariant-loop-key l =
-    IsLeastFrom (has_among l.fn.log (take l.key-index l.fn.keys)) l.fn.from l.found
+    IsLeastBetween (has_among l.fn.log (take l.key-index l.fn.keys)) l.fn.from l.fn.to l.found
     × (l.fn.probes ≤ l.probes) × (l.probes ≤ l.fn.probes + 34 * l.key-index)

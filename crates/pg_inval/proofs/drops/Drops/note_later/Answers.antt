@@ -8,7 +8,7 @@ use Rattle.pg_inval.proofs.Bounded.{AreBounded-pushed}
 use Rattle.pg_inval.proofs.Kept.{IsNoted-pushed, IsNoted-nothing, IsSame-refl, StandsFor-noted, DropsNothing-none, OnErr-holds}
 use Rattle.pg_inval.proofs.Listings.{AreListed-longer}
 use Rattle.pg_inval.proofs.Logs.{keys_at, IsRisingFrom-push, AreBefore-push, AreBefore-weaker}
-use Rattle.pg_inval.proofs.drops.Drops.note_in_log.Goals as goal
+use Rattle.pg_inval.proofs.drops.Drops.note_later.Goals as goal
 
 pub invariant_of-self : goal.invariant_of-self
 invariant_of-self c =
