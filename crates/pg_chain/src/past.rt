@@ -21,6 +21,7 @@ ghost use Rattle.pg_chain.specs.Standing.{changes_nothing};
 use pg_entry::{AccessKind, Cfg, Entry, Level, Rights, marked};
 use pg_event::{
     Control, Event, Header, MemoryChange, Outcome, Request, TranslationKey, Version, processor_of,
+    structure_key,
 };
 use pg_inval::Drops;
 use pg_moment::Versions;
@@ -71,8 +72,8 @@ impl Past {
     }
 
     /// Notes the event with this number, which is the next. Fails where memory is refused, and then
-    /// nothing is noted. An access that got its answer takes no memory. The lists
-    /// of large and global pages that it drops are made by `catch_up` alone.
+    /// nothing is noted. An access that got its answer takes no memory. Lists of what it drops are
+    /// made by `catch_up` alone.
     #[inline(always)]
     pub fn note_later(&mut self, moment: u32, event: &Event) -> Result<(), AllocError>
         requires next { IsNext self.old moment }
@@ -310,7 +311,50 @@ impl Past {
             InEachRun self.now (λ head events.
             result ≡ survives head events p (λ c e. must_drop_structure c e key) from to) }
     {
-        !self.drops.structure_dropped(p, pcid, level, la, from, to)
+        self.structure_survives_counted(p, pcid, level, la, from, to, &mut Probes::new())
+    }
+
+    /// The same, and counts what was read.
+    pub(crate) fn structure_survives_counted(
+        &self,
+        p: u16,
+        pcid: u16,
+        level: Level,
+        la: u64,
+        from: u32,
+        to: u32,
+        probes: &mut Probes,
+    ) -> bool
+        requires { IsTableLevel level }
+        ensures run { let key = structure_key pcid level la in
+            InEachRun self.now (λ head events.
+            result ≡ survives head events p (λ c e. must_drop_structure c e key) from to) }
+        ensures probes { (probes.old ≤ probes.new) × (probes.new ≤ probes.old + 102) }
+    {
+        !self
+            .drops
+            .structure_dropped_counted(p, pcid, level, la, from, to, probes)
+    }
+
+    /// Whether no event from a moment on drops the paging-structure-cache entry that level 4, 3 or 2
+    /// gives for a linear address under a PCID, as far as is told without a look into lists: it may
+    /// also say no where none does.
+    #[inline(always)]
+    pub(crate) fn structure_outlasts(
+        &self,
+        p: u16,
+        pcid: u16,
+        level: Level,
+        la: u64,
+        from: u32,
+    ) -> bool
+        requires { IsTableLevel level }
+        ensures { let key = structure_key pcid level la in
+            IsTrue result → (to : ℕ) → InEachRun self.now (λ head events.
+            survives head events p (λ c e. must_drop_structure c e key) from to ≡ true) }
+    {
+        self.drops
+            .structure_outlasts(p, structure_key(pcid, level, la), from)
     }
 
     /// The first event from this moment on at which a processor had to drop the

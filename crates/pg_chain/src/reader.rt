@@ -2,15 +2,17 @@
 
 ghost use Rattle.std.specs.Prelude.{◌≡◌, ◌-◌, ◌<◌, ◌≤◌, ◌^◌, IfSome, not};
 ghost use Rattle.pg_event.specs.Values.{mem_at, control_at};
-ghost use Rattle.pg_event.specs.Invalidation.{translation_key, must_drop_translation};
+ghost use Rattle.pg_event.specs.Invalidation.{structure_key, translation_key};
+ghost use Rattle.pg_event.specs.Invalidation.{must_drop_structure, must_drop_translation};
 ghost use Rattle.pg_event.specs.Witness.{survives};
 ghost use Rattle.pg_entry.specs.Kinds.{IsPageShift};
+ghost use Rattle.pg_inval.specs.Drops.{IsTableLevel};
 ghost use Rattle.pg_inval.specs.Lists.{IsFirstDrop};
 ghost use Rattle.pg_chain.specs.Standing.{InEachRun, processor_count};
 ghost use Rattle.pg_chain.specs.Known.{IsWord, IsSpell};
 
 use crate::past::Past;
-use pg_entry::Cfg;
+use pg_entry::{Cfg, Level};
 use pg_event::Control;
 use pg_timeline::{Probes, Span};
 use std::marker::Model;
@@ -38,8 +40,6 @@ pub struct Reader<'a> {
     words: Vec<Option<Word>>,
     spells: Vec<Option<Spell>>,
     probes: Probes,
-    /// Whether it was asked when a large or global translation had to go.
-    wide: bool,
 }
 
 impl<'a> Model for Reader<'a> {
@@ -92,7 +92,6 @@ impl<'a> Reader<'a> {
                 Err(_) => Vec::new(past.alloc),
             },
             probes: Probes::new(),
-            wide: false,
         }
     }
 
@@ -106,7 +105,6 @@ impl<'a> Reader<'a> {
             words: Vec::new(past.alloc),
             spells: Vec::new(past.alloc),
             probes: Probes::new(),
-            wide: false,
         }
     }
 
@@ -117,16 +115,15 @@ impl<'a> Reader<'a> {
         self.past
     }
 
-    /// How many moments its look-ups in the past have read: none where a value was kept, and of
-    /// structure entries none.
+    /// How many moments its look-ups in the past have read: none where a value was kept.
     pub fn probes(&self) -> u64 {
         self.probes.count()
     }
 
-    /// Whether a look-up asked when a translation had to go that is global or of a large page: the
-    /// lists of those are made by `Past::catch_up` alone.
-    pub fn asked_wide(&self) -> bool {
-        self.wide
+    /// How many entries of the log of what was dropped its look-ups went through: those that no list
+    /// has, since `Past::catch_up` alone makes lists.
+    pub fn entries(&self) -> u64 {
+        self.probes.entries()
     }
 
     /// The settings of the run.
@@ -256,6 +253,28 @@ impl<'a> Reader<'a> {
         }
     }
 
+    /// Whether the paging-structure-cache entry that level 4, 3 or 2 gives for a linear address
+    /// under a PCID survives on a processor from one moment up to, not with, another.
+    pub(crate) fn structure_survives(
+        &mut self,
+        p: u16,
+        pcid: u16,
+        level: Level,
+        la: u64,
+        from: u32,
+        to: u32,
+    ) -> bool
+        requires { IsTableLevel level }
+        ensures past { self.new ≡ self.old }
+        ensures run { let key = structure_key pcid level la in
+            InEachRun self.old (λ head events.
+            result ≡ survives head events p (λ c e. must_drop_structure c e key) from to) }
+    {
+        let probes = &mut self.probes;
+        self.past
+            .structure_survives_counted(p, pcid, level, la, from, to, probes)
+    }
+
     /// The first event from this moment on at which a processor had to drop the translation of a
     /// linear address by a page of 2 to the power of `shift` bytes (12, 21 or 30) under a PCID.
     pub fn first_drop_of_translation(
@@ -275,7 +294,6 @@ impl<'a> Reader<'a> {
             (λ a b. not (survives head events p (λ c e. must_drop_translation c e key) a b))
             from (2 ^ 32 - 1) result) }
     {
-        self.wide |= global || shift != 12;
         let probes = &mut self.probes;
         self.past
             .first_drop_of_translation(p, pcid, shift, la, global, from, probes)

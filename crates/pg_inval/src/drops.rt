@@ -172,7 +172,7 @@ impl Drops {
 
     /// The same of a paging-structure-cache entry.
     #[inline(always)]
-    fn structure_outlasts(&self, p: u16, key: StructureKey, from: u32) -> bool
+    pub fn structure_outlasts(&self, p: u16, key: StructureKey, from: u32) -> bool
         requires { IsTableLevel key.level }
         ensures value { IsTrue result → (to : ℕ) →
             is_dropped self.now p (Structure key) from to ≡ false }

@@ -49,8 +49,8 @@ returns-then-not-structures_survive-clause-chain c = λ head events h.
     (c.control_at-start.ensures.run head events h)
     (sym c.in-Some.is ∙ c.wanted_end.ensures.end head events (moved (sym c.control_at-start.ensures.past) h))
     (sym c.if-not-is_one_context.false ∙ c.is_one_context.ensures.context head events (moved (sym (c.wanted_end.ensures.past ∙ c.control_at-start.ensures.past)) h))
-    (sym c.if-not-structures_survive.true ∙ c.structures_survive.ensures head events
-    (moved (sym (c.past.ensures ∙ c.is_one_context.ensures.past ∙ c.wanted_end.ensures.past ∙ c.control_at-start.ensures.past)) h))
+    (sym c.if-not-structures_survive.true ∙ c.structures_survive.ensures.kept head events
+    (moved (sym (c.is_one_context.ensures.past ∙ c.wanted_end.ensures.past ∙ c.control_at-start.ensures.past)) h))
     ∙ ap (λ zs. chain_of head events c.args.p c.args.la zs c.args.want) c.as_slice-all.ensures.moments
 
 pub returns-clause-chain : goal.returns-clause-chain
@@ -61,6 +61,6 @@ returns-clause-chain c = λ head events h.
     (c.control_at-start.ensures.run head events h)
     (sym c.in-Some.is ∙ c.wanted_end.ensures.end head events (moved (sym c.control_at-start.ensures.past) h))
     (sym c.if-not-is_one_context.false ∙ c.is_one_context.ensures.context head events (moved (sym (c.wanted_end.ensures.past ∙ c.control_at-start.ensures.past)) h))
-    (sym c.if-not-structures_survive.false ∙ c.structures_survive.ensures head events
-    (moved (sym (c.past.ensures ∙ c.is_one_context.ensures.past ∙ c.wanted_end.ensures.past ∙ c.control_at-start.ensures.past)) h))
+    (sym c.if-not-structures_survive.false ∙ c.structures_survive.ensures.kept head events
+    (moved (sym (c.is_one_context.ensures.past ∙ c.wanted_end.ensures.past ∙ c.control_at-start.ensures.past)) h))
     ∙ ap (λ zs. chain_of head events c.args.p c.args.la zs c.args.want) c.as_slice-all.ensures.moments

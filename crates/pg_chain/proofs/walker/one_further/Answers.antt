@@ -18,12 +18,6 @@ use Rattle.pg_chain.proofs.walker.one_further.Goals as goal
 table_in : (b : Bool) (cfg : Cfg) (head : Head) (c : Chain) → b ≡ is_table (kind_of cfg c.end.level c.end.value) → cfg ≡ head.cfg → is_table (kind_of head.cfg c.end.level c.end.value) ≡ b
 table_in b cfg head c found same = sym (found ∙ ap (λ (x : Cfg). is_table (kind_of x c.end.level c.end.value)) same)
 
-pub returns-then-not-is_table : goal.returns-then-not-is_table
-returns-then-not-is_table c = λ head events h.
-    let a = c.args in
-    further-not_table head events a.p a.la a.want a.upper a.moment
-    (table_in false c.cfg-cfg.result head a.upper (sym c.if-not-is_table.true ∙ c.is_table.ensures) (c.cfg-cfg.ensures.run head events h))
-
 -- the same past, lent to a reader
 lent : {reader past : Past} {head : Head} {events : List Event} → reader ≡ past → IsPast past head events → IsPast reader head events
 lent {head = head} {events = events} e h = subst (λ (x : Past). IsPast x head events) (sym e) h
@@ -34,46 +28,16 @@ wanted_in : (b : Bool) (kind : Kind) (cfg : Cfg) (head : Head) (want : Want) (c 
 wanted_in b kind cfg head want c found is same =
     sym (found ∙ ap (is_wanted want) is ∙ ap (λ (x : Cfg). is_wanted want (kind_of x c.end.level c.end.value)) same)
 
-pub survives_to-requires : goal.survives_to-requires
-survives_to-requires c = table-level c.cfg-cfg.result c.args.upper.end.level c.args.upper.end.value (sym (sym c.if-not-is_table.false ∙ c.is_table.ensures))
+pub outlasts_to-requires : goal.outlasts_to-requires
+outlasts_to-requires c = table-level c.cfg-cfg.result c.args.upper.end.level c.args.upper.end.value (sym (sym c.if-not-is_table.false ∙ c.is_table.ensures))
 
-pub returns-then-not-is_wanted : goal.returns-then-not-is_wanted
-returns-then-not-is_wanted c = λ head events h.
+pub returns-then-outlasts_to : goal.returns-then-outlasts_to
+returns-then-outlasts_to c = λ head events h.
     let a = c.args in
     let cfg = c.cfg-cfg.ensures.run head events h in
-    further-made head events a.p a.la a.want a.upper a.moment c.advanced-chain.result true false _ _
-    (table_in true c.cfg-cfg.result head a.upper (sym c.if-not-is_table.false ∙ c.is_table.ensures) cfg)
-    (wanted_in false c.kind_at.result c.cfg-cfg.result head a.want c.advanced-chain.result (sym c.if-not-is_wanted.true ∙ c.is_wanted.ensures) c.kind_at.ensures.kind cfg)
-    refl refl (c.advanced-chain.ensures.chain head events (lent c.new.ensures h))
-
-pub returns-then-latest_control-upper : goal.returns-then-latest_control-upper
-returns-then-latest_control-upper c = λ head events h.
-    let a = c.args in
-    let cfg = c.cfg-cfg.ensures.run head events h in
-    further-made head events a.p a.la a.want a.upper a.moment c.advanced-chain.result true true false _
-    (table_in true c.cfg-cfg.result head a.upper (sym c.if-not-is_table.false ∙ c.is_table.ensures) cfg)
-    (wanted_in true c.kind_at.result c.cfg-cfg.result head a.want c.advanced-chain.result (sym c.if-not-is_wanted.false ∙ c.is_wanted.ensures) c.kind_at.ensures.kind cfg)
-    (ap (λ (x : Control). x.pcid == a.upper.pcid) (sym (c.latest_control.ensures.run a.moment c.requires.next head events h)) ∙ ne_eqb c.latest_control.result.pcid a.upper.pcid c.if-latest_control-upper.true)
-    refl (c.advanced-chain.ensures.chain head events (lent c.new.ensures h))
-
-pub returns-then-not-survives_to : goal.returns-then-not-survives_to
-returns-then-not-survives_to c = λ head events h.
-    let a = c.args in
-    let cfg = c.cfg-cfg.ensures.run head events h in
-    further-made head events a.p a.la a.want a.upper a.moment c.advanced-chain.result true true true false
+    sym (further-made head events a.p a.la a.want a.upper a.moment c.advanced-chain.result true true true true
     (table_in true c.cfg-cfg.result head a.upper (sym c.if-not-is_table.false ∙ c.is_table.ensures) cfg)
     (wanted_in true c.kind_at.result c.cfg-cfg.result head a.want c.advanced-chain.result (sym c.if-not-is_wanted.false ∙ c.is_wanted.ensures) c.kind_at.ensures.kind cfg)
     (ap (λ (x : Control). x.pcid == a.upper.pcid) (sym (c.latest_control.ensures.run a.moment c.requires.next head events h)) ∙ eq-eqb c.latest_control.result.pcid a.upper.pcid c.if-latest_control-upper.false)
-    (sym (sym c.if-not-survives_to.true ∙ c.survives_to.ensures head events h))
-    (c.advanced-chain.ensures.chain head events (lent c.new.ensures h))
-
-pub returns : goal.returns
-returns c = λ head events h.
-    let a = c.args in
-    let cfg = c.cfg-cfg.ensures.run head events h in
-    further-made head events a.p a.la a.want a.upper a.moment c.advanced-chain.result true true true true
-    (table_in true c.cfg-cfg.result head a.upper (sym c.if-not-is_table.false ∙ c.is_table.ensures) cfg)
-    (wanted_in true c.kind_at.result c.cfg-cfg.result head a.want c.advanced-chain.result (sym c.if-not-is_wanted.false ∙ c.is_wanted.ensures) c.kind_at.ensures.kind cfg)
-    (ap (λ (x : Control). x.pcid == a.upper.pcid) (sym (c.latest_control.ensures.run a.moment c.requires.next head events h)) ∙ eq-eqb c.latest_control.result.pcid a.upper.pcid c.if-latest_control-upper.false)
-    (sym (sym c.if-not-survives_to.false ∙ c.survives_to.ensures head events h))
-    (c.advanced-chain.ensures.chain head events (lent c.new.ensures h))
+    (c.outlasts_to.ensures c.if-outlasts_to.true head events h)
+    (c.advanced-chain.ensures.chain head events (lent c.new.ensures h)))
