@@ -1,5 +1,5 @@
 -- Upper parts of walks that were kept stay right, and what they come to with one moment more.
-use Rattle.std.proofs.Common.{◌≡◌, ℕ, suc, zero, ◌<◌, ◌≤◌, true, nat_le, ◌&&◌, List, [], ◌∷◌, ◌++◌, length, get_or, set, Option, Some, None, Result, Ok, Err, OnOk, OnErr, sym, ap, subst, ◌∙◌, arith}
+use Rattle.std.proofs.Common.{◌≡◌, refl, ℕ, suc, zero, ◌<◌, ◌≤◌, true, nat_le, ◌&&◌, List, [], ◌∷◌, ◌++◌, length, get_or, set, Option, Some, None, Result, Ok, Err, OnOk, OnErr, sym, ap, subst, ◌∙◌, arith}
 use Rattle.std.proofs.lemmas.Bool.{and_parts, le-leb}
 use Rattle.pg_event.specs.declared.event.Event.{Event}
 use Rattle.pg_event.specs.declared.event.Want.TheVariants as wants
@@ -73,3 +73,16 @@ pub stem_walk : (past : Past) (n p region la : ℕ) (ws : List ℕ) (chain : Cha
     (head : Head) (events : List Event) → IsPast past head events → chain_of head events p la ws wants.Present ≡ Ok chain
 stem_walk past n p region la ws chain is same head events h =
     sym (chain_of_page head events p la wants.Present ws is.few) ∙ ap (λ r. chain_of head events p r ws wants.Present) (sym same) ∙ is.walk head events h
+
+-- one that goes on by the event behind its moments
+pub stem_further : (past : Past) (n p region : ℕ) (upper ws : List ℕ) (stem chain : Chain) →
+    IsStem past n p (page_start (page_bits (length upper)) region) upper stem → ws ≡ upper ++ n ∷ [] → length ws ≤ 4 →
+    ((head : Head) (events : List Event) → IsPast past head events → chain_of head events p region upper wants.Present ≡ Ok stem → chain_of head events p region (upper ++ n ∷ []) wants.Present ≡ Ok chain) →
+    IsStem past n p region ws chain
+stem_further past n p region upper ws stem chain is whole few on = record {
+  few = few;
+  ordered = subst (λ (vs : List ℕ). is_in_order vs n ≡ true) (sym whole) (in_order-event upper n is.ordered);
+  walk = λ head events h.
+      ap (λ (vs : List ℕ). chain_of head events p region vs wants.Present) whole
+      ∙ on head events h (stem_walk past n p (page_start (page_bits (length upper)) region) region upper stem is refl head events h);
+}

@@ -219,9 +219,9 @@ impl<'a> Memo<'a> {
         }
     }
 
-    /// Whether lists of large or global pages were asked.
-    pub(crate) fn asked_wide(&self) -> bool {
-        self.reader.asked_wide()
+    /// How many entries of the log its look-ups went through.
+    pub(crate) fn entries(&self) -> u64 {
+        self.reader.entries()
     }
 
     /// The slots, where they rest on the first so many events.

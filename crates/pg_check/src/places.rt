@@ -16,8 +16,11 @@ pub struct Kept {
     /// How many walks were made for them.
     pub made: usize,
     pub stems: Vec<Option<Stem>>,
-    /// Whether lists of large or global pages were asked, which are to be made then.
-    pub wide: bool,
+    /// How many entries of the log look-ups went through since the lists of what was dropped were
+    /// made.
+    pub entries: u64,
+    /// The number of the event at which they were made.
+    pub listed: u32,
 }
 
 impl Kept {
@@ -30,7 +33,8 @@ impl Kept {
             slots: Vec::new(alloc),
             made: 0,
             stems: Vec::new(alloc),
-            wide: false,
+            entries: 0,
+            listed: 0,
         }
     }
 
@@ -42,7 +46,8 @@ impl Kept {
             slots: empty_slots(alloc, count),
             made: 0,
             stems: Vec::new(alloc),
-            wide: false,
+            entries: 0,
+            listed: 0,
         }
     }
 
@@ -121,6 +126,14 @@ impl Kept {
         self.made > self.slots.len()
     }
 
+    /// Whether look-ups went through so many entries of the log that lists are worth making. Where
+    /// there are more processors, more of the entries are of another processor than is asked for.
+    pub(crate) fn wants_lists(&self, past: &Past, number: u32) -> bool {
+        let processors = past.controls.processors() as u64;
+        let events = number.saturating_sub(self.listed) as u64;
+        self.entries.saturating_mul(processors) > events.saturating_mul(ENTRIES_FOR_EACH)
+    }
+
     /// Makes room for more walks, up to so many, unless memory is refused: then it is asked for
     /// again after as many walks more as there are slots.
     #[inline(never)]
@@ -142,6 +155,10 @@ impl Kept {
         }
     }
 }
+
+/// By one processor, look-ups may go through so many entries of the log for each event before lists
+/// of them are made: a list costs an entry a hundred times what one look does.
+const ENTRIES_FOR_EACH: u64 = 16;
 
 /// Slots that outlive a window are so many at first for each recorded processor.
 const SLOTS_FOR_EACH: usize = 1_024;

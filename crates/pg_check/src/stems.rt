@@ -3,6 +3,7 @@
 ghost use Rattle.std.specs.Prelude.{◌≡◌, ◌<◌, ◌≤◌, ◌++◌, ◌∷◌, ℕ, [], length, IfSome, IsTrue};
 ghost use Rattle.pg_chain.specs.declared.past.Past.{Past};
 ghost use Rattle.pg_chain.specs.Standing.{IsNext, processor_count};
+ghost use Rattle.pg_check.specs.Remembered.{page_bits, page_start};
 ghost use Rattle.pg_check.specs.Stems.{HaveStems, IsStem};
 
 use crate::places::{page_of, spread};
@@ -180,41 +181,33 @@ fn keep_stem(past: &Past, stems: &mut Vec<Option<Stem>>, number: u32, current: u
     put(stems, place, stem);
 }
 
-/// The upper part of a processor's walks to a region by these moments, at the event with this
-/// number: one that is kept, or one that is made by all its moments and kept.
-#[inline(never)]
-fn shorter_stem(
+/// The upper part that is read last at the event that comes next, by that of its other moments.
+/// None says nothing.
+#[inline(always)]
+fn further_stem(
     past: &Past,
-    stems: &mut Vec<Option<Stem>>,
     number: u32,
-    current: u16,
     region: Region,
     moments: &Moments,
+    upper: &Moments,
+    stem: Chain,
 ) -> Option<Chain>
+    requires next { IsNext past.now number }
     requires processor { region.p < processor_count past.now }
-    requires stems { HaveStems past.now number stems.old.items }
-    ensures stems { HaveStems past.now number stems.new.items }
-    ensures stem { IfSome result (IsStem past.now number region.p region.first moments.now) }
+    requires stem { IsStem past.now number region.p
+        (page_start (page_bits (length upper.now)) region.first) upper.now stem }
+    requires whole { moments.now ≡ upper.now ++ number ∷ [] }
+    requires few { length moments.now ≤ 4 }
+    ensures { IfSome result (IsStem past.now number region.p region.first moments.now) }
 {
-    if let Some(chain) = kept_stem(stems.as_slice(), current, region, moments) {
-        return Some(chain);
-    }
     let Region { p, first } = region;
-    let chain = stem_anew(past, number, p, first, moments)?;
-    let stem = Stem {
-        region: first,
-        moments: *moments,
-        p,
-        chain,
-    };
-    keep_stem(past, stems, number, current, stem);
-    Some(chain)
+    chain_further(past, p, first, stem, number, Want::Present)
 }
 
-/// The upper part that is read last at the event that comes next, by that of its other moments:
-/// regions that lie in a wider one share it. None says nothing.
-#[inline(always)]
-fn stem_at_event(
+/// The upper part of a processor's walks to a region by one or two moments, at the event that comes
+/// next: one that is kept, or one that is made and kept. None says nothing.
+#[inline(never)]
+fn shorter_stem(
     past: &Past,
     stems: &mut Vec<Option<Stem>>,
     number: u32,
@@ -228,25 +221,35 @@ fn stem_at_event(
     ensures stems { HaveStems past.now number stems.new.items }
     ensures stem { IfSome result (IsStem past.now number region.p region.first moments.now) }
 {
-    let (upper, last) = split_last(moments)?;
-    if last != number {
-        return None;
+    if let Some(chain) = kept_stem(stems.as_slice(), current, region, moments) {
+        return Some(chain);
     }
     let Region { p, first } = region;
-    let wider = Region {
-        p,
-        first: page_of(first, upper.len()),
+    let chain = match split_last(moments) {
+        Some((upper, last)) => {
+            if last != number {
+                return None;
+            }
+            let wider = page_of(first, upper.len());
+            let stem = stem_anew(past, number, p, wider, &upper)?;
+            further_stem(past, number, region, moments, &upper, stem)?
+        }
+        None => stem_anew(past, number, p, first, moments)?,
     };
-    let stem = shorter_stem(past, stems, number, current, wider, &upper)?;
-    match chain_further(past, p, first, stem, number, Want::Present) {
-        Ok(chain) => Some(chain),
-        Err(_) => None,
-    }
+    let stem = Stem {
+        region: first,
+        moments: *moments,
+        p,
+        chain,
+    };
+    keep_stem(past, stems, number, current, stem);
+    Some(chain)
 }
 
 /// The upper part of a processor's walks to a region by these moments, at the event that comes
-/// next: one that is kept, or one that is made and kept. `current` is the PCID: they are placed by
-/// it.
+/// next: one that is kept, or one that is read last at this event, which is made from a shorter one
+/// and kept. So regions that lie in a wider one share its reading, and no list is asked. None says
+/// nothing. `current` is the PCID: upper parts are placed by it.
 pub(crate) fn stem_of(
     past: &Past,
     stems: &mut Vec<Option<Stem>>,
@@ -265,8 +268,18 @@ pub(crate) fn stem_of(
         return Some(chain);
     }
     let Region { p, first } = region;
-    let chain = match stem_at_event(past, stems, number, current, region, moments) {
-        Some(chain) => chain,
+    let chain = match split_last(moments) {
+        Some((upper, last)) => {
+            if last != number {
+                return None;
+            }
+            let wider = Region {
+                p,
+                first: page_of(first, upper.len()),
+            };
+            let stem = shorter_stem(past, stems, number, current, wider, &upper)?;
+            further_stem(past, number, region, moments, &upper, stem)?
+        }
         None => stem_anew(past, number, p, first, moments)?,
     };
     let stem = Stem {

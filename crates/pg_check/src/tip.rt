@@ -163,11 +163,12 @@ fn failing_by_past(past: &Past, kept: &mut Kept, number: u32, event: &Event) -> 
         slots: mem::replace(&mut kept.slots, Vec::new(past.alloc)),
         made: kept.made,
         stems: Vec::new(past.alloc),
-        wide: false,
+        entries: 0,
+        listed: 0,
     };
     let mut memo = Memo::at_tip(past, own, number);
     let found = failing(&mut memo, number, event);
-    kept.wide = memo.asked_wide();
+    kept.entries = kept.entries.saturating_add(memo.entries());
     let Kept { slots, made, .. } = memo.into_slots(number);
     kept.slots = slots;
     kept.made = made;
@@ -257,13 +258,11 @@ fn chain_at_event(
     let page = page_of(la, moments.len());
     let first = page_of(page, upper.len());
     let stem = stem_of(past, stems, number, current, Region { p, first }, &upper)?;
-    match chain_further(past, p, page, stem, number, Want::Leaf) {
-        Ok(chain) => if chain.end.moment == number {
-            Some(chain)
-        } else {
-            None
-        },
-        Err(_) => None,
+    let chain = chain_further(past, p, page, stem, number, Want::Leaf)?;
+    if chain.end.moment == number {
+        Some(chain)
+    } else {
+        None
     }
 }
 
@@ -316,8 +315,8 @@ fn keep_walk(past: &Past, kept: &mut Kept, current: u16, number: u32, slot: Slot
     }
 }
 
-/// The least reason that fails for the event that comes next, by what the past says. The lists of
-/// large and global pages are made once they were asked.
+/// The least reason that fails for the event that comes next, by what the past says. Lists of what
+/// was dropped are made once look-ups went through much of the log.
 #[inline(never)]
 fn failing_slow(past: &mut Past, kept: &mut Kept, number: u32, event: &Event) -> Option<Reason>
     requires processor { processor_of event.now < processor_count past.old }
@@ -330,8 +329,10 @@ fn failing_slow(past: &mut Past, kept: &mut Kept, number: u32, event: &Event) ->
         result ≡ failing_event head events number event.now) }
 {
     let found = failing_by_past(past, kept, number, event);
-    if kept.wide {
+    if kept.wants_lists(past, number) {
         past.catch_up();
+        kept.entries = 0;
+        kept.listed = number;
     }
     found
 }

@@ -13,8 +13,8 @@ returns-then-chain-number-clause-walk c = λ head events h.
     let page = c.page_of-page.result in
     let stem = stem_walk c.args.past.now claim.number claim.p c.page_of-first.result page upper c.in_ok-stem.stem c.in_ok-stem.ensures.stem
     (c.page_of-first.ensures ∙ ap (λ n. page_start (page_bits n) page) c.len-2.ensures.length) head events h in
-    let whole : chain_of head events claim.p page ws wants.Leaf ≡ Ok c.in-Ok.chain =
+    let whole : chain_of head events claim.p page ws wants.Leaf ≡ Ok c.in_ok-chain.chain =
     ap (λ (vs : List ℕ). chain_of head events claim.p page vs wants.Leaf) (c.in_ok-upper.ensures.whole ∙ ap (λ n. upper ++ n ∷ []) c.if-last-number.false)
-    ∙ sym (c.in-Ok.ensures.whole head events h upper stem) in
-    subst (λ (la : ℕ). chain_of head events claim.p la ws wants.Leaf ≡ Ok c.in-Ok.chain)
+    ∙ c.in_ok-chain.ensures.whole head events h upper stem in
+    subst (λ (la : ℕ). chain_of head events claim.p la ws wants.Leaf ≡ Ok c.in_ok-chain.chain)
     (c.page_of-page.ensures ∙ ap (λ n. page_start (page_bits n) claim.la) c.len.ensures.length) whole
