@@ -277,8 +277,9 @@ impl Drops {
         ensures probes { (probes.old ≤ probes.new) × (probes.new ≤ probes.old + 102) }
     {
         let keys = structure_keys(p, key);
+        let log = self.log.as_slice();
         self.listed
-            .first_between(self.log.as_slice(), &keys, from, to, probes)
+            .first_between(&self.lasts, log, &keys, from, to, probes)
     }
 
     /// Whether processor `p` had to drop the translation of a linear address by a page of 2 to the
@@ -379,7 +380,8 @@ impl Drops {
         ensures probes { (probes.old ≤ probes.new) × (probes.new ≤ probes.old + 102) }
     {
         let keys = translation_keys(p, key);
+        let log = self.log.as_slice();
         self.listed
-            .first_between(self.log.as_slice(), keys.as_slice(), from, to, probes)
+            .first_between(&self.lasts, log, keys.as_slice(), from, to, probes)
     }
 }

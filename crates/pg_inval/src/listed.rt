@@ -2,10 +2,12 @@ ghost use Rattle.std.specs.Prelude.{◌≡◌, ◌+◌, ◌*◌, ◌≤◌, List
 ghost use Rattle.pg_inval.specs.declared.log.LogEntry.{LogEntry};
 ghost use Rattle.pg_inval.specs.Lists.{has_drop, has_among, has_between, IsFirstDrop};
 ghost use Rattle.pg_inval.specs.Lists.{cut_log, IsRisingFrom, IsLeastBetween};
+ghost use Rattle.pg_inval.specs.Lasts.{AreBounded};
 ghost use Rattle.pg_inval.specs.Listed.{AreListed};
 
 use crate::class::{Class, class_of};
 use crate::key::DropKey;
+use crate::lasts::Lasts;
 use crate::lists::Lists;
 use crate::log::LogEntry;
 use pg_timeline::Probes;
@@ -62,20 +64,26 @@ impl Listed {
         self.spaces.forget_from(moment, left);
     }
 
-    /// The least moment of a key from one up to, not with, another.
+    /// The least moment of a key from one up to, not with, another. Where its last moment is before
+    /// them, neither its list nor the log is looked at.
     fn first_at(
         &self,
+        lasts: &Lasts,
         log: &[LogEntry],
         key: DropKey,
         from: u32,
         to: u32,
         probes: &mut Probes,
     ) -> Option<u32>
+        requires bounded { AreBounded lasts.now log.now }
         requires listed { AreListed log.now self.now }
         requires rising { IsRisingFrom 0 log.now }
         ensures least { IsLeastBetween (has_drop log.now key) from to result }
         ensures probes { (probes.old ≤ probes.new) × (probes.new ≤ probes.old + 34) }
     {
+        if lasts.is_over(key, from) {
+            return None;
+        }
         match class_of(key) {
             Class::Pages => self.pages.first_between(log, key, from, to, probes),
             Class::LargePages => self.large_pages.first_between(log, key, from, to, probes),
@@ -89,12 +97,14 @@ impl Listed {
     /// ends the search of the keys after it: only an earlier one is of use.
     fn first_among(
         &self,
+        lasts: &Lasts,
         log: &[LogEntry],
         keys: &[DropKey],
         from: u32,
         to: u32,
         probes: &mut Probes,
     ) -> Option<u32>
+        requires bounded { AreBounded lasts.now log.now }
         requires listed { AreListed log.now self.now }
         requires rising { IsRisingFrom 0 log.now }
         ensures least { IsLeastBetween (has_among log.now keys.now) from to result }
@@ -104,7 +114,7 @@ impl Listed {
         let mut found = None;
         for key in keys {
             let end = found.unwrap_or(to);
-            found = self.first_at(log, *key, from, end, probes).or(found);
+            found = self.first_at(lasts, log, *key, from, end, probes).or(found);
         }
         found
     }
@@ -113,12 +123,14 @@ impl Listed {
     /// between, as between levels that were read at once, no list is searched.
     pub(crate) fn first_between(
         &self,
+        lasts: &Lasts,
         log: &[LogEntry],
         keys: &[DropKey],
         from: u32,
         to: u32,
         probes: &mut Probes,
     ) -> Option<u32>
+        requires bounded { AreBounded lasts.now log.now }
         requires listed { AreListed log.now self.now }
         requires rising { IsRisingFrom 0 log.now }
         ensures first { IsFirstDrop (has_between log.now keys.now) from to result }
@@ -128,6 +140,6 @@ impl Listed {
         if from >= to {
             return None;
         }
-        self.first_among(log, keys, from, to, probes)
+        self.first_among(lasts, log, keys, from, to, probes)
     }
 }
