@@ -11,14 +11,14 @@ use Rattle.pg_inval.specs.Lists.{has_drop}
 abbrev pub place_of : DropKey → ℕ
 place_of k =
     (number_of k * 11400714819323198485 % 2 ^ 64 + owner_of k * 14029467366897019727 % 2 ^ 64)
-    % 2 ^ 64 / 2 ^ 49
+    % 2 ^ 64 / 2 ^ 48
 
 -- its other place, among as many others
 abbrev pub other_place_of : DropKey → ℕ
 other_place_of k =
-    32768
+    65536
     + (number_of k * 18397679294719823053 % 2 ^ 64 + owner_of k * 15485907386658061715 % 2 ^ 64)
-    % 2 ^ 64 / 2 ^ 49
+    % 2 ^ 64 / 2 ^ 48
 
 -- a key of a place may have a moment, as far as the place tells
 abbrev pub MayBeAt : List ℕ → ℕ → ℕ → Type 0

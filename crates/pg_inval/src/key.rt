@@ -100,7 +100,7 @@ impl DropKey {
     {
         let number = self.number().wrapping_mul(0x9e37_79b9_7f4a_7c15);
         let owner = self.owner().wrapping_mul(0xc2b2_ae3d_27d4_eb4f);
-        (number.wrapping_add(owner) / 0x2_0000_0000_0000) as usize
+        (number.wrapping_add(owner) / 0x1_0000_0000_0000) as usize
     }
 
     /// Another place of it, among as many others: keys that share one place rarely share both.
@@ -110,7 +110,7 @@ impl DropKey {
     {
         let number = self.number().wrapping_mul(0xff51_afd7_ed55_8ccd);
         let owner = self.owner().wrapping_mul(0xd6e8_feb8_6659_fd93);
-        32_768 + (number.wrapping_add(owner) / 0x2_0000_0000_0000) as usize
+        65_536 + (number.wrapping_add(owner) / 0x1_0000_0000_0000) as usize
     }
 
     /// Its processor.

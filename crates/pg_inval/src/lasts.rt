@@ -12,7 +12,7 @@ use std::alloc::Global;
 use std::marker::Model;
 
 /// So many places there are: of the two that a key has, one lies in each half.
-const PLACES: usize = 65_536;
+const PLACES: usize = 131_072;
 
 /// For each place the last moment of the keys that have it, or a later one: keys share places, and
 /// what is forgotten stays. So a key has no later moment, which is told without looking it up. A
