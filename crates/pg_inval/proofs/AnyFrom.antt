@@ -134,10 +134,6 @@ pub IsFirstDrop-least : (test : ℕ → Bool) (from to : ℕ) (found : Option �
 IsFirstDrop-least test from to None least = none_before test from to least
 IsFirstDrop-least test from to (Some m) least = (least.0, least.1, none_before test from m least.3, one_wide test m least.2)
 
--- a window that has no number
-pub IsFirstDrop-narrow : (test : ℕ → Bool) (from to : ℕ) → to ≤ from → IsFirstDrop (windows test) from to None
-IsFirstDrop-narrow test from to narrow = none_before test from to (λ j low high. absurd (omega arith))
-
 -- whether there is one
 pub is_some-dropped : (test : ℕ → Bool) (from to : ℕ) (found : Option ℕ) → IsFirstDrop (windows test) from to found → is_some found ≡ windows test from to
 is_some-dropped test from to None first = sym first
@@ -165,13 +161,7 @@ IsLeastBetween-same p q from to (Some m) h least = (
   λ j low high. sym (h j low) ∙ least.3 j low high,
 )
 
--- the least number from the start of the window on, if it lies in it
-pub IsLeastBetween-inside : (test : ℕ → Bool) (from to m : ℕ) → IsLeastFrom test from (Some m) → m < to → IsLeastBetween test from to (Some m)
-IsLeastBetween-inside test from to m least inside = (least.0, inside, least.1, least.2)
-
-pub IsLeastBetween-past : (test : ℕ → Bool) (from to m : ℕ) → IsLeastFrom test from (Some m) → to ≤ m → IsLeastBetween test from to None
-IsLeastBetween-past test from to m least past = λ j low high. least.2 j low (omega arith)
-
+-- where there is none from the start of the window on
 pub IsLeastBetween-none : (test : ℕ → Bool) (from to : ℕ) → IsLeastFrom test from None → IsLeastBetween test from to None
 IsLeastBetween-none test from to least = λ j low high. least j low
 

@@ -73,12 +73,6 @@ has_among-more log ks i d j h =
     ∙ list_any-append test (take i ks) (get_or ks i d ∷ [])
     ∙ ap (λ b. has_among log (take i ks) j || b) (or_false (has_drop log (get_or ks i d) j)))
 
--- what one entry more brings
-pub has_drop-more : (log : List LogEntry) (k : DropKey) (i : ℕ) (d : LogEntry) (j : ℕ) → i < length log →
-    (has_drop (take i log) k j || (nat_eq (get_or log i d).moment j && has_key (keys_at (get_or log i d)) k)) ≡ has_drop (take (i + 1) log) k j
-has_drop-more log k i d j h =
-    sym (has_drop-push (take i log) (get_or log i d) k j) ∙ ap (λ es. has_drop es k j) (sym (take_more log i d h))
-
 pub has_drop-parts : (log : List LogEntry) (k : DropKey) (i j : ℕ) → (has_drop (take i log) k j || has_drop (drop i log) k j) ≡ has_drop log k j
 has_drop-parts log k i j =
     sym (list_any-append (λ x. nat_eq x.moment j && has_key (keys_at x) k) (take i log) (drop i log)) ∙ ap (λ es. has_drop es k j) (take-append-drop i log)

@@ -2,7 +2,6 @@
 use Rattle.std.proofs.Common.{◌≡◌, ℕ, zero, suc, length, take, drop, get_or, ◌+◌, ◌<◌, ◌≤◌, Bool, true, false, ◌&&◌, ◌||◌, nat_eq, Some, None, List, [], ◌∷◌, refl, ap, sym, subst, ◌∙◌, add-one, arith}
 use Rattle.std.specs.List.{slice_get}
 use Rattle.std.proofs.lemmas.Bool.{eqb-true, eq-eqb, and_from, or_right, or_left, false_from_ne_true}
-use Rattle.std.proofs.Math.Seq.{drop-length}
 use Rattle.std.proofs.lemmas.Option.{none-some, same_Some}
 use Rattle.pg_inval.specs.declared.key.DropKey.{DropKey}
 use Rattle.pg_inval.specs.declared.log.LogEntry.{LogEntry}
@@ -37,14 +36,6 @@ pub record Halved (log : List LogEntry) (w low high : ℕ) : Type 0 where
   pub within : high ≤ length log
   pub below : AreBefore w (take low log)
   pub rest : IsRisingFrom w (drop high log)
-
-pub halving-starts : (log : List LogEntry) (w : ℕ) → Halved log w 0 (length log)
-halving-starts log w = record {
-  order = omega arith;
-  within = omega arith;
-  below = tt;
-  rest = subst (λ (es : List LogEntry). IsRisingFrom w es) (sym (drop-length log)) tt;
-}
 
 pub halving-right : (log : List LogEntry) (w low high middle : ℕ) (d : LogEntry) → IsRisingFrom 0 log → Halved log w low high → middle < high → (get_or log middle d).moment < w → Halved log w (middle + 1) high
 halving-right log w low high middle d rising h lt below =

@@ -1,6 +1,7 @@
 //! The log of what events dropped.
 
-ghost use Rattle.std.specs.Prelude.{◌≡◌, ◌<◌, ◌≤◌, ℕ, take, drop, length, slice_get, Some, true, false};
+ghost use Rattle.std.specs.Prelude.{◌≡◌, ◌<◌, ◌≤◌, ℕ, true, false, Some};
+ghost use Rattle.std.specs.Prelude.{take, drop, length, slice_get};
 ghost use Rattle.pg_inval.specs.declared.log.LogEntry.{LogEntry};
 ghost use Rattle.pg_inval.specs.Keys.{has_key, dropped_keys};
 ghost use Rattle.pg_inval.specs.Packed.{invalidation_of};

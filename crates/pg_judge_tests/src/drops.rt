@@ -40,6 +40,8 @@ const ASSIST: Written = Written::Assist {
 
 const INVLPG: Written = Written::Invlpg(0, LA);
 
+const INVLPG_NEXT: Written = Written::Invlpg(0, NEXT_PAGE);
+
 const MOV_CR3: Written = Written::Cr3(0, 0x7002);
 
 /// With bit 63, by which it drops nothing.
@@ -124,15 +126,17 @@ const TRANSLATIONS: [Row; 28] = [
     (FAULT, Key::Page(1, 12, NEXT_PAGE, false), false),
 ];
 
-/// One event noted as number 5 of a processor whose PCID is 1, with global pages on.
+/// Of a processor whose PCID is 1, with global pages on.
+const BEFORE: Control = Control {
+    root: 0x1000,
+    pcid: 1,
+    pge: true,
+};
+
+/// One event noted as number 5.
 fn noted(alloc: Global, event: &Event) -> Result<Drops, AllocError> {
     let mut drops = Drops::new(alloc);
-    let before = Control {
-        root: 0x1000,
-        pcid: 1,
-        pge: true,
-    };
-    drops.note(5, event, before)?;
+    drops.note(5, event, BEFORE)?;
     Ok(drops)
 }
 
@@ -188,14 +192,31 @@ fn structures(rt: HostRuntime) -> Result<(), Fail> {
     Ok(())
 }
 
-/// A drop that was noted is found in a list, and not in the log, whose entries are not counted.
+/// A drop that was noted is found in a list, and no entry of the log is passed over.
 #[test]
 fn drops_are_listed(rt: HostRuntime) -> Result<(), Fail> {
     let drops = noted(rt.alloc(), &event_of(&INVLPG).ok_or("moments")?)?;
     let mut probes = Probes::new();
     let dropped = drops.translation_dropped_counted(0, 1, 12, LA, false, 5, 6, &mut probes);
     let count = probes.count();
-    assert!(rt; dropped && count >= 1, "{count}");
+    assert!(rt; dropped && count >= 1 && probes.entries() == 0, "{count}");
+    Ok(())
+}
+
+/// Where no list was made, a drop is found in the log. The entry before it, which is of another
+/// page, is passed over, and is no probe.
+#[test]
+fn drops_are_found_in_the_log(rt: HostRuntime) -> Result<(), Fail> {
+    let mut drops = Drops::new(rt.alloc());
+    drops.note_later(5, &event_of(&INVLPG_NEXT).ok_or("moments")?, BEFORE)?;
+    drops.note_later(6, &event_of(&INVLPG).ok_or("moments")?, BEFORE)?;
+    let mut probes = Probes::new();
+    let first = drops.first_drop_of_translation(0, 1, 12, LA, false, 5, 9, &mut probes);
+    let entries = probes.entries();
+    assert!(rt;
+        first == Some(6) && probes.count() == 0 && entries == 1,
+        "{entries}"
+    );
     Ok(())
 }
 
