@@ -138,6 +138,13 @@ impl Past {
         self.drops.catch_up();
     }
 
+    /// The same of the lists that most look-ups ask: not those of large pages and of global ones.
+    pub fn catch_up_pages(&mut self)
+        ensures { self.new ≡ self.old }
+    {
+        self.drops.catch_up_pages();
+    }
+
     /// Notes an event that leaves memory as it is, and may drop entries and change control
     /// registers.
     fn note_drop(&mut self, moment: u32, event: &Event) -> Result<(), AllocError>

@@ -40,6 +40,8 @@ pub struct Reader<'a> {
     words: Vec<Option<Word>>,
     spells: Vec<Option<Spell>>,
     probes: Probes,
+    /// Whether it was asked when a large or global translation had to go.
+    wide: bool,
 }
 
 impl<'a> Model for Reader<'a> {
@@ -92,6 +94,7 @@ impl<'a> Reader<'a> {
                 Err(_) => Vec::new(past.alloc),
             },
             probes: Probes::new(),
+            wide: false,
         }
     }
 
@@ -105,6 +108,7 @@ impl<'a> Reader<'a> {
             words: Vec::new(past.alloc),
             spells: Vec::new(past.alloc),
             probes: Probes::new(),
+            wide: false,
         }
     }
 
@@ -121,9 +125,15 @@ impl<'a> Reader<'a> {
     }
 
     /// How many entries of the log of what was dropped its look-ups went through: those that no list
-    /// has, since `Past::catch_up` alone makes lists.
+    /// has, since they are made when a caller says so.
     pub fn entries(&self) -> u64 {
         self.probes.entries()
+    }
+
+    /// Whether a look-up asked when a translation had to go that is global or of a large page: lists
+    /// of those are made by `Past::catch_up`, and not by `Past::catch_up_pages`.
+    pub fn asked_wide(&self) -> bool {
+        self.wide
     }
 
     /// The settings of the run.
@@ -294,6 +304,7 @@ impl<'a> Reader<'a> {
             (λ a b. not (survives head events p (λ c e. must_drop_translation c e key) a b))
             from (2 ^ 32 - 1) result) }
     {
+        self.wide |= global || shift != 12;
         let probes = &mut self.probes;
         self.past
             .first_drop_of_translation(p, pcid, shift, la, global, from, probes)

@@ -224,6 +224,11 @@ impl<'a> Memo<'a> {
         self.reader.entries()
     }
 
+    /// Whether lists of large or global pages were asked.
+    pub(crate) fn asked_wide(&self) -> bool {
+        self.reader.asked_wide()
+    }
+
     /// The slots, where they rest on the first so many events.
     pub(crate) fn into_slots(self, limit: u32) -> Kept
         ensures { HaveWalks self.entry limit result.slots.items }

@@ -21,6 +21,8 @@ pub struct Kept {
     pub entries: u64,
     /// The number of the event at which they were made.
     pub listed: u32,
+    /// Whether the lists of large or global pages were asked.
+    pub wide: bool,
 }
 
 impl Kept {
@@ -35,6 +37,7 @@ impl Kept {
             stems: Vec::new(alloc),
             entries: 0,
             listed: 0,
+            wide: false,
         }
     }
 
@@ -48,6 +51,7 @@ impl Kept {
             stems: Vec::new(alloc),
             entries: 0,
             listed: 0,
+            wide: false,
         }
     }
 
@@ -158,7 +162,7 @@ impl Kept {
 
 /// By one processor, look-ups may go through so many entries of the log for each event before lists
 /// of them are made: a list costs an entry a hundred times what one look does.
-const ENTRIES_FOR_EACH: u64 = 16;
+const ENTRIES_FOR_EACH: u64 = 8;
 
 /// Slots that outlive a window are so many at first for each recorded processor.
 const SLOTS_FOR_EACH: usize = 1_024;

@@ -133,6 +133,13 @@ fn stem_anew(past: &Past, number: u32, p: u16, region: u64, moments: &Moments) -
     }
 }
 
+/// Whether moments that rise are one moment: between them no structure entry can be dropped.
+#[inline(always)]
+fn are_one(moments: &Moments) -> bool {
+    let all = moments.as_slice();
+    all[0] == all[all.len() - 1]
+}
+
 /// Keeps an upper part at a place, where there is one.
 fn put(stems: &mut Vec<Option<Stem>>, place: usize, stem: Stem)
     ensures { (past : Past) (limit : ℕ) →
@@ -225,16 +232,16 @@ fn shorter_stem(
         return Some(chain);
     }
     let Region { p, first } = region;
-    let chain = match split_last(moments) {
-        Some((upper, last)) => {
-            if last != number {
-                return None;
-            }
-            let wider = page_of(first, upper.len());
-            let stem = stem_anew(past, number, p, wider, &upper)?;
-            further_stem(past, number, region, moments, &upper, stem)?
+    let chain = if are_one(moments) {
+        stem_anew(past, number, p, first, moments)?
+    } else {
+        let (upper, last) = split_last(moments)?;
+        if last != number {
+            return None;
         }
-        None => stem_anew(past, number, p, first, moments)?,
+        let wider = page_of(first, upper.len());
+        let stem = stem_anew(past, number, p, wider, &upper)?;
+        further_stem(past, number, region, moments, &upper, stem)?
     };
     let stem = Stem {
         region: first,
@@ -247,9 +254,10 @@ fn shorter_stem(
 }
 
 /// The upper part of a processor's walks to a region by these moments, at the event that comes
-/// next: one that is kept, or one that is read last at this event, which is made from a shorter one
-/// and kept. So regions that lie in a wider one share its reading, and no list is asked. None says
-/// nothing. `current` is the PCID: upper parts are placed by it.
+/// next: one that is kept, or one that is made and kept. One that was read at one moment is made by
+/// itself. One that is read last at this event is made from a shorter one, which regions that lie
+/// in a wider one share. So no list is asked. None says nothing. `current` is the PCID: upper parts
+/// are placed by it.
 pub(crate) fn stem_of(
     past: &Past,
     stems: &mut Vec<Option<Stem>>,
@@ -268,19 +276,19 @@ pub(crate) fn stem_of(
         return Some(chain);
     }
     let Region { p, first } = region;
-    let chain = match split_last(moments) {
-        Some((upper, last)) => {
-            if last != number {
-                return None;
-            }
-            let wider = Region {
-                p,
-                first: page_of(first, upper.len()),
-            };
-            let stem = shorter_stem(past, stems, number, current, wider, &upper)?;
-            further_stem(past, number, region, moments, &upper, stem)?
+    let chain = if are_one(moments) {
+        stem_anew(past, number, p, first, moments)?
+    } else {
+        let (upper, last) = split_last(moments)?;
+        if last != number {
+            return None;
         }
-        None => stem_anew(past, number, p, first, moments)?,
+        let wider = Region {
+            p,
+            first: page_of(first, upper.len()),
+        };
+        let stem = shorter_stem(past, stems, number, current, wider, &upper)?;
+        further_stem(past, number, region, moments, &upper, stem)?
     };
     let stem = Stem {
         region: first,

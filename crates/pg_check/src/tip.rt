@@ -165,10 +165,12 @@ fn failing_by_past(past: &Past, kept: &mut Kept, number: u32, event: &Event) -> 
         stems: Vec::new(past.alloc),
         entries: 0,
         listed: 0,
+        wide: false,
     };
     let mut memo = Memo::at_tip(past, own, number);
     let found = failing(&mut memo, number, event);
     kept.entries = kept.entries.saturating_add(memo.entries());
+    kept.wide |= memo.asked_wide();
     let Kept { slots, made, .. } = memo.into_slots(number);
     kept.slots = slots;
     kept.made = made;
@@ -330,7 +332,11 @@ fn failing_slow(past: &mut Past, kept: &mut Kept, number: u32, event: &Event) ->
 {
     let found = failing_by_past(past, kept, number, event);
     if kept.wants_lists(past, number) {
-        past.catch_up();
+        if kept.wide {
+            past.catch_up();
+        } else {
+            past.catch_up_pages();
+        }
         kept.entries = 0;
         kept.listed = number;
     }
