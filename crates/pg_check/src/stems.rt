@@ -177,6 +177,7 @@ fn kept_stem(
 }
 
 /// Keeps an upper part that was made at the event with this number.
+#[inline(always)]
 fn keep_stem(past: &Past, stems: &mut Vec<Option<Stem>>, number: u32, current: u16, stem: Stem)
     requires stem { IsStem past.now number stem.p stem.region stem.moments stem.chain }
     requires stems { HaveStems past.now number stems.old.items }
