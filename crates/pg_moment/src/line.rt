@@ -11,8 +11,8 @@ use pg_timeline::{Probes, Span};
 use std::alloc::{AllocError, Global};
 use std::marker::Model;
 
-/// So many words a line has: those of 64 bytes.
-pub(crate) const WORDS: usize = 8;
+/// So many words a line has: it has 64 bytes.
+const WORDS: usize = 8;
 
 /// The values of the words of a line, by place.
 #[derive(Drop)]

@@ -2,6 +2,7 @@
 
 ghost use Rattle.std.specs.Prelude.{◌≡◌, ◌+◌, ◌≤◌, ◌<◌, nat_eq, [], OnOk, OnErr, slice_index_or};
 ghost use Rattle.std.specs.HashMap.{IsUnchanged};
+ghost use Rattle.std.specs.Map.{lookup};
 ghost use Rattle.std.specs.Option.{unwrap_or};
 ghost use Rattle.pg_timeline.specs.Timelines.{last_before, IsSpan};
 ghost use Rattle.pg_timeline.specs.Keyed.{stamps_in, IsPushed, AreCut, AreBelow};
@@ -50,6 +51,29 @@ fn place_of(addr: u64) -> usize
     (addr / 8 % 8) as usize
 }
 
+/// Adds a line, whose one value is that of the word at a place. It stands by itself, since a
+/// function with a line of its own clears the room for one at each call.
+#[inline(never)]
+fn begin_at(
+    lines: &mut HashMap<u64, Line>,
+    alloc: Global,
+    line: u64,
+    place: usize,
+    moment: u32,
+    value: u64,
+) -> Result<(), AllocError>
+    requires place { place < 8 }
+    requires absent { lookup (nat_eq line) lines.old.entries ≡ None }
+    ensures ok { OnOk result (IsAdded lines.old.entries lines.new.entries line place
+        (record { moment = moment; value = value })) }
+    ensures err { OnErr result (IsUnchanged lines.old lines.new) }
+{
+    let mut words = Line::new(alloc);
+    words.push(place, moment, value)?;
+    lines.insert(line, words)?;
+    Ok(())
+}
+
 /// Adds a value of the word at a place of a line, which may be its first.
 fn push_at(
     lines: &mut HashMap<u64, Line>,
@@ -67,12 +91,7 @@ fn push_at(
 {
     match lines.get_mut(&line) {
         Some(words) => words.push(place, moment, value),
-        None => {
-            let mut words = Line::new(alloc);
-            words.push(place, moment, value)?;
-            lines.insert(line, words)?;
-            Ok(())
-        }
+        None => begin_at(lines, alloc, line, place, moment, value),
     }
 }
 
