@@ -83,10 +83,7 @@ impl Versions {
             result ≡ mem_at events moment addr }
         ensures probes { (probes.old ≤ probes.new) × (probes.new ≤ probes.old + 34) }
     {
-        match self.words.get(addr) {
-            Some(word) => word.last_before(moment, probes).unwrap_or(0),
-            None => 0,
-        }
+        self.words.last_before(addr, moment, probes).unwrap_or(0)
     }
 
     /// The same, with the moments around this one at which the value is the same. It counts the
@@ -97,14 +94,7 @@ impl Versions {
             IsSpan (λ w. mem_at events w addr) moment result }
         ensures probes { (probes.old ≤ probes.new) × (probes.new ≤ probes.old + 35) }
     {
-        match self.words.get(addr) {
-            Some(word) => word.span_at(moment, 0, probes),
-            None => Span {
-                value: 0,
-                from: 0,
-                to: u32::MAX,
-            },
-        }
+        self.words.span_at(addr, moment, 0, probes)
     }
 
     /// Forgets the events from a moment on.

@@ -2,7 +2,8 @@
 
 ghost use Rattle.std.specs.Prelude.{◌≡◌, ◌+◌, ◌≤◌, [], ◌∷◌, ◌++◌, OnOk, OnErr};
 ghost use Rattle.std.specs.Option.{unwrap_or};
-ghost use Rattle.pg_timeline.specs.Timelines.{end_of, last_before, cut_at, IsSpan};
+ghost use Rattle.pg_timeline.specs.Timelines.{last_before, cut_at, IsSpan};
+ghost use Rattle.pg_timeline.specs.Keyed.{AreBelow};
 
 use pg_timeline::{Probes, Span, Timeline};
 use std::alloc::{AllocError, Global};
@@ -13,12 +14,12 @@ use std::marker::Model;
 #[derive(Drop)]
 pub(crate) struct Word {
     last: Last,
-    /// The others; all of them, once the last was forgotten.
+    /// The others; all of them, where the last was forgotten.
     earlier: Timeline<u64>,
 }
 
-/// The last value of a word, if it was not forgotten. A map holds one for each word of memory, and
-/// this takes 16 bytes where an `Option<Stamp<u64>>` takes 24.
+/// The last value of a word, unless there is none or it was forgotten. A line holds eight, and this
+/// takes 16 bytes where an `Option<Stamp<u64>>` takes 24.
 #[derive(Clone, Copy)]
 enum Last {
     Forgotten,
@@ -40,25 +41,25 @@ impl Model for Word {
 }
 
 impl Word {
-    /// One value.
-    pub(crate) fn first(alloc: Global, moment: u32, value: u64) -> Word
-        ensures { result ≡ record { moment = moment; value = value } ∷ [] }
+    /// No value.
+    pub(crate) fn new(alloc: Global) -> Word
+        ensures { result ≡ [] }
     {
         Word {
-            last: Last::At { moment, value },
+            last: Last::Forgotten,
             earlier: Timeline::new(alloc),
         }
     }
 
     /// Adds a value from a moment on. Fails where memory is refused, and then nothing is added.
     pub(crate) fn push(&mut self, moment: u32, value: u64) -> Result<(), AllocError>
-        requires { end_of self.old ≤ moment }
+        requires { AreBelow moment self.old }
         ensures ok { OnOk result
             (self.new ≡ self.old ++ record { moment = moment; value = value } ∷ []) }
         ensures err { OnErr result (self.new ≡ self.old) }
     {
         match self.last {
-            Last::Forgotten => self.earlier.push(moment, value)?,
+            Last::Forgotten => self.last = Last::At { moment, value },
             Last::At {
                 moment: last,
                 value: kept,

@@ -1,75 +1,106 @@
 //! The values of words, by address.
 
-ghost use Rattle.std.specs.Prelude.{◌≡◌, ℕ, nat_eq, ◌≤◌, [], OnOk, OnErr};
-ghost use Rattle.std.specs.Map.{lookup};
+ghost use Rattle.std.specs.Prelude.{◌≡◌, ◌+◌, ◌≤◌, ◌<◌, nat_eq, [], OnOk, OnErr, slice_index_or};
 ghost use Rattle.std.specs.HashMap.{IsUnchanged};
-ghost use Rattle.std.specs.Option.{option_copied};
-ghost use Rattle.pg_timeline.specs.Timelines.{end_of};
-ghost use Rattle.pg_timeline.specs.Keyed.{stamps_in, IsPushed, AreCut};
-ghost use Rattle.pg_moment.specs.Words.{home_of, cut_each, IsAdded};
+ghost use Rattle.std.specs.Map.{lookup};
+ghost use Rattle.std.specs.Option.{unwrap_or};
+ghost use Rattle.pg_timeline.specs.Timelines.{last_before, IsSpan};
+ghost use Rattle.pg_timeline.specs.Keyed.{stamps_in, IsPushed, AreCut, AreBelow};
+ghost use Rattle.pg_moment.specs.Words.{line_of, place_of, line_at, cut_each, IsAdded};
 
-use crate::word::Word;
+use crate::line::Line;
+use pg_timeline::{Probes, Span};
 use std::alloc::{AllocError, Global};
 use std::collections::HashMap;
 use std::marker::Model;
 
-/// So many maps there are.
-const MAPS: usize = 4;
-
-/// The values of words, by address, in several maps: while one grows, what it moves about fits
-/// a cache. The words of a page stand in one.
+/// The values of words, by the line that a word stands in: the words of a line are mostly written
+/// and read together, and a map of lines has an eighth of the keys.
 #[derive(Drop)]
 pub(crate) struct Words {
-    maps: [HashMap<u64, Word>; MAPS],
+    lines: HashMap<u64, Line>,
 }
 
 impl Model for Words {
-    ghost use Rattle.std.specs.Prelude.{◌≡◌, ℕ, List, map, length};
+    ghost use Rattle.std.specs.Prelude.{ℕ, List};
     ghost use Rattle.pg_timeline.specs.declared.timeline.Stamp.{Stamp};
-    ghost use Rattle.pg_moment.specs.Words.{all_of, AreHome};
+    ghost use Rattle.pg_moment.specs.Words.{words_of, AreWhole};
 
     ghost Value = { List (ℕ × List (Stamp ℕ)) };
 
-    ghost view = { λ w. all_of (map (λ m. m.entries) w.maps) };
+    ghost view = { λ w. words_of w.lines.entries };
 
-    ghost invariant = { λ w. (length w.maps ≡ 4) × AreHome (map (λ m. m.entries) w.maps) };
+    ghost invariant = { λ w. AreWhole w.lines.entries };
 }
 
-/// The number of the map that has a word.
-fn home_of(addr: u64) -> usize
-    ensures value { result ≡ home_of addr }
+/// The number of the line that a word stands in. Addresses that differ modulo 8 have different
+/// lines, so that every address has a word of its own.
+#[inline(always)]
+fn line_of(addr: u64) -> u64
+    ensures { result ≡ line_of addr }
 {
-    (addr / 4096) as usize % MAPS
+    addr / 64 * 8 + addr % 8
 }
 
-/// Adds a value behind those of an address, which may be its first.
-fn push_at(
-    map: &mut HashMap<u64, Word>,
+/// The place of a word in its line.
+#[inline(always)]
+fn place_of(addr: u64) -> usize
+    ensures place { result ≡ place_of addr }
+    ensures within { result < 8 }
+{
+    (addr / 8 % 8) as usize
+}
+
+/// Adds a line, whose one value is that of the word at a place. It stands by itself, since a
+/// function with a line of its own clears the room for one at each call.
+#[inline(never)]
+fn begin_at(
+    lines: &mut HashMap<u64, Line>,
     alloc: Global,
-    addr: u64,
+    line: u64,
+    place: usize,
     moment: u32,
     value: u64,
 ) -> Result<(), AllocError>
-    requires { end_of (stamps_in nat_eq map.old.entries addr) ≤ moment }
-    ensures ok { OnOk result (IsAdded map.old.entries map.new.entries addr
+    requires place { place < 8 }
+    requires absent { lookup (nat_eq line) lines.old.entries ≡ None }
+    ensures ok { OnOk result (IsAdded lines.old.entries lines.new.entries line place
         (record { moment = moment; value = value })) }
-    ensures err { OnErr result (IsUnchanged map.old map.new) }
+    ensures err { OnErr result (IsUnchanged lines.old lines.new) }
 {
-    match map.get_mut(&addr) {
-        Some(word) => word.push(moment, value),
-        None => {
-            map.insert(addr, Word::first(alloc, moment, value))?;
-            Ok(())
-        }
+    let mut words = Line::new(alloc);
+    words.push(place, moment, value)?;
+    lines.insert(line, words)?;
+    Ok(())
+}
+
+/// Adds a value of the word at a place of a line, which may be its first.
+fn push_at(
+    lines: &mut HashMap<u64, Line>,
+    alloc: Global,
+    line: u64,
+    place: usize,
+    moment: u32,
+    value: u64,
+) -> Result<(), AllocError>
+    requires place { place < 8 }
+    requires below { AreBelow moment (slice_index_or (line_at lines.old.entries line) place []) }
+    ensures ok { OnOk result (IsAdded lines.old.entries lines.new.entries line place
+        (record { moment = moment; value = value })) }
+    ensures err { OnErr result (IsUnchanged lines.old lines.new) }
+{
+    match lines.get_mut(&line) {
+        Some(words) => words.push(place, moment, value),
+        None => begin_at(lines, alloc, line, place, moment, value),
     }
 }
 
-/// Forgets the values of every address from a moment on.
-fn cut_all(map: &mut HashMap<u64, Word>, moment: u32)
-    ensures { map.new.entries ≡ cut_each moment map.old.entries }
+/// Forgets the values of every word from a moment on.
+fn cut_all(lines: &mut HashMap<u64, Line>, moment: u32)
+    ensures { lines.new.entries ≡ cut_each moment lines.old.entries }
 {
-    map.retain(|_, word| {
-        word.forget_from(moment);
+    lines.retain(|_, words| {
+        words.forget_from(moment);
         true
     });
 }
@@ -80,20 +111,43 @@ impl Words {
         ensures { result ≡ [] }
     {
         Words {
-            maps: [
-                HashMap::new(alloc),
-                HashMap::new(alloc),
-                HashMap::new(alloc),
-                HashMap::new(alloc),
-            ],
+            lines: HashMap::new(alloc),
         }
     }
 
-    /// The values of an address.
-    pub(crate) fn get(&self, addr: u64) -> Option<&Word>
-        ensures value { option_copied result ≡ lookup (nat_eq addr) self.now }
+    /// The value of the last stamp of an address below a moment.
+    #[inline(always)]
+    pub(crate) fn last_before(&self, addr: u64, moment: u32, probes: &mut Probes) -> Option<u64>
+        ensures value { result ≡ last_before moment (stamps_in nat_eq self.now addr) }
+        ensures probes { (probes.old ≤ probes.new) × (probes.new ≤ probes.old + 34) }
     {
-        self.maps[home_of(addr)].get(&addr)
+        match self.lines.get(&line_of(addr)) {
+            Some(line) => line.last_before(place_of(addr), moment, probes),
+            None => None,
+        }
+    }
+
+    /// The same, or another value where there is none, and the moments around this one at which it
+    /// is the same.
+    pub(crate) fn span_at(
+        &self,
+        addr: u64,
+        moment: u32,
+        start: u64,
+        probes: &mut Probes,
+    ) -> Span<u64>
+        ensures span { let stamps = stamps_in nat_eq self.now addr in
+            IsSpan (λ w. unwrap_or (last_before w stamps) start) moment result }
+        ensures probes { (probes.old ≤ probes.new) × (probes.new ≤ probes.old + 35) }
+    {
+        match self.lines.get(&line_of(addr)) {
+            Some(line) => line.span_at(place_of(addr), moment, start, probes),
+            None => Span {
+                value: start,
+                from: 0,
+                to: u32::MAX,
+            },
+        }
     }
 
     /// Adds a value behind those of an address, which may be its first. Fails where
@@ -105,20 +159,19 @@ impl Words {
         moment: u32,
         value: u64,
     ) -> Result<(), AllocError>
-        requires { end_of (stamps_in nat_eq self.old addr) ≤ moment }
+        requires { AreBelow moment (stamps_in nat_eq self.old addr) }
         ensures ok { OnOk result (IsPushed nat_eq self.old self.new addr
             (record { moment = moment; value = value })) }
         ensures err { OnErr result (self.new ≡ self.old) }
     {
-        push_at(&mut self.maps[home_of(addr)], alloc, addr, moment, value)
+        let line = line_of(addr);
+        push_at(&mut self.lines, alloc, line, place_of(addr), moment, value)
     }
 
     /// Forgets the values of every address from a moment on.
     pub(crate) fn forget_from(&mut self, moment: u32)
         ensures { AreCut nat_eq self.old self.new moment }
     {
-        for map in self.maps.iter_mut() {
-            cut_all(map, moment);
-        }
+        cut_all(&mut self.lines, moment);
     }
 }

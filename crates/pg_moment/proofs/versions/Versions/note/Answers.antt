@@ -1,15 +1,14 @@
-use Rattle.std.proofs.Common.{◌≤◌, nat_eq, ap, refl, arith}
+use Rattle.std.proofs.Common.{◌≤◌, nat_eq, ap, refl}
 use Rattle.pg_timeline.specs.Keyed.{Keyed, stamps_in}
-use Rattle.pg_timeline.proofs.Timelines.{end_of-below, EndsBefore-push}
+use Rattle.pg_timeline.proofs.Timelines.{AreBelow-weaker, EndsBefore-push}
 use Rattle.pg_moment.specs.Versions.{next_moment}
 use Rattle.pg_moment.proofs.Known.{IsNoted-pushed, StandsFor-noted}
 use Rattle.pg_moment.proofs.versions.Versions.note.Goals as goal
 
 pub push-requires : goal.push-requires
 push-requires c =
-    let below = end_of-below c.self.inside.next (stamps_in nat_eq c.self.inside.words c.args.addr) (c.self.invariant.below c.args.addr) in
     let next : c.self.inside.next ≤ c.args.moment = rw (ap next_moment c.self.view_is) c.requires in
-    omega (arith, below)
+    AreBelow-weaker c.self.inside.next c.args.moment (stamps_in nat_eq c.self.inside.words c.args.addr) next (c.self.invariant.below c.args.addr)
 
 pub invariant_of-self-2 : goal.invariant_of-self-2
 invariant_of-self-2 c =
