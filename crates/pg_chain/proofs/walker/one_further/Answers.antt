@@ -1,5 +1,5 @@
-use Rattle.std.proofs.Common.{◌≡◌, Bool, true, false, ◌==◌, List, sym, ap, subst, ◌∙◌, refl}
-use Rattle.std.proofs.lemmas.Bool.{eq-eqb, ne_eqb}
+use Rattle.std.proofs.Common.{◌≡◌, Bool, true, ◌==◌, List, sym, ap, subst, ◌∙◌}
+use Rattle.std.proofs.lemmas.Bool.{eq-eqb}
 use Rattle.pg_entry.specs.declared.Cfg.{Cfg}
 use Rattle.pg_entry.specs.declared.Kind.{Kind}
 use Rattle.pg_event.specs.declared.event.Want.{Want}
@@ -11,7 +11,7 @@ use Rattle.pg_event.specs.Wants.{is_table, is_wanted}
 use Rattle.pg_chain.specs.declared.steps.Chain.{Chain}
 use Rattle.pg_chain.specs.declared.past.Past.{Past}
 use Rattle.pg_chain.specs.Standing.{IsPast}
-use Rattle.pg_chain.proofs.Further.{further-not_table, further-made, table-level}
+use Rattle.pg_chain.proofs.Further.{further-made, table-level}
 use Rattle.pg_chain.proofs.walker.one_further.Goals as goal
 
 -- whether an entry is a table, by the settings of the run

@@ -1,4 +1,4 @@
-use Rattle.std.proofs.Common.{◌≡◌, ℕ, [], ◌∷◌, ◌++◌, List, length, Ok, sym, ap, subst, ◌∙◌}
+use Rattle.std.proofs.Common.{◌≡◌, ℕ, [], ◌∷◌, ◌++◌, List, Ok, ap, subst, ◌∙◌}
 use Rattle.pg_event.specs.declared.event.Want.TheVariants as wants
 use Rattle.pg_chain.specs.Walked.{chain_of}
 use Rattle.pg_check.specs.Remembered.{page_bits, page_start}

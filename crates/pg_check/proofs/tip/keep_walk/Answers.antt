@@ -1,4 +1,3 @@
-use Rattle.std.proofs.Common.{ℕ}
 use Rattle.pg_check.proofs.tip.keep_walk.Goals as goal
 
 pub returns-then-count_walk-clause-walks : goal.returns-then-count_walk-clause-walks
