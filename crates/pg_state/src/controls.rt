@@ -61,10 +61,7 @@ fn is_change(event: &Event) -> bool
 }
 
 /// No changes of each of some processors.
-fn unchanged(
-    alloc: Global,
-    processors: &[(u64, bool)],
-) -> Result<Vec<Changes>, AllocError>
+fn unchanged(alloc: Global, processors: &[(u64, bool)]) -> Result<Vec<Changes>, AllocError>
     ensures { IfOk result
         (λ by_processor. by_processor.items ≡ replicate (length processors.now) []) }
 {
