@@ -124,9 +124,9 @@ impl<'a> Reader<'a> {
         self.probes.count()
     }
 
-    /// How many entries of the log of what was dropped its look-ups went through: those that no list
-    /// has, since they are made when a caller says so.
-    pub fn entries(&self) -> u64 {
+    /// How many entries of the log its look-ups passed over, which no list had yet.
+    /// `Past::catch_up` and `catch_up_pages` make lists.
+    pub fn passed(&self) -> u64 {
         self.probes.entries()
     }
 

@@ -6,8 +6,9 @@ ghost use Rattle.pg_chain.specs.Standing.{IsPast, processor_count};
 ghost use Rattle.pg_chain.specs.Walked.{reading_of};
 ghost use Rattle.pg_check.specs.Ends.{failing_marks};
 
+use crate::memo::Memo;
 use crate::walk::walk;
-use pg_chain::{Chain, EntryRead, Past};
+use pg_chain::{Chain, EntryRead};
 use pg_entry::{Cfg, Entry, classify};
 use pg_event::{Moments, Reason, Update, Want, may_dirty};
 
@@ -38,20 +39,25 @@ fn failing_marks(cfg: Cfg, update: &Update, chain: Chain) -> Option<Reason>
 }
 
 /// The least reason that fails for an assist with these moments.
-pub(crate) fn failing_assist(past: &Past, update: &Update, moments: &Moments) -> Option<Reason>
-    requires { update.now.p < processor_count past.now }
-    ensures { (head : Head) (events : List Event) → IsPast past.now head events →
+pub(crate) fn failing_assist(
+    memo: &mut Memo<'_>,
+    update: &Update,
+    moments: &Moments,
+) -> Option<Reason>
+    requires { update.now.p < processor_count memo.old }
+    ensures past { memo.new ≡ memo.old }
+    ensures failing { (head : Head) (events : List Event) → IsPast memo.old head events →
         result ≡ failing_assist head events update.now moments.now }
 {
     match walk(
-        past,
+        memo,
         update.number,
         update.p,
         update.la,
         moments,
         Want::Present,
     ) {
-        Ok(chain) => failing_marks(past.cfg(), update, chain),
+        Ok(chain) => failing_marks(memo.past().cfg(), update, chain),
         Err(reason) => Some(reason),
     }
 }

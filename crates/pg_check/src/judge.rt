@@ -55,7 +55,7 @@ pub fn failing(memo: &mut Memo<'_>, number: u32, event: &Event) -> Option<Reason
                 word,
                 dirty,
             };
-            failing_assist(memo.past(), &update, &moments)
+            failing_assist(memo, &update, &moments)
         }
     }
 }

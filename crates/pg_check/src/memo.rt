@@ -7,6 +7,7 @@ ghost use Rattle.pg_event.specs.Heads.{Head};
 ghost use Rattle.pg_event.specs.Values.{control_at};
 ghost use Rattle.pg_chain.specs.declared.past.Past.{Past};
 ghost use Rattle.pg_chain.specs.Standing.{IsPast, processor_count};
+ghost use Rattle.pg_chain.specs.Walked.{chain_of};
 ghost use Rattle.pg_entry.specs.Kinds.{IsPageShift};
 ghost use Rattle.pg_check.specs.Lasting.{IsAsked, IsWalk};
 ghost use Rattle.pg_check.specs.Remembered.{HasWalk, HaveWalks, IsWithin, walk_in};
@@ -14,7 +15,7 @@ ghost use Rattle.pg_check.specs.Remembered.{HasWalk, HaveWalks, IsWithin, walk_i
 use crate::lasting::{Lasting, asked_up_to, is_asked, lasting_walk};
 use crate::places::{Kept, first_slots, most_slots, page_of, place_of};
 use crate::walk::is_in_order;
-use pg_chain::{Chain, EntryRead, Past, Reader, kind_at};
+use pg_chain::{Chain, EntryRead, Past, Reader, chain_by, kind_at};
 use pg_entry::{Kind, Level, Rights};
 use pg_event::{Control, Moments, Reason, Want};
 use std::marker::Model;
@@ -219,9 +220,9 @@ impl<'a> Memo<'a> {
         }
     }
 
-    /// How many entries of the log its look-ups went through.
-    pub(crate) fn entries(&self) -> u64 {
-        self.reader.entries()
+    /// How many entries of the log its look-ups passed over.
+    pub(crate) fn passed(&self) -> u64 {
+        self.reader.passed()
     }
 
     /// Whether lists of large or global pages were asked.
@@ -273,6 +274,23 @@ impl<'a> Memo<'a> {
             result ≡ control_at head events p moment }
     {
         self.reader.control_at(p, moment)
+    }
+
+    /// The walk of an access by its moments, which is not kept, or the least of the reasons
+    /// `Entry`, `Context` and `StructureDropped`.
+    pub(crate) fn walk_once(
+        &mut self,
+        p: u16,
+        la: u64,
+        moments: &Moments,
+        want: Want,
+    ) -> Result<Chain, Reason>
+        requires { p < processor_count self.old }
+        ensures past { self.new ≡ self.old }
+        ensures chain { (head : Head) (events : List Event) → IsPast self.old head events →
+            result ≡ chain_of head events p la moments.now want }
+    {
+        chain_by(&mut self.reader, p, la, moments, want)
     }
 
     /// What a place has of a walk to a page.

@@ -16,11 +16,11 @@ pub struct Kept {
     /// How many walks were made for them.
     pub made: usize,
     pub stems: Vec<Option<Stem>>,
-    /// How many entries of the log look-ups went through since the lists of what was dropped were
+    /// How many entries of the log look-ups passed over since the lists of what was dropped were
     /// made.
-    pub entries: u64,
+    pub passed: u64,
     /// The number of the event at which they were made.
-    pub listed: u32,
+    pub lists_made_at: u32,
     /// Whether the lists of large or global pages were asked.
     pub wide: bool,
 }
@@ -35,8 +35,8 @@ impl Kept {
             slots: Vec::new(alloc),
             made: 0,
             stems: Vec::new(alloc),
-            entries: 0,
-            listed: 0,
+            passed: 0,
+            lists_made_at: 0,
             wide: false,
         }
     }
@@ -49,8 +49,8 @@ impl Kept {
             slots: empty_slots(alloc, count),
             made: 0,
             stems: Vec::new(alloc),
-            entries: 0,
-            listed: 0,
+            passed: 0,
+            lists_made_at: 0,
             wide: false,
         }
     }
@@ -130,12 +130,13 @@ impl Kept {
         self.made > self.slots.len()
     }
 
-    /// Whether look-ups went through so many entries of the log that lists are worth making. Where
-    /// there are more processors, more of the entries are of another processor than is asked for.
+    /// Whether look-ups passed over so many entries of the log that lists are worth making. An entry
+    /// of another processor than is asked for is passed over for nothing, and lists spare that: the
+    /// more processors there are, the sooner lists are made.
     pub(crate) fn wants_lists(&self, past: &Past, number: u32) -> bool {
         let processors = past.controls.processors() as u64;
-        let events = number.saturating_sub(self.listed) as u64;
-        self.entries.saturating_mul(processors) > events.saturating_mul(ENTRIES_FOR_EACH)
+        let events = number.saturating_sub(self.lists_made_at) as u64;
+        self.passed.saturating_mul(processors) > events.saturating_mul(ENTRIES_FOR_EACH)
     }
 
     /// Makes room for more walks, up to so many, unless memory is refused: then it is asked for
@@ -160,8 +161,8 @@ impl Kept {
     }
 }
 
-/// By one processor, look-ups may go through so many entries of the log for each event before lists
-/// of them are made: a list costs an entry a hundred times what one look does.
+/// With one processor, look-ups may pass over so many entries of the log for each event before lists
+/// are made: to put an entry into lists costs about a hundred times what it costs to pass over it.
 const ENTRIES_FOR_EACH: u64 = 8;
 
 /// Slots that outlive a window are so many at first for each recorded processor.

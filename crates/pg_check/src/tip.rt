@@ -163,13 +163,13 @@ fn failing_by_past(past: &Past, kept: &mut Kept, number: u32, event: &Event) -> 
         slots: mem::replace(&mut kept.slots, Vec::new(past.alloc)),
         made: kept.made,
         stems: Vec::new(past.alloc),
-        entries: 0,
-        listed: 0,
+        passed: 0,
+        lists_made_at: 0,
         wide: false,
     };
     let mut memo = Memo::at_tip(past, own, number);
     let found = failing(&mut memo, number, event);
-    kept.entries = kept.entries.saturating_add(memo.entries());
+    kept.passed = kept.passed.saturating_add(memo.passed());
     kept.wide |= memo.asked_wide();
     let Kept { slots, made, .. } = memo.into_slots(number);
     kept.slots = slots;
@@ -318,7 +318,7 @@ fn keep_walk(past: &Past, kept: &mut Kept, current: u16, number: u32, slot: Slot
 }
 
 /// The least reason that fails for the event that comes next, by what the past says. Lists of what
-/// was dropped are made once look-ups went through much of the log.
+/// was dropped are made once look-ups passed over much of the log.
 #[inline(never)]
 fn failing_slow(past: &mut Past, kept: &mut Kept, number: u32, event: &Event) -> Option<Reason>
     requires processor { processor_of event.now < processor_count past.old }
@@ -337,8 +337,8 @@ fn failing_slow(past: &mut Past, kept: &mut Kept, number: u32, event: &Event) ->
         } else {
             past.catch_up_pages();
         }
-        kept.entries = 0;
-        kept.listed = number;
+        kept.passed = 0;
+        kept.lists_made_at = number;
     }
     found
 }

@@ -5,7 +5,8 @@ ghost use Rattle.pg_event.specs.Witness.{is_in_order};
 ghost use Rattle.pg_chain.specs.Standing.{IsPast, processor_count};
 ghost use Rattle.pg_check.specs.Ends.{walk_of, asked};
 
-use pg_chain::{Chain, Past, chain};
+use crate::memo::Memo;
+use pg_chain::Chain;
 use pg_event::{Moments, Reason, Want};
 
 /// Whether moments do not decrease, and none is above `last`, the number of the event.
@@ -22,22 +23,24 @@ pub fn is_in_order(moments: &[u32], last: u32) -> bool
 }
 
 /// The walk of event `number` by its moments, or the least of the reasons that no end of a walk
-/// takes part in: `Order`, `Entry`, `Context` and `StructureDropped`.
-pub fn walk(
-    past: &Past,
+/// takes part in: `Order`, `Entry`, `Context` and `StructureDropped`. A memo counts what is looked
+/// up for it, and does not keep it.
+pub(crate) fn walk(
+    memo: &mut Memo<'_>,
     number: u32,
     p: u16,
     la: u64,
     moments: &Moments,
     want: Want,
 ) -> Result<Chain, Reason>
-    requires { p < processor_count past.now }
-    ensures walk { (head : Head) (events : List Event) → IsPast past.now head events →
+    requires { p < processor_count memo.old }
+    ensures past { memo.new ≡ memo.old }
+    ensures walk { (head : Head) (events : List Event) → IsPast memo.old head events →
         result ≡ walk_of head events (asked number p la want) moments.now }
     ensures some { 1 ≤ length moments.now }
 {
     if !is_in_order(moments.as_slice(), number) {
         return Err(Reason::Order);
     }
-    chain(past, p, la, moments, want)
+    memo.walk_once(p, la, moments, want)
 }

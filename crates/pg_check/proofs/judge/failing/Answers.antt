@@ -1,7 +1,6 @@
 use Rattle.std.proofs.Common.{◌∙◌}
 use Rattle.pg_event.specs.declared.meaning.Request.TheVariants as requests
 use Rattle.pg_event.proofs.Requests.{failing_event-by}
-use Rattle.pg_chain.specs.Standing.{IsPast}
 use Rattle.pg_check.proofs.judge.failing.Goals as goal
 
 pub returns-in-Nothing-clause-failing : goal.returns-in-Nothing-clause-failing
@@ -17,6 +16,5 @@ returns-in-Access-clause-failing c = λ head events past.
 pub returns-in-Update-clause-failing : goal.returns-in-Update-clause-failing
 returns-in-Update-clause-failing c = λ head events past.
     let u = c.in-Update in
-    let here : IsPast c.past.result.now head events = rw c.past.ensures past in
-    c.failing_assist.ensures head events here
+    c.failing_assist.ensures.failing head events past
     ∙ failing_event-by head events c.args.number c.args.event.now c.processor_of-p.result c.request.result (requests.Update u.kind u.la u.word u.dirty u.moments) c.processor_of-p.ensures c.request.ensures u.is
