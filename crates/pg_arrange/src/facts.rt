@@ -117,8 +117,8 @@ impl<'a> Facts<'a> {
         let control = self.stays.control(p, place);
         self.drops.note(event, control, place)?;
         if matches!(event, Event::MovCr3 { .. } | Event::MovCr4Pge { .. }) {
-            let m = self.run.header().cfg.m;
-            let next = controlled(m, p, control, event);
+            let maxphyaddr = self.run.header().cfg.m;
+            let next = controlled(maxphyaddr, p, control, event);
             self.stays.change(p, place.saturating_add(1), next)?;
         }
         Ok(())

@@ -56,8 +56,8 @@ pub(crate) fn settings_of(bytes: &[u8]) -> Result<(Settings, &[u8]), Refusal>
 {
     let (_, rest) = magic_of(bytes)?;
     let (version, rest) = version_of(rest)?;
-    let (m, rest) = byte_of(rest)?;
-    if m < LEAST_MAXPHYADDR || m > MOST_MAXPHYADDR {
+    let (maxphyaddr, rest) = byte_of(rest)?;
+    if maxphyaddr < LEAST_MAXPHYADDR || maxphyaddr > MOST_MAXPHYADDR {
         return Err(Refusal::HeaderField);
     }
     let (flags, rest) = byte_of(rest)?;
@@ -73,7 +73,10 @@ pub(crate) fn settings_of(bytes: &[u8]) -> Result<(Settings, &[u8]), Refusal>
         return Err(Refusal::HeaderField);
     }
     let flags = CfgFlags(flags);
-    let cfg = Cfg { flags, m };
+    let cfg = Cfg {
+        flags,
+        m: maxphyaddr,
+    };
     Ok((
         Settings {
             version,
@@ -87,13 +90,13 @@ pub(crate) fn settings_of(bytes: &[u8]) -> Result<(Settings, &[u8]), Refusal>
 
 /// The CR3 of a processor at the start, and whether it has global pages.
 #[tactic(auto, unfolding(pg_event::specs::Reading::start_at))]
-pub(crate) fn start_of(m: u8, bytes: &[u8]) -> Result<((u64, bool), &[u8]), Refusal>
-    requires { m ≤ 52 }
-    ensures value { Gives (λ x. (x.0, x.1.now)) result (start_at m bytes.now) }
-    ensures cr3 { IfOk result (λ x. x.0.0 < 2 ^ m) }
+pub(crate) fn start_of(maxphyaddr: u8, bytes: &[u8]) -> Result<((u64, bool), &[u8]), Refusal>
+    requires { maxphyaddr ≤ 52 }
+    ensures value { Gives (λ x. (x.0, x.1.now)) result (start_at maxphyaddr bytes.now) }
+    ensures cr3 { IfOk result (λ x. x.0.0 < 2 ^ maxphyaddr) }
 {
     let (cr3, rest) = u64_of(bytes)?;
-    if cr3 >= 1 << m {
+    if cr3 >= 1 << maxphyaddr {
         return Err(Refusal::HeaderField);
     }
     let (pge, rest) = byte_of(rest)?;

@@ -75,15 +75,15 @@ pub(crate) fn next_settings<R: Source>(
 pub(crate) fn next_start<R: Source>(
     buffer: &mut Buffer,
     source: &mut R,
-    m: u8,
+    maxphyaddr: u8,
 ) -> Result<(u64, bool), ReadError>
-    requires { m ≤ 52 }
-    ensures pulls { Pulls R.Source (start_at m)
+    requires { maxphyaddr ≤ 52 }
+    ensures pulls { Pulls R.Source (start_at maxphyaddr)
         (buffer.old, source.old) (buffer.new, source.new) result }
-    ensures cr3 { IfOk result (λ x. x.0 < 2 ^ m) }
+    ensures cr3 { IfOk result (λ x. x.0 < 2 ^ maxphyaddr) }
 {
     buffer.prepare(source)?;
-    let part = counted(&start_of(m, buffer.unread()));
+    let part = counted(&start_of(maxphyaddr, buffer.unread()));
     taken(buffer, part)
 }
 

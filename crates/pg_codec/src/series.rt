@@ -17,18 +17,18 @@ pub(crate) fn next_starts<R: Source>(
     alloc: Global,
     buffer: &mut Buffer,
     source: &mut R,
-    m: u8,
+    maxphyaddr: u8,
     count: u16,
 ) -> Result<Vec<(u64, bool)>, ReadError>
-    requires { m ≤ 52 }
-    ensures pulls { Pulls R.Source (starts_at m count)
+    requires { maxphyaddr ≤ 52 }
+    ensures pulls { Pulls R.Source (starts_at maxphyaddr count)
         (buffer.old, source.old) (buffer.new, source.new) (seen (λ v. v.items) result) }
-    ensures starts { IfOk result (λ v. AllByRecursion (λ s. s.0 < 2 ^ m) v.items) }
+    ensures starts { IfOk result (λ v. AllByRecursion (λ s. s.0 < 2 ^ maxphyaddr) v.items) }
     ensures count { IfOk result (λ v. length v.items ≡ count) }
 {
     let mut starts = Vec::with_capacity(alloc, count as usize)?;
     for _ in 0..count {
-        let start = next_start(buffer, source, m)?;
+        let start = next_start(buffer, source, maxphyaddr)?;
         starts.push(start)?;
     }
     Ok(starts)

@@ -17,26 +17,26 @@ pub struct Control {
 
 /// What a value in CR3 says (Intel SDM, vol. 3, 4.5), where `m` is MAXPHYADDR. Bit 63 and the bits
 /// between it and `m` are not looked at.
-pub fn loaded(m: u8, cr3: u64, pge: bool) -> Control
-    requires width { (12 ≤ m) × (m ≤ 52) }
-    ensures { result ≡ loaded m cr3 pge }
+pub fn loaded(maxphyaddr: u8, cr3: u64, pge: bool) -> Control
+    requires width { (12 ≤ maxphyaddr) × (maxphyaddr ≤ 52) }
+    ensures { result ≡ loaded maxphyaddr cr3 pge }
 {
     Control {
-        root: field(cr3, 12, m as u32),
+        root: field(cr3, 12, maxphyaddr as u32),
         pcid: (cr3 % 4096) as u16,
         pge,
     }
 }
 
 /// The control registers of processor `p` after an event of any processor.
-pub fn controlled(m: u8, p: u16, control: Control, event: &Event) -> Control
-    requires width { (12 ≤ m) × (m ≤ 52) }
-    ensures { result ≡ controlled m p control event.now }
+pub fn controlled(maxphyaddr: u8, p: u16, control: Control, event: &Event) -> Control
+    requires width { (12 ≤ maxphyaddr) × (maxphyaddr ≤ 52) }
+    ensures { result ≡ controlled maxphyaddr p control event.now }
 {
     match *event {
         Event::MovCr3 { p: q, operand } => {
             if q == p {
-                loaded(m, operand, control.pge)
+                loaded(maxphyaddr, operand, control.pge)
             } else {
                 control
             }

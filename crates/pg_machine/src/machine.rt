@@ -175,8 +175,8 @@ impl Machine {
         ensures { self.new ≡ with_processor self.old p
             (processor_after self.old.head.cfg.m event.now (processor_at self.old.processors p)) }
     {
-        let m = self.cfg().m;
-        self.processors[p as usize].take(m, event);
+        let maxphyaddr = self.cfg().m;
+        self.processors[p as usize].take(maxphyaddr, event);
     }
 
     /// What an event does to memory. Flags are set in the word as it is now.
@@ -202,10 +202,10 @@ fn started_processors(alloc: Global, header: &Header) -> Result<Vec<Processor>, 
     ensures { IfOk result
         (λ v. v.items ≡ map (started_processor header.now.cfg.m) header.now.processors) }
 {
-    let m = header.cfg.m;
+    let maxphyaddr = header.cfg.m;
     header
         .processors
         .iter()
-        .map(|start| Processor::started(alloc, m, *start))
+        .map(|start| Processor::started(alloc, maxphyaddr, *start))
         .collect(alloc)
 }

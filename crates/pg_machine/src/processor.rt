@@ -45,12 +45,12 @@ impl Model for Processor {
 
 impl Processor {
     /// The processor at the start of a run, by its CR3 and whether global pages are on.
-    pub(crate) fn started(alloc: Global, m: u8, start: (u64, bool)) -> Processor
-        requires width { (36 ≤ m) × (m ≤ 52) }
-        ensures { result ≡ started_processor m start }
+    pub(crate) fn started(alloc: Global, maxphyaddr: u8, start: (u64, bool)) -> Processor
+        requires width { (36 ≤ maxphyaddr) × (maxphyaddr ≤ 52) }
+        ensures { result ≡ started_processor maxphyaddr start }
     {
         Processor {
-            control: loaded(m, start.0, start.1),
+            control: loaded(maxphyaddr, start.0, start.1),
             structures: Vec::new(alloc),
             translations: Vec::new(alloc),
         }
@@ -229,16 +229,16 @@ impl Processor {
     }
 
     /// The processor after an event of its own.
-    pub(crate) fn take(&mut self, m: u8, event: &Event)
-        requires width { (12 ≤ m) × (m ≤ 52) }
-        ensures { self.new ≡ processor_after m event.now self.old }
+    pub(crate) fn take(&mut self, maxphyaddr: u8, event: &Event)
+        requires width { (12 ≤ maxphyaddr) × (maxphyaddr ≤ 52) }
+        ensures { self.new ≡ processor_after maxphyaddr event.now self.old }
     {
         let control = self.control;
         self.structures
             .retain(|x| !must_drop_structure(control, event, x.get().key));
         self.translations
             .retain(|x| !must_drop_translation(control, event, x.get().key));
-        self.control = controlled(m, processor_of(event), control, event);
+        self.control = controlled(maxphyaddr, processor_of(event), control, event);
     }
 }
 

@@ -44,8 +44,8 @@ pub(crate) fn header_of(bytes: &[u8]) -> Result<(LogHeader, &[u8]), Refusal>
 {
     let (_, rest) = magic_of(bytes)?;
     let (version, rest) = version_of(rest)?;
-    let (m, rest) = byte_of(rest)?;
-    if m < LEAST_MAXPHYADDR || m > MOST_MAXPHYADDR {
+    let (maxphyaddr, rest) = byte_of(rest)?;
+    if maxphyaddr < LEAST_MAXPHYADDR || maxphyaddr > MOST_MAXPHYADDR {
         return Err(Refusal::HeaderField);
     }
     let (flags, rest) = byte_of(rest)?;
@@ -60,9 +60,12 @@ pub(crate) fn header_of(bytes: &[u8]) -> Result<(LogHeader, &[u8]), Refusal>
     if own >= processors {
         return Err(Refusal::HeaderField);
     }
-    let (start, rest) = start_of(m, rest)?;
+    let (start, rest) = start_of(maxphyaddr, rest)?;
     let flags = CfgFlags(flags);
-    let cfg = Cfg { flags, m };
+    let cfg = Cfg {
+        flags,
+        m: maxphyaddr,
+    };
     let header = LogHeader {
         version,
         cfg,

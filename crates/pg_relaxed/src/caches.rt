@@ -231,16 +231,16 @@ impl Caches {
     }
 
     /// What an event of the processor leaves.
-    pub(crate) fn pass(&mut self, m: u8, la: u64, event: &Event)
-        requires width { (36 ≤ m) × (m ≤ 52) }
+    pub(crate) fn pass(&mut self, maxphyaddr: u8, la: u64, event: &Event)
+        requires width { (36 ≤ maxphyaddr) × (maxphyaddr ≤ 52) }
         ensures left { IsLeft la event.now (known_of self.old) (known_of self.new) }
         ensures control { self.new.control
-            ≡ controlled m (processor_of event.now) self.old.control event.now }
+            ≡ controlled maxphyaddr (processor_of event.now) self.old.control event.now }
     {
         let control = self.control;
         self.tables
             .retain(|held| may_stay(control, event, la, held.get()));
         self.translations.retain(|held| !must_drop_translation(control, event, held.get().key));
-        self.control = controlled(m, processor_of(event), control, event);
+        self.control = controlled(maxphyaddr, processor_of(event), control, event);
     }
 }

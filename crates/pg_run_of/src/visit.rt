@@ -40,19 +40,19 @@ pub(crate) fn table_fill(visit: Visit) -> Step
 }
 
 /// The walk one level below, by the value that it has read.
-pub(crate) fn descend(m: u8, visit: Visit, value: u64) -> Visit
-    requires width { (12 ≤ m) × (m ≤ 52) }
+pub(crate) fn descend(maxphyaddr: u8, visit: Visit, value: u64) -> Visit
+    requires width { (12 ≤ maxphyaddr) × (maxphyaddr ≤ 52) }
     ensures address { (result.p ≡ visit.p) × (result.la ≡ visit.la) }
     ensures level { result.level ≡ below visit.level }
     ensures from { result.from
-        ≡ record { table = table_of m value; rights = joined visit.from.rights value } }
+        ≡ record { table = table_of maxphyaddr value; rights = joined visit.from.rights value } }
     ensures within { result.from.table < 2 ^ 52 }
 {
     let entry = Entry(value);
     Visit {
         level: below(visit.level),
         from: Parent {
-            table: table_of(m, entry),
+            table: table_of(maxphyaddr, entry),
             rights: combine(visit.from.rights, entry),
         },
         ..visit

@@ -58,14 +58,20 @@ pub(crate) fn machine_of(words: &Words) -> Result<Cfg, ScriptRefusal>
     ensures range { IfOk result (λ cfg. IsCfg cfg) }
 {
     let rest = after_keyword(b"machine", words)?;
-    let (m, rest) = dec_word(&rest)?;
-    if m < LEAST_MAXPHYADDR as u64 || m > MOST_MAXPHYADDR as u64 {
+    let (maxphyaddr, rest) = dec_word(&rest)?;
+    if maxphyaddr < LEAST_MAXPHYADDR as u64 || maxphyaddr > MOST_MAXPHYADDR as u64 {
         return Err(ScriptRefusal::Instruction);
     }
     let (flags, rest) = settings_of(rest);
     let flags = CfgFlags(flags);
-    let m = m as u8;
-    ended(Cfg { flags, m }, &rest)
+    let maxphyaddr = maxphyaddr as u8;
+    ended(
+        Cfg {
+            flags,
+            m: maxphyaddr,
+        },
+        &rest,
+    )
 }
 
 /// `segment` and the events of a full segment.
@@ -84,15 +90,15 @@ pub(crate) fn segment_of(words: &Words) -> Result<u32, ScriptRefusal>
 
 /// `cpu`, a CR3, and whether there are global pages.
 #[tactic(auto, unfolding(crate::specs::Heading::start_in))]
-pub(crate) fn start_of(m: u8, words: &Words) -> Result<(u64, bool), ScriptRefusal>
-    requires { m ≤ 52 }
-    ensures value { Agrees (λ x. x) result (start_in m words.now) }
-    ensures range { IfOk result (λ start. start.0 < 2 ^ m) }
+pub(crate) fn start_of(maxphyaddr: u8, words: &Words) -> Result<(u64, bool), ScriptRefusal>
+    requires { maxphyaddr ≤ 52 }
+    ensures value { Agrees (λ x. x) result (start_in maxphyaddr words.now) }
+    ensures range { IfOk result (λ start. start.0 < 2 ^ maxphyaddr) }
 {
     let rest = after_keyword(b"cpu", words)?;
     let (cr3, rest) = hex_word(&rest)?;
     let (pge, rest) = bit_word(&rest)?;
-    if cr3 >= 1 << m {
+    if cr3 >= 1 << maxphyaddr {
         return Err(ScriptRefusal::Instruction);
     }
     ended((cr3, pge), &rest)

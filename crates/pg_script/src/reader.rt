@@ -100,11 +100,14 @@ fn segment_line<'a>(text: &Text<'a>) -> Result<(u32, Text<'a>), ScriptError>
 
 /// A processor more, if the next line is one's.
 #[tactic(auto, unfolding(crate::specs::Reading::next_start_at))]
-fn next_start<'a>(m: u8, text: &Text<'a>) -> Result<Option<Told<'a, (u64, bool)>>, ScriptError>
-    requires { m ≤ 52 }
+fn next_start<'a>(
+    maxphyaddr: u8,
+    text: &Text<'a>,
+) -> Result<Option<Told<'a, (u64, bool)>>, ScriptError>
+    requires { maxphyaddr ≤ 52 }
     ensures start { Agrees (option_map (said_in told_in)) result
-        (next_start_at m (told_in text.now)) }
-    ensures range { IfOk result (λ next. IfSome next (λ x. x.value.0 < 2 ^ m)) }
+        (next_start_at maxphyaddr (told_in text.now)) }
+    ensures range { IfOk result (λ next. IfSome next (λ x. x.value.0 < 2 ^ maxphyaddr)) }
 {
     let Front::Line(line) = text.told_front()? else {
         return Ok(None);
@@ -114,7 +117,7 @@ fn next_start<'a>(m: u8, text: &Text<'a>) -> Result<Option<Told<'a, (u64, bool)>
         return Ok(None);
     }
     let place = ScriptRefusal::Cpu;
-    let value = in_line(line.number, placed(place, start_of(m, &words)))?;
+    let value = in_line(line.number, placed(place, start_of(maxphyaddr, &words)))?;
     Ok(Some(Told {
         number: line.number,
         value,
@@ -124,16 +127,19 @@ fn next_start<'a>(m: u8, text: &Text<'a>) -> Result<Option<Told<'a, (u64, bool)>
 
 /// The first processor.
 #[tactic(auto, unfolding(crate::specs::Reading::heading_at))]
-fn first_start<'a>(m: u8, text: &Text<'a>) -> Result<Told<'a, (u64, bool)>, ScriptError>
-    requires { m ≤ 52 }
+fn first_start<'a>(maxphyaddr: u8, text: &Text<'a>) -> Result<Told<'a, (u64, bool)>, ScriptError>
+    requires { maxphyaddr ≤ 52 }
     ensures start { Agrees (λ x. (x.value, told_in x.rest)) result
-        (heading_at ScriptRefusal.Cpu (start_in m) (told_in text.now)) }
+        (heading_at ScriptRefusal.Cpu (start_in maxphyaddr) (told_in text.now)) }
     ensures number { IfOk result (λ x. x.number ≡ first_number (told_in text.now)) }
-    ensures range { IfOk result (λ x. x.value.0 < 2 ^ m) }
+    ensures range { IfOk result (λ x. x.value.0 < 2 ^ maxphyaddr) }
 {
     let place = ScriptRefusal::Cpu;
     let line = line_of(place, text.told_front()?)?;
-    let value = in_line(line.number, placed(place, start_of(m, &line.value)))?;
+    let value = in_line(
+        line.number,
+        placed(place, start_of(maxphyaddr, &line.value)),
+    )?;
     Ok(Told {
         number: line.number,
         value,
@@ -155,28 +161,29 @@ fn out_of_memory(line: u32) -> ScriptError
 #[tactic(auto, unfolding(crate::specs::Reading::processors_at))]
 fn processors_of<'a>(
     alloc: Global,
-    m: u8,
+    maxphyaddr: u8,
     most: usize,
     text: &Text<'a>,
 ) -> Result<(Vec<(u64, bool)>, Text<'a>), ScriptError>
-    requires { m ≤ 52 }
+    requires { maxphyaddr ≤ 52 }
     ensures starts { AgreesOnPart (λ x. (x.0.items, told_in x.1)) result (told_in text.now)
-        (processors_at m most (told_in text.now)) }
+        (processors_at maxphyaddr most (told_in text.now)) }
     ensures some { IfOk result (λ x. 1 ≤ vec_len x.0) }
     ensures few { IfOk result (λ x. vec_len x.0 ≤ most + 1) }
-    ensures range { IfOk result (λ x. AllByRecursion (λ start. start.0 < 2 ^ m) x.0.items) }
+    ensures range { IfOk result
+        (λ x. AllByRecursion (λ start. start.0 < 2 ^ maxphyaddr) x.0.items) }
 {
     let Told {
         number,
         value,
         mut rest,
-    } = first_start(m, text)?;
+    } = first_start(maxphyaddr, text)?;
     let mut starts = Vec::new(alloc);
     if starts.push(value).is_err() {
         return Err(out_of_memory(number));
     }
     for _ in 0..most {
-        let Some(start) = next_start(m, &rest)? else {
+        let Some(start) = next_start(maxphyaddr, &rest)? else {
             break;
         };
         match starts.push(start.value) {

@@ -34,7 +34,7 @@ use std::marker::Model;
 /// What one processor caches, and its control registers.
 #[derive(Drop)]
 pub struct Shadow {
-    m: u8,
+    maxphyaddr: u8,
     control: Control,
     alloc: Global,
     own: HashMap<u16, Space>,
@@ -49,14 +49,14 @@ impl Model for Shadow {
     ghost use Rattle.pg_shadow.specs.Caches.{AreInRange};
 
     ghost view = { λ a. record {
-      width = a.m;
+      width = a.maxphyaddr;
       control = a.control;
       own = a.own.entries;
       globals = a.globals;
     } };
 
     ghost invariant = { λ a. AreInRange (seen (record {
-      width = a.m;
+      width = a.maxphyaddr;
       control = a.control;
       own = a.own.entries;
       globals = a.globals;
@@ -193,11 +193,12 @@ impl Shadow {
     pub fn new(alloc: Global, header: &Header, p: u16) -> Shadow
         requires head { IsHead header.now }
         requires processor { p < length header.now.processors }
-        ensures { let m = header.now.cfg.m in
-            seen result ≡ empty m (started m (slice_get header.now.processors p)) }
+        ensures { let maxphyaddr = header.now.cfg.m in
+            seen result
+            ≡ empty maxphyaddr (started maxphyaddr (slice_get header.now.processors p)) }
     {
         Shadow {
-            m: header.cfg.m,
+            maxphyaddr: header.cfg.m,
             control: started(header, p),
             alloc,
             own: HashMap::new(alloc),
@@ -211,7 +212,7 @@ impl Shadow {
         ensures within { (36 ≤ result) × (result ≤ 52) }
         ensures range { AreInRange (seen self.now) }
     {
-        self.m
+        self.maxphyaddr
     }
 
     /// The control registers.
@@ -333,7 +334,7 @@ impl Shadow {
         let invalidation = event.invalidation(control);
         leave_own(&mut self.own, invalidation);
         leave_globals(&mut self.globals, invalidation);
-        self.control = controlled(self.m, processor_of(event), control, event);
+        self.control = controlled(self.maxphyaddr, processor_of(event), control, event);
     }
 
     /// MOV to CR3.

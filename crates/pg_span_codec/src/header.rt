@@ -63,13 +63,13 @@ pub(crate) fn says_spans(bytes: &[u8]) -> bool
 /// The CR3 of a processor at the start, which has to be below 2 to the power of `m`, and whether it
 /// has global pages.
 #[tactic(auto, unfolding(pg_event::specs::Reading::start_at))]
-pub fn start_of(m: u8, bytes: &[u8]) -> Result<((u64, bool), &[u8]), Refusal>
-    requires { m ≤ 52 }
-    ensures value { Gives (λ x. (x.0, x.1.now)) result (start_at m bytes.now) }
-    ensures cr3 { IfOk result (λ x. x.0.0 < 2 ^ m) }
+pub fn start_of(maxphyaddr: u8, bytes: &[u8]) -> Result<((u64, bool), &[u8]), Refusal>
+    requires { maxphyaddr ≤ 52 }
+    ensures value { Gives (λ x. (x.0, x.1.now)) result (start_at maxphyaddr bytes.now) }
+    ensures cr3 { IfOk result (λ x. x.0.0 < 2 ^ maxphyaddr) }
 {
     let (cr3, rest) = u64_of(bytes)?;
-    if cr3 >= 1 << m {
+    if cr3 >= 1 << maxphyaddr {
         return Err(Refusal::HeaderField);
     }
     let (pge, rest) = byte_of(rest)?;
@@ -81,20 +81,20 @@ pub fn start_of(m: u8, bytes: &[u8]) -> Result<((u64, bool), &[u8]), Refusal>
 
 fn starts_of<'a>(
     alloc: Global,
-    m: u8,
+    maxphyaddr: u8,
     count: u16,
     bytes: &'a [u8],
 ) -> Result<(Vec<(u64, bool)>, &'a [u8]), SpannedError>
-    requires { m ≤ 52 }
+    requires { maxphyaddr ≤ 52 }
     ensures value { Answers (λ x. (x.0.items, x.1.now)) result
-        (plain (starts_at m count bytes.now)) }
-    ensures starts { IfOk result (λ x. AllByRecursion (λ s. s.0 < 2 ^ m) x.0.items) }
+        (plain (starts_at maxphyaddr count bytes.now)) }
+    ensures starts { IfOk result (λ x. AllByRecursion (λ s. s.0 < 2 ^ maxphyaddr) x.0.items) }
     ensures count { IfOk result (λ x. length x.0.items ≡ count) }
 {
     let mut starts = Vec::with_capacity(alloc, count as usize)?;
     let mut rest = bytes;
     for _ in 0..count {
-        let (start, behind) = start_of(m, rest)?;
+        let (start, behind) = start_of(maxphyaddr, rest)?;
         starts.push(start)?;
         rest = behind;
     }
@@ -112,8 +112,8 @@ fn settings_of<'a>(
         (plain (settings_behind version bytes.now)) }
     ensures head { IfOk result (λ x. IsHead x.0) }
 {
-    let (m, rest) = byte_of(bytes)?;
-    if m < LEAST_MAXPHYADDR || m > MOST_MAXPHYADDR {
+    let (maxphyaddr, rest) = byte_of(bytes)?;
+    if maxphyaddr < LEAST_MAXPHYADDR || maxphyaddr > MOST_MAXPHYADDR {
         return Err(SpannedError::from(Refusal::HeaderField));
     }
     let (flags, rest) = byte_of(rest)?;
@@ -128,9 +128,12 @@ fn settings_of<'a>(
     if segment < 1 || segment > MOST_SEGMENT {
         return Err(SpannedError::from(Refusal::HeaderField));
     }
-    let (processors, rest) = starts_of(alloc, m, count, rest)?;
+    let (processors, rest) = starts_of(alloc, maxphyaddr, count, rest)?;
     let flags = CfgFlags(flags);
-    let cfg = Cfg { flags, m };
+    let cfg = Cfg {
+        flags,
+        m: maxphyaddr,
+    };
     Ok((
         Header {
             version,

@@ -77,11 +77,11 @@ fn moment_count(moments: &Option<Moments>) -> usize
 }
 
 /// Whether this is the address of a paging structure, where `m` is MAXPHYADDR.
-fn is_table_address(m: u8, table: u64) -> bool
-    requires { m ≤ 52 }
-    ensures { result ≡ is_table_address m table }
+fn is_table_address(maxphyaddr: u8, table: u64) -> bool
+    requires { maxphyaddr ≤ 52 }
+    ensures { result ≡ is_table_address maxphyaddr table }
 {
-    table % 4096 == 0 && table < 1 << m
+    table % 4096 == 0 && table < 1 << maxphyaddr
 }
 
 /// Whether a walk of a processor may read.

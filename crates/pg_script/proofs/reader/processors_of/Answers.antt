@@ -15,12 +15,12 @@ pub returns-in_err-start-clause-starts : goal.returns-in_err-start-clause-starts
 returns-in_err-start-clause-starts c =
     let p = err_from_is_err_and c.from_residual-in_err-start.result c.from_residual-in_err-start.ensures.1 in
     let e = c.in_err-start.field-0.0 in
-    let read = sym c.loop.invariant.so_far ∙ starts_refused c.args.m c.args.most c.loop.counter c.loop.starts.items (told_in c.loop.rest) e c.loop-test.true c.in_err-start.ensures.start in
+    let read = sym c.loop.invariant.so_far ∙ starts_refused c.args.maxphyaddr c.args.most c.loop.counter c.loop.starts.items (told_in c.loop.rest) e c.loop-test.true c.in_err-start.ensures.start in
     rw (p.1, p.2) (inl read)
 
 pub loop-preserved : goal.loop-preserved
 loop-preserved c =
-    let m = c.args.m in
+    let m = c.args.maxphyaddr in
     let starts = c.loop.starts.items in
     let start = c.in-Some.start.value in
     let next : next_start_at m (told_in c.loop.rest) ≡ Ok (Some (said_in told_in c.in-Some.start)) =
@@ -37,7 +37,7 @@ loop-preserved c =
 
 pub returns-clause-starts : goal.returns-clause-starts
 returns-clause-starts c =
-    let m = c.args.m in
+    let m = c.args.maxphyaddr in
     let l = c.loop in
     elim c.loop-test.branch [
       | else-loop-test w ↦ sym l.invariant.so_far ∙ starts_full m c.args.most l.counter l.starts.items (told_in l.rest) w.loop-test.false
@@ -49,12 +49,12 @@ returns-clause-starts c =
 pub returns-then-is_err-clause-starts : goal.returns-then-is_err-clause-starts
 returns-then-is_err-clause-starts c =
     let lines = told_in c.args.text.now in
-    let lacks = lacks_first c.args.m c.args.most lines (told_in c.in_ok-number.field-0.rest) c.in_ok-number.field-0.value c.in_ok-number.ensures.start (told_in_rising c.args.text.now) in
+    let lacks = lacks_first c.args.maxphyaddr c.args.most lines (told_in c.in_ok-number.field-0.rest) c.in_ok-number.field-0.value c.in_ok-number.ensures.start (told_in_rising c.args.text.now) in
     rw c.out_of_memory.ensures (rw c.in_ok-number.ensures.number (inr lacks))
 
 pub returns-in-Err-clause-starts : goal.returns-in-Err-clause-starts
 returns-in-Err-clause-starts c =
-    let m = c.args.m in
+    let m = c.args.maxphyaddr in
     let l = c.loop in
     let next : next_start_at m (told_in l.rest) ≡ Ok (Some (said_in told_in c.in-Some.start)) =
     rw c.in-Some.is at c.in_ok-start.ensures.start in
@@ -65,7 +65,7 @@ pub loop-init : goal.loop-init
 unfolding processors_at
 loop-init c = record {
   so_far = search rules;
-  within = λ n a. adds_behind_first c.args.m (told_in c.args.text.now) c.in_ok-number.field-0.value (told_in c.in_ok-number.field-0.rest) n c.in_ok-number.ensures.start a;
+  within = λ n a. adds_behind_first c.args.maxphyaddr (told_in c.args.text.now) c.in_ok-number.field-0.value (told_in c.in_ok-number.field-0.rest) n c.in_ok-number.ensures.start a;
   count = search rules;
   range = search rules;
 }

@@ -8,8 +8,8 @@ use Rattle.pg_script.proofs.reader.processors_of.Given as goal
 
 abbrev pub invariant-loop : goal.invariant-loop
 invariant-loop l = record {
-  so_far : starts_behind l.starts.items (starts_at l.m (l.most - l.counter) (told_in l.rest)) ≡ processors_at l.m l.most (told_in l.text);
+  so_far : starts_behind l.starts.items (starts_at l.maxphyaddr (l.most - l.counter) (told_in l.rest)) ≡ processors_at l.maxphyaddr l.most (told_in l.text);
   within : (n : ℕ) → Adds (told_in l.rest) n → Adds (told_in l.text) n;
   count : length l.starts.items ≡ l.counter + 1;
-  range : AllByRecursion (λ start. start.0 < 2 ^ l.m) l.starts.items;
+  range : AllByRecursion (λ start. start.0 < 2 ^ l.maxphyaddr) l.starts.items;
 }

@@ -6,7 +6,7 @@ use Rattle.pg_span_codec.proofs.header.starts_of.Given as goal
 
 abbrev pub invariant-loop : goal.invariant-loop
 invariant-loop l = record {
-  same : with_front l.starts.items (starts_at l.m (l.count - l.counter) l.rest) ≡ starts_at l.m l.count l.bytes;
-  starts : AllByRecursion (λ s. s.0 < 2 ^ l.m) l.starts.items;
+  same : with_front l.starts.items (starts_at l.maxphyaddr (l.count - l.counter) l.rest) ≡ starts_at l.maxphyaddr l.count l.bytes;
+  starts : AllByRecursion (λ s. s.0 < 2 ^ l.maxphyaddr) l.starts.items;
   len : length l.starts.items ≡ l.counter;
 }

@@ -6,7 +6,7 @@ use Rattle.pg_machine.proofs.processor.Processor.take.Goals as goal
 
 pub invariant_of-self : goal.invariant_of-self
 invariant_of-self c =
-    rw c.controlled-self-inside.ensures (root-controlled c.args.m c.processor_of.result c.self.inside.control c.args.event.now c.requires.width.0 c.requires.width.1 c.self.invariant)
+    rw c.controlled-self-inside.ensures (root-controlled c.args.maxphyaddr c.processor_of.result c.self.inside.control c.args.event.now c.requires.width.0 c.requires.width.1 c.self.invariant)
 
 pub returns : goal.returns
 returns c =

@@ -10,7 +10,7 @@ use Rattle.pg_shadow.proofs.shadow.Shadow.find_counted.Goals as goal
 
 pub returns-clause-value : goal.returns-clause-value
 returns-clause-value c =
-    let h : Held = record { width = c.self.inside.m; control = c.self.inside.control; own = c.self.inside.own.entries; globals = c.self.inside.globals } in
+    let h : Held = record { width = c.self.inside.maxphyaddr; control = c.self.inside.control; own = c.self.inside.own.entries; globals = c.self.inside.globals } in
     let own : c.own_path-own.result ≡ path_in (space_of h.own h.control.pcid) c.args.la =
     c.own_path-own.ensures.value ∙ ap (λ (o : Held). path_in (space_of o.own o.control.pcid) c.args.la) (sym c.self.view_is) in
     rw (← c.self.view_is)
@@ -21,7 +21,7 @@ returns-clause-value c =
 
 pub returns-clause-range : goal.returns-clause-range
 returns-clause-range c =
-    let h : Held = record { width = c.self.inside.m; control = c.self.inside.control; own = c.self.inside.own.entries; globals = c.self.inside.globals } in
+    let h : Held = record { width = c.self.inside.maxphyaddr; control = c.self.inside.control; own = c.self.inside.own.entries; globals = c.self.inside.globals } in
     let now : Held = c.args.self.now in
     let inside : AreInRange (seen now) = subst (λ (o : Held). AreInRange (seen o)) c.self.view_is c.self.invariant in
     subst (IsInRange (seen now).width) (sym (returns-clause-value c)) (found-range (seen now) c.args.la c.args.header.now c.args.kind inside)

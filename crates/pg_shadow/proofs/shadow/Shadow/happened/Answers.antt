@@ -14,7 +14,7 @@ controlled-self-inside-requires c = record { width = (omega (arith, c.self.invar
 
 pub invariant_of-self : goal.invariant_of-self
 invariant_of-self c =
-    let h : Held = record { width = c.self.inside.m; control = c.self.inside.control; own = c.self.inside.own.entries; globals = c.self.inside.globals } in
+    let h : Held = record { width = c.self.inside.maxphyaddr; control = c.self.inside.control; own = c.self.inside.own.entries; globals = c.self.inside.globals } in
     let e = c.args.event.now in
     let takes : Takes c.invalidation-invalidation.result h.control e = record { structures = c.invalidation-invalidation.ensures.structures; translations = c.invalidation-invalidation.ensures.translations } in
     let registers : c.controlled-self-inside.result ≡ controlled h.width (processor_of e) h.control e =
@@ -25,7 +25,7 @@ invariant_of-self c =
 
 pub returns : goal.returns
 returns c =
-    let h : Held = record { width = c.self.inside.m; control = c.self.inside.control; own = c.self.inside.own.entries; globals = c.self.inside.globals } in
+    let h : Held = record { width = c.self.inside.maxphyaddr; control = c.self.inside.control; own = c.self.inside.own.entries; globals = c.self.inside.globals } in
     let e = c.args.event.now in
     let takes : Takes c.invalidation-invalidation.result h.control e = record { structures = c.invalidation-invalidation.ensures.structures; translations = c.invalidation-invalidation.ensures.translations } in
     let registers : c.controlled-self-inside.result ≡ controlled h.width (processor_of e) h.control e =

@@ -15,7 +15,7 @@ use Rattle.pg_shadow.proofs.shadow.Shadow.keep_leaf.Goals as goal
 
 pub invariant_of-self : goal.invariant_of-self
 invariant_of-self c =
-    let h : Held = record { width = c.self.inside.m; control = c.self.inside.control; own = c.self.inside.own.entries; globals = c.self.inside.globals } in
+    let h : Held = record { width = c.self.inside.maxphyaddr; control = c.self.inside.control; own = c.self.inside.own.entries; globals = c.self.inside.globals } in
     let Q : Held → Type 0 = λ o. IsPageAt (seen o).width c.args.shift c.args.kept.frame c.args.kept.moments in
     let K : Level → Type 0 = λ l. Keeps h.globals c.keep.new.self l c.bits_from-number.result (Leaf c.args.kept) in
     let page : IsPageAt (seen h).width c.args.shift c.args.kept.frame c.args.kept.moments = subst Q (sym c.self.view_is) c.requires in
@@ -29,7 +29,7 @@ invariant_of-self c =
 
 pub invariant_of-self-else-is_global : goal.invariant_of-self-else-is_global
 invariant_of-self-else-is_global c =
-    let h : Held = record { width = c.self.inside.m; control = c.self.inside.control; own = c.self.inside.own.entries; globals = c.self.inside.globals } in
+    let h : Held = record { width = c.self.inside.maxphyaddr; control = c.self.inside.control; own = c.self.inside.own.entries; globals = c.self.inside.globals } in
     let Q : Held → Type 0 = λ o. IsPageAt (seen o).width c.args.shift c.args.kept.frame c.args.kept.moments in
     let K : Level → Type 0 = λ l. KeepsOwn h.own c.keep_own.new.own.entries h.control.pcid l c.bits_from-number.result (Leaf c.args.kept) in
     let page : IsPageAt (seen h).width c.args.shift c.args.kept.frame c.args.kept.moments = subst Q (sym c.self.view_is) c.requires in
@@ -44,7 +44,7 @@ invariant_of-self-else-is_global c =
 pub returns-then-is_global-clause-ok : goal.returns-then-is_global-clause-ok
 unfolding seen
 returns-then-is_global-clause-ok c =
-    let h : Held = record { width = c.self.inside.m; control = c.self.inside.control; own = c.self.inside.own.entries; globals = c.self.inside.globals } in
+    let h : Held = record { width = c.self.inside.maxphyaddr; control = c.self.inside.control; own = c.self.inside.own.entries; globals = c.self.inside.globals } in
     let K : Level → Type 0 = λ l. Keeps h.globals c.keep.new.self l c.bits_from-number.result (Leaf c.args.kept) in
     let global : true ≡ (c.args.global_bit && h.control.pge) = sym c.if-is_global.true ∙ c.is_global.ensures in
     rw (← c.self.view_is)
@@ -57,13 +57,13 @@ returns-then-is_global-clause-ok c =
 
 pub returns-then-is_global-clause-err : goal.returns-then-is_global-clause-err
 returns-then-is_global-clause-err c =
-    let h : Held = record { width = c.self.inside.m; control = c.self.inside.control; own = c.self.inside.own.entries; globals = c.self.inside.globals } in
+    let h : Held = record { width = c.self.inside.maxphyaddr; control = c.self.inside.control; own = c.self.inside.own.entries; globals = c.self.inside.globals } in
     rw (← c.self.view_is) (on_err_weaker c.keep.result (λ same. seen-same_globals h c.keep.new.self same) c.keep.ensures.err)
 
 pub returns-else-is_global-clause-ok : goal.returns-else-is_global-clause-ok
 unfolding seen
 returns-else-is_global-clause-ok c =
-    let h : Held = record { width = c.self.inside.m; control = c.self.inside.control; own = c.self.inside.own.entries; globals = c.self.inside.globals } in
+    let h : Held = record { width = c.self.inside.maxphyaddr; control = c.self.inside.control; own = c.self.inside.own.entries; globals = c.self.inside.globals } in
     let K : Level → Type 0 = λ l. KeepsOwn h.own c.keep_own.new.own.entries h.control.pcid l c.bits_from-number.result (Leaf c.args.kept) in
     let global : false ≡ (c.args.global_bit && h.control.pge) = sym c.if-is_global.false ∙ c.is_global.ensures in
     rw (← c.self.view_is)
@@ -76,13 +76,13 @@ returns-else-is_global-clause-ok c =
 
 pub returns-else-is_global-clause-err : goal.returns-else-is_global-clause-err
 returns-else-is_global-clause-err c =
-    let h : Held = record { width = c.self.inside.m; control = c.self.inside.control; own = c.self.inside.own.entries; globals = c.self.inside.globals } in
+    let h : Held = record { width = c.self.inside.maxphyaddr; control = c.self.inside.control; own = c.self.inside.own.entries; globals = c.self.inside.globals } in
     rw (← c.self.view_is) (on_err_weaker c.keep_own.result (λ same. seen-same_own h c.keep_own.new.own.entries same) c.keep_own.ensures.err)
 
 pub returns-then-is_global-clause-refused : goal.returns-then-is_global-clause-refused
 unfolding seen
 returns-then-is_global-clause-refused c =
-    let h : Held = record { width = c.self.inside.m; control = c.self.inside.control; own = c.self.inside.own.entries; globals = c.self.inside.globals } in
+    let h : Held = record { width = c.self.inside.maxphyaddr; control = c.self.inside.control; own = c.self.inside.own.entries; globals = c.self.inside.globals } in
     let K : Level → Type 0 = λ l. slot_in h.globals l c.bits_from-number.result ≡ no_slot in
     let key : ℕ → Bool → TranslationKey = λ n b. record { pcid = h.control.pcid; shift = c.args.shift; number = n; global = b } in
     let global : true ≡ (c.args.global_bit && h.control.pge) = sym c.if-is_global.true ∙ c.is_global.ensures in
@@ -97,7 +97,7 @@ returns-then-is_global-clause-refused c =
 pub returns-else-is_global-clause-refused : goal.returns-else-is_global-clause-refused
 unfolding seen
 returns-else-is_global-clause-refused c =
-    let h : Held = record { width = c.self.inside.m; control = c.self.inside.control; own = c.self.inside.own.entries; globals = c.self.inside.globals } in
+    let h : Held = record { width = c.self.inside.maxphyaddr; control = c.self.inside.control; own = c.self.inside.own.entries; globals = c.self.inside.globals } in
     let K : Level → Type 0 = λ l. slot_in (space_of h.own h.control.pcid) l c.bits_from-number.result ≡ no_slot in
     let key : ℕ → Bool → TranslationKey = λ n b. record { pcid = h.control.pcid; shift = c.args.shift; number = n; global = b } in
     let global : false ≡ (c.args.global_bit && h.control.pge) = sym c.if-is_global.false ∙ c.is_global.ensures in

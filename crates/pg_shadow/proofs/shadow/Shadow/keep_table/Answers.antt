@@ -10,7 +10,7 @@ use Rattle.pg_shadow.proofs.shadow.Shadow.keep_table.Goals as goal
 
 pub invariant_of-self : goal.invariant_of-self
 invariant_of-self c =
-    let h : Held = record { width = c.self.inside.m; control = c.self.inside.control; own = c.self.inside.own.entries; globals = c.self.inside.globals } in
+    let h : Held = record { width = c.self.inside.maxphyaddr; control = c.self.inside.control; own = c.self.inside.own.entries; globals = c.self.inside.globals } in
     let Q : Held → Type 0 = λ o. IsTableAt (seen o).width c.args.level c.args.kept.table c.args.kept.moments in
     let table : IsTableAt (seen h).width c.args.level c.args.kept.table c.args.kept.moments = subst Q (sym c.self.view_is) c.requires in
     either c.keep_own.result
@@ -21,7 +21,7 @@ invariant_of-self c =
 pub returns-clause-ok : goal.returns-clause-ok
 unfolding seen
 returns-clause-ok c =
-    let h : Held = record { width = c.self.inside.m; control = c.self.inside.control; own = c.self.inside.own.entries; globals = c.self.inside.globals } in
+    let h : Held = record { width = c.self.inside.maxphyaddr; control = c.self.inside.control; own = c.self.inside.own.entries; globals = c.self.inside.globals } in
     let number : c.bits_from-number.result ≡ bits_from (level_shift c.args.level) c.args.la =
     c.bits_from-number.ensures ∙ ap (λ n. bits_from n c.args.la) c.level_shift.ensures.shift in
     rw (← c.self.view_is)
@@ -33,13 +33,13 @@ returns-clause-ok c =
 
 pub returns-clause-err : goal.returns-clause-err
 returns-clause-err c =
-    let h : Held = record { width = c.self.inside.m; control = c.self.inside.control; own = c.self.inside.own.entries; globals = c.self.inside.globals } in
+    let h : Held = record { width = c.self.inside.maxphyaddr; control = c.self.inside.control; own = c.self.inside.own.entries; globals = c.self.inside.globals } in
     rw (← c.self.view_is) (on_err_weaker c.keep_own.result (λ same. seen-same_own h c.keep_own.new.own.entries same) c.keep_own.ensures.err)
 
 pub returns-clause-refused : goal.returns-clause-refused
 unfolding seen
 returns-clause-refused c =
-    let h : Held = record { width = c.self.inside.m; control = c.self.inside.control; own = c.self.inside.own.entries; globals = c.self.inside.globals } in
+    let h : Held = record { width = c.self.inside.maxphyaddr; control = c.self.inside.control; own = c.self.inside.own.entries; globals = c.self.inside.globals } in
     let number : c.bits_from-number.result ≡ bits_from (level_shift c.args.level) c.args.la =
     c.bits_from-number.ensures ∙ ap (λ n. bits_from n c.args.la) c.level_shift.ensures.shift in
     rw (← c.self.view_is)
