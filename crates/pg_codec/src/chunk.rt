@@ -163,9 +163,11 @@ pub(crate) fn next_closed_chunk<R: Source>(
     ensures next { IfOk result (λ chunk.
         IfSome chunk (λ v. MayCome progress.now v.items)) }
 {
-    let chunk = next_chunk(room, buffer, source, progress)?;
-    if chunk.is_none() && !is_at_end(buffer, source)? {
+    let Some(events) = next_chunk(room, buffer, source, progress)? else {
+        if is_at_end(buffer, source)? {
+            return Ok(None);
+        }
         return Err(ReadError::Refused(Refusal::Trailing));
-    }
-    Ok(chunk)
+    };
+    Ok(Some(events))
 }

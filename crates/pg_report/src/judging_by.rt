@@ -1,6 +1,6 @@
 //! Whole records, judged by checkers as they are read.
 
-ghost use Rattle.std.specs.Prelude.{◌≡◌, ℕ, ◌+◌, [], List, Option};
+ghost use Rattle.std.specs.Prelude.{◌≡◌, ℕ, ◌+◌, ◌<◌, [], List, Option};
 ghost use Rattle.pg_event.specs.Spelling.{Recorded};
 ghost use Rattle.pg_event.specs.declared.version.Version.TheVariants.{Two};
 ghost use Rattle.pg_report.specs.Changes.{drawn};
@@ -24,18 +24,30 @@ use std::mem;
 use std::sync::Wait;
 use std::thread::Threads;
 
-/// A window is full once it has so many events; its last segment may bring more. To start threads
-/// takes time, so rounds are few and long.
-const WINDOW: usize = 1 << 18;
+/// The first window is full once it has so many events; the last segment of a window may bring
+/// more. Nothing is judged while the first is read, so it is short.
+const FIRST_WINDOW: usize = 1 << 13;
 
-/// Reads segments into a window, whose own events are let go, until it is full or the record ends;
-/// and tells whether there is more to be read.
+/// No window asks for more events. To start threads takes time, so rounds are few and long.
+const MOST_WINDOW: usize = 1 << 18;
+
+/// How many events the next window asks for: twice as many as the one that is judged meanwhile has.
+fn next_size(judged: usize) -> usize
+    ensures { 0 < result }
+{
+    judged.saturating_mul(2).max(FIRST_WINDOW).min(MOST_WINDOW)
+}
+
+/// Reads segments into a window, whose own events are let go, until it has so many or the record
+/// ends; and tells whether there is more to be read.
 fn read_window<R: Source>(
     alloc: Global,
     reader: &mut RecordReader,
     source: &mut R,
     window: &mut Vec<Event>,
+    size: usize,
 ) -> Result<bool, AuditError>
+    requires some { 0 < size }
     requires going { (start : Option (List ℕ)) × (f : ℕ) × (r : Recorded) × (windows : ℕ)
         × IsGoing R.Source Two start f (reader.old.unread, source.old) reader.old.stage r windows }
     ensures { (start : Option (List ℕ)) (f : ℕ) (r : Recorded) (windows : ℕ) →
@@ -46,13 +58,13 @@ fn read_window<R: Source>(
     window.clear();
     let mut room = Vec::new(alloc);
     // Each turn brings an event or more.
-    for _ in 0..WINDOW {
+    for _ in 0..size {
         match reader.read_segment_in(room, source) {
             Ok(Some(events)) => {
                 if let Err(_) = window.extend_from_slice(&events) {
                     return Err(AuditError::Memory);
                 }
-                if window.len() >= WINDOW {
+                if window.len() >= size {
                     return Ok(true);
                 }
                 room = events;
@@ -71,10 +83,12 @@ struct Next<'a, 'b, 'c, R> {
     reader: &'a mut RecordReader,
     source: &'b mut R,
     window: &'c mut Vec<Event>,
+    /// It is full once it has so many events.
+    size: usize,
 }
 
 impl<'a, 'b, 'c, R: Source> Beside for Next<'a, 'b, 'c, R> {
-    ghost use Rattle.std.specs.Prelude.{◌≡◌, ℕ, List, Option};
+    ghost use Rattle.std.specs.Prelude.{◌≡◌, ◌<◌, ℕ, List, Option};
     ghost use Rattle.pg_event.specs.Spelling.{Recorded};
     ghost use Rattle.pg_event.specs.declared.version.Version.TheVariants.{Two};
     ghost use Rattle.pg_report.specs.Going.{IsGoing};
@@ -82,7 +96,8 @@ impl<'a, 'b, 'c, R: Source> Beside for Next<'a, 'b, 'c, R> {
 
     type Output = (Next<'a, 'b, 'c, R>, Result<bool, AuditError>);
 
-    ghost can_run = { λ n. (start : Option (List ℕ)) × (f : ℕ) × (r : Recorded) × (windows : ℕ)
+    ghost can_run = { λ n. (0 < n.size)
+        × (start : Option (List ℕ)) × (f : ℕ) × (r : Recorded) × (windows : ℕ)
         × IsGoing R.Source Two start f (n.reader.now.unread, n.source.now) n.reader.now.stage
         r windows };
 
@@ -101,13 +116,15 @@ impl<'a, 'b, 'c, R: Source> Beside for Next<'a, 'b, 'c, R> {
             reader,
             source,
             window,
+            size,
         } = self;
-        let more = read_window(alloc, reader, source, window);
+        let more = read_window(alloc, reader, source, window, size);
         let next = Next {
             alloc,
             reader,
             source,
             window,
+            size,
         };
         (next, more)
     }
@@ -141,6 +158,7 @@ fn judge_and_read<T: Threads + Wait + Sync, G: Gate, R: Source>(
         reader,
         source,
         window: next,
+        size: next_size(window.len()),
     };
     let (judging, (done, reading)) = crew.judge_beside(judged, window, work);
     let Next {
@@ -148,6 +166,7 @@ fn judge_and_read<T: Threads + Wait + Sync, G: Gate, R: Source>(
         reader,
         source,
         window,
+        size: _,
     } = done;
     take_back(reader);
     take_back(source);
