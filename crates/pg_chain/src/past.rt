@@ -157,7 +157,7 @@ impl Past {
         ensures err { InEachRun self.old (λ head events.
             moment ≡ length events → OnErr result (IsPast self.new head events)) }
     {
-        let before = self.controls.control_at(processor_of(event), moment);
+        let before = self.controls.latest(processor_of(event));
         match self.drops.note_later(moment, event, before) {
             Err(refused) => Err(refused),
             Ok(()) => match self.controls.note(moment, event) {
@@ -267,6 +267,7 @@ impl Past {
         requires { p < processor_count self.now }
         ensures run { (moment : ℕ) → IsNext self.now moment → InEachRun self.now (λ head events.
             result ≡ control_at head events p moment) }
+        ensures root { result.root < 2 ^ 52 }
     {
         self.controls.latest(p)
     }
@@ -343,9 +344,9 @@ impl Past {
             .structure_dropped_counted(p, pcid, level, la, from, to, probes)
     }
 
-    /// Whether no event from a moment on drops the paging-structure-cache entry that level 4, 3 or 2
-    /// gives for a linear address under a PCID, as far as is told without a look into lists: it may
-    /// also say no where none does.
+    /// Whether no event from a moment on drops the paging-structure-cache entry that level 4, 3 or
+    /// 2 gives for a linear address under a PCID, as far as is told without a look into lists: it
+    /// may also say no where none does.
     #[inline(always)]
     pub(crate) fn structure_outlasts(
         &self,

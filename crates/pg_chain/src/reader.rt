@@ -130,8 +130,8 @@ impl<'a> Reader<'a> {
         self.probes.entries()
     }
 
-    /// Whether a look-up asked when a translation had to go that is global or of a large page: lists
-    /// of those are made by `Past::catch_up`, and not by `Past::catch_up_pages`.
+    /// Whether a look-up asked when a translation had to go that is global or of a large page:
+    /// lists of those are made by `Past::catch_up`, and not by `Past::catch_up_pages`.
     pub fn asked_wide(&self) -> bool {
         self.wide
     }

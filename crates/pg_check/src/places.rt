@@ -130,17 +130,17 @@ impl Kept {
         self.made > self.slots.len()
     }
 
-    /// Whether look-ups passed over so many entries of the log that lists are worth making. An entry
-    /// of another processor than is asked for is passed over for nothing, and lists spare that: the
-    /// more processors there are, the sooner lists are made.
+    /// Whether look-ups passed over so many entries of the log that lists are worth making. An
+    /// entry of another processor than is asked for is passed over for nothing, and lists spare
+    /// that: the more processors there are, the sooner lists are made.
     pub(crate) fn wants_lists(&self, past: &Past, number: u32) -> bool {
         let processors = past.controls.processors() as u64;
         let events = number.saturating_sub(self.lists_made_at) as u64;
         self.passed.saturating_mul(processors) > events.saturating_mul(ENTRIES_FOR_EACH)
     }
 
-    /// Makes room for more walks, up to so many, unless memory is refused: then it is asked for
-    /// again after as many walks more as there are slots.
+    /// Makes room for more walks, up to so many, unless memory is refused. Where there is none or
+    /// no more, it is asked for again after as many walks more as there are slots.
     #[inline(never)]
     pub(crate) fn grow(&mut self, alloc: Global, most: usize)
         ensures walks { (past : Past) (limit : ℕ) → HaveWalks past limit self.old.slots.items →
@@ -149,6 +149,7 @@ impl Kept {
     {
         let count = self.slots.len();
         if count >= most {
+            self.made = 0;
             return;
         }
         let mut more = empty_slots(alloc, next_count(count, most));
@@ -161,8 +162,9 @@ impl Kept {
     }
 }
 
-/// With one processor, look-ups may pass over so many entries of the log for each event before lists
-/// are made: to put an entry into lists costs about a hundred times what it costs to pass over it.
+/// With one processor, look-ups may pass over so many entries of the log for each event before
+/// lists are made: to put an entry into lists costs about a hundred times what it costs to pass
+/// over it.
 const ENTRIES_FOR_EACH: u64 = 8;
 
 /// Slots that outlive a window are so many at first for each recorded processor.
