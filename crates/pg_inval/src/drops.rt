@@ -148,8 +148,8 @@ impl Drops {
         self.listed.catch_up(self.alloc, self.log.as_slice());
     }
 
-    /// The same of the lists that most look-ups ask: those of paging-structure-cache entries, and of
-    /// translations of 4-KiB pages that are not global.
+    /// The same of the lists that most look-ups ask: those of paging-structure-cache entries, and
+    /// of translations of 4-KiB pages that are not global.
     pub fn catch_up_pages(&mut self)
         ensures { self.new ≡ self.old }
     {
