@@ -174,7 +174,7 @@ const SLOTS_FOR_EACH: usize = 1_024;
 const FIRST_SLOTS: usize = 4_096;
 
 /// They are so many at most at first, however many processors there are.
-const MOST_FIRST_SLOTS: usize = 65_536;
+const MOST_FIRST_SLOTS: usize = 32_768;
 
 /// There may be so many in the end for each recorded processor.
 const MOST_FOR_EACH: usize = 4_096;
