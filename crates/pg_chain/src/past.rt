@@ -138,11 +138,19 @@ impl Past {
         self.drops.catch_up();
     }
 
-    /// The same of the lists that most look-ups ask: not those of large pages and of global ones.
+    /// The same of the lists that most look-ups ask: those of translations of 4-KiB pages that are
+    /// not global.
     pub fn catch_up_pages(&mut self)
         ensures { self.new ≡ self.old }
     {
         self.drops.catch_up_pages();
+    }
+
+    /// The same of the lists of paging-structure-cache entries.
+    pub fn catch_up_regions(&mut self)
+        ensures { self.new ≡ self.old }
+    {
+        self.drops.catch_up_regions();
     }
 
     /// Notes an event that leaves memory as it is, and may drop entries and change control

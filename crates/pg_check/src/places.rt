@@ -23,6 +23,8 @@ pub struct Kept {
     pub lists_made_at: u32,
     /// Whether the lists of large or global pages were asked.
     pub wide: bool,
+    /// How many of the passed entries were passed over for paging-structure-cache entries.
+    pub passed_for_regions: u64,
 }
 
 impl Kept {
@@ -38,6 +40,7 @@ impl Kept {
             passed: 0,
             lists_made_at: 0,
             wide: false,
+            passed_for_regions: 0,
         }
     }
 
@@ -52,6 +55,7 @@ impl Kept {
             passed: 0,
             lists_made_at: 0,
             wide: false,
+            passed_for_regions: 0,
         }
     }
 
@@ -132,11 +136,17 @@ impl Kept {
 
     /// Whether look-ups passed over so many entries of the log that lists are worth making. An
     /// entry of another processor than is asked for is passed over for nothing, and lists spare
-    /// that: the more processors there are, the sooner lists are made.
+    /// that: with several processors lists are made sooner.
     pub(crate) fn wants_lists(&self, past: &Past, number: u32) -> bool {
         let processors = past.controls.processors() as u64;
         let events = number.saturating_sub(self.lists_made_at) as u64;
-        self.passed.saturating_mul(processors) > events.saturating_mul(ENTRIES_FOR_EACH)
+        self.passed.saturating_mul(processors.min(MOST_SHARES))
+            > events.saturating_mul(ENTRIES_FOR_EACH)
+    }
+
+    /// Whether most of them were passed over for paging-structure-cache entries.
+    pub(crate) fn wants_regions(&self) -> bool {
+        self.passed_for_regions > self.passed / 2
     }
 
     /// Makes room for more walks, up to so many, unless memory is refused. Where there is none or
@@ -166,6 +176,10 @@ impl Kept {
 /// lists are made: to put an entry into lists costs about a hundred times what it costs to pass
 /// over it.
 const ENTRIES_FOR_EACH: u64 = 8;
+
+/// With several processors they may pass over that divided by the number of processors, but by no
+/// more than this.
+const MOST_SHARES: u64 = 4;
 
 /// Slots that outlive a window are so many at first for each recorded processor.
 const SLOTS_FOR_EACH: usize = 1_024;

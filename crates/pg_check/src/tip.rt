@@ -167,11 +167,15 @@ fn failing_by_past(past: &Past, kept: &mut Kept, number: u32, event: &Event) -> 
         passed: 0,
         lists_made_at: 0,
         wide: false,
+        passed_for_regions: 0,
     };
     let mut memo = Memo::at_tip(past, own, number);
     let found = failing(&mut memo, number, event);
     kept.passed = kept.passed.saturating_add(memo.passed());
     kept.wide |= memo.asked_wide();
+    kept.passed_for_regions = kept
+        .passed_for_regions
+        .saturating_add(memo.passed_for_regions());
     let Kept { slots, made, .. } = memo.into_slots(number);
     kept.slots = slots;
     kept.made = made;
@@ -409,6 +413,21 @@ fn keep_walk(past: &Past, kept: &mut Kept, current: u16, number: u32, slot: Slot
     }
 }
 
+/// Makes the lists of what was dropped: all of them, or those of 4-KiB pages alone, and those of
+/// paging-structure-cache entries where most look-ups are of those.
+fn make_lists(past: &mut Past, kept: &Kept)
+    ensures { past.new ≡ past.old }
+{
+    if kept.wide {
+        past.catch_up();
+        return;
+    }
+    past.catch_up_pages();
+    if kept.wants_regions() {
+        past.catch_up_regions();
+    }
+}
+
 /// The least reason that fails for the event that comes next, by what the past says. Lists of what
 /// was dropped are made once look-ups passed over much of the log.
 #[inline(never)]
@@ -424,12 +443,9 @@ fn failing_slow(past: &mut Past, kept: &mut Kept, number: u32, event: &Event) ->
 {
     let found = failing_by_past(past, kept, number, event);
     if kept.wants_lists(past, number) {
-        if kept.wide {
-            past.catch_up();
-        } else {
-            past.catch_up_pages();
-        }
+        make_lists(past, kept);
         kept.passed = 0;
+        kept.passed_for_regions = 0;
         kept.lists_made_at = number;
     }
     found
