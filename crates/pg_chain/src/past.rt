@@ -138,11 +138,19 @@ impl Past {
         self.drops.catch_up();
     }
 
-    /// The same of the lists that most look-ups ask: not those of large pages and of global ones.
+    /// The same of the lists that most look-ups ask: those of translations of 4-KiB pages that are
+    /// not global.
     pub fn catch_up_pages(&mut self)
         ensures { self.new ≡ self.old }
     {
         self.drops.catch_up_pages();
+    }
+
+    /// The same of the lists of paging-structure-cache entries.
+    pub fn catch_up_regions(&mut self)
+        ensures { self.new ≡ self.old }
+    {
+        self.drops.catch_up_regions();
     }
 
     /// Notes an event that leaves memory as it is, and may drop entries and change control
@@ -157,7 +165,7 @@ impl Past {
         ensures err { InEachRun self.old (λ head events.
             moment ≡ length events → OnErr result (IsPast self.new head events)) }
     {
-        let before = self.controls.control_at(processor_of(event), moment);
+        let before = self.controls.latest(processor_of(event));
         match self.drops.note_later(moment, event, before) {
             Err(refused) => Err(refused),
             Ok(()) => match self.controls.note(moment, event) {
@@ -267,6 +275,7 @@ impl Past {
         requires { p < processor_count self.now }
         ensures run { (moment : ℕ) → IsNext self.now moment → InEachRun self.now (λ head events.
             result ≡ control_at head events p moment) }
+        ensures root { result.root < 2 ^ 52 }
     {
         self.controls.latest(p)
     }
@@ -343,9 +352,9 @@ impl Past {
             .structure_dropped_counted(p, pcid, level, la, from, to, probes)
     }
 
-    /// Whether no event from a moment on drops the paging-structure-cache entry that level 4, 3 or 2
-    /// gives for a linear address under a PCID, as far as is told without a look into lists: it may
-    /// also say no where none does.
+    /// Whether no event from a moment on drops the paging-structure-cache entry that level 4, 3 or
+    /// 2 gives for a linear address under a PCID, as far as is told without a look into lists: it
+    /// may also say no where none does.
     #[inline(always)]
     pub(crate) fn structure_outlasts(
         &self,

@@ -42,6 +42,8 @@ pub struct Reader<'a> {
     probes: Probes,
     /// Whether it was asked when a large or global translation had to go.
     wide: bool,
+    /// How many entries of the log look-ups of paging-structure-cache entries passed over.
+    regions: u64,
 }
 
 impl<'a> Model for Reader<'a> {
@@ -95,6 +97,7 @@ impl<'a> Reader<'a> {
             },
             probes: Probes::new(),
             wide: false,
+            regions: 0,
         }
     }
 
@@ -109,6 +112,7 @@ impl<'a> Reader<'a> {
             spells: Vec::new(past.alloc),
             probes: Probes::new(),
             wide: false,
+            regions: 0,
         }
     }
 
@@ -125,15 +129,21 @@ impl<'a> Reader<'a> {
     }
 
     /// How many entries of the log its look-ups passed over, which no list had yet.
-    /// `Past::catch_up` and `catch_up_pages` make lists.
+    /// `Past::catch_up`, `catch_up_pages` and `catch_up_regions` make lists.
     pub fn passed(&self) -> u64 {
         self.probes.entries()
     }
 
-    /// Whether a look-up asked when a translation had to go that is global or of a large page: lists
-    /// of those are made by `Past::catch_up`, and not by `Past::catch_up_pages`.
+    /// Whether a look-up asked when a translation had to go that is global or of a large page:
+    /// lists of those are made by `Past::catch_up` alone.
     pub fn asked_wide(&self) -> bool {
         self.wide
+    }
+
+    /// How many of those entries look-ups of paging-structure-cache entries passed over: their
+    /// lists are made by `Past::catch_up_regions`.
+    pub fn passed_for_regions(&self) -> u64 {
+        self.regions
     }
 
     /// The settings of the run.
@@ -280,9 +290,14 @@ impl<'a> Reader<'a> {
             InEachRun self.old (λ head events.
             result ≡ survives head events p (λ c e. must_drop_structure c e key) from to) }
     {
+        let before = self.probes.entries();
         let probes = &mut self.probes;
-        self.past
-            .structure_survives_counted(p, pcid, level, la, from, to, probes)
+        let survives = self
+            .past
+            .structure_survives_counted(p, pcid, level, la, from, to, probes);
+        let passed = self.probes.entries().saturating_sub(before);
+        self.regions = self.regions.saturating_add(passed);
+        survives
     }
 
     /// The first event from this moment on at which a processor had to drop the translation of a

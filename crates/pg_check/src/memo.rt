@@ -230,6 +230,11 @@ impl<'a> Memo<'a> {
         self.reader.asked_wide()
     }
 
+    /// How many of them it passed over for paging-structure-cache entries.
+    pub(crate) fn passed_for_regions(&self) -> u64 {
+        self.reader.passed_for_regions()
+    }
+
     /// The slots, where they rest on the first so many events.
     pub(crate) fn into_slots(self, limit: u32) -> Kept
         ensures { HaveWalks self.entry limit result.slots.items }

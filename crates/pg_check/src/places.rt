@@ -23,6 +23,8 @@ pub struct Kept {
     pub lists_made_at: u32,
     /// Whether the lists of large or global pages were asked.
     pub wide: bool,
+    /// How many of the passed entries were passed over for paging-structure-cache entries.
+    pub passed_for_regions: u64,
 }
 
 impl Kept {
@@ -38,6 +40,7 @@ impl Kept {
             passed: 0,
             lists_made_at: 0,
             wide: false,
+            passed_for_regions: 0,
         }
     }
 
@@ -52,6 +55,7 @@ impl Kept {
             passed: 0,
             lists_made_at: 0,
             wide: false,
+            passed_for_regions: 0,
         }
     }
 
@@ -130,17 +134,23 @@ impl Kept {
         self.made > self.slots.len()
     }
 
-    /// Whether look-ups passed over so many entries of the log that lists are worth making. An entry
-    /// of another processor than is asked for is passed over for nothing, and lists spare that: the
-    /// more processors there are, the sooner lists are made.
+    /// Whether look-ups passed over so many entries of the log that lists are worth making. An
+    /// entry of another processor than is asked for is passed over for nothing, and lists spare
+    /// that: with several processors lists are made sooner.
     pub(crate) fn wants_lists(&self, past: &Past, number: u32) -> bool {
         let processors = past.controls.processors() as u64;
         let events = number.saturating_sub(self.lists_made_at) as u64;
-        self.passed.saturating_mul(processors) > events.saturating_mul(ENTRIES_FOR_EACH)
+        self.passed.saturating_mul(processors.min(MOST_SHARES))
+            > events.saturating_mul(ENTRIES_FOR_EACH)
     }
 
-    /// Makes room for more walks, up to so many, unless memory is refused: then it is asked for
-    /// again after as many walks more as there are slots.
+    /// Whether most of them were passed over for paging-structure-cache entries.
+    pub(crate) fn wants_regions(&self) -> bool {
+        self.passed_for_regions > self.passed / 2
+    }
+
+    /// Makes room for more walks, up to so many, unless memory is refused. Where there is none or
+    /// no more, it is asked for again after as many walks more as there are slots.
     #[inline(never)]
     pub(crate) fn grow(&mut self, alloc: Global, most: usize)
         ensures walks { (past : Past) (limit : ℕ) → HaveWalks past limit self.old.slots.items →
@@ -149,6 +159,7 @@ impl Kept {
     {
         let count = self.slots.len();
         if count >= most {
+            self.made = 0;
             return;
         }
         let mut more = empty_slots(alloc, next_count(count, most));
@@ -161,9 +172,14 @@ impl Kept {
     }
 }
 
-/// With one processor, look-ups may pass over so many entries of the log for each event before lists
-/// are made: to put an entry into lists costs about a hundred times what it costs to pass over it.
+/// With one processor, look-ups may pass over so many entries of the log for each event before
+/// lists are made: to put an entry into lists costs about a hundred times what it costs to pass
+/// over it.
 const ENTRIES_FOR_EACH: u64 = 8;
+
+/// With several processors they may pass over that divided by the number of processors, but by no
+/// more than this.
+const MOST_SHARES: u64 = 4;
 
 /// Slots that outlive a window are so many at first for each recorded processor.
 const SLOTS_FOR_EACH: usize = 1_024;
@@ -172,7 +188,7 @@ const SLOTS_FOR_EACH: usize = 1_024;
 const FIRST_SLOTS: usize = 4_096;
 
 /// They are so many at most at first, however many processors there are.
-const MOST_FIRST_SLOTS: usize = 65_536;
+const MOST_FIRST_SLOTS: usize = 32_768;
 
 /// There may be so many in the end for each recorded processor.
 const MOST_FOR_EACH: usize = 4_096;

@@ -8,7 +8,7 @@ ghost use Rattle.pg_check.specs.Stems.{HaveStems, IsStem};
 
 use crate::places::{page_of, spread};
 use crate::walk::is_in_order;
-use pg_chain::{Chain, Past, chain, chain_further};
+use pg_chain::{Chain, Past, chain, chain_further, upper_at_once};
 use pg_event::{Moments, Want};
 use std::alloc::Global;
 
@@ -254,12 +254,79 @@ fn shorter_stem(
     Some(chain)
 }
 
+/// Whether moments are three, each of them this one.
+#[inline(always)]
+fn are_three(moments: &Moments, moment: u32) -> bool
+    ensures { IsTrue result → moments.now ≡ moment ∷ moment ∷ moment ∷ [] }
+{
+    let all = moments.as_slice();
+    all.len() == 3 && all[0] == moment && all[1] == moment && all[2] == moment
+}
+
+/// The upper part of a processor's walks to a region by three moments, all of them that of the
+/// event that comes next: it is made and kept. None says nothing.
+#[inline(always)]
+fn stem_at_once(
+    past: &Past,
+    stems: &mut Vec<Option<Stem>>,
+    number: u32,
+    current: u16,
+    region: Region,
+    moments: &Moments,
+) -> Option<Chain>
+    requires next { IsNext past.now number }
+    requires processor { region.p < processor_count past.now }
+    requires stems { HaveStems past.now number stems.old.items }
+    ensures stems { HaveStems past.now number stems.new.items }
+    ensures stem { IfSome result (IsStem past.now number region.p region.first moments.now) }
+{
+    if !are_three(moments, number) {
+        return None;
+    }
+    let Region { p, first } = region;
+    let chain = upper_at_once(past, p, first, number)?;
+    let stem = Stem {
+        region: first,
+        moments: *moments,
+        p,
+        chain,
+    };
+    keep_stem(past, stems, number, current, stem);
+    Some(chain)
+}
+
+/// The upper part of a processor's walks to a region by these moments, at the event that comes
+/// next. `at_once` is whether to make it as one by three moments that are all the event's own, and
+/// stands as a constant where this is called. None says nothing.
+#[inline(always)]
+pub(crate) fn stem_for(
+    past: &Past,
+    stems: &mut Vec<Option<Stem>>,
+    number: u32,
+    current: u16,
+    region: Region,
+    moments: &Moments,
+    at_once: bool,
+) -> Option<Chain>
+    requires next { IsNext past.now number }
+    requires processor { region.p < processor_count past.now }
+    requires stems { HaveStems past.now number stems.old.items }
+    ensures stems { HaveStems past.now number stems.new.items }
+    ensures stem { IfSome result (IsStem past.now number region.p region.first moments.now) }
+{
+    if at_once {
+        stem_at_once(past, stems, number, current, region, moments)
+    } else {
+        stem_of(past, stems, number, current, region, moments)
+    }
+}
+
 /// The upper part of a processor's walks to a region by these moments, at the event that comes
 /// next: one that is kept, or one that is made and kept. One that was read at one moment is made by
 /// itself. One that is read last at this event is made from a shorter one, which regions that lie
 /// in a wider one share. So no list is asked. None says nothing. `current` is the PCID: upper parts
 /// are placed by it.
-pub(crate) fn stem_of(
+fn stem_of(
     past: &Past,
     stems: &mut Vec<Option<Stem>>,
     number: u32,

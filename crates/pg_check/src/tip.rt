@@ -11,6 +11,7 @@ ghost use Rattle.pg_event.specs.Form.{processor_of};
 ghost use Rattle.pg_event.specs.Heads.{Head};
 ghost use Rattle.pg_event.specs.Wants.{want_of};
 ghost use Rattle.pg_event.specs.Invalidation.{translation_key, must_drop_translation};
+ghost use Rattle.pg_event.specs.Values.{control_at};
 ghost use Rattle.pg_event.specs.Witness.{failing_access, failing_event, is_in_order, survives};
 ghost use Rattle.pg_chain.specs.declared.past.Past.{Past};
 ghost use Rattle.pg_chain.specs.Standing.{InEachRun, IsNext, processor_count};
@@ -25,7 +26,7 @@ use crate::judge::failing;
 use crate::lasting::Lasting;
 use crate::memo::{Memo, Slot, slot_at, slot_of, walk_in};
 use crate::places::{Kept, most_slots, page_of, place_of};
-use crate::stems::{Region, Stem, split_last, stem_of};
+use crate::stems::{Region, Stem, split_last, stem_for};
 use pg_chain::{Chain, EntryRead, Past, chain_further, kind_at};
 use pg_entry::{Cfg, Kind};
 use pg_event::{
@@ -166,11 +167,15 @@ fn failing_by_past(past: &Past, kept: &mut Kept, number: u32, event: &Event) -> 
         passed: 0,
         lists_made_at: 0,
         wide: false,
+        passed_for_regions: 0,
     };
     let mut memo = Memo::at_tip(past, own, number);
     let found = failing(&mut memo, number, event);
     kept.passed = kept.passed.saturating_add(memo.passed());
     kept.wide |= memo.asked_wide();
+    kept.passed_for_regions = kept
+        .passed_for_regions
+        .saturating_add(memo.passed_for_regions());
     let Kept { slots, made, .. } = memo.into_slots(number);
     kept.slots = slots;
     kept.made = made;
@@ -232,7 +237,8 @@ fn lasting_now(past: &Past, number: u32, p: u16, la: u64, chain: Chain, leaf: Le
 }
 
 /// The walk of an access to a page that is read last at the event that comes next, by the walk of
-/// its other moments. None says nothing.
+/// its other moments. `at_once` is whether it is tried as one that is read at the event as a whole.
+/// None says nothing.
 #[inline(always)]
 fn chain_at_event(
     past: &Past,
@@ -240,6 +246,7 @@ fn chain_at_event(
     current: u16,
     claim: &Claim,
     moments: &Moments,
+    at_once: bool,
 ) -> Option<Chain>
     requires next { IsNext past.now claim.now.number }
     requires processor { claim.now.p < processor_count past.now }
@@ -259,7 +266,8 @@ fn chain_at_event(
     }
     let page = page_of(la, moments.len());
     let first = page_of(page, upper.len());
-    let stem = stem_of(past, stems, number, current, Region { p, first }, &upper)?;
+    let region = Region { p, first };
+    let stem = stem_for(past, stems, number, current, region, &upper, at_once)?;
     let chain = chain_further(past, p, page, stem, number, Want::Leaf)?;
     if chain.end.moment == number {
         Some(chain)
@@ -268,10 +276,73 @@ fn chain_at_event(
     }
 }
 
+/// What is known of the access that comes next by its walk, which is read last at the event and is
+/// kept: the least reason that fails, if there is one. None says nothing. `current` is the PCID.
+#[inline(always)]
+fn failing_by_chain(
+    past: &Past,
+    kept: &mut Kept,
+    current: u16,
+    claim: &Claim,
+    moments: &Moments,
+    chain: Chain,
+) -> Option<Option<Reason>>
+    requires next { IsNext past.now claim.now.number }
+    requires processor { claim.now.p < processor_count past.now }
+    requires current { InEachRun past.now (λ head events.
+        (control_at head events claim.now.p claim.now.number).pcid ≡ current) }
+    requires walks { HaveWalks past.now claim.now.number kept.old.slots.items }
+    requires leaf { want_of claim.now.outcome ≡ Leaf }
+    requires moment { chain.end.moment ≡ claim.now.number }
+    requires ordered { is_in_order moments.now claim.now.number ≡ true }
+    requires walk { let page = page_start (page_bits (length moments.now)) claim.now.la in
+        InEachRun past.now (λ head events.
+        chain_of head events claim.now.p page moments.now Leaf ≡ Ok chain) }
+    ensures walks { HaveWalks past.now claim.now.number kept.new.slots.items }
+    ensures stems { kept.new.stems ≡ kept.old.stems }
+    ensures failing { InEachRun past.now (λ head events. IfSome result (λ found.
+        found ≡ failing_access head events claim.now moments.now)) }
+{
+    let Claim { number, p, la, .. } = *claim;
+    let leaf = leaf_at(past.cfg(), chain.end)?;
+    let page = page_of(la, moments.len());
+    let walk = lasting_now(past, number, p, page, chain, leaf);
+    let slot = slot_of(p, page, moments, walk, leaf.frame, leaf.shift);
+    keep_walk(past, kept, current, number, slot);
+    let LeafPage { frame, shift, .. } = leaf;
+    Some(failing_leaf_chain(past, current, claim, walk, frame, shift))
+}
+
 /// What is known of the access that comes next by a walk that is made and kept: the least reason
-/// that fails, if there is one. None says nothing.
+/// that fails, if there is one. `at_once` is whether the walk is tried as one that is read at the
+/// event as a whole. None says nothing.
 #[inline(always)]
 fn failing_anew(
+    past: &Past,
+    kept: &mut Kept,
+    claim: &Claim,
+    moments: &Moments,
+    at_once: bool,
+) -> Option<Option<Reason>>
+    requires next { IsNext past.now claim.now.number }
+    requires processor { claim.now.p < processor_count past.now }
+    requires walks { HaveWalks past.now claim.now.number kept.old.slots.items }
+    requires stems { HaveStems past.now claim.now.number kept.old.stems.items }
+    requires leaf { want_of claim.now.outcome ≡ Leaf }
+    ensures walks { HaveWalks past.now claim.now.number kept.new.slots.items }
+    ensures stems { HaveStems past.now claim.now.number kept.new.stems.items }
+    ensures failing { InEachRun past.now (λ head events. IfSome result (λ found.
+        found ≡ failing_access head events claim.now moments.now)) }
+{
+    let current = past.latest_control(claim.p).pcid;
+    let chain = chain_at_event(past, &mut kept.stems, current, claim, moments, at_once)?;
+    failing_by_chain(past, kept, current, claim, moments, chain)
+}
+
+/// The same by a walk whose entries are all read at the event. It stands by itself, so that the
+/// others, which are more, have a function of their own.
+#[inline(never)]
+fn failing_at_once(
     past: &Past,
     kept: &mut Kept,
     claim: &Claim,
@@ -287,16 +358,41 @@ fn failing_anew(
     ensures failing { InEachRun past.now (λ head events. IfSome result (λ found.
         found ≡ failing_access head events claim.now moments.now)) }
 {
-    let Claim { number, p, la, .. } = *claim;
-    let current = past.latest_control(p).pcid;
-    let chain = chain_at_event(past, &mut kept.stems, current, claim, moments)?;
-    let leaf = leaf_at(past.cfg(), chain.end)?;
-    let page = page_of(la, moments.len());
-    let walk = lasting_now(past, number, p, page, chain, leaf);
-    let slot = slot_of(p, page, moments, walk, leaf.frame, leaf.shift);
-    keep_walk(past, kept, current, number, slot);
-    let LeafPage { frame, shift, .. } = leaf;
-    Some(failing_leaf_chain(past, current, claim, walk, frame, shift))
+    failing_anew(past, kept, claim, moments, true)
+}
+
+/// Whether a walk is one of four levels that begins at the event with this number, so that it is
+/// read at it as a whole.
+#[inline(always)]
+fn is_at_once(moments: &Moments, number: u32) -> bool {
+    let all = moments.as_slice();
+    all.len() == 4 && all[0] == number
+}
+
+/// What is known of the access that comes next by a walk that is made and kept, whatever its
+/// moments: the least reason that fails, if there is one. None says nothing.
+#[inline(always)]
+fn failing_by_walk(
+    past: &Past,
+    kept: &mut Kept,
+    claim: &Claim,
+    moments: &Moments,
+) -> Option<Option<Reason>>
+    requires next { IsNext past.now claim.now.number }
+    requires processor { claim.now.p < processor_count past.now }
+    requires walks { HaveWalks past.now claim.now.number kept.old.slots.items }
+    requires stems { HaveStems past.now claim.now.number kept.old.stems.items }
+    requires leaf { want_of claim.now.outcome ≡ Leaf }
+    ensures walks { HaveWalks past.now claim.now.number kept.new.slots.items }
+    ensures stems { HaveStems past.now claim.now.number kept.new.stems.items }
+    ensures failing { InEachRun past.now (λ head events. IfSome result (λ found.
+        found ≡ failing_access head events claim.now moments.now)) }
+{
+    if is_at_once(moments, claim.number) {
+        failing_at_once(past, kept, claim, moments)
+    } else {
+        failing_anew(past, kept, claim, moments, false)
+    }
 }
 
 /// Keeps a walk that was made at the event that comes next.
@@ -317,6 +413,21 @@ fn keep_walk(past: &Past, kept: &mut Kept, current: u16, number: u32, slot: Slot
     }
 }
 
+/// Makes the lists of what was dropped: all of them, or those of 4-KiB pages alone, and those of
+/// paging-structure-cache entries where most look-ups are of those.
+fn make_lists(past: &mut Past, kept: &Kept)
+    ensures { past.new ≡ past.old }
+{
+    if kept.wide {
+        past.catch_up();
+        return;
+    }
+    past.catch_up_pages();
+    if kept.wants_regions() {
+        past.catch_up_regions();
+    }
+}
+
 /// The least reason that fails for the event that comes next, by what the past says. Lists of what
 /// was dropped are made once look-ups passed over much of the log.
 #[inline(never)]
@@ -332,12 +443,9 @@ fn failing_slow(past: &mut Past, kept: &mut Kept, number: u32, event: &Event) ->
 {
     let found = failing_by_past(past, kept, number, event);
     if kept.wants_lists(past, number) {
-        if kept.wide {
-            past.catch_up();
-        } else {
-            past.catch_up_pages();
-        }
+        make_lists(past, kept);
         kept.passed = 0;
+        kept.passed_for_regions = 0;
         kept.lists_made_at = number;
     }
     found
@@ -369,7 +477,7 @@ fn failing_made(
     ensures failing { InEachRun past.old (λ head events.
         result ≡ failing_event head events claim.now.number event.now) }
 {
-    match failing_anew(past, kept, claim, moments) {
+    match failing_by_walk(past, kept, claim, moments) {
         Some(found) => found,
         None => failing_slow(past, kept, claim.number, event),
     }

@@ -73,6 +73,12 @@ IsListed-cut c log known left w old new rising count listed cut = record {
       ∙ ap (stamps_of c k) (cut-take w 0 known log rising ∙ take_min known left (cut_log w log) count);
 }
 
+-- what a key has in the lists it has in the entries that they were made from
+pub IsListed-taken : (k : DropKey) (log : List LogEntry) (known : ℕ) (lists : Moments) (j : ℕ) → IsListed (class_of k) log known lists →
+    has_drop (take known log) k j ≡ has_moment (stamps_in is_same_key lists k) j
+IsListed-taken k log known lists j listed =
+    sym (ap (λ S. has_moment S j) (listed.at k) ∙ stamps_of-drop k (take known log) j)
+
 -- what a key has in the lists or in the rest of the log it has in the log
 pub IsListed-parts : (k : DropKey) (log : List LogEntry) (known : ℕ) (lists : Moments) (j : ℕ) → IsListed (class_of k) log known lists →
     (has_moment (stamps_in is_same_key lists k) j || has_drop (drop known log) k j) ≡ has_drop log k j

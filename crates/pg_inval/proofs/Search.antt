@@ -1,7 +1,7 @@
 -- Where a search of a log ends, whose moments rise.
-use Rattle.std.proofs.Common.{◌≡◌, ℕ, zero, suc, length, take, drop, get_or, ◌+◌, ◌<◌, ◌≤◌, Bool, true, false, ◌&&◌, ◌||◌, nat_eq, Some, None, List, [], ◌∷◌, refl, ap, sym, subst, ◌∙◌, add-one, arith}
+use Rattle.std.proofs.Common.{◌≡◌, ℕ, zero, suc, length, take, drop, get_or, ◌+◌, ◌<◌, ◌≤◌, Bool, true, false, ◌&&◌, ◌||◌, nat_eq, Some, None, List, [], ◌∷◌, refl, ap, sym, subst, ◌∙◌, add-one, arith, inl, inr}
 use Rattle.std.specs.List.{slice_get}
-use Rattle.std.proofs.lemmas.Bool.{eqb-true, eq-eqb, and_from, or_right, or_left, false_from_ne_true}
+use Rattle.std.proofs.lemmas.Bool.{cases_Bool, false≢true, eqb-true, eq-eqb, and_from, or_right, or_left, false_from_ne_true}
 use Rattle.std.proofs.lemmas.Option.{none-some, same_Some}
 use Rattle.pg_inval.specs.declared.key.DropKey.{DropKey}
 use Rattle.pg_inval.specs.declared.log.LogEntry.{LogEntry}
@@ -85,6 +85,20 @@ has_drop-late n (e ∷ es) k j before le =
     let below : e.moment < n = before.0 in
     neither _ (has_drop es k j) (unlike e.moment j _ (λ same. absurd (omega (arith, same, below, le))))
     (has_drop-late n es k j before.1 le)
+
+-- what a key has among the first entries is before all that it has among the others
+pub has_drop-after : (n i : ℕ) (log : List LogEntry) (k : DropKey) (m j : ℕ) → IsRisingFrom n log → has_drop (take i log) k m ≡ true → j ≤ m → has_drop (drop i log) k j ≡ false
+has_drop-after n zero log k m j rising has le = absurd (false≢true has)
+has_drop-after n (suc i) [] k m j rising has le = absurd (false≢true has)
+has_drop-after n (suc i) (e ∷ es) k m j rising has le =
+    elim (cases_Bool (nat_eq e.moment m)) [
+      | inl here ↦
+          let same : e.moment ≡ m = eqb-true e.moment m here in
+          has_drop-early (e.moment + 1) (drop i es) k j (IsRisingFrom-drop (e.moment + 1) i es rising.1) (omega (arith, same, le))
+      | inr other ↦
+          has_drop-after (e.moment + 1) i es k m j rising.1
+          (sym (ap (λ b. (b && has_key (keys_at e) k) || has_drop (take i es) k m) other) ∙ has) le
+    ]
 
 -- the entries from the first on that is not below a moment have what the log has from it on
 pub has_drop-from : (n w : ℕ) (log : List LogEntry) (k : DropKey) (j : ℕ) → AreBefore w (take n log) → w ≤ j → has_drop (drop n log) k j ≡ has_drop log k j

@@ -148,12 +148,20 @@ impl Drops {
         self.listed.catch_up(self.alloc, self.log.as_slice());
     }
 
-    /// The same of the lists that most look-ups ask: those of paging-structure-cache entries, and of
-    /// translations of 4-KiB pages that are not global.
+    /// The same of the lists that most look-ups ask: those of translations of 4-KiB pages that are
+    /// not global.
     pub fn catch_up_pages(&mut self)
         ensures { self.new ≡ self.old }
     {
         self.listed.catch_up_pages(self.alloc, self.log.as_slice());
+    }
+
+    /// The same of the lists of paging-structure-cache entries.
+    pub fn catch_up_regions(&mut self)
+        ensures { self.new ≡ self.old }
+    {
+        self.listed
+            .catch_up_regions(self.alloc, self.log.as_slice());
     }
 
     /// Whether no event from a moment on drops a translation of processor `p`, as the last moments

@@ -45,17 +45,27 @@ impl Listed {
         ensures { AreListed log.now self.new }
     {
         self.catch_up_pages(alloc, log);
+        self.catch_up_regions(alloc, log);
         self.large_pages.catch_up(Class::LargePages, alloc, log);
         self.global_pages.catch_up(Class::GlobalPages, alloc, log);
     }
 
-    /// The same for paging-structure-cache entries, and for 4-KiB pages that are not global.
+    /// The same for 4-KiB pages that are not global.
     pub(crate) fn catch_up_pages(&mut self, alloc: Global, log: &[LogEntry])
         requires listed { AreListed log.now self.old }
         requires rising { IsRisingFrom 0 log.now }
         ensures { AreListed log.now self.new }
     {
         self.pages.catch_up(Class::Pages, alloc, log);
+        self.spaces.catch_up(Class::Spaces, alloc, log);
+    }
+
+    /// The same for paging-structure-cache entries.
+    pub(crate) fn catch_up_regions(&mut self, alloc: Global, log: &[LogEntry])
+        requires listed { AreListed log.now self.old }
+        requires rising { IsRisingFrom 0 log.now }
+        ensures { AreListed log.now self.new }
+    {
         self.regions.catch_up(Class::Regions, alloc, log);
         self.spaces.catch_up(Class::Spaces, alloc, log);
     }

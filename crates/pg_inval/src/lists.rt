@@ -149,8 +149,8 @@ impl Lists {
         self.known = self.known.min(left);
     }
 
-    /// The least moment of a key from one up to, not with, another. What the lists lack is looked
-    /// for in the log, up to what they have.
+    /// The least moment of a key from one up to, not with, another. Where the lists have none, it is
+    /// looked for in what they lack of the log: that is later than all that they have.
     pub(crate) fn first_between(
         &self,
         log: &[LogEntry],
@@ -164,8 +164,9 @@ impl Lists {
         ensures least { IsLeastBetween (has_drop log.now key) from to result }
         ensures probes { (probes.old ≤ probes.new) × (probes.new ≤ probes.old + 34) }
     {
-        let listed = below(first_at(&self.by_key, key, from, probes), to);
-        let end = listed.unwrap_or(to);
-        first_in(&log[self.known..], key, from, end, probes).or(listed)
+        match below(first_at(&self.by_key, key, from, probes), to) {
+            Some(moment) => Some(moment),
+            None => first_in(&log[self.known..], key, from, to, probes),
+        }
     }
 }

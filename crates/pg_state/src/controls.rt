@@ -179,21 +179,21 @@ impl Controls {
     {
         if is_change(event) {
             let p = processor_of(event);
-            let after = self.after(moment, event);
+            let after = self.after(event);
             push_at(&mut self.by_processor, p, moment, after)?;
             self.next = moment as u64 + 1;
         }
         Ok(())
     }
 
-    /// The control registers of an event's processor after the event, where this is its number.
-    fn after(&self, moment: u32, event: &Event) -> Control
+    /// The control registers of an event's processor after the event, which comes next.
+    fn after(&self, event: &Event) -> Control
         requires { processor_of event.now < processor_count self.now }
-        ensures { let p = processor_of event.now in
-            result ≡ controlled self.now.head.cfg.m p (control_in self.now p moment) event.now }
+        ensures { let p = processor_of event.now in (w : ℕ) → next_moment self.now ≤ w →
+            result ≡ controlled self.now.head.cfg.m p (control_in self.now p w) event.now }
     {
         let p = processor_of(event);
-        controlled(self.header.cfg.m, p, self.control_at(p, moment), event)
+        controlled(self.header.cfg.m, p, self.latest(p), event)
     }
 
     /// Forgets the events from a moment on.
@@ -232,6 +232,7 @@ impl Controls {
         ensures value { (w : ℕ) → next_moment self.now ≤ w → result ≡ control_in self.now p w }
         ensures run { (head : Head) (events : List Event) → StandsFor self.now head events →
             (w : ℕ) → next_moment self.now ≤ w → result ≡ control_at head events p w }
+        ensures root { result.root < 2 ^ 52 }
     {
         match changes_at(&self.by_processor, p).last() {
             Some(control) => control,

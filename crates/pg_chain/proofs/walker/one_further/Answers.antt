@@ -18,10 +18,6 @@ use Rattle.pg_chain.proofs.walker.one_further.Goals as goal
 table_in : (b : Bool) (cfg : Cfg) (head : Head) (c : Chain) → b ≡ is_table (kind_of cfg c.end.level c.end.value) → cfg ≡ head.cfg → is_table (kind_of head.cfg c.end.level c.end.value) ≡ b
 table_in b cfg head c found same = sym (found ∙ ap (λ (x : Cfg). is_table (kind_of x c.end.level c.end.value)) same)
 
--- the same past, lent to a reader
-lent : {reader past : Past} {head : Head} {events : List Event} → reader ≡ past → IsPast past head events → IsPast reader head events
-lent {head = head} {events = events} e h = subst (λ (x : Past). IsPast x head events) (sym e) h
-
 -- what an entry is, by the settings of the run
 wanted_in : (b : Bool) (kind : Kind) (cfg : Cfg) (head : Head) (want : Want) (c : Chain) → b ≡ is_wanted want kind → kind ≡ kind_of cfg c.end.level c.end.value → cfg ≡ head.cfg →
     is_wanted want (kind_of head.cfg c.end.level c.end.value) ≡ b
@@ -35,9 +31,9 @@ pub returns-then-outlasts_to : goal.returns-then-outlasts_to
 returns-then-outlasts_to c = λ head events h.
     let a = c.args in
     let cfg = c.cfg-cfg.ensures.run head events h in
-    sym (further-made head events a.p a.la a.want a.upper a.moment c.advanced-chain.result true true true true
+    sym (further-made head events a.p a.la a.want a.upper a.moment c.advanced_in-chain.result true true true true
     (table_in true c.cfg-cfg.result head a.upper (sym c.if-not-is_table.false ∙ c.is_table.ensures) cfg)
-    (wanted_in true c.kind_at.result c.cfg-cfg.result head a.want c.advanced-chain.result (sym c.if-not-is_wanted.false ∙ c.is_wanted.ensures) c.kind_at.ensures.kind cfg)
+    (wanted_in true c.kind_at.result c.cfg-cfg.result head a.want c.advanced_in-chain.result (sym c.if-not-is_wanted.false ∙ c.is_wanted.ensures) c.kind_at.ensures.kind cfg)
     (ap (λ (x : Control). x.pcid == a.upper.pcid) (sym (c.latest_control.ensures.run a.moment c.requires.next head events h)) ∙ eq-eqb c.latest_control.result.pcid a.upper.pcid c.if-latest_control-upper.false)
     (c.outlasts_to.ensures c.if-outlasts_to.true head events h)
-    (c.advanced-chain.ensures.chain head events (lent c.new.ensures h)))
+    (c.advanced_in-chain.ensures head events h))

@@ -5,4 +5,4 @@ use Rattle.pg_chain.proofs.reader.Reader.structure_survives.Goals as goal
 
 pub returns-clause-run : goal.returns-clause-run
 returns-clause-run c = λ head events h.
-    c.structure_survives_counted.ensures.run head events (subst (λ (x : Past). IsPast x head events) (sym c.self.view_is) h)
+    c.structure_survives_counted-survives.ensures.run head events (subst (λ (x : Past). IsPast x head events) (sym c.self.view_is) h)
