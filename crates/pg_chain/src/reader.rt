@@ -12,6 +12,7 @@ ghost use Rattle.pg_chain.specs.Standing.{InEachRun, processor_count};
 ghost use Rattle.pg_chain.specs.Known.{IsWord, IsSpell};
 
 use crate::past::Past;
+use crate::places::place_among;
 use pg_entry::{Cfg, Level};
 use pg_event::Control;
 use pg_timeline::{Probes, Span};
@@ -59,9 +60,6 @@ impl<'a> Model for Reader<'a> {
 
 /// So many words are kept at most.
 const MOST_WORDS: usize = 2_048;
-
-/// An odd number whose bits are spread, which spreads those of what it is multiplied by.
-const SPREAD: u64 = 0x9e37_79b9_7f4a_7c15;
 
 /// The value of a span at a moment that lies in it.
 fn value_in<V: Copy>(span: &Span<V>, moment: u32) -> Option<V>
@@ -156,9 +154,7 @@ impl<'a> Reader<'a> {
 
     /// The place of a word, where there are any.
     fn place_of(&self, address: u64) -> usize {
-        let number = (address >> 3).wrapping_mul(SPREAD) >> 32;
-        // The same part of the places that this number is of 2 to the power of 32.
-        (number.wrapping_mul(self.words.len() as u64) >> 32) as usize
+        place_among(self.words.len(), address >> 3)
     }
 
     /// The value of a word at a moment, where a place has it.

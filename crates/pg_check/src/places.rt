@@ -6,7 +6,7 @@ ghost use Rattle.pg_check.specs.Remembered.{HasWalk, HaveWalks, page_bits, page_
 
 use crate::memo::{Slot, is_to};
 use crate::stems::Stem;
-use pg_chain::Past;
+use pg_chain::{Past, place_among};
 use std::alloc::Global;
 
 /// Slots that outlive the memo that filled them, and upper parts of walks.
@@ -202,9 +202,6 @@ const MOST_OF_ALL: usize = 131_072;
 /// Where there are more slots, there are so many times as many.
 const TIMES: usize = 4;
 
-/// An odd number whose multiples by the numbers from 0 on, cut to 64 bits, lie evenly apart.
-const SPREAD: u64 = 0x9e37_79b9_7f4a_7c15;
-
 /// The first address of the page that a leaf maps where so many levels are read. Walks by the same
 /// moments to addresses of one page are alike. Each size stands as a constant, since each access
 /// asks this and a division by another number costs much.
@@ -231,9 +228,7 @@ pub(crate) fn place_of(count: usize, p: u16, page: u64, levels: usize, current: 
 /// One of so many places. Pages that follow each other are spread evenly.
 pub(crate) fn spread(count: usize, p: u16, page: u64, levels: usize, space: u64) -> usize {
     let key = (p as u64) << 40 | (levels as u64) << 36 | page % (1 << 48) / 4096;
-    let number = (key ^ space << 50).wrapping_mul(SPREAD) >> 32;
-    // The same part of the places that this number is of 2 to the power of 32.
-    (number.wrapping_mul(count as u64) >> 32) as usize
+    place_among(count, key ^ space << 50)
 }
 
 /// So many slots are worth their room at first where so many walks may come.
