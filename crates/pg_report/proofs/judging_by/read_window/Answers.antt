@@ -3,7 +3,7 @@ use Rattle.pg_event.specs.declared.event.Event.{Event}
 use Rattle.pg_event.specs.Spelling.{Recorded}
 use Rattle.pg_report.proofs.Ahead.{HasRead, read_on, read_further, window_read, window_refused, window_ends, window_fails}
 use Rattle.pg_report.proofs.judging_by.read_window.Goals as goal
-use Rattle.pg_report.proofs.judging_by.read_window.Goals.{Else-len-ge-size}
+use Rattle.pg_report.proofs.judging_by.read_window.Goals.{Else-len-size}
 
 pub returns-in-Ok-None : goal.returns-in-Ok-None
 returns-in-Ok-None g c = λ start f r windows h.
@@ -18,7 +18,7 @@ returns g c = λ start f r windows h.
     window_read g.R.Source start f r _ _ (windows + c.loop.counter) c.loop.window.items (c.loop.invariant.1 start f r windows h) windows (omega (arith, c.loop-test.false, c.requires.some))
 
 -- what was read once a segment was added
-module _ (g : _) (c : Else-len-ge-size g) where
+module _ (g : _) (c : Else-len-size g) where
   added : c.extend_from_slice.new.self.items ≡ c.loop.window.items ++ c.in-Ok-Some.events.items
   added = c.in_default.ensures.items ∙ ap (λ (es : List Event). c.loop.window.items ++ es) c.deref.ensures.value
 
@@ -35,8 +35,8 @@ loop-preserved g c =
     let was = c.loop.invariant in
     ((was.0.0, was.0.1, was.0.2, was.0.3, step g c was.0.0 was.0.1 was.0.2 was.0.3 was.0.4), λ start f r windows h. step g c start f r windows (was.1 start f r windows h))
 
-pub returns-then-len-ge-size : goal.returns-then-len-ge-size
-returns-then-len-ge-size g c = λ start f r windows h.
+pub returns-then-len-size : goal.returns-then-len-size
+returns-then-len-size g c = λ start f r windows h.
     let read = c.in-Ok-Some.ensures in
     let items : c.extend_from_slice.new.self.items ≡ c.loop.window.items ++ c.in-Ok-Some.events.items = c.in_default.ensures.items ∙ ap (λ (es : List Event). c.loop.window.items ++ es) c.deref.ensures.value in
     let on = read_further g.R.Source start f r _ c.loop.reader.stage (windows + c.loop.counter) c.loop.window.items (c.loop.invariant.1 start f r windows h) _ c.in-Ok-Some.events.items _
