@@ -22,7 +22,8 @@ use Rattle.pg_explain.specs.declared.denial.Denial.{Denial}
 use Rattle.pg_explain.specs.Denied.{IsDenialOf, IsWalkNow, claimed_text, now_walk_text, given_text, denial_text}
 use Rattle.pg_explain.specs.Given.{given_now}
 use Rattle.pg_explain.specs.Lasts.{taken_by, taken_in}
-use Rattle.pg_explain.specs.Walk.{IsTold, IsWalk, IsWriter, is_written, writes_some, reading_at}
+use Rattle.pg_search.specs.Writers.{writes_some, is_written, IsWriter}
+use Rattle.pg_explain.specs.Walk.{IsTold, IsWalk, reading_at}
 
 some_same : {X : Type 0} (x y : X) → Some x ≡ Some y → x ≡ y
 some_same x y h = cc

@@ -1,6 +1,6 @@
 -- A record that is certified as it is read: what was read of it, and what is known of that.
-use Rattle.std.specs.Prelude.{◌≡◌, ℕ, List, ◌++◌, Option, Some, None, Result, Ok, Err}
-use Rattle.std.specs.Prelude.{IfSome, slice_get, option_map}
+use Rattle.std.specs.Prelude.{◌≡◌, ℕ, true, List, ◌++◌, Option, Some, Result, Ok, Err}
+use Rattle.std.specs.Prelude.{IfSome, slice_get}
 use Rattle.pg_event.specs.declared.event.Event.{Event}
 use Rattle.pg_event.specs.declared.version.Version.TheVariants.{Two}
 use Rattle.pg_event.specs.Heads.{Head}
@@ -8,11 +8,10 @@ use Rattle.pg_event.specs.Spelling.{Recorded}
 use Rattle.pg_check.specs.Kept.{AreWellFormed}
 use Rattle.pg_codec.specs.declared.stage.Stage.{Stage}
 use Rattle.pg_codec.specs.declared.stream.Source.{Ghosts}
-use Rattle.pg_certify.specs.Accounts.{Account, IsAccount, Numbers, whole_of}
+use Rattle.pg_certify.specs.Accounts.{Account, IsAccount}
 use Rattle.pg_explain.specs.declared.denial.Denial.{Denial}
 use Rattle.pg_explain.specs.Denied.{IsDenialOf, denial_text}
-use Rattle.pg_search.specs.declared.last.Last.{Last}
-use Rattle.pg_search.specs.Placeholders.{with_placeholder}
+use Rattle.pg_search.specs.Changes.{changes_something}
 use Rattle.pg_report.specs.declared.error.AuditError.{AuditError}
 use Rattle.pg_report.specs.Going.{IsGoing}
 use Rattle.pg_report.specs.Intake.{ReadsRecord}
@@ -44,13 +43,9 @@ abbrev pub ReadsAccount : Option (List ℕ) → Result Account AuditError → Ty
 ReadsAccount left (Ok a) = IsAccountOfAll left a
 ReadsAccount left (Err e) = IfSome left (λ bytes. ReadsRecord Two bytes (Err e))
 
--- what is told of the event behind which another was never witnessed, by what is kept of it
-abbrev pub taken_told : Numbers → List Event → Option Last → Option Last → Option Event
-taken_told n changes None last = None
-taken_told n changes (Some among) None = None
-taken_told n changes (Some among) (Some last) =
-    option_map (λ e. whole_of n.named last.number (with_placeholder e))
-    (slice_get changes among.number)
+-- there is an event with this number, and it changes something
+abbrev pub IsChange : List Event → ℕ → Type 0
+IsChange events n = (e : Event) × (slice_get events n ≡ Some e) × (changes_something e ≡ true)
 
 -- what stands behind event n, and its text
 abbrev pub IsDenialTold : Recorded → ℕ → List ℕ → Type 0

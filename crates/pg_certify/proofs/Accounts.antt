@@ -1,20 +1,21 @@
--- The numbers of events and what is kept whole of them, and the event that is denied.
+-- What is kept whole of events, and the event that is denied.
 use Rattle.std.proofs.Common.{◌≡◌, ℕ, zero, suc, ◌+◌, ◌-◌, ◌<◌, ◌==◌, Bool, true, false, not, cond, List, [], ◌∷◌, ◌++◌, length, Option, Some, None, IfSome, IfNone, refl, ap, sym, ◌∙◌, subst, inl, inr, arith}
-use Rattle.std.specs.Prelude.{slice_get}
+use Rattle.std.specs.Prelude.{slice_get, option_map}
 use Rattle.std.proofs.lemmas.Bool.{cases_lt, cases_Bool, eqb-true, eq-eqb, false_from_ne_true}
-use Rattle.std.proofs.lemmas.List.{length-append}
+use Rattle.std.proofs.lemmas.List.{append_assoc}
+use Rattle.std.proofs.lemmas.Option.{slice_get_within}
 use Rattle.pg_event.specs.declared.event.Event.{Event}
 use Rattle.pg_event.specs.declared.event.Event.TheVariants.{Write, Access, Assist, MovCr3, Invlpg, Invpcid, MovCr4Pge}
 use Rattle.pg_event.specs.declared.event.Outcome.TheVariants.{Page, Fault}
 use Rattle.pg_event.specs.Heads.{Head}
-use Rattle.pg_run_of.specs.Converse.{without_moments}
 use Rattle.pg_search.specs.Placeholders.{with_placeholder}
 use Rattle.pg_search.specs.Law.{CanBeWitnessed}
-use Rattle.pg_search.specs.Thinned.{changes_something, numbers_from}
-use Rattle.pg_certify.specs.declared.numbering.Numbered.{Numbered}
+use Rattle.pg_search.specs.Changes.{changes_something, idle, kept_of}
+use Rattle.pg_search.proofs.Changes.{kept_there}
+use Rattle.pg_certify.specs.declared.named_events.Numbered.{Numbered}
 use Rattle.pg_certify.specs.Certified.{IsDenied}
 use Rattle.pg_certify.specs.Windows.{Findings, IsCertifying}
-use Rattle.pg_certify.specs.Accounts.{is_placeholder, is_named, named_from, whole_of, Numbers, IsNumbering, KeptWhole, with_number, with_named, noted}
+use Rattle.pg_certify.specs.Accounts.{is_placeholder, is_named, named_from, whole_of, Account, IsAccount, with_named}
 use Rattle.pg_certify.proofs.Windows.{there_more, there_past, witnessed_more, denied_more}
 
 some_same : (x y : Event) → Some x ≡ Some y → x ≡ y
@@ -28,14 +29,6 @@ swapped true false x y xs = refl
 swapped false true x y xs = refl
 swapped false false x y xs = refl
 
-numbers_push : (s : ℕ) (es : List Event) (e : Event) → numbers_from s (es ++ e ∷ []) ≡ with_number (numbers_from s es) (s + length es) e
-numbers_push s [] e = let here : s ≡ s + 0 = omega arith in ap (λ n. cond (changes_something e) (n ∷ []) []) here
-numbers_push s (x ∷ xs) e =
-    let b : Bool = changes_something x in
-    let ns : List ℕ = numbers_from (s + 1) xs in
-    let next : s + 1 + length xs ≡ s + suc (length xs) = omega arith in
-    ap (λ ms. cond b (s ∷ ms) ms) (numbers_push (s + 1) xs e ∙ ap (λ n. with_number ns n e) next) ∙ swapped b (changes_something e) s (s + suc (length xs)) ns
-
 abbrev numbered : ℕ → Event → Numbered
 numbered n e = record { number = n; event = e }
 
@@ -47,25 +40,27 @@ named_push s (x ∷ xs) e =
     let next : s + 1 + length xs ≡ s + suc (length xs) = omega arith in
     ap (λ ms. cond b (numbered s x ∷ ms) ms) (named_push (s + 1) xs e ∙ ap (λ n. with_named ns n e) next) ∙ swapped b (is_named e) (numbered s x) (numbered (s + suc (length xs)) e) ns
 
-pub noted_is : (n : Numbers) (before : List Event) (e : Event) → IsNumbering n before → IsNumbering (noted n e) (before ++ e ∷ [])
-noted_is n before e h =
-    let number : n.count ≡ 0 + length before = omega (arith, h.count) in
-    record {
-      numbers = ap (λ ns. with_number ns n.count e) h.numbers ∙ ap (λ k. with_number (numbers_from 0 before) k e) number ∙ sym (numbers_push 0 before e);
-      named = ap (λ ns. with_named ns n.count e) h.named ∙ ap (λ k. with_named (named_from 0 before) k e) number ∙ sym (named_push 0 before e);
-      count = omega (arith, h.count, length-append before (e ∷ []));
-    }
+pub named_more : (s : ℕ) (es : List Event) (n : ℕ) (e : Event) (old now later : List Numbered) → n ≡ s + length es → now ≡ old ++ named_from s es → later ≡ with_named now n e → later ≡ old ++ named_from s (es ++ e ∷ [])
+named_more s es n e old now later at was is =
+    is ∙ ap (λ ns. with_named ns n e) was ∙ ap (λ k. with_named (old ++ named_from s es) k e) at ∙ behind (is_named e) old (named_from s es) (numbered (s + length es) e) ∙ ap (λ ns. old ++ ns) (sym (named_push s es e))
+  where
+    behind : (b : Bool) (xs ys : List Numbered) (y : Numbered) → cond b ((xs ++ ys) ++ y ∷ []) (xs ++ ys) ≡ xs ++ cond b (ys ++ y ∷ []) ys
+    behind true xs ys y = append_assoc xs ys (y ∷ [])
+    behind false xs ys y = refl
+
+-- those of events and of more behind them
+pub named_all : (s : ℕ) (es more : List Event) → named_from s (es ++ more) ≡ named_from s es ++ named_from (s + length es) more
+named_all s [] more = let here : s ≡ s + 0 = omega arith in ap (λ n. named_from n more) here
+named_all s (x ∷ xs) more =
+    let next : s + 1 + length xs ≡ s + suc (length xs) = omega arith in
+    let rest : named_from (s + 1) (xs ++ more) ≡ named_from (s + 1) xs ++ named_from (s + suc (length xs)) more = named_all (s + 1) xs more ∙ ap (λ n. named_from (s + 1) xs ++ named_from n more) next in
+    ap (λ ns. cond (is_named x) (numbered s x ∷ ns) ns) rest ∙ within (is_named x) (numbered s x) (named_from (s + 1) xs) (named_from (s + suc (length xs)) more)
+  where
+    within : (b : Bool) (y : Numbered) (xs ys : List Numbered) → cond b (y ∷ (xs ++ ys)) (xs ++ ys) ≡ cond b (y ∷ xs) xs ++ ys
+    within true y xs ys = refl
+    within false y xs ys = refl
 
 -- what is kept of an event is all of it, or it is kept whole
-
-bare_without : (e : Event) → with_placeholder (without_moments e) ≡ with_placeholder e
-bare_without (Write p addr value) = refl
-bare_without (Access p flags la outcome moments) = refl
-bare_without (Assist p flags la word moments) = refl
-bare_without (MovCr3 p operand) = refl
-bare_without (Invlpg p la) = refl
-bare_without (Invpcid p kind pcid la) = refl
-bare_without (MovCr4Pge p on) = refl
 
 placeholder_is : (ws : List ℕ) → is_placeholder ws ≡ true → 0 ∷ [] ≡ ws
 placeholder_is [] h = absurd (cc)
@@ -120,11 +115,22 @@ whole_from s (x ∷ xs) (suc i) e kept at changes is =
       | inr f ↦ ap (λ b. whole_of (cond b (numbered s x ∷ ns) ns) (s + suc i) kept) f ∙ rest
     ]
 
-pub kept_whole : KeptWhole
-kept_whole n events i e kept h at changes same =
-    let here : 0 + i ≡ i = omega arith in
-    let bared : with_placeholder kept ≡ with_placeholder e = sym (bare_without kept) ∙ ap with_placeholder same ∙ bare_without e in
-    ap (λ ns. whole_of ns i (with_placeholder kept)) h.named ∙ subst (λ k. whole_of (named_from 0 events) k (with_placeholder kept) ≡ e) here (whole_from 0 events i e (with_placeholder kept) at changes bared)
+changed : (e : Event) → changes_something e ≡ true → kept_of e ≡ with_placeholder e
+changed e t = ap (λ b. cond b (with_placeholder e) idle) t
+
+option_given : (o : Option Event) (x e : Event) → option_map kept_of o ≡ Some x → o ≡ Some e → x ≡ kept_of e
+option_given None x e h is = absurd (cc)
+option_given (Some y) x e h is = cc
+
+-- the event of a change, by what is kept of it and what is kept whole
+pub change_whole : (a : Account) (head : Head) (events : List Event) (n : ℕ) (e kept whole : Event) → IsAccount a head events → slice_get a.findings.kept.events n ≡ Some kept → slice_get events n ≡ Some e → changes_something e ≡ true →
+    whole ≡ whole_of a.named n kept → whole ≡ e
+change_whole a head events n e kept whole h at there changes is =
+    let stored : List Event = a.findings.kept.events in
+    let lt : n < length stored = slice_get_within stored n kept at in
+    let bared : kept ≡ with_placeholder e = option_given (slice_get events n) kept e (sym (kept_there stored events n h.certifying.kept lt) ∙ at) there ∙ changed e changes in
+    let here : 0 + n ≡ n = omega arith in
+    is ∙ ap (λ ns. whole_of ns n kept) h.named ∙ subst (λ k. whole_of (named_from 0 events) k kept ≡ e) here (whole_from 0 events n e kept there changes bared)
 
 -- the event that is denied
 

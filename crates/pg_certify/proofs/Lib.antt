@@ -4,5 +4,4 @@ mod Meaning
 mod Shares
 pub mod Windows
 mod Accounts
-mod Packed
 pub mod Named

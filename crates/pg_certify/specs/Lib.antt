@@ -2,4 +2,3 @@ pub mod Certified
 pub mod Shares
 pub mod Windows
 pub mod Accounts
-pub mod Flags

@@ -1,24 +1,25 @@
 //! A run that is certified as it is read, and what the explanation of a no needs beside.
 
 ghost use Rattle.std.specs.Prelude.{◌≡◌, ◌+◌, ◌-◌, ◌<◌, ◌≤◌, ◌^◌, [], ◌++◌, List, length};
-ghost use Rattle.std.specs.Prelude.{IfOk, IfSome, OnOk, slice_get};
+ghost use Rattle.std.specs.Prelude.{true, Some, IfOk, IfSome, OnOk, slice_get};
 ghost use Rattle.pg_event.specs.declared.event.Event.{Event};
 ghost use Rattle.pg_event.specs.Heads.{Head};
 ghost use Rattle.pg_event.specs.Spelling.{IsHead};
+ghost use Rattle.pg_search.specs.Changes.{changes_something};
 ghost use Rattle.pg_certify.specs.Accounts.{IsAccount, MayComeNext};
 
 use crate::certifying::Certifying;
-use crate::numbering::Numbering;
+use crate::named_events::{Numbered, note_named, whole_of};
 use pg_event::{Event, Header};
 use std::alloc::{AllocError, Global};
 use std::marker::Model;
 
-/// What is known of a run so far, the numbers of the events that are kept, and the event that no
-/// moments witness, where there is one.
+/// What is known of a run so far, the event that no moments witness, where there is one, and whole
+/// those events that change something and name moments.
 #[derive(Drop)]
 pub struct StreamingCertifier {
     certifying: Certifying,
-    numbering: Numbering,
+    named: Vec<Numbered>,
     event: Option<Event>,
 }
 
@@ -29,7 +30,7 @@ impl Model for StreamingCertifier {
 
     ghost view = { λ a. record {
       findings = a.certifying;
-      numbers = a.numbering;
+      named = a.named.items;
       event = a.event;
     } };
 }
@@ -56,7 +57,7 @@ impl StreamingCertifier {
         let certifying = Certifying::new(alloc, header)?;
         Ok(StreamingCertifier {
             certifying,
-            numbering: Numbering::new(alloc),
+            named: Vec::new(alloc),
             event: None,
         })
     }
@@ -70,7 +71,7 @@ impl StreamingCertifier {
     {
         let first = self.certifying.len();
         let was = self.certifying.settle();
-        self.numbering.note_all(events)?;
+        note_named(&mut self.named, first as u32, events)?;
         self.certifying.window(events)?;
         if was.is_none() {
             self.event = event_of(self.certifying.settle(), first, events);
@@ -85,11 +86,15 @@ impl StreamingCertifier {
         &self.certifying
     }
 
-    /// The numbers of the events that are kept.
-    pub fn numbering(&self) -> &Numbering
-        ensures { result.now ≡ self.now.numbers }
+    /// The event with this number, which changes something.
+    pub fn change_at(&self, number: u32) -> Event
+        requires { number < length self.now.findings.kept.events }
+        ensures { (head : Head) (events : List Event) (e : Event) →
+            IsAccount self.now head events → slice_get events number ≡ Some e →
+            changes_something e ≡ true → result ≡ e }
     {
-        &self.numbering
+        let kept = self.certifying.kept().event_at(number);
+        whole_of(self.named.as_slice(), number, kept)
     }
 
     /// The event that is denied.

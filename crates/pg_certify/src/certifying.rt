@@ -6,21 +6,19 @@ ghost use Rattle.pg_event.specs.declared.event.Event.{Event};
 ghost use Rattle.pg_event.specs.Heads.{Head};
 ghost use Rattle.pg_event.specs.Spelling.{IsHead, segment_count};
 ghost use Rattle.pg_check.specs.Kept.{AreWellFormed};
-ghost use Rattle.pg_certify.specs.declared.window.Denied.{Denied};
 ghost use Rattle.pg_certify.specs.Certified.{IsDenied, CanBeCertified};
 ghost use Rattle.pg_certify.specs.Windows.{IsCertifying, MayCome, IsJudgedWindow, after_window};
 
 use crate::guesses::Guesses;
-use crate::keeping::keep_all;
-use crate::window::{Denied, first_denied_among};
+use crate::window::first_denied_among;
 use pg_event::{Event, Header};
-use pg_search::{KeptRun, witnessed_among_changes};
+use pg_search::{KeptRun, witnessed_among_kept};
 use std::alloc::{AllocError, Global};
 use std::marker::Model;
 
 /// What is known of a run so far, and its least event that no moments witness. Of its events those
-/// alone are kept that change memory, control registers or caches, and none behind one that is
-/// denied.
+/// alone are kept that change memory, control registers or caches, each with its number, and none
+/// of a window that comes once one is denied.
 #[derive(Drop)]
 pub struct Certifying {
     alloc: Global,
@@ -70,15 +68,13 @@ impl Certifying {
     }
 
     /// Takes what judging so many events came to.
-    fn take(&mut self, found: Option<Denied>, count: usize)
-        requires rank { IfSome found (λ d. d.rank ≤ length self.old.kept.events) }
-        requires place { IfSome found (λ d. d.place < count) }
+    fn take(&mut self, found: Option<usize>, count: usize)
+        requires place { IfSome found (λ place. place < count) }
         requires count { self.old.count + count < 2 ^ 32 }
         ensures { self.new ≡ after_window self.old found count }
     {
-        if let Some(denied) = found {
-            self.kept.forget_from(denied.rank as usize);
-            self.denied = Some(self.count + denied.place as u64);
+        if let Some(place) = found {
+            self.denied = Some(self.count + place as u64);
         }
         self.count += count as u64;
     }
@@ -91,15 +87,9 @@ impl Certifying {
         ensures ok { OnOk result (IsJudgedWindow self.old window.now self.new) }
         ensures err { OnErr result (self.new ≡ self.old) }
     {
-        let first = self.kept.len();
-        keep_all(&mut self.kept, window)?;
-        match first_denied_among(
-            self.alloc,
-            &self.kept,
-            &mut self.guesses,
-            first as u32,
-            window,
-        ) {
+        let first = self.kept.len() as u32;
+        self.kept.extend(window)?;
+        match first_denied_among(self.alloc, &self.kept, &mut self.guesses, first, window) {
             Ok(found) => {
                 self.take(found, window.len());
                 Ok(())
@@ -119,7 +109,7 @@ impl Certifying {
             OnOk result (IsCertifying self.new head (before ++ events.now)) }
         ensures err { OnErr result (self.new ≡ self.old) }
     {
-        witnessed_among_changes();
+        witnessed_among_kept();
         match self.settle() {
             Some(_) => {
                 self.take(None, events.len());

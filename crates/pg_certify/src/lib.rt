@@ -8,12 +8,10 @@ mod case;
 mod certifier;
 mod certifying;
 mod crew;
-mod flags;
 mod guesses;
-mod keeping;
 mod laws;
 mod mapped;
-mod numbering;
+mod named_events;
 mod pages;
 mod pcids;
 mod share;
@@ -28,5 +26,5 @@ pub use crew::{CertifyError, first_denied_by};
 pub use laws::{
     certified_events_run, certified_exactly_where_a_run_exists, denied_events_have_no_run,
 };
-pub use numbering::{Numbered, Numbering, kept_whole};
+pub use named_events::Numbered;
 pub use whole::{certify, first_denied};

@@ -12,25 +12,6 @@ pub(crate) enum Events<'a> {
     Kept(&'a KeptRun),
 }
 
-impl Events<'_> {
-    /// The event with this number, if there is one.
-    fn get(&self, number: u32) -> Option<Event> {
-        match self {
-            Events::Whole(events) => match events.get(number as usize) {
-                Some(event) => Some(*event),
-                None => None,
-            },
-            Events::Kept(kept) => {
-                if (number as usize) < kept.len() {
-                    Some(kept.event_at(number))
-                } else {
-                    None
-                }
-            }
-        }
-    }
-}
-
 /// So many of the moments at which a frame was mapped last are kept.
 const MOST: usize = 4;
 
@@ -44,8 +25,8 @@ fn frames_of(page: u64) -> [u64; 3] {
 #[derive(Drop)]
 pub(crate) struct Mapped {
     moments: HashMap<u64, [u32; MOST]>,
-    /// The number of the next event that is to be looked at.
-    next: u32,
+    /// The place of the next event that is to be looked at, among all or among the changes.
+    next: usize,
 }
 
 impl Mapped {
@@ -72,14 +53,40 @@ impl Mapped {
         let _refused = self.moments.insert(frame, newest).is_err();
     }
 
+    /// Keeps from which moment on a word refers to a frame, if this event before it writes it.
+    fn note_write(&mut self, event: &Event, moment: u32) {
+        if let Event::Write { value, .. } = *event {
+            self.note((value >> 12) % (1 << 40), moment);
+        }
+    }
+
+    fn look_whole(&mut self, events: &[Event], number: u32) {
+        let end = events.len().min(number as usize);
+        for i in self.next..end {
+            self.note_write(&events[i], i as u32 + 1);
+        }
+        self.next = self.next.max(end);
+    }
+
+    fn look_kept(&mut self, kept: &KeptRun, number: u32) {
+        for place in self.next..kept.len() {
+            let Some((at, event)) = kept.change(place) else {
+                return;
+            };
+            if at >= number {
+                return;
+            }
+            self.note_write(&event, at + 1);
+            self.next = place + 1;
+        }
+    }
+
     /// Looks at the events up to this one.
     pub(crate) fn look(&mut self, events: Events<'_>, number: u32) {
-        for i in self.next..number {
-            if let Some(Event::Write { value, .. }) = events.get(i) {
-                self.note((value >> 12) % (1 << 40), i + 1);
-            }
+        match events {
+            Events::Whole(events) => self.look_whole(events, number),
+            Events::Kept(kept) => self.look_kept(kept, number),
         }
-        self.next = self.next.max(number);
     }
 
     /// The moments at which a page that has a physical address was mapped last, by its size.

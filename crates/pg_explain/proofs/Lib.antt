@@ -6,4 +6,4 @@ pub mod Reasons
 pub mod Filters
 pub mod Judged
 pub mod Counts
-mod PutBack
+mod Denials

@@ -8,7 +8,7 @@ use Rattle.pg_event.specs.declared.event.Event.{Event}
 use Rattle.pg_event.specs.declared.event.Event.TheVariants.{Write, Access, Assist, MovCr3, Invlpg, Invpcid, MovCr4Pge}
 use Rattle.pg_event.specs.Values.{written, mem_at}
 use Rattle.pg_event.specs.Witness.{any_from}
-use Rattle.pg_explain.specs.Walk.{writes_some, is_written}
+use Rattle.pg_search.specs.Writers.{writes_some, is_written}
 use Rattle.pg_explain.specs.Laws.{OthersLeaveTheWord, UnwrittenWordsStay, WritersLeaveTheWord}
 
 pub others_leave_the_word : OthersLeaveTheWord

@@ -5,7 +5,8 @@
 --                                             event, down to the first that is no table
 --     now: would give OUTCOME                 what the access would get by these, by the rights
 --     last: ..                                when it would last have been witnessed (`Lasts`)
-use Rattle.std.specs.Prelude.{◌≡◌, ℕ, if◌then◌else◌, List, [], ◌∷◌, ◌++◌, Option, Some, None}
+use Rattle.std.specs.Prelude.{◌≡◌, ℕ, ◌≤◌, if◌then◌else◌}
+use Rattle.std.specs.Prelude.{List, [], ◌∷◌, ◌++◌, length, Option, Some, None}
 use Rattle.std.specs.Prelude.{codes, decimal, slice_get, IfSome, IfNone}
 use Rattle.pg_entry.specs.declared.Level.{Level}
 use Rattle.pg_event.specs.declared.event.Event.{Event}
@@ -15,7 +16,8 @@ use Rattle.pg_event.specs.declared.event.Outcome.{Outcome}
 use Rattle.pg_event.specs.Heads.{Head}
 use Rattle.pg_event.specs.Form.{processor_of}
 use Rattle.pg_event.specs.Wants.{is_table}
-use Rattle.pg_search.specs.Last.{IsLast, HasNoLast}
+use Rattle.pg_search.specs.Last.{NoneWitness, IsLastOf, IsLast, HasNoLast}
+use Rattle.pg_search.specs.Changes.{AreKeptOf}
 use Rattle.pg_explain.specs.declared.entry.WalkEntry.{WalkEntry}
 use Rattle.pg_explain.specs.declared.denial.Denial.{Denial}
 use Rattle.pg_explain.specs.Given.{given_now}
@@ -37,6 +39,15 @@ IsWalkNow head events i (Invlpg p la) walk = walk ≡ []
 IsWalkNow head events i (Invpcid p kind pcid la) walk = walk ≡ []
 IsWalkNow head events i (MovCr4Pge p on) walk = walk ≡ []
 
+-- this stands behind an event that no moments witness as event i
+pub record IsDenialFor (head : Head) (events : List Event) (i : ℕ) (e : Event)
+    (x : Denial) : Type 0 where
+  pub number : x.number ≡ i
+  pub walk : IsWalkNow head events i e x.walk.items
+  pub given : x.given ≡ given_now head events i e
+  pub last : IfSome x.last (IsLastOf head events i e)
+  pub never : IfNone x.last (NoneWitness head events e 0 i)
+
 -- this stands behind event i, where no moments witness it
 pub record IsDenialOf (head : Head) (events : List Event) (i : ℕ) (x : Denial) : Type 0 where
   pub number : x.number ≡ i
@@ -44,6 +55,12 @@ pub record IsDenialOf (head : Head) (events : List Event) (i : ℕ) (x : Denial)
   pub given : IfSome (slice_get events i) (λ e. x.given ≡ given_now head events i e)
   pub last : IfSome x.last (IsLast head events i)
   pub never : IfNone x.last (HasNoLast head events i)
+
+-- what stands behind an event is told by what is kept of the events before it
+abbrev pub DenialsAmongKept : Type 0
+DenialsAmongKept = (head : Head) (kept events : List Event) (i : ℕ) (e : Event) (x : Denial) →
+    AreKeptOf kept events → i ≤ length kept → slice_get events i ≡ Some e →
+    IsDenialFor head kept i e x → IsDenialOf head events i x
 
 -- ---- its text
 

@@ -17,7 +17,7 @@ use Rattle.pg_event.specs.Form.{processor_of}
 use Rattle.pg_event.specs.Invalidation.{bits_from, translation_matches, must_drop_translation}
 use Rattle.pg_explain.specs.declared.filter.Filter.{Filter}
 use Rattle.pg_explain.specs.Line.{event_line}
-use Rattle.pg_explain.specs.Walk.{writes}
+use Rattle.pg_search.specs.Writers.{writes}
 
 -- whether a linear address lies in the page of 4 KB that has another: bits 47:12 are alike
 abbrev pub is_in_page : ℕ → ℕ → Bool

@@ -5,7 +5,7 @@ use Rattle.pg_event.specs.Heads.{Head}
 use Rattle.pg_event.specs.Values.{written, mem_at}
 use Rattle.pg_event.specs.Witness.{failing}
 use Rattle.pg_explain.specs.Findings.{reason_of, finding}
-use Rattle.pg_explain.specs.Walk.{writes, IsWriter}
+use Rattle.pg_search.specs.Writers.{writes, IsWriter}
 
 -- an event that does not write the word at an address leaves it
 abbrev pub OthersLeaveTheWord : Type 0

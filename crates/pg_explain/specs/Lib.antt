@@ -10,6 +10,5 @@ pub mod Filters
 pub mod Laws
 pub mod Text
 pub mod Denied
-pub mod PutBack
 pub mod Bads
 pub mod Tallies

@@ -1,9 +1,11 @@
 //! What stands behind an event that no moments witness.
 
-ghost use Rattle.std.specs.Prelude.{◌≡◌, ◌<◌, true, List, ◌∷◌, [], length, IfOk, IfSome, slice_get};
-ghost use Rattle.pg_event.specs.Form.{processor_of};
+ghost use Rattle.std.specs.Prelude.{◌≡◌, ◌<◌, ◌≤◌, true, ◌∷◌, [], length, IfOk, IfSome, slice_get};
+ghost use Rattle.std.specs.Prelude.{None};
+ghost use Rattle.pg_event.specs.Form.{broken_rule, processor_of};
 ghost use Rattle.pg_search.specs.Law.{names_moments};
-ghost use Rattle.pg_explain.specs.Denied.{IsDenialOf, IsWalkNow};
+ghost use Rattle.pg_explain.specs.Denied.{IsDenialFor, IsDenialOf, IsWalkNow};
+ghost use Rattle.pg_explain.specs.Denied.{DenialsAmongKept};
 ghost use Rattle.pg_explain.specs.Given.{given_by, given_now};
 ghost use Rattle.pg_explain.specs.Findings.{readings_by};
 ghost use Rattle.pg_explain.specs.Walk.{IsWalk};
@@ -13,8 +15,8 @@ use crate::given::given_by;
 use pg_check::History;
 use pg_entry::AccessKind;
 use pg_event::{Event, Outcome, Request, processor_of};
-use pg_reach::last_moments;
-use pg_search::Last;
+use pg_reach::last_moments_at;
+use pg_search::{Last, Seen, witnessed_among_kept};
 use std::alloc::{AllocError, Global};
 
 /// What stands behind an event that no moments witness.
@@ -41,36 +43,36 @@ struct Now {
 /// What processor `p` would read at an event for an access of a kind to a linear address, and get.
 fn walk_of(
     alloc: Global,
-    history: &History,
+    seen: &Seen<'_>,
     p: u16,
     kind: AccessKind,
     la: u64,
     number: u32,
 ) -> Result<Now, AllocError>
-    requires { p < length history.now.head.processors }
-    ensures walk { IfOk result (λ now. IsWalk history.now.head history.now.events p la
+    requires { p < length seen.now.head.processors }
+    ensures walk { IfOk result (λ now. IsWalk seen.now.head seen.now.events p la
         (number ∷ number ∷ number ∷ number ∷ []) now.walk.items) }
     ensures given { IfOk result (λ now. now.given
-        ≡ given_by history.now.head.cfg kind la (readings_by history.now.head history.now.events p
+        ≡ given_by seen.now.head.cfg kind la (readings_by seen.now.head seen.now.events p
         la (number ∷ number ∷ number ∷ number ∷ []))) }
 {
-    let steps = read_steps(alloc, history, p, la, &[number; 4])?;
-    let given = given_by(history.header().cfg, kind, la, &steps);
-    let walk = tell(alloc, history, p, &steps)?;
+    let steps = read_steps(alloc, seen, p, la, &[number; 4])?;
+    let given = given_by(seen.header().cfg, kind, la, &steps);
+    let walk = tell(alloc, seen, p, &steps)?;
     Ok(Now { walk, given })
 }
 
 /// What an event's processor would read at the event, where it reads anything, and get.
-fn walk_now(alloc: Global, history: &History, number: u32, event: &Event) -> Result<Now, AllocError>
-    requires { processor_of event.now < length history.now.head.processors }
-    ensures walk { IfOk result (λ now. IsWalkNow history.now.head history.now.events number
+fn walk_now(alloc: Global, seen: &Seen<'_>, number: u32, event: &Event) -> Result<Now, AllocError>
+    requires { processor_of event.now < length seen.now.head.processors }
+    ensures walk { IfOk result (λ now. IsWalkNow seen.now.head seen.now.events number
         event.now now.walk.items) }
     ensures given { IfOk result (λ now. now.given
-        ≡ given_now history.now.head history.now.events number event.now) }
+        ≡ given_now seen.now.head seen.now.events number event.now) }
 {
     match event.request() {
         Request::Access { kind, la, .. } | Request::Update { kind, la, .. } => {
-            walk_of(alloc, history, processor_of(event), kind, la, number)
+            walk_of(alloc, seen, processor_of(event), kind, la, number)
         }
         Request::Nothing => Ok(Now {
             walk: Vec::new(alloc),
@@ -79,23 +81,47 @@ fn walk_now(alloc: Global, history: &History, number: u32, event: &Event) -> Res
     }
 }
 
-/// What stands behind the event with this number, an access or an assist that no moments witness:
-/// what its processor would read at the event, what that would give, and when the event would last
-/// have been witnessed.
+/// What stands behind an access or an assist that no moments witness as the event with this number,
+/// which need not be one of those that are seen: what its processor would read at this number, what
+/// that would give, and when the event would last have been witnessed.
 ///
-/// It asks the past, as `last_moments` of `pg_reach` does. It fails only where memory is refused.
+/// It asks the past, as `last_moments_at` of `pg_reach` does. It fails only where memory is
+/// refused.
+pub fn deny_event(
+    alloc: Global,
+    seen: &Seen<'_>,
+    number: u32,
+    event: &Event,
+) -> Result<Denial, AllocError>
+    requires within { number ≤ length seen.now.events }
+    requires well { broken_rule seen.now.head event.now ≡ None }
+    requires names { names_moments event.now ≡ true }
+    ensures { IfOk result (IsDenialFor seen.now.head seen.now.events number event.now) }
+{
+    let last = last_moments_at(alloc, seen, number, event)?;
+    let Now { walk, given } = walk_now(alloc, seen, number, event)?;
+    Ok(Denial {
+        number,
+        walk,
+        given,
+        last,
+    })
+}
+
+/// The same of the event with this number of a history.
 pub fn deny(alloc: Global, history: &History, number: u64) -> Result<Denial, AllocError>
     requires within { number < length history.now.events }
     requires names { IfSome (slice_get history.now.events number) (λ e. names_moments e ≡ true) }
     ensures { IfOk result (IsDenialOf history.now.head history.now.events number) }
 {
     let event = &history.events()[number as usize];
-    let last = last_moments(alloc, history, number)?;
-    let Now { walk, given } = walk_now(alloc, history, number as u32, event)?;
-    Ok(Denial {
-        number: number as u32,
-        walk,
-        given,
-        last,
-    })
+    deny_event(alloc, &Seen::of(history), number as u32, event)
+}
+
+/// What stands behind an event that no moments witness is told by what is kept of the events before
+/// it. It does nothing: its contract is the law.
+pub fn denials_among_kept()
+    ensures { DenialsAmongKept }
+{
+    witnessed_among_kept();
 }

@@ -22,7 +22,7 @@ use pg_chain::EntryRead;
 use pg_check::History;
 use pg_event::{Claim, Event, Moments, Request, Update, Want, processor_of, want_of};
 use pg_reach::{freshest_moments, last_moments};
-use pg_search::Last;
+use pg_search::{Last, Seen};
 use std::alloc::{AllocError, Global};
 
 /// What stands behind a "no".
@@ -143,12 +143,13 @@ fn tell_access(
         (IsWalk history.now.head history.now.events claim.now.p claim.now.la moments.now)) }
 {
     let p = claim.p;
-    let steps = read_steps(alloc, history, p, claim.la, moments)?;
+    let seen = Seen::of(history);
+    let steps = read_steps(alloc, &seen, p, claim.la, moments)?;
     let first = first_tag(history, p, moments);
     match claim_finding(history, claim, first, moments, &steps) {
         None => Ok(None),
         Some(finding) => {
-            let walk = tell(alloc, history, p, &steps)?;
+            let walk = tell(alloc, &seen, p, &steps)?;
             Ok(Some(Told { walk, finding }))
         }
     }
@@ -169,12 +170,13 @@ fn tell_assist(
         (IsWalk history.now.head history.now.events update.now.p update.now.la moments.now)) }
 {
     let p = update.p;
-    let steps = read_steps(alloc, history, p, update.la, moments)?;
+    let seen = Seen::of(history);
+    let steps = read_steps(alloc, &seen, p, update.la, moments)?;
     let first = first_tag(history, p, moments);
     match mark_finding(history, update, first, moments, &steps) {
         None => Ok(None),
         Some(finding) => {
-            let walk = tell(alloc, history, p, &steps)?;
+            let walk = tell(alloc, &seen, p, &steps)?;
             Ok(Some(Told { walk, finding }))
         }
     }

@@ -7,9 +7,9 @@ ghost use Rattle.pg_explain.specs.Filters.{is_in_page, names_page, concerns, fit
 ghost use Rattle.pg_explain.specs.Filters.{fits_page, fits_word, fits, shown_line, AreMarks};
 ghost use Rattle.pg_explain.specs.Filters.{shown_text, PagesShowTheirDrops};
 
-use crate::entry::writes;
 use crate::line::push_event;
 use pg_event::{Event, bits_from, processor_of};
+use pg_search::writes;
 use std::alloc::{AllocError, Global};
 
 /// What is asked of the events that are shown. Of several things that are asked all must hold.

@@ -17,7 +17,6 @@ mod last_lines;
 mod laws;
 mod line;
 mod names;
-mod placing;
 mod tallier;
 mod tally_lines;
 mod text;
@@ -25,7 +24,7 @@ mod walk_finding;
 mod walk_text;
 
 pub use bad_events::{Bad, bads, bads_are_exact, explanations_text, push_explanation};
-pub use denial::{Denial, deny};
+pub use denial::{Denial, denials_among_kept, deny, deny_event};
 pub use denial_lines::{denial_text, denial_text_by, push_claim_line};
 pub use entry::WalkEntry;
 pub use explainer::{Explanation, explain};
@@ -38,7 +37,6 @@ pub use laws::{
     writers_leave_the_word,
 };
 pub use names::{level_number, rights_text};
-pub use placing::{denials_put_back, events_put_back, put_back};
 pub use tallier::{Tally, counts_add_up, tallies};
 pub use tally_lines::tally_text;
 pub use text::{deed_name, explanation_text, push_last};

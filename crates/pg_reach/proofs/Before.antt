@@ -6,7 +6,7 @@ use Rattle.pg_event.specs.Values.{control_at}
 use Rattle.pg_search.specs.ReachableTables.{first_or}
 use Rattle.pg_search.specs.Last.{NoneWitness, IsLastOf}
 use Rattle.pg_search.specs.Law.{AreWitness}
-use Rattle.pg_search.specs.Thinned.{AreFreshestOf}
+use Rattle.pg_search.specs.Law.{AreFreshestOf}
 use Rattle.pg_reach.specs.declared.walker.Walker.{Walker}
 use Rattle.pg_reach.specs.Asking.{Asks, under}
 use Rattle.pg_reach.specs.WitnessedUpTo.{IsUpTo, HasWitness, AreUpTo}

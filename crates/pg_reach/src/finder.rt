@@ -6,7 +6,7 @@ ghost use Rattle.pg_event.specs.Form.{broken_rule};
 ghost use Rattle.pg_chain.specs.Standing.{IsPast};
 ghost use Rattle.pg_search.specs.Law.{AreWitness, WitnessedBy, AreFreshest, CanBeWitnessed};
 ghost use Rattle.pg_search.specs.Law.{RunBeginsWith, names_moments};
-ghost use Rattle.pg_search.specs.Thinned.{AreFreshestOf};
+ghost use Rattle.pg_search.specs.Law.{AreFreshestOf};
 ghost use Rattle.pg_event.specs.Values.{control_at};
 ghost use Rattle.pg_reach.specs.Bounds.{AreBounds};
 ghost use Rattle.pg_event.specs.Wants.{uses_last};

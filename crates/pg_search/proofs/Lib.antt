@@ -2,7 +2,7 @@ pub mod Freshness
 pub mod Survival
 pub mod Stepping
 mod Runs
-pub mod Thinned
-mod ThinnedWitness
-mod ThinnedFresh
+pub mod Carries
+pub mod Changes
 mod Briefs
+pub mod Writers

@@ -7,7 +7,7 @@ use Rattle.pg_event.specs.declared.event.Event.{Event}
 use Rattle.pg_event.specs.Heads.{Head}
 use Rattle.pg_event.specs.Values.{controlled, started, control_at}
 
-take_next : (events : List Event) (w : ℕ) (e : Event) → slice_get events w ≡ Some e → take (suc w) events ≡ take w events ++ e ∷ []
+pub take_next : (events : List Event) (w : ℕ) (e : Event) → slice_get events w ≡ Some e → take (suc w) events ≡ take w events ++ e ∷ []
 take_next [] w e h = absurd (cc)
 take_next (x ∷ xs) zero e h = let same : x ≡ e = cc in ap (λ y. y ∷ []) same
 take_next (x ∷ xs) (suc w) e h = ap (λ ys. x ∷ ys) (take_next xs w e h)

@@ -1,7 +1,7 @@
 -- Events in little room: by few numbers, with one moment 0 in place of their moments, and with what
 -- memory is told of the values of writes.
-use Rattle.std.specs.Prelude.{◌≡◌, ℕ, ◌+◌, ◌<◌, ◌%◌, ◌^◌, ◌==◌, List, [], ◌∷◌, length}
-use Rattle.std.specs.Prelude.{◌++◌, slice_get}
+use Rattle.std.specs.Prelude.{◌≡◌, ℕ, zero, suc, ◌+◌, ◌<◌, ◌≤◌, ◌%◌, ◌^◌, ◌==◌, if◌then◌else◌}
+use Rattle.std.specs.Prelude.{List, [], ◌∷◌, length, ◌++◌, Option, Some, None, slice_get}
 use Rattle.std.specs.Option.{unwrap_or}
 use Rattle.pg_event.specs.declared.event.Event.{Event}
 use Rattle.pg_event.specs.declared.event.Event.TheVariants.{Write, Access, Assist, MovCr3, Invlpg}
@@ -11,6 +11,7 @@ use Rattle.pg_event.specs.Heads.{Head}
 use Rattle.pg_timeline.specs.Keyed.{Keyed}
 use Rattle.pg_moment.specs.Versions.{value_at}
 use Rattle.pg_chain.specs.declared.past.Past.{Past}
+use Rattle.pg_search.specs.Changes.{idle}
 use Rattle.pg_search.specs.Seen.{IsSeen}
 use Rattle.pg_search.specs.declared.brief.Brief.{Brief}
 use Rattle.pg_search.specs.declared.brief.Pair.{Pair}
@@ -51,23 +52,35 @@ abbrev pub event_of : Keyed ℕ ℕ → List Pair → ℕ → Brief → Event
 event_of v pairs i b =
     event_by (value_at v (i + 1) (pair_at pairs b.place).first) b (pair_at pairs b.place)
 
--- the events, the first of which has this number
-abbrev pub events_from : Keyed ℕ ℕ → List Pair → ℕ → List Brief → List Event
-events_from v pairs i [] = []
-events_from v pairs i (b ∷ bs) = event_of v pairs i b ∷ events_from v pairs (i + 1) bs
+-- what is kept with this number, if anything is
+abbrev pub brief_at : List Brief → ℕ → Option Brief
+brief_at [] n = None
+brief_at (b ∷ bs) n = if b.number == n then Some b else brief_at bs n
 
--- their pairs are among so many
-abbrev pub ArePlaced : ℕ → List Brief → Type 0
-ArePlaced n [] = Unit {0}
-ArePlaced n (b ∷ bs) = (b.place < n) × ArePlaced n bs
+-- the event with this number, which changes nothing where nothing is kept with it
+abbrev pub event_with_number : Keyed ℕ ℕ → List Pair → ℕ → Option Brief → Event
+event_with_number v pairs i None = idle
+event_with_number v pairs i (Some b) = event_of v pairs i b
+
+-- so many events, the first of which has this number
+abbrev pub events_from : Keyed ℕ ℕ → List Pair → List Brief → ℕ → ℕ → List Event
+events_from v pairs bs i zero = []
+events_from v pairs bs i (suc n) =
+    event_with_number v pairs i (brief_at bs i) ∷ events_from v pairs bs (i + 1) n
+
+-- their pairs are among so many, and their numbers rise from one on, below another
+abbrev pub ArePlaced : ℕ → ℕ → ℕ → List Brief → Type 0
+ArePlaced n low high [] = Unit {0}
+ArePlaced n low high (b ∷ bs) =
+    (b.place < n) × (low ≤ b.number) × (b.number < high) × ArePlaced n (b.number + 1) high bs
 
 -- with more pairs behind them, if any
 pub record Extends (old new : List Pair) : Type 0 where
   pub more : List Pair
   pub is : new ≡ old ++ more
 
--- the past is that of the events, whose pairs are there
-pub record IsKept (head : Head) (past : Past) (pairs : List Pair) (briefs : List Brief) :
-    Type 0 where
-  pub seen : IsSeen head (events_from past.versions pairs 0 briefs) past
-  pub placed : ArePlaced (length pairs) briefs
+-- the past is that of so many events, whose pairs are there
+pub record IsKept (head : Head) (past : Past) (pairs : List Pair) (briefs : List Brief)
+    (count : ℕ) : Type 0 where
+  pub seen : IsSeen head (events_from past.versions pairs briefs 0 count) past
+  pub placed : ArePlaced (length pairs) 0 count briefs

@@ -52,6 +52,11 @@ abbrev pub AreFreshest : Head → List Event → ℕ → List ℕ → Type 0
 AreFreshest head events i ws =
     (us : List ℕ) → WitnessedBy head events i us → is_as_fresh ws us ≡ true
 
+-- the same of an event that need not be one of those
+abbrev pub AreFreshestOf : Head → List Event → ℕ → Event → List ℕ → Type 0
+AreFreshestOf head events i e ws =
+    (us : List ℕ) → AreWitness head events i e us → is_as_fresh ws us ≡ true
+
 -- a run of the machine begins with the events up to event i, but for their moments
 abbrev pub RunBeginsWith : Head → List Event → ℕ → Type 0
 RunBeginsWith head events i =

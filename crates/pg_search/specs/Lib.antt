@@ -3,8 +3,9 @@ pub mod Law
 pub mod Last
 pub mod ReachableTables
 pub mod Lasts
-pub mod Thinned
 pub mod Placeholders
+pub mod Changes
+pub mod Writers
 pub mod Briefs
 pub mod Seen
 pub mod Events

@@ -3,9 +3,35 @@
 ghost use Rattle.std.specs.Prelude.{◌≡◌, ℕ};
 ghost use Rattle.pg_search.specs.Law.{names_moments, with_moments};
 ghost use Rattle.pg_search.specs.Placeholders.{with_placeholder};
+ghost use Rattle.pg_search.specs.Changes.{changes_something, idle};
+ghost use Rattle.pg_search.specs.Writers.{writes};
 ghost use Rattle.pg_search.specs.Briefs.{event_by, IsLeft};
 
-use pg_event::{Event, Moments, Outcome, Request};
+use pg_event::{Event, MemoryChange, Moments, Outcome, Request};
+
+/// Whether an event changes memory, control registers or caches: all do but accesses that got their
+/// answer.
+pub fn changes_something(event: &Event) -> bool
+    ensures { result ≡ changes_something event.now }
+{
+    match event.request() {
+        Request::Access { outcome, .. } => match outcome {
+            Outcome::Page(_) => false,
+            Outcome::Fault(_) => true,
+        },
+        Request::Update { .. } | Request::Nothing => true,
+    }
+}
+
+/// Whether an event writes the word at a physical address.
+pub fn writes(address: u64, event: &Event) -> bool
+    ensures { result ≡ writes address event.now }
+{
+    match event.memory_change() {
+        MemoryChange::Value { addr, .. } | MemoryChange::Flags { addr, .. } => addr == address,
+        MemoryChange::Nothing => false,
+    }
+}
 
 /// Whether an event names moments: accesses and assists do.
 pub fn names_moments(event: &Event) -> bool
@@ -63,6 +89,19 @@ pub fn with_placeholder(event: &Event) -> Event
     with_moments(event, Moments::first(0))
 }
 
+/// An access that got its answer.
+pub(crate) fn idle() -> Event
+    ensures { result ≡ idle }
+{
+    Event::Access {
+        p: 0,
+        flags: 0,
+        la: 0,
+        outcome: Outcome::Page(0),
+        moments: Moments::first(0),
+    }
+}
+
 /// Which event it is.
 #[derive(Clone, Copy)]
 pub(crate) enum Sort {
@@ -85,9 +124,10 @@ pub(crate) struct Pair {
     pub second: u64,
 }
 
-/// What else an event is, and where its numbers stand, in 8 bytes.
+/// The number of an event, what else it is, and where its other numbers stand, in 12 bytes.
 #[derive(Clone, Copy)]
 pub(crate) struct Brief {
+    pub number: u32,
     pub place: u32,
     pub p: u16,
     pub sort: Sort,
@@ -95,11 +135,11 @@ pub(crate) struct Brief {
     pub flags: u8,
 }
 
-const _: () = prove!(size_of::<Brief>() == 8);
+const _: () = prove!(size_of::<Brief>() == 12);
 
-/// An event in brief, with its numbers at a place, and these numbers.
-pub(crate) fn brief_of(event: &Event, place: u32) -> (Brief, Pair)
-    ensures place { result.0.place ≡ place }
+/// The event with this number in brief, with its other numbers, which have no place yet.
+pub(crate) fn brief_of(event: &Event, number: u32) -> (Brief, Pair)
+    ensures number { result.0.number ≡ number }
     ensures event { (left : ℕ) → IsLeft event.now result.1.first left →
         event_by left result.0 result.1 ≡ with_placeholder event.now }
 {
@@ -132,7 +172,8 @@ pub(crate) fn brief_of(event: &Event, place: u32) -> (Brief, Pair)
         Event::MovCr4Pge { p, on } => (Sort::MovCr4Pge, p, on as u8, 0, 0),
     };
     let brief = Brief {
-        place,
+        number,
+        place: 0,
         p,
         sort,
         flags,

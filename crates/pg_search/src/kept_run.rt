@@ -1,24 +1,30 @@
 //! The events of a run that are kept, in little room.
 
-ghost use Rattle.std.specs.Prelude.{◌≡◌, ◌+◌, ◌<◌, ◌≤◌, ◌^◌, [], ◌∷◌, ◌++◌, length, take};
-ghost use Rattle.std.specs.Prelude.{Some, None, IfOk, OnOk, OnErr, slice_get};
+ghost use Rattle.std.specs.Prelude.{◌≡◌, ℕ, ◌+◌, ◌<◌, ◌≤◌, ◌^◌, [], ◌∷◌, ◌++◌, length, map, take};
+ghost use Rattle.std.specs.Prelude.{true, Some, None, IfOk, IfSome, OnOk, OnErr, slice_get};
 ghost use Rattle.pg_event.specs.Form.{broken_rule};
 ghost use Rattle.pg_event.specs.Spelling.{IsHead};
+ghost use Rattle.pg_check.specs.Kept.{AreWellFormed};
 ghost use Rattle.pg_search.specs.Seen.{IsSeen};
 ghost use Rattle.pg_search.specs.Placeholders.{with_placeholder};
-ghost use Rattle.pg_search.specs.Briefs.{event_by, pair_at};
+ghost use Rattle.pg_search.specs.Changes.{changes_something, idle, kept_of};
+ghost use Rattle.pg_search.specs.Writers.{writes, IsWriter};
+ghost use Rattle.pg_search.specs.Briefs.{event_by, event_of, pair_at};
 ghost use Rattle.pg_moment.specs.Versions.{value_at};
 
-use crate::brief::{Brief, Pair, Sort, brief_of, event_by, with_placeholder};
+use crate::brief::{
+    Brief, Pair, Sort, brief_of, changes_something, event_by, idle, with_placeholder, writes,
+};
 use crate::places::{Places, place_of};
 use pg_chain::Past;
 use pg_event::{Event, Header};
 use std::alloc::{AllocError, Global};
 use std::marker::Model;
 
-/// The settings of a run, its events but for their moments, and what is looked up of them. An event
-/// takes 8 bytes, and 16 where no other has the same two numbers; what a write left is told by the
-/// past.
+/// The settings of a run, its events but for their moments, and what is looked up of them. Those
+/// alone take room that change something: 12 bytes each, and 16 more where no other has the same
+/// two numbers; what a write left is told by the past. Of the others it is kept that they change
+/// nothing.
 #[derive(Drop)]
 pub struct KeptRun {
     header: Header,
@@ -26,6 +32,7 @@ pub struct KeptRun {
     briefs: Vec<Brief>,
     pairs: Vec<Pair>,
     places: Places,
+    count: u32,
 }
 
 impl Model for KeptRun {
@@ -36,10 +43,10 @@ impl Model for KeptRun {
 
     ghost view = { λ k. record {
       head = k.header;
-      events = events_from k.past.versions k.pairs.items 0 k.briefs.items;
+      events = events_from k.past.versions k.pairs.items k.briefs.items 0 k.count;
     } };
 
-    ghost invariant = { λ k. IsKept k.header k.past k.pairs.items k.briefs.items };
+    ghost invariant = { λ k. IsKept k.header k.past k.pairs.items k.briefs.items k.count };
 }
 
 /// The pair that stands at a place.
@@ -55,16 +62,24 @@ fn pair_at(pairs: &[Pair], place: u32) -> Pair
     }
 }
 
-/// The event with this number, kept in brief with these numbers, where memory is known at all
-/// moments.
-fn event_at(past: &Past, number: u32, brief: Brief, pair: Pair) -> Event
-    requires { number + 1 < 2 ^ 32 }
-    ensures { result ≡ event_by (value_at past.now.versions (number + 1) pair.first) brief pair }
+/// An event that is kept in brief with these numbers, where memory is known at all moments.
+fn event_of(past: &Past, pairs: &[Pair], brief: Brief) -> Event
+    requires { brief.number + 1 < 2 ^ 32 }
+    ensures { result ≡ event_of past.now.versions pairs.now brief.number brief }
 {
+    let pair = pair_at(pairs, brief.place);
     match brief.sort {
-        Sort::Write => event_by(past.versions.at(number + 1, pair.first), brief, pair),
+        Sort::Write => event_by(past.versions.at(brief.number + 1, pair.first), brief, pair),
         _ => event_by(0, brief, pair),
     }
+}
+
+/// Whether an event that is kept in brief writes the word at a physical address.
+fn brief_writes(pairs: &[Pair], address: u64, brief: Brief) -> bool
+    ensures { (left : ℕ) → result
+        ≡ writes address (event_by left brief (pair_at pairs.now brief.place)) }
+{
+    writes(address, &event_by(0, brief, pair_at(pairs, brief.place)))
 }
 
 impl KeptRun {
@@ -80,6 +95,7 @@ impl KeptRun {
             briefs: Vec::new(alloc),
             pairs: Vec::new(alloc),
             places: Places::new(alloc),
+            count: 0,
         })
     }
 
@@ -98,12 +114,12 @@ impl KeptRun {
         &self.past
     }
 
-    /// How many events are kept.
+    /// How many events there are.
     pub fn len(&self) -> usize
         ensures length { result ≡ length self.now.events }
         ensures within { result < 2 ^ 32 }
     {
-        self.briefs.len()
+        self.count as usize
     }
 
     /// The event with this number.
@@ -111,13 +127,37 @@ impl KeptRun {
         requires { number < length self.now.events }
         ensures { slice_get self.now.events number ≡ Some result }
     {
-        let brief = self.briefs[number as usize];
-        let pair = pair_at(self.pairs.as_slice(), brief.place);
-        event_at(&self.past, number, brief, pair)
+        for brief in &self.briefs {
+            if brief.number == number {
+                return event_of(&self.past, self.pairs.as_slice(), *brief);
+            }
+        }
+        idle()
     }
 
-    /// Keeps one event more. Fails where memory is refused, and then nothing is kept.
-    pub fn keep(&mut self, event: &Event) -> Result<(), AllocError>
+    /// The change at a place among those that are kept, with its number.
+    pub fn change(&self, place: usize) -> Option<(u32, Event)> {
+        let brief = *self.briefs.get(place)?;
+        let event = event_of(&self.past, self.pairs.as_slice(), brief);
+        Some((brief.number, event))
+    }
+
+    /// The last event below a moment that writes the word at a physical address.
+    pub(crate) fn writer(&self, address: u64, moment: u32) -> Option<u32>
+        ensures { IsWriter self.now.events address moment result }
+    {
+        let mut last = None;
+        for brief in &self.briefs {
+            if brief.number < moment && brief_writes(self.pairs.as_slice(), address, *brief) {
+                last = Some(brief.number);
+            }
+        }
+        last
+    }
+
+    /// Keeps one event more, which changes something. Fails where memory is refused, and then
+    /// nothing is kept.
+    fn keep_change(&mut self, event: &Event) -> Result<(), AllocError>
         requires well { broken_rule self.old.head event.now ≡ None }
         requires room { length self.old.events + 1 < 2 ^ 32 }
         ensures ok { OnOk result (self.new ≡ record {
@@ -129,20 +169,71 @@ impl KeptRun {
         // Room comes first, so that nothing can fail once the event is noted.
         self.briefs.reserve(1)?;
         let bared = with_placeholder(event);
-        let (mut brief, pair) = brief_of(event, 0);
+        let (mut brief, pair) = brief_of(event, self.count);
         brief.place = place_of(&mut self.pairs, &mut self.places, pair)?;
-        self.past.note(self.briefs.len() as u32, &bared)?;
+        self.past.note(self.count, &bared)?;
         self.briefs.push_reserved(brief);
+        self.count += 1;
+        Ok(())
+    }
+
+    /// Goes past one event more, which changes nothing.
+    fn pass(&mut self)
+        requires { length self.old.events + 1 < 2 ^ 32 }
+        ensures { self.new ≡ record {
+          head = self.old.head;
+          events = self.old.events ++ idle ∷ [];
+        } }
+    {
+        self.count += 1;
+    }
+
+    /// Keeps one event more. Fails where memory is refused, and then nothing is kept.
+    fn keep(&mut self, event: &Event) -> Result<(), AllocError>
+        requires well { broken_rule self.old.head event.now ≡ None }
+        requires room { length self.old.events + 1 < 2 ^ 32 }
+        ensures ok { OnOk result (self.new ≡ record {
+          head = self.old.head;
+          events = self.old.events ++ kept_of event.now ∷ [];
+        }) }
+        ensures err { OnErr result (self.new ≡ self.old) }
+    {
+        if changes_something(event) {
+            self.keep_change(event)
+        } else {
+            self.pass();
+            Ok(())
+        }
+    }
+
+    /// Keeps the events that come next. Fails where memory is refused, and then nothing is kept.
+    pub fn extend(&mut self, events: &[Event]) -> Result<(), AllocError>
+        requires well { AreWellFormed self.old.head events.now }
+        requires room { length self.old.events + length events.now < 2 ^ 32 }
+        ensures ok { OnOk result (self.new ≡ record {
+          head = self.old.head;
+          events = self.old.events ++ map kept_of events.now;
+        }) }
+        ensures err { OnErr result (self.new ≡ self.old) }
+    {
+        let first = self.len() as u32;
+        for event in events {
+            if let Err(refused) = self.keep(event) {
+                self.forget_from(first);
+                return Err(refused);
+            }
+        }
         Ok(())
     }
 
     /// Forgets the events from a number on.
-    pub fn forget_from(&mut self, number: usize)
+    pub fn forget_from(&mut self, number: u32)
         requires { number ≤ length self.old.events }
         ensures { self.new
             ≡ record { head = self.old.head; events = take number self.old.events } }
     {
-        self.past.forget_from(number as u32);
-        self.briefs.truncate(number);
+        self.past.forget_from(number);
+        self.briefs.retain(|brief| brief.number < number);
+        self.count = number;
     }
 }

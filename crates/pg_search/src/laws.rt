@@ -1,33 +1,23 @@
 //! Laws of witnesses. Each function does nothing: its contract is the law.
 
 ghost use Rattle.pg_search.specs.Law.{UnwitnessedEventsHaveNoRun};
-ghost use Rattle.pg_search.specs.Thinned.{WitnessedAmongChanges, FreshestAmongChanges};
-ghost use Rattle.pg_search.specs.Thinned.{LastAmongChanges, NumbersPutBack, WitnessedAlike};
+ghost use Rattle.pg_search.specs.Changes.{WitnessedAmongKept, TakenByAChange, WitnessedAlike};
 
 /// Where no moments witness an event, no run of the machine begins with the events up to it.
 pub fn unwitnessed_events_have_no_run()
     ensures { UnwitnessedEventsHaveNoRun }
 {}
 
-/// Moments that witness an event are told by the events that change something: an access that got
-/// its answer can be left out of what is kept of the past.
-pub fn witnessed_among_changes()
-    ensures { WitnessedAmongChanges }
+/// Moments that witness an event are told by the events that change something: of an access that
+/// got its answer it is enough that it was there.
+pub fn witnessed_among_kept()
+    ensures { WitnessedAmongKept }
 {}
 
-/// The freshest moments that witness an event are told by the events that change something.
-pub fn freshest_among_changes()
-    ensures { FreshestAmongChanges }
-{}
-
-/// When an event would last have been witnessed is told by the events that change something.
-pub fn last_among_changes()
-    ensures { LastAmongChanges }
-{}
-
-/// A moment among the events that change something is put back by their numbers.
-pub fn numbers_put_back()
-    ensures { NumbersPutBack }
+/// Behind the last number at which an event would have been witnessed stands an event that changes
+/// something.
+pub fn taken_by_a_change()
+    ensures { TakenByAChange }
 {}
 
 /// Which moments witness an event is told by what the events before it leave in memory, in control

@@ -11,13 +11,12 @@ mod lookup;
 mod places;
 mod seen;
 
-pub use brief::{names_moments, with_moments, with_placeholder};
+pub use brief::{changes_something, names_moments, with_moments, writes};
 pub use fresh::are_as_fresh;
 pub use kept_run::KeptRun;
 pub use last::Last;
 pub use laws::{
-    freshest_among_changes, last_among_changes, numbers_put_back, unwitnessed_events_have_no_run,
-    witnessed_alike, witnessed_among_changes,
+    taken_by_a_change, unwitnessed_events_have_no_run, witnessed_alike, witnessed_among_kept,
 };
 pub use lookup::Lookup;
 pub use seen::Seen;

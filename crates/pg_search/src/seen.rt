@@ -11,7 +11,9 @@ ghost use Rattle.pg_timeline.specs.Timelines.{IsSpan};
 ghost use Rattle.pg_inval.specs.Drops.{IsTableLevel};
 ghost use Rattle.pg_chain.specs.Standing.{IsPast};
 ghost use Rattle.pg_search.specs.Lasts.{IsEnd};
+ghost use Rattle.pg_search.specs.Writers.{IsWriter};
 
+use crate::brief::writes;
 use crate::kept_run::KeptRun;
 use crate::lookup::Lookup;
 use pg_chain::Past;
@@ -48,6 +50,20 @@ impl<'a> Model for Seen<'a> {
     ghost invariant = { λ s. IsSeen s.header.now (events_in s.events) s.past.now };
 }
 
+/// The last of these events below a moment that writes the word at a physical address.
+fn writer_among(events: &[Event], address: u64, moment: u32) -> Option<u32>
+    requires { length events.now < 2 ^ 32 }
+    ensures { IsWriter events.now address moment result }
+{
+    let mut last = None;
+    for i in 0..moment.min(events.len() as u32) {
+        if writes(address, &events[i as usize]) {
+            last = Some(i);
+        }
+    }
+    last
+}
+
 impl<'a> Seen<'a> {
     /// A run of which its events are kept without their moments.
     pub fn among(kept: &'a KeptRun) -> Seen<'a>
@@ -79,8 +95,25 @@ impl<'a> Seen<'a> {
         self.header
     }
 
-    /// The value at a physical address just before the event with this number, with the moments
-    /// around this one at which it is the same.
+    /// The value at a physical address just before the event with this number.
+    pub fn value_at(&self, moment: u32, addr: u64) -> u64
+        ensures { result ≡ mem_at self.now.events moment addr }
+    {
+        self.past.value_at(moment, addr)
+    }
+
+    /// The last event below a moment that writes the word at a physical address. It takes one pass
+    /// over the events that are kept.
+    pub fn writer(&self, address: u64, moment: u32) -> Option<u32>
+        ensures { IsWriter self.now.events address moment result }
+    {
+        match self.events {
+            Events::Whole(events) => writer_among(events, address, moment),
+            Events::Kept(kept) => kept.writer(address, moment),
+        }
+    }
+
+    /// The same value, with the moments around this one at which it is the same.
     pub fn value_span(&self, moment: u32, addr: u64) -> Span<u64>
         ensures { IsSpan (λ w. mem_at self.now.events w addr) moment result }
     {

@@ -36,8 +36,8 @@ given_update head events i (MovCr4Pge p on) kind la word dirty ws h = absurd cc
 
 pub returns-in-Access-clause-given : goal.returns-in-Access-clause-given
 returns-in-Access-clause-given c =
-    let head : Head = c.args.history.now.head in
-    let events : List Event = c.args.history.now.events in
+    let head : Head = c.args.seen.now.head in
+    let events : List Event = c.args.seen.now.events in
     let i : ℕ = c.args.number in
     let e : Event = c.args.event.now in
     let kind : AccessKind = c.in-Access.kind in

@@ -10,8 +10,8 @@ use Rattle.pg_explain.proofs.entry.read_steps.Goals as goal
 
 pub loop-moment-preserved : goal.loop-moment-preserved
 loop-moment-preserved c =
-    let head : Head = c.args.history.now.head in
-    let events : List Event = c.args.history.now.events in
+    let head : Head = c.args.seen.now.head in
+    let events : List Event = c.args.seen.now.events in
     let steps = c.loop-moment.steps.items in
     let i = c.loop-moment.moment-index in
     let moments = c.args.moments.now in

@@ -10,6 +10,6 @@ invariant-loop-moment l = record {
   within : l.parent.table < 2 ^ 52;
   count : length l.steps.items ≡ l.moment-index;
   read : map reading_of l.steps.items
-      ++ readings l.history.head.cfg.m (mem_at l.history.events) l.la l.level l.parent.table l.parent.rights (drop l.moment-index l.moments)
-      ≡ readings_by l.history.head l.history.events l.p l.la l.moments;
+      ++ readings l.seen.head.cfg.m (mem_at l.seen.events) l.la l.level l.parent.table l.parent.rights (drop l.moment-index l.moments)
+      ≡ readings_by l.seen.head l.seen.events l.p l.la l.moments;
 }

@@ -9,7 +9,7 @@ use Rattle.pg_explain.proofs.entry.tell.Goals as goal
 
 pub loop-step-preserved : goal.loop-step-preserved
 loop-step-preserved c =
-    let are_told = IsTold c.args.history.now.head c.args.history.now.events c.args.p in
+    let are_told = IsTold c.args.seen.now.head c.args.seen.now.events c.args.p in
     let walk = c.loop-step.walk.items in
     let told = c.told.result in
     let pushed = c.in_ok-push.ensures.items in

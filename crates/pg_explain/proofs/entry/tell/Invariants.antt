@@ -7,5 +7,5 @@ use Rattle.pg_explain.proofs.entry.tell.Given as goal
 abbrev pub invariant-loop-step : goal.invariant-loop-step
 invariant-loop-step l = record {
   read : map reading_at l.walk.items ≡ map reading_of (take l.step-index l.steps);
-  told : AllByRecursion (IsTold l.history.head l.history.events l.p) l.walk.items;
+  told : AllByRecursion (IsTold l.seen.head l.seen.events l.p) l.walk.items;
 }

@@ -7,7 +7,7 @@ use Rattle.pg_event.specs.Heads.{Head}
 use Rattle.pg_event.specs.Form.{broken_rule}
 use Rattle.pg_event.specs.Spelling.{Recorded}
 use Rattle.pg_search.specs.Law.{names_moments, AreWitness, WitnessedBy, AreFreshest, CanBeWitnessed, RunBeginsWith, UnwitnessedEventsHaveNoRun}
-use Rattle.pg_search.specs.Thinned.{AreFreshestOf}
+use Rattle.pg_search.specs.Law.{AreFreshestOf}
 use Rattle.pg_reach.proofs.Histories.{some_same, all_at}
 use Rattle.pg_reach.proofs.finder.freshest_moments.Goals as goal
 

@@ -4,7 +4,7 @@ use Rattle.pg_event.specs.declared.event.Event.{Event}
 use Rattle.pg_event.specs.Spelling.{Recorded}
 use Rattle.pg_search.specs.Last.{NoneWitness}
 use Rattle.pg_search.specs.Law.{AreWitness}
-use Rattle.pg_search.specs.Thinned.{AreFreshestOf}
+use Rattle.pg_search.specs.Law.{AreFreshestOf}
 use Rattle.pg_reach.specs.declared.walker.Walker.{Walker}
 use Rattle.pg_reach.specs.Asking.{Asks}
 use Rattle.pg_reach.specs.WitnessedUpTo.{HasWitness}

@@ -1,4 +1,4 @@
-use Rattle.pg_search.proofs.ThinnedWitness.{witnessed_alike}
+use Rattle.pg_search.proofs.Carries.{witnessed_alike}
 use Rattle.pg_search.proofs.laws.witnessed_alike.Goals as goal
 
 pub returns : goal.returns
