@@ -15,7 +15,7 @@ mod upgrader;
 
 pub use certificates::certify;
 pub use explanations::explain;
-pub use lines::{filter_of, show};
+pub use lines::show;
 pub use naming::name_moments;
 pub use replayer::run_of;
 pub use runs::run_text;

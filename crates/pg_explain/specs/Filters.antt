@@ -15,7 +15,7 @@ use Rattle.pg_event.specs.declared.event.Event.TheVariants.{Invpcid, MovCr4Pge}
 use Rattle.pg_event.specs.declared.keys.TranslationKey.{TranslationKey}
 use Rattle.pg_event.specs.Form.{processor_of}
 use Rattle.pg_event.specs.Invalidation.{bits_from, translation_matches, must_drop_translation}
-use Rattle.pg_explain.specs.declared.filter.Filter.{Filter}
+use Rattle.pg_event.specs.declared.selection.Selection.{Selection}
 use Rattle.pg_explain.specs.Line.{event_line}
 use Rattle.pg_search.specs.Writers.{writes}
 
@@ -65,14 +65,15 @@ fits_word (Some word) e = writes word e
 
 -- whether an event with this number is shown, where this says whether its processor is one of the
 -- page's
-abbrev pub fits : Filter → Bool → ℕ → Event → Bool
-fits f is_its number e =
-    nat_le f.from number && nat_le number f.to && fits_processor f.cpu e
-    && fits_page f.page is_its e && fits_word f.word e
+abbrev pub fits : Selection → Bool → ℕ → Event → Bool
+fits asked is_its number e =
+    nat_le asked.from number && nat_le number asked.to && fits_processor asked.cpu e
+    && fits_page asked.page is_its e && fits_word asked.word e
 
 -- whether an event of a run is shown
-abbrev pub is_shown : Filter → List Event → ℕ → Event → Bool
-is_shown f events number e = fits f (is_user events f.page (processor_of e)) number e
+abbrev pub is_shown : Selection → List Event → ℕ → Event → Bool
+is_shown asked events number e =
+    fits asked (is_user events asked.page (processor_of e)) number e
 
 -- ---- the text
 
@@ -86,8 +87,8 @@ lines_where test number (e ∷ events) =
     shown_line (test number e) number e ++ lines_where test (number + 1) events
 
 -- the lines of a run's events that are shown
-abbrev pub shown_text : Filter → List Event → List ℕ
-shown_text f events = lines_where (is_shown f events) 0 events
+abbrev pub shown_text : Selection → List Event → List ℕ
+shown_text asked events = lines_where (is_shown asked events) 0 events
 
 -- ---- marks of processors, and a law
 

@@ -8,24 +8,9 @@ ghost use Rattle.pg_explain.specs.Filters.{fits_page, fits_word, fits, shown_lin
 ghost use Rattle.pg_explain.specs.Filters.{shown_text, PagesShowTheirDrops};
 
 use crate::line::push_event;
-use pg_event::{Event, bits_from, processor_of};
+use pg_event::{Event, Selection, bits_from, processor_of};
 use pg_search::writes;
 use std::alloc::{AllocError, Global};
-
-/// What is asked of the events that are shown. Of several things that are asked all must hold.
-#[derive(Clone, Copy)]
-pub struct Filter {
-    /// The number of the first.
-    pub from: u32,
-    /// The number of the last, which is shown too.
-    pub to: u32,
-    /// Their processor.
-    pub cpu: Option<u16>,
-    /// A linear address: the page of 4 KB that has it is what they have to do with.
-    pub page: Option<u64>,
-    /// The physical address of the word that they write, or in which they set flags.
-    pub word: Option<u64>,
-}
 
 /// How many processors an event can name.
 const PROCESSORS: usize = 65_536;
@@ -94,14 +79,14 @@ fn fits_word(word: Option<u64>, event: &Event) -> bool
 
 /// Whether an event with this number is shown, where `is_its` says whether its processor is one of
 /// the page's.
-pub fn fits(filter: Filter, is_its: bool, number: u64, event: &Event) -> bool
-    ensures { result ≡ fits filter is_its number event.now }
+pub fn fits(selection: Selection, is_its: bool, number: u64, event: &Event) -> bool
+    ensures { result ≡ fits selection is_its number event.now }
 {
-    filter.from as u64 <= number
-        && number <= filter.to as u64
-        && fits_processor(filter.cpu, event)
-        && fits_page(filter.page, is_its, event)
-        && fits_word(filter.word, event)
+    selection.from as u64 <= number
+        && number <= selection.to as u64
+        && fits_processor(selection.cpu, event)
+        && fits_page(selection.page, is_its, event)
+        && fits_word(selection.word, event)
 }
 
 /// No mark for any of so many processors.
@@ -163,17 +148,21 @@ fn push_shown(
     Ok(())
 }
 
-/// The lines of the events that a filter lets through, in their order, where these are all events
+/// The lines of the events that a selection asks for, in their order, where these are all events
 /// of a run. It takes one pass over them, and where a page is asked for another. `Err` is for want
 /// of memory alone.
-pub fn shown_text(alloc: Global, filter: Filter, events: &[Event]) -> Result<String, AllocError>
-    ensures { IfOk result (λ t. string_bytes t ≡ shown_text filter events.now) }
+pub fn shown_text(
+    alloc: Global,
+    selection: Selection,
+    events: &[Event],
+) -> Result<String, AllocError>
+    ensures { IfOk result (λ t. string_bytes t ≡ shown_text selection events.now) }
 {
-    let marks = marks_of(alloc, filter.page, events)?;
+    let marks = marks_of(alloc, selection.page, events)?;
     let mut text = String::new(alloc);
     for (i, event) in events.iter().enumerate() {
         let is_its = is_marked(&marks, processor_of(event));
-        let is_shown = fits(filter, is_its, i as u64, event);
+        let is_shown = fits(selection, is_its, i as u64, event);
         push_shown(&mut text, is_shown, i as u64, event)?;
     }
     Ok(text)

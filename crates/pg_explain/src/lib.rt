@@ -28,7 +28,7 @@ pub use denial::{Denial, denials_among_kept, deny, deny_event};
 pub use denial_lines::{denial_text, denial_text_by, push_claim_line};
 pub use entry::WalkEntry;
 pub use explainer::{Explanation, explain};
-pub use filter::{Filter, fits, is_marked, marks_of, pages_show_their_drops, shown_text};
+pub use filter::{fits, is_marked, marks_of, pages_show_their_drops, shown_text};
 pub use finding::{Finding, Limit, Misfit, Prevention, Tagged, Wish};
 pub use finding_text::{push_finding, push_numbered};
 pub use last_lines::push_last_moments;

@@ -9,7 +9,7 @@ use Rattle.pg_event.specs.Witness.{first_bad}
 use Rattle.pg_explain.specs.declared.bad_events.Bad.{Bad}
 use Rattle.pg_explain.specs.declared.denial.Denial.{Denial}
 use Rattle.pg_explain.specs.declared.explainer.Explanation.{Explanation}
-use Rattle.pg_explain.specs.declared.filter.Filter.{Filter}
+use Rattle.pg_event.specs.declared.selection.Selection.{Selection}
 use Rattle.pg_explain.specs.declared.tallier.Tally.{Tally}
 use Rattle.pg_explain.specs.Bads.{bads}
 use Rattle.pg_explain.specs.Denied.{IsDenialOf}
@@ -73,7 +73,7 @@ lines_where test number [] = []
 lines_where test number (e ∷ events) =
     shown_line (test number e) number e ++ lines_where test (number + 1) events
 
-abbrev pub shown_json : Filter → List Event → List ℕ
+abbrev pub shown_json : Selection → List Event → List ℕ
 shown_json f events = lines_where (is_shown f events) 0 events
 
 -- ---- answers
@@ -120,5 +120,5 @@ IsJsonOf (ExplainAll most) r bad text =
     × (ts : List Tally) × AreTallies (bads r.head r.events) ts
     × (text ≡ json_line (told_json r (with_causes r.events told
     (summary_fields (bads r.head r.events) ts))))
-IsJsonOf (Show filter) r bad text =
-    (bad ≡ bad_of r) × (text ≡ shown_json filter r.events)
+IsJsonOf (Show selection) r bad text =
+    (bad ≡ bad_of r) × (text ≡ shown_json selection r.events)

@@ -22,7 +22,8 @@ use crate::lines::shown_json;
 use crate::question::Question;
 use pg_certify::{CertifyError, certified_events_run, denied_events_have_no_run, first_denied_by};
 use pg_check::History;
-use pg_explain::{Bad, Filter, bads, tallies};
+use pg_event::Selection;
+use pg_explain::{Bad, bads, tallies};
 use pg_json::{Fields, line_of, list_of, put_count, put_counts, put_no, put_report, report_json};
 use pg_json_causes::tallies_json;
 use pg_plan::Checkers;
@@ -211,11 +212,11 @@ fn certified<T: AllocGlobal + Threads + Wait + Sync>(
     Ok(certificate(rt.alloc(), history, denied)?)
 }
 
-fn shown(alloc: Global, history: &History, filter: Filter) -> Result<Told, AllocError>
-    ensures { IfOk result (λ told. IsJsonOf (Question.Show filter) history.now told.bad
+fn shown(alloc: Global, history: &History, selection: Selection) -> Result<Told, AllocError>
+    ensures { IfOk result (λ told. IsJsonOf (Question.Show selection) history.now told.bad
         (string_bytes told.text)) }
 {
-    let text = shown_json(alloc, filter, history.events())?;
+    let text = shown_json(alloc, selection, history.events())?;
     Ok(Told {
         bad: event_of(report_of(history).verdict),
         text,
@@ -240,6 +241,6 @@ pub(crate) fn answer_of<T: AllocGlobal + Threads + Wait + Sync>(
         Question::Certify => certified(rt, checkers, history),
         Question::Explain => Ok(explained(alloc, history)?),
         Question::ExplainAll(most) => Ok(all_explained(alloc, history, most)?),
-        Question::Show(filter) => Ok(shown(alloc, history, filter)?),
+        Question::Show(selection) => Ok(shown(alloc, history, selection)?),
     }
 }

@@ -3,8 +3,8 @@
 ghost use Rattle.std.specs.Prelude.{◌≡◌, ◌++◌, IfOk, OnOk, string_bytes};
 ghost use Rattle.pg_json_answers.specs.Answers.{shown_line, shown_json};
 
-use pg_event::{Event, processor_of};
-use pg_explain::{Filter, fits, is_marked, marks_of};
+use pg_event::{Event, Selection, processor_of};
+use pg_explain::{fits, is_marked, marks_of};
 use pg_json::{event_json, line_of};
 use std::alloc::{AllocError, Global};
 
@@ -27,20 +27,20 @@ fn push_shown(
     Ok(())
 }
 
-/// The lines of the events that a filter lets through, in their order, where these are all events
+/// The lines of the events that a selection asks for, in their order, where these are all events
 /// of a run.
 pub(crate) fn shown_json(
     alloc: Global,
-    filter: Filter,
+    selection: Selection,
     events: &[Event],
 ) -> Result<String, AllocError>
-    ensures { IfOk result (λ t. string_bytes t ≡ shown_json filter events.now) }
+    ensures { IfOk result (λ t. string_bytes t ≡ shown_json selection events.now) }
 {
-    let marks = marks_of(alloc, filter.page, events)?;
+    let marks = marks_of(alloc, selection.page, events)?;
     let mut text = String::new(alloc);
     for (i, event) in events.iter().enumerate() {
         let is_its = is_marked(&marks, processor_of(event));
-        let is_shown = fits(filter, is_its, i as u64, event);
+        let is_shown = fits(selection, is_its, i as u64, event);
         push_shown(alloc, &mut text, is_shown, i as u64, event)?;
     }
     Ok(text)

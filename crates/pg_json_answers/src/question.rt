@@ -1,4 +1,4 @@
-use pg_explain::Filter;
+use pg_event::Selection;
 
 /// What is asked of a record.
 #[derive(Clone, Copy)]
@@ -13,6 +13,6 @@ pub enum Question {
     Explain,
     /// Its report, what stands behind so many bad events at most, and the summary.
     ExplainAll(u32),
-    /// The events that a filter lets through, an object a line.
-    Show(Filter),
+    /// The events that a selection asks for, an object a line.
+    Show(Selection),
 }

@@ -1,7 +1,7 @@
 -- What the commands with `--json` answer of a record with no one order (versions 3 and 4): what
 -- they answer as text, by the words of `pg_ordering`, as objects.
 use Rattle.std.specs.Prelude.{◌≡◌, ◌⊎◌, ℕ, List, Result, Ok, Err}
-use Rattle.pg_explain.specs.declared.filter.Filter.{Filter}
+use Rattle.pg_event.specs.declared.selection.Selection.{Selection}
 use Rattle.pg_report.specs.declared.error.AuditError.TheVariants.{Device}
 use Rattle.pg_report.specs.Changes.{Change, Fails, Works, Adds, AddsSome}
 use Rattle.pg_auditing.specs.Refusals.{StaysSame, Tells}
@@ -54,19 +54,19 @@ OrdersJson st status =
 
 -- ---- the events
 
-abbrev pub GivesShown : Filter → Spanned → Change → Change → ℕ → Type 0
-GivesShown filter s output errors status =
-    GivesLine (spanned_json_lines filter s) 0 output errors status
+abbrev pub GivesShown : Selection → Spanned → Change → Change → ℕ → Type 0
+GivesShown selection s output errors status =
+    GivesLine (spanned_json_lines selection s) 0 output errors status
     ⊎ WantsMemory output errors status
 
-abbrev pub ShownFollows : Filter → Result Spanned Unread → Change → Change → ℕ → Type 0
-ShownFollows filter (Ok s) output errors status = GivesShown filter s output errors status
-ShownFollows filter (Err why) output errors status = TellsUnread why output errors status
+abbrev pub ShownFollows : Selection → Result Spanned Unread → Change → Change → ℕ → Type 0
+ShownFollows selection (Ok s) output errors status = GivesShown selection s output errors status
+ShownFollows selection (Err why) output errors status = TellsUnread why output errors status
 
-abbrev pub ShowsJson : Filter → Streams → ℕ → Type 0
-ShowsJson filter st status =
+abbrev pub ShowsJson : Selection → Streams → ℕ → Type 0
+ShowsJson selection st status =
     (read : Result Spanned Unread) × ReadsRun st.input.old.bytes read
-    × DeviceTold st.input read × ShownFollows filter read st.output st.errors status
+    × DeviceTold st.input read × ShownFollows selection read st.output st.errors status
 
 -- ---- the answer of a question: `explain` answers what `certify` does, and `check` refuses
 
@@ -76,4 +76,4 @@ AnswersSpans CheckAll st status = Refuses spans_json st.output st.errors status
 AnswersSpans Certify st status = OrdersJson st status
 AnswersSpans Explain st status = OrdersJson st status
 AnswersSpans (ExplainAll most) st status = OrdersJson st status
-AnswersSpans (Show filter) st status = ShowsJson filter st status
+AnswersSpans (Show selection) st status = ShowsJson selection st status

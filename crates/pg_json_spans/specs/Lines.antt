@@ -4,7 +4,7 @@
 --     began                how many events had ended when it began
 use Rattle.std.specs.Prelude.{ℕ, ◌+◌, Bool, if◌then◌else◌, List, [], ◌∷◌, ◌++◌}
 use Rattle.pg_event.specs.declared.event.Event.{Event}
-use Rattle.pg_explain.specs.declared.filter.Filter.{Filter}
+use Rattle.pg_event.specs.declared.selection.Selection.{Selection}
 use Rattle.pg_explain.specs.Filters.{is_shown}
 use Rattle.pg_spanned.specs.Orders.{Spanned, ended_before}
 use Rattle.pg_json.specs.Tree.{Json, json_line}
@@ -20,11 +20,11 @@ spanned_line is_shown s number e =
     if is_shown then json_line (event_json s number e) else []
 
 -- the lines of those events that are shown, where the first has this number
-abbrev pub lines_from : Filter → Spanned → ℕ → List Event → List ℕ
+abbrev pub lines_from : Selection → Spanned → ℕ → List Event → List ℕ
 lines_from f s number [] = []
 lines_from f s number (e ∷ events) =
     spanned_line (is_shown f s.events number e) s number e ++ lines_from f s (number + 1) events
 
 -- the lines of a run's events that are shown
-abbrev pub spanned_json_lines : Filter → Spanned → List ℕ
+abbrev pub spanned_json_lines : Selection → Spanned → List ℕ
 spanned_json_lines f s = lines_from f s 0 s.events

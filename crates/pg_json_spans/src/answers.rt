@@ -12,7 +12,7 @@ use crate::refusals::{tell_memory, tell_spans, tell_unread};
 use crate::told::{told_line, told_of};
 use pg_auditing::{NO, REFUSED, YES};
 use pg_codec::{Sink, Source, put_all};
-use pg_explain::Filter;
+use pg_event::Selection;
 use pg_json_answers::{Question, tell_json};
 use pg_ordering::{Told, read_run};
 use pg_report::AuditError;
@@ -94,18 +94,18 @@ fn certify_json<R: Source, O: Sink, E: Sink>(
     }
 }
 
-/// Writes the lines of a run's events that a filter lets through.
+/// Writes the lines of a run's events that a selection asks for.
 fn give_shown<O: Sink, E: Sink>(
     alloc: Global,
-    filter: Filter,
+    selection: Selection,
     run: &SpannedRun,
     output: &mut O,
     errors: &mut E,
 ) -> u8
-    ensures { GivesShown filter run.now
+    ensures { GivesShown selection run.now
         (filled O.Sink output.old output.new) (filled E.Sink errors.old errors.new) result }
 {
-    match spanned_json_lines(alloc, filter, run) {
+    match spanned_json_lines(alloc, selection, run) {
         Ok(text) => give_line(output, errors, text.as_str(), YES),
         Err(_) => tell_memory(output, errors),
     }
@@ -113,16 +113,16 @@ fn give_shown<O: Sink, E: Sink>(
 
 fn show_json<R: Source, O: Sink, E: Sink>(
     alloc: Global,
-    filter: Filter,
+    selection: Selection,
     input: &mut R,
     output: &mut O,
     errors: &mut E,
 ) -> u8
-    ensures { ShowsJson filter (streams R.Source O.Sink E.Sink
+    ensures { ShowsJson selection (streams R.Source O.Sink E.Sink
         (input.old, output.old, errors.old) (input.new, output.new, errors.new)) result }
 {
     match read_run(alloc, input) {
-        Ok(run) => give_shown(alloc, filter, &run, output, errors),
+        Ok(run) => give_shown(alloc, selection, &run, output, errors),
         Err(why) => tell_unread(output, errors, why),
     }
 }
@@ -148,6 +148,6 @@ pub fn answer_spans_json<R: Source, O: Sink, E: Sink>(
         Question::Certify => certify_json(alloc, input, output, errors),
         Question::Explain => certify_json(alloc, input, output, errors),
         Question::ExplainAll(_) => certify_json(alloc, input, output, errors),
-        Question::Show(filter) => show_json(alloc, filter, input, output, errors),
+        Question::Show(selection) => show_json(alloc, selection, input, output, errors),
     }
 }

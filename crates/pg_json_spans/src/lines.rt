@@ -5,8 +5,8 @@ ghost use Rattle.serde_json.specs.View.{view};
 ghost use Rattle.pg_json.specs.Tree.{data_of};
 ghost use Rattle.pg_json_spans.specs.Lines.{event_json, spanned_line, spanned_json_lines};
 
-use pg_event::{Event, processor_of};
-use pg_explain::{Filter, fits, is_marked, marks_of};
+use pg_event::{Event, Selection, processor_of};
+use pg_explain::{fits, is_marked, marks_of};
 use pg_json::{began_json, line_of};
 use pg_spanned::SpannedRun;
 use pg_spanned_text::ended_before;
@@ -48,20 +48,20 @@ fn push_shown(
     Ok(())
 }
 
-/// The lines of the events that a filter lets through, as they ended.
+/// The lines of the events that a selection asks for, as they ended.
 pub(crate) fn spanned_json_lines(
     alloc: Global,
-    filter: Filter,
+    selection: Selection,
     run: &SpannedRun,
 ) -> Result<String, AllocError>
-    ensures { IfOk result (λ t. string_bytes t ≡ spanned_json_lines filter run.now) }
+    ensures { IfOk result (λ t. string_bytes t ≡ spanned_json_lines selection run.now) }
 {
     let events = run.events();
-    let marks = marks_of(alloc, filter.page, events)?;
+    let marks = marks_of(alloc, selection.page, events)?;
     let mut text = String::new(alloc);
     for (i, event) in events.iter().enumerate() {
         let is_its = is_marked(&marks, processor_of(event));
-        let is_shown = fits(filter, is_its, i as u64, event);
+        let is_shown = fits(selection, is_its, i as u64, event);
         push_shown(alloc, &mut text, run, is_shown, i as u32, event)?;
     }
     Ok(text)

@@ -1,8 +1,7 @@
 use crate::orders::{OLD_READ, OWN_INVLPG, REMAP, Spanned, push, run_of};
 use crate::written::{READ, Written};
 use pg_entry::{Cfg, CfgFlags};
-use pg_event::{Header, Outcome, Version};
-use pg_explain::Filter;
+use pg_event::{Header, Outcome, Selection, Version};
 use pg_spanned::SpannedRun;
 use pg_spanned_text::{cause_text, spanned_lines};
 use std::alloc::{AllocGlobal, Global};
@@ -195,14 +194,14 @@ fn seen_and_not(alloc: Global) -> Result<SpannedRun, Fail> {
 
 /// What is shown from a number on, and of a word if it is named.
 fn shown(alloc: Global, run: &SpannedRun, from: u32, word: Option<u64>) -> Result<String, Fail> {
-    let filter = Filter {
+    let selection = Selection {
         from,
         to: u32::MAX,
         cpu: None,
         page: None,
         word,
     };
-    Ok(spanned_lines(alloc, filter, run)?)
+    Ok(spanned_lines(alloc, selection, run)?)
 }
 
 fn is_seen_and_not(alloc: Global) -> Result<bool, Fail> {

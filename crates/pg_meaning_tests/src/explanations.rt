@@ -2,8 +2,8 @@ use crate::written::{
     ACCESSED, FETCH, INVLPG, MAPPED, READ, WRITE, Written, add_all, events_of, started,
 };
 use pg_check::History;
-use pg_event::{Outcome, Version};
-use pg_explain::{Filter, explain, explanation_text, shown_text};
+use pg_event::{Outcome, Selection, Version};
+use pg_explain::{explain, explanation_text, shown_text};
 use std::alloc::{AllocGlobal, Global};
 use std::process::Abort;
 use std::test::Fail;
@@ -491,11 +491,11 @@ const OF_THREE: [Written; 10] = [
     },
 ];
 
-/// Events, and the lines of those that a filter lets through.
+/// Events, and the lines of those that a selection asks for.
 struct Shown {
     name: &'static str,
     events: &'static [Written],
-    filter: Filter,
+    selection: Selection,
     lines: &'static str,
 }
 
@@ -503,7 +503,7 @@ const SHOWN: [Shown; 4] = [
     Shown {
         name: "all",
         events: &EACH_KIND,
-        filter: Filter {
+        selection: Selection {
             from: 0,
             to: 4_294_967_295,
             cpu: None,
@@ -523,7 +523,7 @@ const SHOWN: [Shown; 4] = [
     Shown {
         name: "of a page",
         events: &OF_THREE,
-        filter: Filter {
+        selection: Selection {
             from: 0,
             to: 4_294_967_295,
             cpu: None,
@@ -540,7 +540,7 @@ const SHOWN: [Shown; 4] = [
     Shown {
         name: "of a word",
         events: &OF_THREE,
-        filter: Filter {
+        selection: Selection {
             from: 0,
             to: 4_294_967_295,
             cpu: None,
@@ -554,7 +554,7 @@ const SHOWN: [Shown; 4] = [
     Shown {
         name: "of a page and a processor",
         events: &OF_THREE,
-        filter: Filter {
+        selection: Selection {
             from: 5,
             to: 4_294_967_295,
             cpu: Some(1),
@@ -567,7 +567,7 @@ const SHOWN: [Shown; 4] = [
 
 fn is_shown(alloc: Global, shown: &Shown) -> Result<bool, Fail> {
     let events = events_of(alloc, shown.events)?;
-    Ok(shown_text(alloc, shown.filter, &events)?.as_str() == shown.lines)
+    Ok(shown_text(alloc, shown.selection, &events)?.as_str() == shown.lines)
 }
 
 fn show_all(rt: &(impl AllocGlobal + Abort), cases: &[Shown]) -> Result<(), Fail> {

@@ -8,43 +8,43 @@ use crate::answers::{give_out, tell_memory, tell_unread};
 use crate::reading::read_run;
 use pg_auditing::YES;
 use pg_codec::{Sink, Source};
-use pg_explain::Filter;
+use pg_event::Selection;
 use pg_spanned::SpannedRun;
 use pg_spanned_text::spanned_lines;
 use std::alloc::Global;
 
-/// Writes the lines of a run's events that a filter lets through.
+/// Writes the lines of a run's events that a selection asks for.
 fn give_lines<O: Sink, E: Sink>(
     alloc: Global,
-    filter: Filter,
+    selection: Selection,
     run: &SpannedRun,
     output: &mut O,
     errors: &mut E,
 ) -> u8
-    ensures { GivesLines filter run.now
+    ensures { GivesLines selection run.now
         (filled O.Sink output.old output.new) (filled E.Sink errors.old errors.new) result }
 {
-    match spanned_lines(alloc, filter, run) {
+    match spanned_lines(alloc, selection, run) {
         Ok(text) => give_out(output, errors, text.as_bytes(), YES),
         Err(_) => tell_memory(output, errors),
     }
 }
 
-/// Writes the events of the record of version 3 or 4 on `input` that a filter lets through, a line
+/// Writes the events of the record of version 3 or 4 on `input` that a selection asks for, a line
 /// each with the event's span, which may be none. Nothing is judged. It gives the exit status: 0
 /// shown, 2 refused, 3 memory.
 pub fn show_spanned<R: Source, O: Sink, E: Sink>(
     alloc: Global,
-    filter: Filter,
+    selection: Selection,
     input: &mut R,
     output: &mut O,
     errors: &mut E,
 ) -> u8
-    ensures { ShowsSpans filter (streams R.Source O.Sink E.Sink
+    ensures { ShowsSpans selection (streams R.Source O.Sink E.Sink
         (input.old, output.old, errors.old) (input.new, output.new, errors.new)) result }
 {
     match read_run(alloc, input) {
-        Ok(run) => give_lines(alloc, filter, &run, output, errors),
+        Ok(run) => give_lines(alloc, selection, &run, output, errors),
         Err(why) => tell_unread(output, errors, why),
     }
 }

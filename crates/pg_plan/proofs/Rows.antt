@@ -11,7 +11,7 @@ use Rattle.pg_plan.specs.Values.{IsCpuIn, IsOptional, IsPageIn}
 use Rattle.pg_plan.specs.declared.request.CheckOptions.{CheckOptions}
 use Rattle.pg_plan.specs.declared.request.Command.{Command}
 use Rattle.pg_plan.specs.declared.request.Plan.{Plan}
-use Rattle.pg_plan.specs.declared.request.Selection.{Selection}
+use Rattle.pg_event.specs.declared.selection.Selection.{Selection}
 use Rattle.pg_plan.specs.declared.request.Command.TheVariants.{Check, Certify, Explain, Run, Show}
 use Rattle.pg_plan.specs.declared.request.Telling.TheVariants.{All, Picture}
 

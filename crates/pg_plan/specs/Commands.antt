@@ -21,7 +21,7 @@ use Rattle.pg_plan.specs.declared.request.CheckOptions.{CheckOptions}
 use Rattle.pg_plan.specs.declared.request.ExplainOptions.{ExplainOptions}
 use Rattle.pg_plan.specs.declared.request.Plan.{Plan}
 use Rattle.pg_plan.specs.declared.request.RunOptions.{RunOptions}
-use Rattle.pg_plan.specs.declared.request.Selection.{Selection}
+use Rattle.pg_event.specs.declared.selection.Selection.{Selection}
 use Rattle.pg_plan.specs.declared.request.ShowOptions.{ShowOptions}
 use Rattle.pg_plan.specs.declared.request.Telling.{Telling}
 use Rattle.pg_plan.specs.declared.request.Usage.{Usage}

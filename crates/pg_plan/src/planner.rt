@@ -22,12 +22,13 @@ use crate::lines::{
     ORDER, PAGE, PROGRESS, RUN, RUN_OF, SHOW, SINGLE, SVG, TO, UPGRADE, WORD, command_line,
 };
 use crate::request::{
-    CertifyOptions, CheckOptions, Command, ExplainOptions, Invocation, Plan, RunOptions, Selection,
+    CertifyOptions, CheckOptions, Command, ExplainOptions, Invocation, Plan, RunOptions,
     ShowOptions, Telling, Usage,
 };
 use crate::values::{checkers_of, cpu_of, number_of, page_of, telling_of, word_of};
 use clap::error::ErrorKind;
 use clap::{ArgMatches, Error};
+use pg_event::Selection;
 use std::alloc::{AllocError, Global};
 
 /// What `--version` gives.

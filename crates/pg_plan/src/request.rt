@@ -1,20 +1,5 @@
 use crate::checkers::Checkers;
-
-/// Which events are written. Of several things that are asked all must hold.
-#[derive(Clone, Copy, Debug, PartialEq, Eq)]
-pub struct Selection {
-    /// The number of the first. It is 0 where the words say nothing.
-    pub from: u32,
-    /// The number of the last. It is 4,294,967,295, which no event has, where the words say
-    /// nothing.
-    pub to: u32,
-    /// The processor.
-    pub cpu: Option<u16>,
-    /// A canonical linear address, in the page of 4 KB that the events have to do with.
-    pub page: Option<u64>,
-    /// The physical address of the word that the events write, or in which they set flags.
-    pub word: Option<u64>,
-}
+use pg_event::Selection;
 
 /// What `explain` tells of bad events.
 #[derive(Clone, Copy, Debug, PartialEq, Eq)]

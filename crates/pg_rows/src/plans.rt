@@ -1,6 +1,7 @@
+use pg_event::Selection;
 use pg_plan::{
     CertifyOptions, CheckOptions, Checkers, Command, ExplainOptions, Invocation, Plan, RunOptions,
-    Selection, ShowOptions, Telling, Usage, plan,
+    ShowOptions, Telling, Usage, plan,
 };
 use std::alloc::Global;
 use std::test::Fail;

@@ -4,8 +4,8 @@ ghost use Rattle.std.specs.Prelude.{◌≡◌, ◌++◌, ◌<◌, IfOk, OnOk, le
 ghost use Rattle.pg_spanned_text.specs.Lines.{began_line, spanned_line, spanned_lines};
 
 use crate::span::ended_before;
-use pg_event::{Event, processor_of};
-use pg_explain::{Filter, fits, is_marked, marks_of, push_claim_line};
+use pg_event::{Event, Selection, processor_of};
+use pg_explain::{fits, is_marked, marks_of, push_claim_line};
 use pg_spanned::SpannedRun;
 use std::alloc::{AllocError, Global};
 
@@ -43,17 +43,21 @@ fn push_spanned(
     Ok(())
 }
 
-/// The lines of the events that a filter lets through, as they ended. It takes one pass over them,
+/// The lines of the events that a selection asks for, as they ended. It takes one pass over them,
 /// and where a page is asked for another. `Err` is for want of memory alone.
-pub fn spanned_lines(alloc: Global, filter: Filter, run: &SpannedRun) -> Result<String, AllocError>
-    ensures { IfOk result (λ t. string_bytes t ≡ spanned_lines filter run.now) }
+pub fn spanned_lines(
+    alloc: Global,
+    selection: Selection,
+    run: &SpannedRun,
+) -> Result<String, AllocError>
+    ensures { IfOk result (λ t. string_bytes t ≡ spanned_lines selection run.now) }
 {
     let events = run.events();
-    let marks = marks_of(alloc, filter.page, events)?;
+    let marks = marks_of(alloc, selection.page, events)?;
     let mut text = String::new(alloc);
     for (i, event) in events.iter().enumerate() {
         let is_its = is_marked(&marks, processor_of(event));
-        let is_shown = fits(filter, is_its, i as u64, event);
+        let is_shown = fits(selection, is_its, i as u64, event);
         push_spanned(&mut text, run, is_shown, i as u32, event)?;
     }
     Ok(text)

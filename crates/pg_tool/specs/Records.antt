@@ -16,7 +16,7 @@ use Rattle.pg_report.specs.declared.error.AuditError.TheVariants.{Device}
 use Rattle.pg_report.specs.Changes.{Change, Fails}
 use Rattle.pg_answers.specs.Certificates.{CertifiesRecord}
 use Rattle.pg_answers.specs.Explanations.{ExplainsRecord}
-use Rattle.pg_answers.specs.Lines.{ShowsRecord, filter_of}
+use Rattle.pg_answers.specs.Lines.{ShowsRecord}
 use Rattle.pg_answers.specs.Naming.{NamesRecord}
 use Rattle.pg_answers.specs.RunOf.{ShowsRun}
 use Rattle.pg_answers.specs.Summaries.{ChecksAll, ExplainsAll}
@@ -63,7 +63,7 @@ DoesPlain (Certify asked) s status = CertifiesBy asked.checkers asked.bytes s st
 DoesPlain (Run asked) s status = ⊥
 DoesPlain RunOf s status = ShowsRun s status
 DoesPlain (Explain asked) s status = ExplainsBy asked.telling s status
-DoesPlain (Show asked) s status = ShowsRecord (filter_of asked.selection) s status
+DoesPlain (Show asked) s status = ShowsRecord asked.selection s status
 DoesPlain Upgrade s status = Upgrades s status
 DoesPlain (Merge error) s status = ⊥
 
@@ -90,7 +90,7 @@ explain_question asked = if not asked.json then None else telling_question asked
 
 abbrev pub show_question : ShowOptions → Option Question
 show_question asked =
-    if not asked.json then None else Some (questions.Show (filter_of asked.selection))
+    if not asked.json then None else Some (questions.Show asked.selection)
 
 abbrev pub question_of : Command → Option Question
 question_of (Check asked) = check_question asked
@@ -145,7 +145,7 @@ DoesSpanned (Certify asked) s status = OrdersRecord (asked_of asked) s status
 DoesSpanned (Run asked) s status = ⊥
 DoesSpanned RunOf s status = RefusesSpans s.output s.errors status
 DoesSpanned (Explain asked) s status = OrdersRecord (told_of asked.telling) s status
-DoesSpanned (Show asked) s status = ShowsSpans (filter_of asked.selection) s status
+DoesSpanned (Show asked) s status = ShowsSpans asked.selection s status
 DoesSpanned Upgrade s status = RefusesSpans s.output s.errors status
 DoesSpanned (Merge error) s status = ⊥
 

@@ -11,8 +11,9 @@ mod records;
 
 pub use followers::Followers;
 pub use guest_error::GuestError;
+pub use pg_event::Selection;
 pub use pg_plan::{
     CertifyOptions, CheckOptions, Checkers, Command, ExplainOptions, Invocation, Plan, RunOptions,
-    Selection, ShowOptions, Telling, Usage, plan,
+    ShowOptions, Telling, Usage, plan,
 };
 pub use program::{pcid_audit, pcid_audit_followed, run, run_followed};

@@ -13,9 +13,7 @@ ghost use Rattle.pg_tool.specs.Records.{checkers_of, DoesOrdered, DoesUnordered,
 ghost use Rattle.pg_auditing.specs.Refusals.{Tells};
 
 use crate::pictures::draw;
-use pg_answers::{
-    certify, check_all, explain, explain_all, filter_of, name_moments, run_of, show, upgrade,
-};
+use pg_answers::{certify, check_all, explain, explain_all, name_moments, run_of, show, upgrade};
 use pg_auditing::{REFUSED, check, tell, tell_spans};
 use pg_codec::{Sink, Source};
 use pg_json_answers::{Question, answer_json, tell_json};
@@ -103,7 +101,7 @@ fn do_of_plain<T: AllocGlobal + Threads + Wait + Sync, R: Source, O: Sink, E: Si
         Command::Certify(asked) => certify_by(rt, asked, input, output, errors),
         Command::RunOf => run_of(alloc, input, output, errors),
         Command::Explain(asked) => explain_by(alloc, asked.telling, input, output, errors),
-        Command::Show(asked) => show(alloc, filter_of(asked.selection), input, output, errors),
+        Command::Show(asked) => show(alloc, asked.selection, input, output, errors),
         Command::Upgrade => upgrade(alloc, input, output, errors),
         Command::Run(_) | Command::Merge { .. } => unreachable!(),
     }
@@ -156,7 +154,7 @@ fn show_question(asked: &ShowOptions) -> Option<Question>
     ensures { result ≡ show_question asked.now }
 {
     if asked.json {
-        Some(Question::Show(filter_of(asked.selection)))
+        Some(Question::Show(asked.selection))
     } else {
         None
     }
@@ -286,9 +284,7 @@ fn do_of_spanned<R: Source, O: Sink, E: Sink>(
     match command {
         Command::Certify(asked) => order_by(alloc, asked, input, output, errors),
         Command::Explain(asked) => explain_order(alloc, asked.telling, input, output, errors),
-        Command::Show(asked) => {
-            show_spanned(alloc, filter_of(asked.selection), input, output, errors)
-        }
+        Command::Show(asked) => { show_spanned(alloc, asked.selection, input, output, errors) }
         Command::Check(_) | Command::RunOf | Command::Upgrade => refuse_spans(output, errors),
         Command::Run(_) | Command::Merge { .. } => unreachable!(),
     }

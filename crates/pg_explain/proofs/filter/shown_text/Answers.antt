@@ -8,19 +8,19 @@ use Rattle.pg_explain.proofs.filter.shown_text.Goals as goal
 
 pub loop-i-preserved : goal.loop-i-preserved
 loop-i-preserved c =
-    let filter = c.args.filter in
+    let selection = c.args.selection in
     let events : List Event = c.args.events.now in
     let i = c.loop-i.i in
     let e : Event = c.index-events-i.result in
     let text = string_bytes c.loop-i.text in
-    let test = is_shown filter events in
+    let test = is_shown selection events in
     let p = c.processor_of.result in
-    let is_its : c.is_marked-is_its.result ≡ is_user events filter.page (processor_of e) =
-    c.is_marked-is_its.ensures ∙ ap (λ ms. slice_index_or ms p false) c.deref.ensures.value ∙ c.in_ok-marks.ensures p c.processor_of.type_inv ∙ ap (is_user events filter.page) c.processor_of.ensures in
-    let shown : c.fits-is_shown.result ≡ test i e = c.fits-is_shown.ensures ∙ ap (λ b. fits filter b i e) is_its in
+    let is_its : c.is_marked-is_its.result ≡ is_user events selection.page (processor_of e) =
+    c.is_marked-is_its.ensures ∙ ap (λ ms. slice_index_or ms p false) c.deref.ensures.value ∙ c.in_ok-marks.ensures p c.processor_of.type_inv ∙ ap (is_user events selection.page) c.processor_of.ensures in
+    let shown : c.fits-is_shown.result ≡ test i e = c.fits-is_shown.ensures ∙ ap (λ b. fits selection b i e) is_its in
     let wrote = c.in_ok-push_shown.ensures ∙ ap (λ b. text ++ shown_line b i e) shown in
     next_written (lines_where test i) (lines_where test (i + 1)) (shown_line (test i e) i e) events i e text (string_bytes c.push_shown.new.text) _ c.loop-i-test.true
     (ap (λ (x : Event). shown_line (test i x) i x ++ lines_where test (i + 1) (drop (i + 1) events)) (sym c.index-events-i.is)) wrote c.loop-i.invariant
 
 pub returns : goal.returns
-returns c = all_written (lines_where (is_shown c.args.filter c.args.events.now) c.loop-i.i) c.args.events.now c.loop-i.i (string_bytes c.loop-i.text) _ c.loop-i-test.false refl c.loop-i.invariant
+returns c = all_written (lines_where (is_shown c.args.selection c.args.events.now) c.loop-i.i) c.args.events.now c.loop-i.i (string_bytes c.loop-i.text) _ c.loop-i-test.false refl c.loop-i.invariant

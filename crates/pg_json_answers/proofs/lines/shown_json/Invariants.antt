@@ -5,5 +5,5 @@ use Rattle.pg_json_answers.proofs.lines.shown_json.Given as goal
 
 abbrev pub invariant-loop-i : goal.invariant-loop-i
 invariant-loop-i l =
-    string_bytes l.text ++ lines_where (is_shown l.filter l.events) l.i (drop l.i l.events)
-    ≡ shown_json l.filter l.events
+    string_bytes l.text ++ lines_where (is_shown l.selection l.events) l.i (drop l.i l.events)
+    ≡ shown_json l.selection l.events
