@@ -1,5 +1,5 @@
 -- A walk whose entries are all read at one moment.
-use Rattle.std.proofs.Common.{◌≡◌, ℕ, ◌-◌, ◌==◌, Bool, true, false, not, ◌&&◌, List, [], ◌∷◌, Option, Some, None, Result, Ok, refl, sym, ap, ◌∙◌, arith}
+use Rattle.std.proofs.Common.{◌≡◌, ℕ, ◌-◌, Bool, true, ◌&&◌, List, [], ◌∷◌, Some, Ok, refl, sym, ap, ◌∙◌, arith}
 use Rattle.std.proofs.lemmas.Bool.{eq-eqb}
 use Rattle.pg_entry.specs.declared.Kind.{Kind}
 use Rattle.pg_entry.specs.declared.Kind.TheVariants as kinds
@@ -13,11 +13,10 @@ use Rattle.pg_event.specs.Heads.{Head}
 use Rattle.pg_event.specs.Values.{mem_at, control_at}
 use Rattle.pg_event.specs.Walk.{Reading, below, root_of}
 use Rattle.pg_event.specs.Wants.{is_table, is_wanted}
-use Rattle.pg_event.specs.Witness.{any_from, survives, is_one_context, walked}
-use Rattle.pg_event.specs.Invalidation.{structure_key, must_drop_structure}
+use Rattle.pg_event.specs.Witness.{is_one_context, walked}
 use Rattle.pg_chain.specs.declared.steps.Chain.{Chain}
 use Rattle.pg_chain.specs.declared.steps.EntryRead.{EntryRead}
-use Rattle.pg_chain.specs.Walked.{chain_of, wanted_end, entry_read, parent_of, reading_of, readings_on, step_of, structures_kept}
+use Rattle.pg_chain.specs.Walked.{chain_of, wanted_end, entry_read, parent_of, reading_of, step_of, structures_kept}
 use Rattle.pg_chain.proofs.Walks.{wanted_end-start, wanted_end-next, wanted_end-last, chain_of-known}
 
 -- a table is present

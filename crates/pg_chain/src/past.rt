@@ -8,7 +8,6 @@ ghost use Rattle.pg_event.specs.Form.{processor_of};
 ghost use Rattle.pg_event.specs.Heads.{Head};
 ghost use Rattle.pg_event.specs.Spelling.{IsHead};
 ghost use Rattle.pg_event.specs.Values.{written, mem_at, control_at};
-ghost use Rattle.pg_event.specs.Invalidation.{structure_key, translation_key};
 ghost use Rattle.pg_event.specs.Invalidation.{must_drop_structure, must_drop_translation};
 ghost use Rattle.pg_event.specs.Witness.{survives};
 ghost use Rattle.pg_entry.specs.Kinds.{IsPageShift};
@@ -18,10 +17,10 @@ ghost use Rattle.pg_inval.specs.Lists.{IsFirstDrop};
 ghost use Rattle.pg_chain.specs.Standing.{IsPast, InEachRun, IsNext, processor_count};
 ghost use Rattle.pg_chain.specs.Standing.{changes_nothing};
 
-use pg_entry::{AccessKind, Cfg, Entry, Level, Rights, marked};
+use pg_entry::{AccessKind, Cfg, Entry, Rights, marked};
 use pg_event::{
-    Control, Event, Header, MemoryChange, Outcome, Request, TranslationKey, Version, processor_of,
-    structure_key,
+    Control, Event, Header, MemoryChange, Outcome, Request, StructureKey, TranslationKey, Version,
+    Window, processor_of,
 };
 use pg_inval::Drops;
 use pg_moment::Versions;
@@ -311,112 +310,78 @@ impl Past {
         self.controls.control_span(p, moment, probes)
     }
 
-    /// Whether the paging-structure-cache entry that level 4, 3 or 2 gives for a linear address
-    /// under a PCID survives on a processor from one moment up to, not with, another.
-    pub fn structure_survives(
-        &self,
-        p: u16,
-        pcid: u16,
-        level: Level,
-        la: u64,
-        from: u32,
-        to: u32,
-    ) -> bool
-        requires { IsTableLevel level }
-        ensures { let key = structure_key pcid level la in
-            InEachRun self.now (λ head events.
-            result ≡ survives head events p (λ c e. must_drop_structure c e key) from to) }
+    /// Whether a paging-structure-cache entry survives on a processor in a window.
+    pub fn structure_survives(&self, p: u16, key: StructureKey, window: Window) -> bool
+        requires { IsTableLevel key.level }
+        ensures { InEachRun self.now (λ head events.
+            result ≡ survives head events p
+            (λ c e. must_drop_structure c e key) window.from window.to) }
     {
-        self.structure_survives_counted(p, pcid, level, la, from, to, &mut Probes::new())
+        self.structure_survives_counted(p, key, window, &mut Probes::new())
     }
 
     /// The same, and counts what was read.
     pub(crate) fn structure_survives_counted(
         &self,
         p: u16,
-        pcid: u16,
-        level: Level,
-        la: u64,
-        from: u32,
-        to: u32,
+        key: StructureKey,
+        window: Window,
         probes: &mut Probes,
     ) -> bool
-        requires { IsTableLevel level }
-        ensures run { let key = structure_key pcid level la in
-            InEachRun self.now (λ head events.
-            result ≡ survives head events p (λ c e. must_drop_structure c e key) from to) }
+        requires { IsTableLevel key.level }
+        ensures run { InEachRun self.now (λ head events.
+            result ≡ survives head events p
+            (λ c e. must_drop_structure c e key) window.from window.to) }
         ensures probes { (probes.old ≤ probes.new) × (probes.new ≤ probes.old + 102) }
     {
-        !self
-            .drops
-            .structure_dropped_counted(p, pcid, level, la, from, to, probes)
+        !self.drops.structure_dropped_counted(p, key, window, probes)
     }
 
-    /// Whether no event from a moment on drops the paging-structure-cache entry that level 4, 3 or
-    /// 2 gives for a linear address under a PCID, as far as is told without a look into lists: it
-    /// may also say no where none does.
+    /// Whether no event from a moment on drops a paging-structure-cache entry, as far as is told
+    /// without a look into lists: it may also say no where none does.
     #[inline(always)]
-    pub(crate) fn structure_outlasts(
-        &self,
-        p: u16,
-        pcid: u16,
-        level: Level,
-        la: u64,
-        from: u32,
-    ) -> bool
-        requires { IsTableLevel level }
-        ensures { let key = structure_key pcid level la in
-            IsTrue result → (to : ℕ) → InEachRun self.now (λ head events.
+    pub(crate) fn structure_outlasts(&self, p: u16, key: StructureKey, from: u32) -> bool
+        requires { IsTableLevel key.level }
+        ensures { IsTrue result → (to : ℕ) → InEachRun self.now (λ head events.
             survives head events p (λ c e. must_drop_structure c e key) from to ≡ true) }
     {
-        self.drops
-            .structure_outlasts(p, structure_key(pcid, level, la), from)
+        self.drops.structure_outlasts(p, key, from)
     }
 
-    /// The first event from this moment on at which a processor had to drop the
-    /// paging-structure-cache entry that level 4, 3 or 2 gives for a linear address under a PCID.
+    /// The first event from this moment on at which a processor had to drop a
+    /// paging-structure-cache entry.
     pub fn first_drop_of_structure(
         &self,
         p: u16,
-        pcid: u16,
-        level: Level,
-        la: u64,
+        key: StructureKey,
         from: u32,
         probes: &mut Probes,
     ) -> Option<u32>
-        requires { IsTableLevel level }
-        ensures run { let key = structure_key pcid level la in
-            InEachRun self.now (λ head events.
-            IsFirstDrop
+        requires { IsTableLevel key.level }
+        ensures run { InEachRun self.now (λ head events. IsFirstDrop
             (λ a b. not (survives head events p (λ c e. must_drop_structure c e key) a b))
             from (2 ^ 32 - 1) result) }
         ensures probes { (probes.old ≤ probes.new) × (probes.new ≤ probes.old + 102) }
     {
-        self.drops
-            .first_drop_of_structure(p, pcid, level, la, from, u32::MAX, probes)
+        let window = Window { from, to: u32::MAX };
+        self.drops.first_drop_of_structure(p, key, window, probes)
     }
 
-    /// The first event from this moment on at which a processor had to drop the translation of a
-    /// linear address by a page of 2 to the power of `shift` bytes (12, 21 or 30) under a PCID.
+    /// The first event from this moment on at which a processor had to drop a translation.
     pub fn first_drop_of_translation(
         &self,
         p: u16,
-        pcid: u16,
-        shift: u8,
-        la: u64,
-        global: bool,
+        key: TranslationKey,
         from: u32,
         probes: &mut Probes,
     ) -> Option<u32>
-        requires { IsPageShift shift }
-        ensures run { let key = translation_key pcid shift global la in
-            InEachRun self.now (λ head events.
-            IsFirstDrop
+        requires { IsPageShift key.shift }
+        ensures run { InEachRun self.now (λ head events. IsFirstDrop
             (λ a b. not (survives head events p (λ c e. must_drop_translation c e key) a b))
             from (2 ^ 32 - 1) result) }
         ensures probes { (probes.old ≤ probes.new) × (probes.new ≤ probes.old + 102) }
     {
-        self.drops
-            .first_drop_of_translation(p, pcid, shift, la, global, from, u32::MAX, probes)
+        let window = Window { from, to: u32::MAX };
+        self.drops.first_drop_of_translation(p, key, window, probes)
     }
 }

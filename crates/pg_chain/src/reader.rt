@@ -2,7 +2,6 @@
 
 ghost use Rattle.std.specs.Prelude.{◌≡◌, ◌-◌, ◌<◌, ◌≤◌, ◌^◌, IfSome, not};
 ghost use Rattle.pg_event.specs.Values.{mem_at, control_at};
-ghost use Rattle.pg_event.specs.Invalidation.{structure_key, translation_key};
 ghost use Rattle.pg_event.specs.Invalidation.{must_drop_structure, must_drop_translation};
 ghost use Rattle.pg_event.specs.Witness.{survives};
 ghost use Rattle.pg_entry.specs.Kinds.{IsPageShift};
@@ -13,8 +12,8 @@ ghost use Rattle.pg_chain.specs.Known.{IsWord, IsSpell};
 
 use crate::past::Past;
 use crate::places::place_among;
-use pg_entry::{Cfg, Level};
-use pg_event::Control;
+use pg_entry::Cfg;
+use pg_event::{Control, StructureKey, TranslationKey, Window};
 use pg_timeline::{Probes, Span};
 use std::marker::Model;
 
@@ -269,55 +268,37 @@ impl<'a> Reader<'a> {
         }
     }
 
-    /// Whether the paging-structure-cache entry that level 4, 3 or 2 gives for a linear address
-    /// under a PCID survives on a processor from one moment up to, not with, another.
-    pub(crate) fn structure_survives(
-        &mut self,
-        p: u16,
-        pcid: u16,
-        level: Level,
-        la: u64,
-        from: u32,
-        to: u32,
-    ) -> bool
-        requires { IsTableLevel level }
+    /// Whether a paging-structure-cache entry survives on a processor in a window.
+    pub(crate) fn structure_survives(&mut self, p: u16, key: StructureKey, window: Window) -> bool
+        requires { IsTableLevel key.level }
         ensures past { self.new ≡ self.old }
-        ensures run { let key = structure_key pcid level la in
-            InEachRun self.old (λ head events.
-            result ≡ survives head events p (λ c e. must_drop_structure c e key) from to) }
+        ensures run { InEachRun self.old (λ head events.
+            result ≡ survives head events p
+            (λ c e. must_drop_structure c e key) window.from window.to) }
     {
         let before = self.probes.entries();
         let probes = &mut self.probes;
-        let survives = self
-            .past
-            .structure_survives_counted(p, pcid, level, la, from, to, probes);
+        let survives = self.past.structure_survives_counted(p, key, window, probes);
         let passed = self.probes.entries().saturating_sub(before);
         self.regions = self.regions.saturating_add(passed);
         survives
     }
 
-    /// The first event from this moment on at which a processor had to drop the translation of a
-    /// linear address by a page of 2 to the power of `shift` bytes (12, 21 or 30) under a PCID.
+    /// The first event from this moment on at which a processor had to drop a translation.
     pub fn first_drop_of_translation(
         &mut self,
         p: u16,
-        pcid: u16,
-        shift: u8,
-        la: u64,
-        global: bool,
+        key: TranslationKey,
         from: u32,
     ) -> Option<u32>
-        requires { IsPageShift shift }
+        requires { IsPageShift key.shift }
         ensures past { self.new ≡ self.old }
-        ensures run { let key = translation_key pcid shift global la in
-            InEachRun self.old (λ head events.
-            IsFirstDrop
+        ensures run { InEachRun self.old (λ head events. IsFirstDrop
             (λ a b. not (survives head events p (λ c e. must_drop_translation c e key) a b))
             from (2 ^ 32 - 1) result) }
     {
-        self.wide |= global || shift != 12;
+        self.wide |= key.global || key.shift != 12;
         let probes = &mut self.probes;
-        self.past
-            .first_drop_of_translation(p, pcid, shift, la, global, from, probes)
+        self.past.first_drop_of_translation(p, key, from, probes)
     }
 }

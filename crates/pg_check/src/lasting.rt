@@ -10,7 +10,7 @@ ghost use Rattle.pg_check.specs.Lasting.{IsLasting, IsAsked, IsWalk, IsFirstToPa
 
 use pg_chain::{Chain, Reader, chain_by, kind_at};
 use pg_entry::Kind;
-use pg_event::{Moments, Reason, Want};
+use pg_event::{Moments, Reason, Want, translation_key};
 
 /// A walk by moments, and what becomes of the translation that it gives.
 #[derive(Clone, Copy)]
@@ -114,11 +114,11 @@ pub fn asked_up_to(reader: &mut Reader<'_>, p: u16, la: u64, walk: Lasting, to: 
     match kind_at(reader.cfg(), chain.end) {
         Kind::Leaf { shift, .. } => {
             let from = unasked(walk);
-            let global = walk.global;
-            let first = reader.first_drop_of_translation(p, chain.pcid, shift, la, global, from);
+            let key = translation_key(chain.pcid, shift, walk.global, la);
+            let first = reader.first_drop_of_translation(p, key, from);
             Lasting {
                 chain,
-                global,
+                global: walk.global,
                 asked: to,
                 dropped: if_below(first, to),
             }

@@ -20,8 +20,8 @@ use crate::log::{LogEntry, forget_entries};
 use crate::packed::pack;
 use pg_entry::Level;
 use pg_event::{
-    Control, Event, Invalidation, StructureKey, TranslationKey, processor_of, structure_key,
-    translation_key,
+    Control, Event, Invalidation, StructureKey, TranslationKey, Window, processor_of,
+    structure_key, translation_key,
 };
 use pg_timeline::Probes;
 use std::alloc::{AllocError, Global};
@@ -219,60 +219,51 @@ impl Drops {
             (head : Head) (events : List Event) → StandsFor self.now head events →
             result ≡ not (survives head events p (λ c e. must_drop_structure c e key) from to) }
     {
-        self.structure_dropped_counted(p, pcid, level, la, from, to, &mut Probes::new())
+        let key = structure_key(pcid, level, la);
+        self.structure_dropped_counted(p, key, Window { from, to }, &mut Probes::new())
     }
 
-    /// The same, and counts the moments that were read in lists.
+    /// The same of the entry that a key names, and counts the moments that were read in lists.
     pub fn structure_dropped_counted(
         &self,
         p: u16,
-        pcid: u16,
-        level: Level,
-        la: u64,
-        from: u32,
-        to: u32,
+        key: StructureKey,
+        window: Window,
         probes: &mut Probes,
     ) -> bool
-        requires { IsTableLevel level }
-        ensures value { result
-            ≡ is_dropped self.now p (Structure (structure_key pcid level la)) from to }
-        ensures run { let key = structure_key pcid level la in
-            (head : Head) (events : List Event) → StandsFor self.now head events →
-            result ≡ not (survives head events p (λ c e. must_drop_structure c e key) from to) }
+        requires { IsTableLevel key.level }
+        ensures value { result ≡ is_dropped self.now p (Structure key) window.from window.to }
+        ensures run { (head : Head) (events : List Event) → StandsFor self.now head events →
+            result ≡ not (survives head events p
+            (λ c e. must_drop_structure c e key) window.from window.to) }
         ensures probes { (probes.old ≤ probes.new) × (probes.new ≤ probes.old + 102) }
     {
-        self.first_drop_of_structure(p, pcid, level, la, from, to, probes)
+        self.first_drop_of_structure(p, key, window, probes)
             .is_some()
     }
 
-    /// The least moment from `from` up to, not with, `to` at which processor `p` had to drop the
-    /// paging-structure-cache entry that level 4, 3 or 2 gave for a linear address under a PCID. It
-    /// counts the moments that were read.
+    /// The least moment of a window at which processor `p` had to drop a paging-structure-cache
+    /// entry. It counts the moments that were read.
     pub fn first_drop_of_structure(
         &self,
         p: u16,
-        pcid: u16,
-        level: Level,
-        la: u64,
-        from: u32,
-        to: u32,
+        key: StructureKey,
+        window: Window,
         probes: &mut Probes,
     ) -> Option<u32>
-        requires { IsTableLevel level }
+        requires { IsTableLevel key.level }
         ensures first { IsFirstDrop
-            (is_dropped self.now p (Structure (structure_key pcid level la))) from to result }
-        ensures run { let key = structure_key pcid level la in
-            (head : Head) (events : List Event) → StandsFor self.now head events →
+            (is_dropped self.now p (Structure key)) window.from window.to result }
+        ensures run { (head : Head) (events : List Event) → StandsFor self.now head events →
             IsFirstDrop
             (λ a b. not (survives head events p (λ c e. must_drop_structure c e key) a b))
-            from to result }
+            window.from window.to result }
         ensures probes { (probes.old ≤ probes.new) × (probes.new ≤ probes.old + 102) }
     {
-        let key = structure_key(pcid, level, la);
-        if self.structure_outlasts(p, key, from) {
+        if self.structure_outlasts(p, key, window.from) {
             return None;
         }
-        self.listed_structure_drop(p, key, from, to, probes)
+        self.listed_structure_drop(p, key, window, probes)
     }
 
     /// The least moment of a window at which an entry is dropped, by the lists of its keys.
@@ -280,22 +271,22 @@ impl Drops {
         &self,
         p: u16,
         key: StructureKey,
-        from: u32,
-        to: u32,
+        window: Window,
         probes: &mut Probes,
     ) -> Option<u32>
         requires { IsTableLevel key.level }
-        ensures first { IsFirstDrop (is_dropped self.now p (Structure key)) from to result }
+        ensures first { IsFirstDrop
+            (is_dropped self.now p (Structure key)) window.from window.to result }
         ensures run { (head : Head) (events : List Event) → StandsFor self.now head events →
             IsFirstDrop
             (λ a b. not (survives head events p (λ c e. must_drop_structure c e key) a b))
-            from to result }
+            window.from window.to result }
         ensures probes { (probes.old ≤ probes.new) × (probes.new ≤ probes.old + 102) }
     {
         let keys = structure_keys(p, key);
         let log = self.log.as_slice();
         self.listed
-            .first_between(&self.lasts, log, &keys, from, to, probes)
+            .first_between(&self.lasts, log, &keys, window, probes)
     }
 
     /// Whether processor `p` had to drop the translation of a linear address by a page of 2 to the
@@ -318,64 +309,52 @@ impl Drops {
             (head : Head) (events : List Event) → StandsFor self.now head events →
             result ≡ not (survives head events p (λ c e. must_drop_translation c e key) from to) }
     {
-        let mut probes = Probes::new();
-        self.translation_dropped_counted(p, pcid, shift, la, global, from, to, &mut probes)
+        let key = translation_key(pcid, shift, global, la);
+        self.translation_dropped_counted(p, key, Window { from, to }, &mut Probes::new())
     }
 
-    /// The same, and counts the moments that were read in lists.
+    /// The same of the translation that a key names, and counts the moments that were read in
+    /// lists.
     pub fn translation_dropped_counted(
         &self,
         p: u16,
-        pcid: u16,
-        shift: u8,
-        la: u64,
-        global: bool,
-        from: u32,
-        to: u32,
+        key: TranslationKey,
+        window: Window,
         probes: &mut Probes,
     ) -> bool
-        requires { IsPageShift shift }
-        ensures value { result
-            ≡ is_dropped self.now p (Translation (translation_key pcid shift global la)) from to }
-        ensures run { let key = translation_key pcid shift global la in
-            (head : Head) (events : List Event) → StandsFor self.now head events →
-            result ≡ not (survives head events p (λ c e. must_drop_translation c e key) from to) }
+        requires { IsPageShift key.shift }
+        ensures value { result ≡ is_dropped self.now p (Translation key) window.from window.to }
+        ensures run { (head : Head) (events : List Event) → StandsFor self.now head events →
+            result ≡ not (survives head events p
+            (λ c e. must_drop_translation c e key) window.from window.to) }
         ensures probes { (probes.old ≤ probes.new) × (probes.new ≤ probes.old + 102) }
     {
-        self.first_drop_of_translation(p, pcid, shift, la, global, from, to, probes)
+        self.first_drop_of_translation(p, key, window, probes)
             .is_some()
     }
 
-    /// The least moment from `from` up to, not with, `to` at which processor `p` had to drop the
-    /// translation of a linear address by a page of 2 to the power of `shift` bytes (12, 21 or 30)
-    /// under a PCID. It counts the moments that were read.
+    /// The least moment of a window at which processor `p` had to drop a translation. It counts the
+    /// moments that were read.
     pub fn first_drop_of_translation(
         &self,
         p: u16,
-        pcid: u16,
-        shift: u8,
-        la: u64,
-        global: bool,
-        from: u32,
-        to: u32,
+        key: TranslationKey,
+        window: Window,
         probes: &mut Probes,
     ) -> Option<u32>
-        requires { IsPageShift shift }
+        requires { IsPageShift key.shift }
         ensures first { IsFirstDrop
-            (is_dropped self.now p (Translation (translation_key pcid shift global la)))
-            from to result }
-        ensures run { let key = translation_key pcid shift global la in
-            (head : Head) (events : List Event) → StandsFor self.now head events →
+            (is_dropped self.now p (Translation key)) window.from window.to result }
+        ensures run { (head : Head) (events : List Event) → StandsFor self.now head events →
             IsFirstDrop
             (λ a b. not (survives head events p (λ c e. must_drop_translation c e key) a b))
-            from to result }
+            window.from window.to result }
         ensures probes { (probes.old ≤ probes.new) × (probes.new ≤ probes.old + 102) }
     {
-        let key = translation_key(pcid, shift, global, la);
-        if self.translation_outlasts(p, key, from) {
+        if self.translation_outlasts(p, key, window.from) {
             return None;
         }
-        self.listed_translation_drop(p, key, from, to, probes)
+        self.listed_translation_drop(p, key, window, probes)
     }
 
     /// The least moment of a window at which a translation is dropped, by the lists of its keys.
@@ -383,21 +362,21 @@ impl Drops {
         &self,
         p: u16,
         key: TranslationKey,
-        from: u32,
-        to: u32,
+        window: Window,
         probes: &mut Probes,
     ) -> Option<u32>
         requires { IsPageShift key.shift }
-        ensures first { IsFirstDrop (is_dropped self.now p (Translation key)) from to result }
+        ensures first { IsFirstDrop
+            (is_dropped self.now p (Translation key)) window.from window.to result }
         ensures run { (head : Head) (events : List Event) → StandsFor self.now head events →
             IsFirstDrop
             (λ a b. not (survives head events p (λ c e. must_drop_translation c e key) a b))
-            from to result }
+            window.from window.to result }
         ensures probes { (probes.old ≤ probes.new) × (probes.new ≤ probes.old + 102) }
     {
         let keys = translation_keys(p, key);
         let log = self.log.as_slice();
         self.listed
-            .first_between(&self.lasts, log, keys.as_slice(), from, to, probes)
+            .first_between(&self.lasts, log, keys.as_slice(), window, probes)
     }
 }

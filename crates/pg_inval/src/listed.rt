@@ -10,6 +10,7 @@ use crate::key::DropKey;
 use crate::lasts::Lasts;
 use crate::lists::Lists;
 use crate::log::LogEntry;
+use pg_event::Window;
 use pg_timeline::Probes;
 use std::alloc::Global;
 
@@ -83,82 +84,80 @@ impl Listed {
         self.spaces.forget_from(moment, left);
     }
 
-    /// The least moment of a key from one up to, not with, another. Where its last moment is before
-    /// them, neither its list nor the log is looked at.
+    /// The least moment of a key in a window. Where its last moment is before the window, neither
+    /// its list nor the log is looked at.
     fn first_at(
         &self,
         lasts: &Lasts,
         log: &[LogEntry],
         key: DropKey,
-        from: u32,
-        to: u32,
+        window: Window,
         probes: &mut Probes,
     ) -> Option<u32>
         requires bounded { AreBounded lasts.now log.now }
         requires listed { AreListed log.now self.now }
         requires rising { IsRisingFrom 0 log.now }
-        ensures least { IsLeastBetween (has_drop log.now key) from to result }
+        ensures least { IsLeastBetween (has_drop log.now key) window.from window.to result }
         ensures probes { (probes.old ≤ probes.new) × (probes.new ≤ probes.old + 34) }
     {
-        if lasts.is_over(key, from) {
+        if lasts.is_over(key, window.from) {
             return None;
         }
         match class_of(key) {
-            Class::Pages => self.pages.first_between(log, key, from, to, probes),
-            Class::LargePages => self.large_pages.first_between(log, key, from, to, probes),
-            Class::GlobalPages => self.global_pages.first_between(log, key, from, to, probes),
-            Class::Regions => self.regions.first_between(log, key, from, to, probes),
-            Class::Spaces => self.spaces.first_between(log, key, from, to, probes),
+            Class::Pages => self.pages.first_between(log, key, window, probes),
+            Class::LargePages => self.large_pages.first_between(log, key, window, probes),
+            Class::GlobalPages => self.global_pages.first_between(log, key, window, probes),
+            Class::Regions => self.regions.first_between(log, key, window, probes),
+            Class::Spaces => self.spaces.first_between(log, key, window, probes),
         }
     }
 
-    /// The least moment of some keys from one up to, not with, another. A moment that was found
-    /// ends the search of the keys after it: only an earlier one is of use.
+    /// The least moment of some keys in a window. A moment that was found ends the search of the
+    /// keys after it: only an earlier one is of use.
     fn first_among(
         &self,
         lasts: &Lasts,
         log: &[LogEntry],
         keys: &[DropKey],
-        from: u32,
-        to: u32,
+        window: Window,
         probes: &mut Probes,
     ) -> Option<u32>
         requires bounded { AreBounded lasts.now log.now }
         requires listed { AreListed log.now self.now }
         requires rising { IsRisingFrom 0 log.now }
-        ensures least { IsLeastBetween (has_among log.now keys.now) from to result }
+        ensures least { IsLeastBetween (has_among log.now keys.now) window.from window.to result }
         ensures probes { (probes.old ≤ probes.new)
             × (probes.new ≤ probes.old + 34 * length keys.now) }
     {
         let mut found = None;
         for key in keys {
-            let end = found.unwrap_or(to);
-            found = self.first_at(lasts, log, *key, from, end, probes).or(found);
+            let to = found.unwrap_or(window.to);
+            let left = Window { to, ..window };
+            found = self.first_at(lasts, log, *key, left, probes).or(found);
         }
         found
     }
 
-    /// The least moment of some keys from one up to, not with, another. Where no moment lies
-    /// between, as between levels that were read at once, no list is searched.
+    /// The least moment of some keys in a window. Where the window is empty, as between levels that
+    /// were read at once, no list is searched.
     pub(crate) fn first_between(
         &self,
         lasts: &Lasts,
         log: &[LogEntry],
         keys: &[DropKey],
-        from: u32,
-        to: u32,
+        window: Window,
         probes: &mut Probes,
     ) -> Option<u32>
         requires bounded { AreBounded lasts.now log.now }
         requires listed { AreListed log.now self.now }
         requires rising { IsRisingFrom 0 log.now }
-        ensures first { IsFirstDrop (has_between log.now keys.now) from to result }
+        ensures first { IsFirstDrop (has_between log.now keys.now) window.from window.to result }
         ensures probes { (probes.old ≤ probes.new)
             × (probes.new ≤ probes.old + 34 * length keys.now) }
     {
-        if from >= to {
+        if window.from >= window.to {
             return None;
         }
-        self.first_among(lasts, log, keys, from, to, probes)
+        self.first_among(lasts, log, keys, window, probes)
     }
 }

@@ -14,6 +14,7 @@ use crate::dropped::keys_in;
 use crate::key::DropKey;
 use crate::log::{LogEntry, first_in};
 use crate::packed::invalidation_of;
+use pg_event::Window;
 use pg_timeline::{Probes, Timeline};
 use std::alloc::{AllocError, Global};
 use std::collections::HashMap;
@@ -149,24 +150,23 @@ impl Lists {
         self.known = self.known.min(left);
     }
 
-    /// The least moment of a key from one up to, not with, another. Where the lists have none, it is
-    /// looked for in what they lack of the log: that is later than all that they have.
+    /// The least moment of a key in a window. Where the lists have none, it is looked for in what
+    /// they lack of the log: that is later than all that they have.
     pub(crate) fn first_between(
         &self,
         log: &[LogEntry],
         key: DropKey,
-        from: u32,
-        to: u32,
+        window: Window,
         probes: &mut Probes,
     ) -> Option<u32>
         requires listed { IsListed (class_of key) log.now self.now.known self.now.by_key.entries }
         requires rising { IsRisingFrom 0 log.now }
-        ensures least { IsLeastBetween (has_drop log.now key) from to result }
+        ensures least { IsLeastBetween (has_drop log.now key) window.from window.to result }
         ensures probes { (probes.old ≤ probes.new) × (probes.new ≤ probes.old + 34) }
     {
-        match below(first_at(&self.by_key, key, from, probes), to) {
+        match below(first_at(&self.by_key, key, window.from, probes), window.to) {
             Some(moment) => Some(moment),
-            None => first_in(&log[self.known..], key, from, to, probes),
+            None => first_in(&log[self.known..], key, window, probes),
         }
     }
 }

@@ -11,6 +11,7 @@ use crate::class::class_of;
 use crate::dropped::keys_in;
 use crate::key::DropKey;
 use crate::packed::{Packed, invalidation_of};
+use pg_event::Window;
 use pg_timeline::Probes;
 
 /// What one event dropped from the caches of its processor `p`.
@@ -90,19 +91,19 @@ fn first_of(log: &[LogEntry], key: DropKey, to: u32, probes: &mut Probes) -> Opt
     }
 }
 
-/// The least moment from one up to, not with, another at which some entries have a key.
+/// The least moment of a window at which some entries have a key.
 pub(crate) fn first_in(
     log: &[LogEntry],
     key: DropKey,
-    from: u32,
-    to: u32,
+    window: Window,
     probes: &mut Probes,
 ) -> Option<u32>
     requires { IsRisingFrom 0 log.now }
-    ensures least { IsLeastBetween (has_drop log.now key) from to result }
+    ensures least { IsLeastBetween (has_drop log.now key) window.from window.to result }
     ensures probes { probes.new ≡ probes.old }
 {
-    first_of(&log[count_below(log, from)..], key, to, probes)
+    let start = count_below(log, window.from);
+    first_of(&log[start..], key, window.to, probes)
 }
 
 /// Forgets the entries from a moment on.

@@ -1,6 +1,6 @@
 use crate::written::{Written, event_of};
 use pg_entry::Level;
-use pg_event::{Control, Event, Outcome};
+use pg_event::{Control, Event, Outcome, Window, translation_key};
 use pg_inval::Drops;
 use pg_timeline::Probes;
 use std::alloc::{AllocError, Global};
@@ -197,7 +197,9 @@ fn structures(rt: HostRuntime) -> Result<(), Fail> {
 fn drops_are_listed(rt: HostRuntime) -> Result<(), Fail> {
     let drops = noted(rt.alloc(), &event_of(&INVLPG).ok_or("moments")?)?;
     let mut probes = Probes::new();
-    let dropped = drops.translation_dropped_counted(0, 1, 12, LA, false, 5, 6, &mut probes);
+    let key = translation_key(1, 12, false, LA);
+    let window = Window { from: 5, to: 6 };
+    let dropped = drops.translation_dropped_counted(0, key, window, &mut probes);
     let count = probes.count();
     assert!(rt; dropped && count >= 1 && probes.entries() == 0, "{count}");
     Ok(())
@@ -211,7 +213,9 @@ fn drops_are_found_in_the_log(rt: HostRuntime) -> Result<(), Fail> {
     drops.note_later(5, &event_of(&INVLPG_NEXT).ok_or("moments")?, BEFORE)?;
     drops.note_later(6, &event_of(&INVLPG).ok_or("moments")?, BEFORE)?;
     let mut probes = Probes::new();
-    let first = drops.first_drop_of_translation(0, 1, 12, LA, false, 5, 9, &mut probes);
+    let key = translation_key(1, 12, false, LA);
+    let window = Window { from: 5, to: 9 };
+    let first = drops.first_drop_of_translation(0, key, window, &mut probes);
     let entries = probes.entries();
     assert!(rt;
         first == Some(6) && probes.count() == 0 && entries == 1,

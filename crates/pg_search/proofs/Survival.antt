@@ -1,12 +1,16 @@
 -- Survival from one moment to another, and what it says of each event between.
-use Rattle.std.proofs.Common.{◌≡◌, ℕ, zero, suc, ◌+◌, ◌-◌, ◌<◌, ◌≤◌, Bool, ◌||◌, List, refl, ap, sym, ◌∙◌, true, false, inl, inr, arith}
+use Rattle.std.proofs.Common.{◌≡◌, ℕ, zero, suc, ◌+◌, ◌-◌, ◌^◌, ◌<◌, ◌≤◌, Bool, not, ◌||◌, List, Option, refl, ap, sym, ◌∙◌, true, false, inl, inr, arith}
 use Rattle.std.specs.Prelude.{slice_get}
 use Rattle.std.proofs.lemmas.Bool.{cases_Bool, not-true, not_from_false}
 use Rattle.pg_event.specs.declared.control.Control.{Control}
 use Rattle.pg_event.specs.declared.event.Event.{Event}
+use Rattle.pg_event.specs.declared.keys.StructureKey.{StructureKey}
+use Rattle.pg_event.specs.declared.keys.TranslationKey.{TranslationKey}
 use Rattle.pg_event.specs.Heads.{Head}
+use Rattle.pg_event.specs.Invalidation.{must_drop_structure, must_drop_translation}
 use Rattle.pg_event.specs.Values.{control_at}
 use Rattle.pg_event.specs.Witness.{any_from, takes_out, survives}
+use Rattle.pg_inval.specs.Lists.{IsFirstDrop}
 use Rattle.pg_run_of.proofs.Kept.{any_more, survives_none}
 use Rattle.pg_run_of.proofs.Standing.{none_from}
 use Rattle.pg_search.specs.Lasts.{stays}
@@ -65,3 +69,14 @@ dropped_at head all p test from first to low high h =
   where
     apart : {b : Bool} → b ≡ true → b ≡ false → ⊥
     apart h k = cc
+
+-- the first event from a moment on that drops an entry
+
+abbrev pub IsDropOf : Head → List Event → ℕ → ℕ → Option ℕ → (Control → Event → Bool) → Type 0
+IsDropOf head all p from found test = IsFirstDrop (λ a b. not (survives head all p test a b)) from (2 ^ 32 - 1) found
+
+abbrev pub IsStructureDrop : Head → List Event → ℕ → ℕ → Option ℕ → StructureKey → Type 0
+IsStructureDrop head all p from found key = IsDropOf head all p from found (λ c e. must_drop_structure c e key)
+
+abbrev pub IsTranslationDrop : Head → List Event → ℕ → ℕ → Option ℕ → TranslationKey → Type 0
+IsTranslationDrop head all p from found key = IsDropOf head all p from found (λ c e. must_drop_translation c e key)

@@ -19,7 +19,7 @@ use crate::lookup::Lookup;
 use pg_chain::Past;
 use pg_check::{History, Memo, Stretch};
 use pg_entry::Level;
-use pg_event::{Control, Event, Header};
+use pg_event::{Control, Event, Header, Window, structure_key, translation_key};
 use pg_timeline::{Probes, Span};
 use std::marker::Model;
 
@@ -146,8 +146,9 @@ impl<'a> Seen<'a> {
             result ≡ survives self.now.head self.now.events lookup.p
             (λ c e. must_drop_structure c e key) from to }
     {
-        let Lookup { p, pcid, la } = lookup;
-        self.past.structure_survives(p, pcid, level, la, from, to)
+        let key = structure_key(lookup.pcid, level, lookup.la);
+        self.past
+            .structure_survives(lookup.p, key, Window { from, to })
     }
 
     /// The last moment, from this one on, up to which that entry survives; the greatest of all
@@ -158,10 +159,10 @@ impl<'a> Seen<'a> {
             IsEnd (λ w. survives self.now.head self.now.events lookup.p
             (λ c e. must_drop_structure c e key) from w) from result }
     {
-        let Lookup { p, pcid, la } = lookup;
+        let key = structure_key(lookup.pcid, level, lookup.la);
         let mut probes = Probes::new();
         let past = self.past;
-        match past.first_drop_of_structure(p, pcid, level, la, from, &mut probes) {
+        match past.first_drop_of_structure(lookup.p, key, from, &mut probes) {
             Some(first) => first,
             None => u32::MAX,
         }
@@ -183,10 +184,10 @@ impl<'a> Seen<'a> {
             result ≡ survives self.now.head self.now.events lookup.p
             (λ c e. must_drop_translation c e key) from to }
     {
-        let Lookup { p, pcid, la } = lookup;
+        let key = translation_key(lookup.pcid, shift, global, lookup.la);
         let mut probes = Probes::new();
         let past = self.past;
-        match past.first_drop_of_translation(p, pcid, shift, la, global, from, &mut probes) {
+        match past.first_drop_of_translation(lookup.p, key, from, &mut probes) {
             Some(first) => first >= to,
             None => true,
         }
@@ -200,10 +201,10 @@ impl<'a> Seen<'a> {
             IsEnd (λ w. survives self.now.head self.now.events lookup.p
             (λ c e. must_drop_translation c e key) from w) from result }
     {
-        let Lookup { p, pcid, la } = lookup;
+        let key = translation_key(lookup.pcid, shift, global, lookup.la);
         let mut probes = Probes::new();
         let past = self.past;
-        match past.first_drop_of_translation(p, pcid, shift, la, global, from, &mut probes) {
+        match past.first_drop_of_translation(lookup.p, key, from, &mut probes) {
             Some(first) => first,
             None => u32::MAX,
         }

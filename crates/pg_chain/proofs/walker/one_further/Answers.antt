@@ -1,16 +1,13 @@
-use Rattle.std.proofs.Common.{◌≡◌, Bool, true, ◌==◌, List, sym, ap, subst, ◌∙◌}
+use Rattle.std.proofs.Common.{◌≡◌, Bool, true, ◌==◌, sym, ap, ◌∙◌}
 use Rattle.std.proofs.lemmas.Bool.{eq-eqb}
 use Rattle.pg_entry.specs.declared.Cfg.{Cfg}
 use Rattle.pg_entry.specs.declared.Kind.{Kind}
 use Rattle.pg_event.specs.declared.event.Want.{Want}
 use Rattle.pg_entry.specs.Kinds.{kind_of}
-use Rattle.pg_event.specs.declared.event.Event.{Event}
 use Rattle.pg_event.specs.declared.control.Control.{Control}
 use Rattle.pg_event.specs.Heads.{Head}
 use Rattle.pg_event.specs.Wants.{is_table, is_wanted}
 use Rattle.pg_chain.specs.declared.steps.Chain.{Chain}
-use Rattle.pg_chain.specs.declared.past.Past.{Past}
-use Rattle.pg_chain.specs.Standing.{IsPast}
 use Rattle.pg_chain.proofs.Further.{further-made, table-level}
 use Rattle.pg_chain.proofs.walker.one_further.Goals as goal
 

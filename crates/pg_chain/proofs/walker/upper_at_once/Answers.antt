@@ -4,7 +4,7 @@ use Rattle.pg_entry.specs.declared.Level.TheVariants.{Four, Three, Two}
 use Rattle.pg_entry.specs.Kinds.{kind_of, accessed}
 use Rattle.pg_event.specs.declared.walk.Parent.{Parent}
 use Rattle.pg_event.specs.declared.event.Reason.{Reason}
-use Rattle.pg_event.specs.Values.{mem_at, control_at}
+use Rattle.pg_event.specs.Values.{mem_at}
 use Rattle.pg_event.specs.Wants.{is_table}
 use Rattle.pg_chain.specs.declared.steps.Chain.{Chain}
 use Rattle.pg_chain.specs.Walked.{entry_read, parent_of, reading_of}

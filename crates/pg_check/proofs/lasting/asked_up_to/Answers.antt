@@ -2,9 +2,10 @@ use Rattle.std.proofs.Common.{◌≡◌, ◌-◌, ◌^◌, sym, ap, subst, ◌�
 use Rattle.pg_entry.specs.declared.Cfg.{Cfg}
 use Rattle.pg_entry.specs.declared.Kind.{Kind}
 use Rattle.pg_entry.specs.Kinds.{kind_of}
+use Rattle.pg_event.specs.declared.keys.TranslationKey.{TranslationKey}
 use Rattle.pg_event.specs.Invalidation.{translation_key}
 use Rattle.pg_check.specs.declared.lasting.Lasting.{Lasting}
-use Rattle.pg_check.specs.Lasting.{LastsTo}
+use Rattle.pg_check.specs.Lasting.{IsFirstToPass, LastsTo}
 use Rattle.pg_check.proofs.Lastings.{nothing_lasts, drops_at, asked_so_far}
 use Rattle.pg_check.proofs.lasting.asked_up_to.Goals as goal
 
@@ -21,11 +22,13 @@ returns-in-Leaf-clause-lasting c = λ head events h lasts.
     c.kind_at.ensures.kind ∙ ap (λ (x : Cfg). kind_of x chain.end.level chain.end.value) (c.cfg.ensures.run head events h) in
     let was = subst (λ (k : Kind). LastsTo head events c.args.p c.args.la walk k) (sym kind ∙ c.in-Leaf.is) lasts in
     let key = translation_key chain.pcid c.in-Leaf.shift walk.global c.args.la in
+    let found = subst (λ (k : TranslationKey). IsFirstToPass (drops_at head events c.args.p k) c.unasked-from.result (2 ^ 32 - 1) c.first_drop_of_translation-first.result)
+    c.translation_key-key.ensures (c.first_drop_of_translation-first.ensures.run head events h) in
     subst (λ (k : Kind). LastsTo head events c.args.p c.args.la (record { chain = chain; global = walk.global; asked = c.args.to; dropped = c.if_below.result }) k)
     (sym c.in-Leaf.is ∙ kind) (
       was.0,
       c.if_below.ensures (drops_at head events c.args.p key) chain.end.moment
-          (c.unasked-from.ensures (drops_at head events c.args.p key) (2 ^ 32 - 1) c.first_drop_of_translation-first.result was.1 (c.first_drop_of_translation-first.ensures.run head events h)),
+          (c.unasked-from.ensures (drops_at head events c.args.p key) (2 ^ 32 - 1) c.first_drop_of_translation-first.result was.1 found),
     )
 
 pub returns-in-Table : goal.returns-in-Table

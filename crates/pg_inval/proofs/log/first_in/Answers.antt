@@ -9,8 +9,8 @@ use Rattle.pg_inval.proofs.log.first_in.Goals as goal
 pub returns-clause-least : goal.returns-clause-least
 returns-clause-least c =
     let log = c.args.log.now in
-    let start = c.count_below.result in
-    let late : IsRisingFrom c.args.from (drop start log) → IsLeastBetween (has_drop (drop start log) c.args.key) c.args.from c.args.to c.first_of.result
-    = subst (λ (es : List LogEntry). IsRisingFrom c.args.from es → IsLeastBetween (has_drop es c.args.key) c.args.from c.args.to c.first_of.result) (take_rest start log) (c.first_of.ensures.least c.args.from) in
-    IsLeastBetween-same (has_drop (drop start log) c.args.key) (has_drop log c.args.key) c.args.from c.args.to c.first_of.result
-    (λ j low. has_drop-from start c.args.from log c.args.key j c.count_below.ensures.below low) (late c.count_below.ensures.rest)
+    let start = c.count_below-start.result in
+    let late : IsRisingFrom c.args.window.from (drop start log) → IsLeastBetween (has_drop (drop start log) c.args.key) c.args.window.from c.args.window.to c.first_of.result
+    = subst (λ (es : List LogEntry). IsRisingFrom c.args.window.from es → IsLeastBetween (has_drop es c.args.key) c.args.window.from c.args.window.to c.first_of.result) (take_rest start log) (c.first_of.ensures.least c.args.window.from) in
+    IsLeastBetween-same (has_drop (drop start log) c.args.key) (has_drop log c.args.key) c.args.window.from c.args.window.to c.first_of.result
+    (λ j low. has_drop-from start c.args.window.from log c.args.key j c.count_below-start.ensures.below low) (late c.count_below-start.ensures.rest)

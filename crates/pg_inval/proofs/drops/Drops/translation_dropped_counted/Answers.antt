@@ -1,5 +1,4 @@
 use Rattle.std.proofs.Common.{◌∙◌}
-use Rattle.pg_event.specs.Invalidation.{translation_key}
 use Rattle.pg_inval.specs.Lists.{has_among}
 use Rattle.pg_inval.specs.Drops.{Translation, keys_of}
 use Rattle.pg_inval.proofs.AnyFrom.{is_some-dropped}
@@ -7,11 +6,11 @@ use Rattle.pg_inval.proofs.drops.Drops.translation_dropped_counted.Goals as goal
 
 pub returns-clause-value : goal.returns-clause-value
 returns-clause-value c =
-    let x = Translation (translation_key c.args.pcid c.args.shift c.args.global c.args.la) in
+    let x = Translation c.args.key in
     c.is_some.ensures
-    ∙ is_some-dropped (has_among c.args.self.now.entries (keys_of c.args.p x)) c.args.from c.args.to c.first_drop_of_translation.result c.first_drop_of_translation.ensures.first
+    ∙ is_some-dropped (has_among c.args.self.now.entries (keys_of c.args.p x)) c.args.window.from c.args.window.to c.first_drop_of_translation.result c.first_drop_of_translation.ensures.first
 
 pub returns-clause-run : goal.returns-clause-run
 returns-clause-run c = λ head events stands.
-    let x = Translation (translation_key c.args.pcid c.args.shift c.args.global c.args.la) in
-    returns-clause-value c ∙ stands.drops c.args.p x c.args.from c.args.to c.requires
+    let x = Translation c.args.key in
+    returns-clause-value c ∙ stands.drops c.args.p x c.args.window.from c.args.window.to c.requires

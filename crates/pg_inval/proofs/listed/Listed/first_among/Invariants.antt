@@ -4,5 +4,5 @@ use Rattle.pg_inval.proofs.listed.Listed.first_among.Given as goal
 
 abbrev pub invariant-loop-key : goal.invariant-loop-key
 invariant-loop-key l =
-    IsLeastBetween (has_among l.fn.log (take l.key-index l.fn.keys)) l.fn.from l.fn.to l.found
+    IsLeastBetween (has_among l.fn.log (take l.key-index l.fn.keys)) l.fn.window.from l.fn.window.to l.found
     × (l.fn.probes ≤ l.probes) × (l.probes ≤ l.fn.probes + 34 * l.key-index)

@@ -26,17 +26,17 @@ returns-in-Some-clause-least c =
     let known = c.args.self.now.known in
     let lists = c.args.self.now.by_key.entries in
     let key = c.args.key in
-    let from = c.args.from in
+    let from = c.args.window.from in
     let m = c.in-Some.moment in
     let stamps = stamps_in is_same_key lists key in
-    let listed : IsLeastBetween (has_moment stamps) from c.args.to (Some m) =
-    subst (λ o. IsLeastBetween (has_moment stamps) from c.args.to o) c.in-Some.is (c.below.ensures _ from c.first_at.ensures.least) in
+    let listed : IsLeastBetween (has_moment stamps) from c.args.window.to (Some m) =
+    subst (λ o. IsLeastBetween (has_moment stamps) from c.args.window.to o) c.in-Some.is (c.below.ensures _ from c.first_at.ensures.least) in
     let taken : has_drop (take known log) key m ≡ true = IsListed-taken key log known lists m c.requires.listed ∙ listed.2 in
     let rest : IsLeastBetween (has_drop (drop known log) key) from m None = λ j low high.
     has_drop-after 0 known log key m j c.requires.rising taken (omega (arith, high)) in
-    IsLeastBetween-same (λ j. has_moment stamps j || has_drop (drop known log) key j) (has_drop log key) from c.args.to (Some m)
+    IsLeastBetween-same (λ j. has_moment stamps j || has_drop (drop known log) key j) (has_drop log key) from c.args.window.to (Some m)
     (λ j low. IsListed-parts key log known lists j c.requires.listed)
-    (IsLeastBetween-both _ _ from c.args.to (Some m) None listed rest)
+    (IsLeastBetween-both _ _ from c.args.window.to (Some m) None listed rest)
 
 pub returns-in-None-clause-least : goal.returns-in-None-clause-least
 returns-in-None-clause-least c =
@@ -44,13 +44,13 @@ returns-in-None-clause-least c =
     let known = c.args.self.now.known in
     let lists = c.args.self.now.by_key.entries in
     let key = c.args.key in
-    let from = c.args.from in
+    let from = c.args.window.from in
     let stamps = stamps_in is_same_key lists key in
-    let listed : IsLeastBetween (has_moment stamps) from c.args.to None =
-    subst (λ o. IsLeastBetween (has_moment stamps) from c.args.to o) c.in-None.is (c.below.ensures _ from c.first_at.ensures.least) in
-    let rest : IsLeastBetween (has_drop (drop known log) key) from c.args.to c.first_in.result =
-    subst (λ (es : List LogEntry). IsLeastBetween (has_drop es key) from c.args.to c.first_in.result) (take_rest known log) c.first_in.ensures.least in
-    IsLeastBetween-same (λ j. has_moment stamps j || has_drop (drop known log) key j) (has_drop log key) from c.args.to c.first_in.result
+    let listed : IsLeastBetween (has_moment stamps) from c.args.window.to None =
+    subst (λ o. IsLeastBetween (has_moment stamps) from c.args.window.to o) c.in-None.is (c.below.ensures _ from c.first_at.ensures.least) in
+    let rest : IsLeastBetween (has_drop (drop known log) key) from c.args.window.to c.first_in.result =
+    subst (λ (es : List LogEntry). IsLeastBetween (has_drop es key) from c.args.window.to c.first_in.result) (take_rest known log) c.first_in.ensures.least in
+    IsLeastBetween-same (λ j. has_moment stamps j || has_drop (drop known log) key j) (has_drop log key) from c.args.window.to c.first_in.result
     (λ j low. IsListed-parts key log known lists j c.requires.listed)
-    (subst (λ o. IsLeastBetween (λ j. has_moment stamps j || has_drop (drop known log) key j) from c.args.to o) (or_none c.first_in.result)
-    (IsLeastBetween-both _ _ from c.args.to None c.first_in.result listed rest))
+    (subst (λ o. IsLeastBetween (λ j. has_moment stamps j || has_drop (drop known log) key j) from c.args.window.to o) (or_none c.first_in.result)
+    (IsLeastBetween-both _ _ from c.args.window.to None c.first_in.result listed rest))

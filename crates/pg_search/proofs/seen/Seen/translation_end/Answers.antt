@@ -1,4 +1,4 @@
-use Rattle.std.proofs.Common.{◌≡◌, ◌≤◌, Bool, true, false, List, not, subst, inl, inr, arith}
+use Rattle.std.proofs.Common.{◌≡◌, ◌≤◌, Bool, true, false, List, Some, None, not, subst, inl, inr, arith}
 use Rattle.std.proofs.lemmas.Bool.{cases_lt}
 use Rattle.pg_event.specs.Heads.{Head}
 use Rattle.pg_event.specs.Spelling.{Recorded}
@@ -6,7 +6,7 @@ use Rattle.pg_event.specs.declared.control.Control.{Control}
 use Rattle.pg_event.specs.declared.event.Event.{Event}
 use Rattle.pg_event.specs.Invalidation.{translation_key, must_drop_translation}
 use Rattle.pg_chain.specs.Standing.{IsPast}
-use Rattle.pg_search.proofs.Survival.{dropped_at}
+use Rattle.pg_search.proofs.Survival.{dropped_at, IsTranslationDrop}
 use Rattle.pg_search.proofs.seen.Seen.translation_end.Goals as goal
 
 not_false : (b : Bool) → not b ≡ false → b ≡ true
@@ -26,7 +26,7 @@ returns-in-Some c =
     let events : List Event = c.args.self.now.events in
     let drop : Control → Event → Bool = λ d e. must_drop_translation d e (translation_key c.args.lookup.pcid c.args.shift c.args.global c.args.lookup.la) in
     let stands : IsPast c.self.inside.past.now head events = subst (λ (r : Recorded). IsPast c.self.inside.past.now r.head r.events) c.self.view_is c.self.invariant.stands in
-    let first = c.in-Some.ensures.run head events stands in
+    let first = subst (IsTranslationDrop head events c.args.lookup.p c.args.from (Some c.in-Some.first)) c.translation_key-key.ensures (c.in-Some.ensures.run head events stands) in
     record {
       order = first.0;
       lasts = not_false _ first.2;
@@ -41,7 +41,7 @@ returns-in-None c =
     let head : Head = c.args.self.now.head in
     let events : List Event = c.args.self.now.events in
     let stands : IsPast c.self.inside.past.now head events = subst (λ (r : Recorded). IsPast c.self.inside.past.now r.head r.events) c.self.view_is c.self.invariant.stands in
-    let none = c.in-None.ensures.run head events stands in
+    let none = subst (IsTranslationDrop head events c.args.lookup.p c.args.from None) c.translation_key-key.ensures (c.in-None.ensures.run head events stands) in
     record {
       order = omega (arith, c.ranges.from.fits);
       lasts = not_false _ none;
