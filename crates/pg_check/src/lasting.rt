@@ -24,6 +24,15 @@ pub struct Lasting {
     pub global: bool,
 }
 
+/// For which event it is asked whether the translation of a walk had to go before it.
+#[derive(Clone, Copy)]
+pub struct Asking {
+    /// The number of the event.
+    pub number: u32,
+    /// Where it is not known for that event, it is asked up to this one, if it is later.
+    pub to: u32,
+}
+
 /// Whether a translation that a leaf gives is global: the leaf's bit 8 is set, and CR4.PGE was when
 /// it was read.
 fn is_global(reader: &mut Reader<'_>, p: u16, moment: u32, global_bit: bool) -> bool
@@ -137,8 +146,7 @@ pub fn asked_up_to(reader: &mut Reader<'_>, p: u16, la: u64, walk: Lasting, to: 
 #[inline(always)]
 pub fn lasting_walk(
     reader: &mut Reader<'_>,
-    number: u32,
-    to: u32,
+    asking: Asking,
     p: u16,
     la: u64,
     moments: &Moments,
@@ -146,10 +154,11 @@ pub fn lasting_walk(
 ) -> Result<Lasting, Reason>
     requires { p < processor_count reader.old }
     ensures past { reader.new ≡ reader.old }
-    ensures asked { IfOk result (IsAsked number) }
+    ensures asked { IfOk result (IsAsked asking.number) }
     ensures walk { (head : Head) (events : List Event) → IsPast reader.old head events →
         IsWalk head events p la want moments.now result }
 {
+    let Asking { number, to } = asking;
     match chain_by(reader, p, la, moments, want) {
         Ok(chain) => {
             let walk = lasting_chain(reader, p, la, chain);

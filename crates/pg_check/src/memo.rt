@@ -12,12 +12,12 @@ ghost use Rattle.pg_entry.specs.Kinds.{IsPageShift};
 ghost use Rattle.pg_check.specs.Lasting.{IsAsked, IsWalk};
 ghost use Rattle.pg_check.specs.Remembered.{HasWalk, HaveWalks, IsWithin, walk_in};
 
-use crate::lasting::{Lasting, asked_up_to, is_asked, lasting_walk};
+use crate::lasting::{Asking, Lasting, asked_up_to, is_asked, lasting_walk};
 use crate::places::{Kept, first_slots, most_slots, page_of, place_of};
 use crate::walk::is_in_order;
 use pg_chain::{Chain, EntryRead, Past, Reader, chain_by, kind_at};
 use pg_entry::{Kind, Level, Rights};
-use pg_event::{Control, Moments, Reason, Want};
+use pg_event::{Claim, Control, Moments, Reason, Want};
 use std::marker::Model;
 
 /// A walk that was made: which one, and what it came to. The page is told by its first address: no
@@ -189,6 +189,13 @@ pub(crate) fn slot_at(
     }
 }
 
+/// A walk that a memo has, and at which of its places.
+#[derive(Clone, Copy)]
+struct Found {
+    place: usize,
+    walk: Lasting,
+}
+
 impl<'a> Memo<'a> {
     /// No walk. There is room for so many, up to a limit; where memory is refused, each walk is
     /// made anew.
@@ -311,14 +318,15 @@ impl<'a> Memo<'a> {
     }
 
     /// What was kept of a walk to a page at the first of its two places or at the other, and where.
-    fn kept(&self, first: usize, p: u16, page: u64, moments: &Moments) -> Option<(usize, Lasting)>
+    fn kept(&self, first: usize, p: u16, page: u64, moments: &Moments) -> Option<Found>
         ensures { (head : Head) (events : List Event) → IsPast self.now head events →
-            IfSome result (λ found. IsWalk head events p page Leaf moments.now (Ok found.1)) }
+            IfSome result (λ found. IsWalk head events p page Leaf moments.now (Ok found.walk)) }
     {
+        let other = first | 1;
         match self.kept_at(first, p, page, moments) {
-            Some(walk) => Some((first, walk)),
-            None => match self.kept_at(first | 1, p, page, moments) {
-                Some(walk) => Some((first | 1, walk)),
+            Some(walk) => Some(Found { place: first, walk }),
+            None => match self.kept_at(other, p, page, moments) {
+                Some(walk) => Some(Found { place: other, walk }),
                 None => None,
             },
         }
@@ -355,19 +363,19 @@ impl<'a> Memo<'a> {
     fn asked_walk(
         &mut self,
         number: u32,
-        place: usize,
         p: u16,
         page: u64,
         moments: &Moments,
-        walk: Lasting,
+        found: Found,
     ) -> Lasting
         requires { (head : Head) (events : List Event) → IsPast self.old head events →
-            IsWalk head events p page Leaf moments.now (Ok walk) }
+            IsWalk head events p page Leaf moments.now (Ok found.walk) }
         ensures past { self.new ≡ self.old }
         ensures asked { IsAsked number result }
         ensures walk { (head : Head) (events : List Event) → IsPast self.old head events →
             IsWalk head events p page Leaf moments.now (Ok result) }
     {
+        let Found { place, walk } = found;
         if is_asked(&walk, number) {
             return walk;
         }
@@ -391,8 +399,11 @@ impl<'a> Memo<'a> {
         ensures walk { (head : Head) (events : List Event) → IsPast self.old head events →
             IsWalk head events p page Leaf moments.now result }
     {
-        let to = self.limit;
-        match lasting_walk(&mut self.reader, number, to, p, page, moments, Want::Leaf) {
+        let asking = Asking {
+            number,
+            to: self.limit,
+        };
+        match lasting_walk(&mut self.reader, asking, p, page, moments, Want::Leaf) {
             Ok(walk) => {
                 self.remember(first, p, page, moments, walk);
                 self.count_walk();
@@ -418,36 +429,36 @@ impl<'a> Memo<'a> {
             IsWalk head events p page Leaf moments.now result }
     {
         match self.kept(first, p, page, moments) {
-            Some((place, walk)) => { Ok(self.asked_walk(number, place, p, page, moments, walk)) }
+            Some(found) => Ok(self.asked_walk(number, p, page, moments, found)),
             None => self.walk_anew(number, first, p, page, moments),
         }
     }
 
-    /// The walk of an access by its moments, and how long its translation lasts as far as the event
-    /// with this number asks, or the least of the reasons `Entry`, `Context` and
-    /// `StructureDropped`. `current` is the PCID at the event: walks are placed by it.
+    /// The walk of an access by its moments, and how long its translation lasts as far as its event
+    /// asks, or the least of the reasons `Entry`, `Context` and `StructureDropped`. `current` is
+    /// the PCID at the event: walks are placed by it.
     pub(crate) fn walk(
         &mut self,
-        number: u32,
+        claim: &Claim,
         current: u16,
-        p: u16,
-        la: u64,
         moments: &Moments,
         want: Want,
     ) -> Result<Lasting, Reason>
-        requires { p < processor_count self.old }
+        requires { claim.now.p < processor_count self.old }
         ensures past { self.new ≡ self.old }
-        ensures asked { IfOk result (IsAsked number) }
+        ensures asked { IfOk result (IsAsked claim.now.number) }
         ensures walk { (head : Head) (events : List Event) → IsPast self.old head events →
-            IsWalk head events p la want moments.now result }
+            IsWalk head events claim.now.p claim.now.la want moments.now result }
     {
+        let Claim { number, p, la, .. } = *claim;
         if may_be_kept(want) {
             let levels = moments.len();
             let page = page_of(la, levels);
             let first = place_of(self.kept.slots.len(), p, page, levels, current);
             self.page_walk(number, first, p, page, moments)
         } else {
-            lasting_walk(&mut self.reader, number, number, p, la, moments, want)
+            let asking = Asking { number, to: number };
+            lasting_walk(&mut self.reader, asking, p, la, moments, want)
         }
     }
 }

@@ -155,23 +155,19 @@ fn put(stems: &mut Vec<Option<Stem>>, place: usize, stem: Stem)
 #[derive(Clone, Copy)]
 pub(crate) struct Region {
     pub p: u16,
+    /// The PCID at the event that asks: upper parts are placed by it.
+    pub current: u16,
     /// The first address of the region.
     pub first: u64,
 }
 
-/// The upper part that is kept of the walks to a region by these moments. `current` is the PCID:
-/// upper parts are placed by it.
+/// The upper part that is kept of the walks to a region by these moments.
 #[inline(always)]
-fn kept_stem(
-    stems: &[Option<Stem>],
-    current: u16,
-    region: Region,
-    moments: &Moments,
-) -> Option<Chain>
+fn kept_stem(stems: &[Option<Stem>], region: Region, moments: &Moments) -> Option<Chain>
     ensures { (past : Past) (limit : ℕ) → HaveStems past limit stems.now →
         IfSome result (IsStem past limit region.p region.first moments.now) }
 {
-    let Region { p, first } = region;
+    let Region { p, current, first } = region;
     let place = spread(stems.len(), p, first, moments.len(), current as u64);
     stem_at(stems, place, p, first, moments)
 }
@@ -208,7 +204,7 @@ fn further_stem(
     requires few { length moments.now ≤ 4 }
     ensures { IfSome result (IsStem past.now number region.p region.first moments.now) }
 {
-    let Region { p, first } = region;
+    let Region { p, first, .. } = region;
     chain_further(past, p, first, stem, number, Want::Present)
 }
 
@@ -219,7 +215,6 @@ fn shorter_stem(
     past: &Past,
     stems: &mut Vec<Option<Stem>>,
     number: u32,
-    current: u16,
     region: Region,
     moments: &Moments,
 ) -> Option<Chain>
@@ -229,10 +224,10 @@ fn shorter_stem(
     ensures stems { HaveStems past.now number stems.new.items }
     ensures stem { IfSome result (IsStem past.now number region.p region.first moments.now) }
 {
-    if let Some(chain) = kept_stem(stems.as_slice(), current, region, moments) {
+    if let Some(chain) = kept_stem(stems.as_slice(), region, moments) {
         return Some(chain);
     }
-    let Region { p, first } = region;
+    let Region { p, first, .. } = region;
     let chain = if are_one(moments) {
         stem_anew(past, number, p, first, moments)?
     } else {
@@ -250,7 +245,7 @@ fn shorter_stem(
         p,
         chain,
     };
-    keep_stem(past, stems, number, current, stem);
+    keep_stem(past, stems, number, region.current, stem);
     Some(chain)
 }
 
@@ -270,7 +265,6 @@ fn stem_at_once(
     past: &Past,
     stems: &mut Vec<Option<Stem>>,
     number: u32,
-    current: u16,
     region: Region,
     moments: &Moments,
 ) -> Option<Chain>
@@ -283,7 +277,7 @@ fn stem_at_once(
     if !are_three(moments, number) {
         return None;
     }
-    let Region { p, first } = region;
+    let Region { p, first, .. } = region;
     let chain = upper_at_once(past, p, first, number)?;
     let stem = Stem {
         region: first,
@@ -291,7 +285,7 @@ fn stem_at_once(
         p,
         chain,
     };
-    keep_stem(past, stems, number, current, stem);
+    keep_stem(past, stems, number, region.current, stem);
     Some(chain)
 }
 
@@ -303,7 +297,6 @@ pub(crate) fn stem_for(
     past: &Past,
     stems: &mut Vec<Option<Stem>>,
     number: u32,
-    current: u16,
     region: Region,
     moments: &Moments,
     at_once: bool,
@@ -315,22 +308,20 @@ pub(crate) fn stem_for(
     ensures stem { IfSome result (IsStem past.now number region.p region.first moments.now) }
 {
     if at_once {
-        stem_at_once(past, stems, number, current, region, moments)
+        stem_at_once(past, stems, number, region, moments)
     } else {
-        stem_of(past, stems, number, current, region, moments)
+        stem_of(past, stems, number, region, moments)
     }
 }
 
 /// The upper part of a processor's walks to a region by these moments, at the event that comes
 /// next: one that is kept, or one that is made and kept. One that was read at one moment is made by
 /// itself. One that is read last at this event is made from a shorter one, which regions that lie
-/// in a wider one share. So no list is asked. None says nothing. `current` is the PCID: upper parts
-/// are placed by it.
+/// in a wider one share. So no list is asked. None says nothing.
 fn stem_of(
     past: &Past,
     stems: &mut Vec<Option<Stem>>,
     number: u32,
-    current: u16,
     region: Region,
     moments: &Moments,
 ) -> Option<Chain>
@@ -340,10 +331,10 @@ fn stem_of(
     ensures stems { HaveStems past.now number stems.new.items }
     ensures stem { IfSome result (IsStem past.now number region.p region.first moments.now) }
 {
-    if let Some(chain) = kept_stem(stems.as_slice(), current, region, moments) {
+    if let Some(chain) = kept_stem(stems.as_slice(), region, moments) {
         return Some(chain);
     }
-    let Region { p, first } = region;
+    let Region { p, first, .. } = region;
     let chain = if are_one(moments) {
         stem_anew(past, number, p, first, moments)?
     } else {
@@ -352,10 +343,10 @@ fn stem_of(
             return None;
         }
         let wider = Region {
-            p,
             first: page_of(first, upper.len()),
+            ..region
         };
-        let stem = shorter_stem(past, stems, number, current, wider, &upper)?;
+        let stem = shorter_stem(past, stems, number, wider, &upper)?;
         further_stem(past, number, region, moments, &upper, stem)?
     };
     let stem = Stem {
@@ -364,6 +355,6 @@ fn stem_of(
         p,
         chain,
     };
-    keep_stem(past, stems, number, current, stem);
+    keep_stem(past, stems, number, region.current, stem);
     Some(chain)
 }

@@ -266,8 +266,8 @@ fn chain_at_event(
     }
     let page = page_of(la, moments.len());
     let first = page_of(page, upper.len());
-    let region = Region { p, first };
-    let stem = stem_for(past, stems, number, current, region, &upper, at_once)?;
+    let region = Region { p, current, first };
+    let stem = stem_for(past, stems, number, region, &upper, at_once)?;
     let chain = chain_further(past, p, page, stem, number, Want::Leaf)?;
     if chain.end.moment == number {
         Some(chain)

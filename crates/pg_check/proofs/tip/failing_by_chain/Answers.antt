@@ -3,7 +3,6 @@ use Rattle.pg_entry.specs.declared.Cfg.{Cfg}
 use Rattle.pg_entry.specs.Kinds.{kind_of}
 use Rattle.pg_event.specs.declared.event.Want.{Want}
 use Rattle.pg_event.specs.declared.event.Want.TheVariants as wants
-use Rattle.pg_event.specs.declared.control.Control.{Control}
 use Rattle.pg_chain.specs.declared.steps.Chain.{Chain}
 use Rattle.pg_chain.specs.Walked.{chain_of}
 use Rattle.pg_check.specs.declared.lasting.Lasting.{Lasting}
