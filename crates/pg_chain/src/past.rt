@@ -124,9 +124,24 @@ impl Past {
             moment ≡ length events → OnErr result (IsPast self.new head events)) }
         ensures nothing { changes_nothing event.now ≡ true → IsOk result }
     {
+        self.keep_wide();
         let noted = self.note_later(moment, event);
         self.catch_up();
         noted
+    }
+
+    /// Look-ups ask for large or global pages: from now on the last moments at which those were
+    /// dropped are kept too.
+    pub fn keep_wide(&mut self)
+        ensures { self.new ≡ self.old }
+    {
+        self.drops.keep_wide();
+    }
+
+    /// How many entries of the log `catch_up_pages` goes through, as far as 4-KiB pages need it. No
+    /// clause speaks of it: it is for those who weigh what that costs.
+    pub fn unlisted_pages(&self) -> usize {
+        self.drops.unlisted_pages()
     }
 
     /// Makes all lists of what was dropped, which look-ups ask where they are made and else go
@@ -189,6 +204,7 @@ impl Past {
         ensures err { InEachRun self.old (λ head before.
             first ≡ length before → OnErr result (IsPast self.new head before)) }
     {
+        self.keep_wide();
         for (i, event) in events.iter().enumerate() {
             if let Err(refused) = self.note_later(first + i as u32, event) {
                 self.forget_from(first);

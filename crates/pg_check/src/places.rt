@@ -19,8 +19,6 @@ pub struct Kept {
     /// How many entries of the log look-ups passed over since the lists of what was dropped were
     /// made.
     pub passed: u64,
-    /// The number of the event at which they were made.
-    pub lists_made_at: u32,
     /// Whether the lists of large or global pages were asked.
     pub wide: bool,
     /// How many of the passed entries were passed over for paging-structure-cache entries.
@@ -38,7 +36,6 @@ impl Kept {
             made: 0,
             stems: Vec::new(alloc),
             passed: 0,
-            lists_made_at: 0,
             wide: false,
             passed_for_regions: 0,
         }
@@ -53,7 +50,6 @@ impl Kept {
             made: 0,
             stems: Vec::new(alloc),
             passed: 0,
-            lists_made_at: 0,
             wide: false,
             passed_for_regions: 0,
         }
@@ -134,14 +130,10 @@ impl Kept {
         self.made > self.slots.len()
     }
 
-    /// Whether look-ups passed over so many entries of the log that lists are worth making. An
-    /// entry of another processor than is asked for is passed over for nothing, and lists spare
-    /// that: with several processors lists are made sooner.
-    pub(crate) fn wants_lists(&self, past: &Past, number: u32) -> bool {
-        let processors = past.controls.processors() as u64;
-        let events = number.saturating_sub(self.lists_made_at) as u64;
-        self.passed.saturating_mul(processors.min(MOST_SHARES))
-            > events.saturating_mul(ENTRIES_FOR_EACH)
+    /// Whether look-ups passed over so many entries of the log that lists are worth making: as many
+    /// as cost about what the lists of 4-KiB pages would cost that are not made.
+    pub(crate) fn wants_lists(&self, past: &Past) -> bool {
+        self.passed > (past.unlisted_pages() as u64).saturating_mul(PASSED_FOR_ONE)
     }
 
     /// Whether most of them were passed over for paging-structure-cache entries.
@@ -172,14 +164,8 @@ impl Kept {
     }
 }
 
-/// With one processor, look-ups may pass over so many entries of the log for each event before
-/// lists are made: to put an entry into lists costs about a hundred times what it costs to pass
-/// over it.
-const ENTRIES_FOR_EACH: u64 = 8;
-
-/// With several processors they may pass over that divided by the number of processors, but by no
-/// more than this.
-const MOST_SHARES: u64 = 4;
+/// To put an entry of the log into lists costs at least so many times what it costs to pass over it.
+const PASSED_FOR_ONE: u64 = 30;
 
 /// Slots that outlive a window are so many at first for each recorded processor.
 const SLOTS_FOR_EACH: usize = 1_024;

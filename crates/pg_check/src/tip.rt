@@ -165,7 +165,6 @@ fn failing_by_past(past: &Past, kept: &mut Kept, number: u32, event: &Event) -> 
         made: kept.made,
         stems: Vec::new(past.alloc),
         passed: 0,
-        lists_made_at: 0,
         wide: false,
         passed_for_regions: 0,
     };
@@ -442,11 +441,13 @@ fn failing_slow(past: &mut Past, kept: &mut Kept, number: u32, event: &Event) ->
         result ≡ failing_event head events number event.now) }
 {
     let found = failing_by_past(past, kept, number, event);
-    if kept.wants_lists(past, number) {
+    if kept.wide {
+        past.keep_wide();
+    }
+    if kept.wants_lists(past) {
         make_lists(past, kept);
         kept.passed = 0;
         kept.passed_for_regions = 0;
-        kept.lists_made_at = number;
     }
     found
 }

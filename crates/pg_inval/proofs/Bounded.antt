@@ -1,7 +1,7 @@
 -- Up to which moment keys may have been dropped, as a run grows or is cut.
 use Rattle.std.proofs.Common.{◌≡◌, ℕ, suc, zero, ◌+◌, ◌-◌, ◌<◌, ◌≤◌, Bool, true, false, not, cond, ◌&&◌, ◌||◌, nat_eq, nat_lt, List, [], ◌∷◌, ◌++◌, None, refl, ap, sym, subst, ◌∙◌, arith, inl, inr}
 use Rattle.std.proofs.lemmas.List.Folds.{list_any-append}
-use Rattle.std.proofs.lemmas.Bool.{cases_Bool, or_cases, and_parts, eqb-true, false≢true}
+use Rattle.std.proofs.lemmas.Bool.{cases_lt, cases_Bool, or_cases, and_parts, eqb-true, false≢true}
 use Rattle.pg_timeline.specs.Timelines.{IsLeastFrom}
 use Rattle.pg_inval.specs.declared.log.LogEntry.{LogEntry}
 use Rattle.pg_inval.specs.declared.key.DropKey.{DropKey}
@@ -12,20 +12,20 @@ use Rattle.pg_inval.specs.declared.key.DropKey.TheVariants.{NotGlobal, Globals, 
 use Rattle.pg_inval.specs.Keys.{is_same_key, has_key, structure_at, global_at, local_at, structure_keys, translation_keys}
 use Rattle.pg_inval.specs.SameKey.{same_key}
 use Rattle.pg_inval.specs.Lists.{has_drop, has_among, has_between, cut_log}
-use Rattle.pg_inval.specs.Lasts.{MayHave, AreRaised, AreBounded}
+use Rattle.pg_inval.specs.Lasts.{Bounds, MayHave, AreRaised, AreBounded}
 use Rattle.pg_inval.proofs.AnyFrom.{neither}
 use Rattle.pg_inval.proofs.Logs.{keys_at, has_drop-push, has_drop-cut}
 use Rattle.pg_inval.proofs.Pushes.{has_key-more}
 
 -- ---- keys one after another
 
-pub AreRaised-none : (lasts : List ℕ) (moment : ℕ) → AreRaised lasts lasts [] moment
+pub AreRaised-none : (lasts : Bounds) (moment : ℕ) → AreRaised lasts lasts [] moment
 AreRaised-none lasts moment = record {
   kept = λ k m may. may;
   raised = λ k has. absurd (false≢true has);
 }
 
-pub AreRaised-one : (old mid new : List ℕ) (done : List DropKey) (key : DropKey) (moment : ℕ) → AreRaised old mid done moment →
+pub AreRaised-one : (old mid new : Bounds) (done : List DropKey) (key : DropKey) (moment : ℕ) → AreRaised old mid done moment →
     ((k : DropKey) (m : ℕ) → MayHave mid k m → MayHave new k m) → MayHave new key moment → AreRaised old new (done ++ key ∷ []) moment
 AreRaised-one old mid new done key moment before kept own = record {
   kept = λ k m may. kept k m (before.kept k m may);
@@ -38,7 +38,7 @@ AreRaised-one old mid new done key moment before kept own = record {
       ];
 }
 
-pub AreRaised-two : (a b c : List ℕ) (one two : List DropKey) (moment : ℕ) → AreRaised a b one moment → AreRaised b c two moment → AreRaised a c (one ++ two) moment
+pub AreRaised-two : (a b c : Bounds) (one two : List DropKey) (moment : ℕ) → AreRaised a b one moment → AreRaised b c two moment → AreRaised a c (one ++ two) moment
 AreRaised-two a b c one two moment first second = record {
   kept = λ k m may. second.kept k m (first.kept k m may);
   raised = λ k has.
@@ -48,15 +48,15 @@ AreRaised-two a b c one two moment first second = record {
       ];
 }
 
-pub AreRaised-own : (old new : List ℕ) (key : DropKey) (moment : ℕ) → ((k : DropKey) (m : ℕ) → MayHave old k m → MayHave new k m) → MayHave new key moment → AreRaised old new (key ∷ []) moment
+pub AreRaised-own : (old new : Bounds) (key : DropKey) (moment : ℕ) → ((k : DropKey) (m : ℕ) → MayHave old k m → MayHave new k m) → MayHave new key moment → AreRaised old new (key ∷ []) moment
 AreRaised-own old new key moment kept own = AreRaised-one old old new [] key moment (AreRaised-none old moment) kept own
 
 -- ---- all keys
 
-pub AreBounded-empty : (lasts : List ℕ) → AreBounded lasts []
+pub AreBounded-empty : (lasts : Bounds) → AreBounded lasts []
 AreBounded-empty lasts = λ k m has. absurd (false≢true has)
 
-pub AreBounded-pushed : (old new : List ℕ) (log : List LogEntry) (e : LogEntry) → AreRaised old new (keys_at e) e.moment → AreBounded old log → AreBounded new (log ++ e ∷ [])
+pub AreBounded-pushed : (old new : Bounds) (log : List LogEntry) (e : LogEntry) → AreRaised old new (keys_at e) e.moment → AreBounded old log → AreBounded new (log ++ e ∷ [])
 AreBounded-pushed old new log e raised bounded = λ k m has.
     let more : (has_drop log k m || (nat_eq e.moment m && has_key (keys_at e) k)) ≡ true = sym (has_drop-push log e k m) ∙ has in
     elim (cases_Bool (has_drop log k m)) [
@@ -66,13 +66,21 @@ AreBounded-pushed old new log e raised bounded = λ k m has.
           subst (λ (n : ℕ). MayHave new k n) (eqb-true e.moment m parts.0) (raised.raised k parts.1)
     ]
 
-pub AreBounded-cut : (lasts : List ℕ) (log : List LogEntry) (w : ℕ) → AreBounded lasts log → AreBounded lasts (cut_log w log)
+pub AreBounded-cut : (lasts : Bounds) (log : List LogEntry) (w : ℕ) → AreBounded lasts log → AreBounded lasts (cut_log w log)
 AreBounded-cut lasts log w bounded = λ k m has.
     bounded k m (and_parts (has_drop log k m) (nat_lt m w) (sym (has_drop-cut log w k m) ∙ has)).0
 
 -- ---- a key that has none
 
-pub none-over : (lasts : List ℕ) (log : List LogEntry) (key : DropKey) (from : ℕ) → AreBounded lasts log → ((m : ℕ) → MayHave lasts key m → m < from) →
+-- a number that lies below another even where it does not lies below it
+pub below_or : (m from : ℕ) → (from ≤ m → m < from) → m < from
+below_or m from h =
+    elim (cases_lt m from) [
+      | inl below ↦ below
+      | inr above ↦ h above
+    ]
+
+pub none-over : (lasts : Bounds) (log : List LogEntry) (key : DropKey) (from : ℕ) → AreBounded lasts log → ((m : ℕ) → MayHave lasts key m → m < from) →
     IsLeastFrom (has_drop log key) from None
 none-over lasts log key from bounded over = λ j le.
     elim (cases_Bool (has_drop log key j)) [
@@ -92,10 +100,10 @@ not_false true h = refl
 not_false false h = sym h
 
 -- a key has no moment from one on, as far as its place tells
-abbrev pub IsOver : List ℕ → DropKey → ℕ → Type 0
+abbrev pub IsOver : Bounds → DropKey → ℕ → Type 0
 IsOver lasts key from = (m : ℕ) → MayHave lasts key m → m < from
 
-pub global-outlasts : (lasts : List ℕ) (log : List LogEntry) (p : ℕ) (key : TranslationKey) (from to : ℕ) → AreBounded lasts log → key.global ≡ true →
+pub global-outlasts : (lasts : Bounds) (log : List LogEntry) (p : ℕ) (key : TranslationKey) (from to : ℕ) → AreBounded lasts log → key.global ≡ true →
     IsOver lasts (Globals p) from → IsOver lasts (global_at p key) from → has_between log (translation_keys p key) from to ≡ false
 global-outlasts lasts log p key from to bounded e all own =
     ap (λ b. has_between log (cond b (Globals p ∷ global_at p key ∷ []) (NotGlobal p ∷ LocalsOf p key.pcid ∷ local_at p key ∷ [])) from to) e
@@ -103,7 +111,7 @@ global-outlasts lasts log p key from to bounded e all own =
     (λ j le. neither _ _ (none-over lasts log (Globals p) from bounded all j le)
     (neither _ false (none-over lasts log (global_at p key) from bounded own j le) refl))
 
-pub local-outlasts : (lasts : List ℕ) (log : List LogEntry) (p : ℕ) (key : TranslationKey) (from to : ℕ) → AreBounded lasts log → key.global ≡ false →
+pub local-outlasts : (lasts : Bounds) (log : List LogEntry) (p : ℕ) (key : TranslationKey) (from to : ℕ) → AreBounded lasts log → key.global ≡ false →
     IsOver lasts (NotGlobal p) from → IsOver lasts (LocalsOf p key.pcid) from → IsOver lasts (local_at p key) from →
     has_between log (translation_keys p key) from to ≡ false
 local-outlasts lasts log p key from to bounded e all of_pcid own =
@@ -113,7 +121,7 @@ local-outlasts lasts log p key from to bounded e all of_pcid own =
     (neither _ _ (none-over lasts log (LocalsOf p key.pcid) from bounded of_pcid j le)
     (neither _ false (none-over lasts log (local_at p key) from bounded own j le) refl)))
 
-pub structure-outlasts : (lasts : List ℕ) (log : List LogEntry) (p : ℕ) (key : StructureKey) (from to : ℕ) → AreBounded lasts log →
+pub structure-outlasts : (lasts : Bounds) (log : List LogEntry) (p : ℕ) (key : StructureKey) (from to : ℕ) → AreBounded lasts log →
     IsOver lasts (NotGlobal p) from → IsOver lasts (StructuresOf p key.pcid) from → IsOver lasts (structure_at p key) from →
     has_between log (structure_keys p key) from to ≡ false
 structure-outlasts lasts log p key from to bounded all of_pcid own =

@@ -1,5 +1,5 @@
 -- The classes of keys, and what an event drops of each.
-use Rattle.std.specs.Prelude.{ℕ, ◌==◌, false, if◌then◌else◌, List, [], ◌∷◌}
+use Rattle.std.specs.Prelude.{ℕ, ◌==◌, Bool, false, true, if◌then◌else◌, List, [], ◌∷◌}
 use Rattle.pg_event.specs.declared.invalidation.Invalidation.{Invalidation}
 use Rattle.pg_event.specs.declared.invalidation.Invalidation.TheVariants.{Nothing, Address, Page}
 use Rattle.pg_event.specs.declared.invalidation.Invalidation.TheVariants.{Pcid, Everything}
@@ -19,6 +19,18 @@ class_of (keys.Structure shift p pcid prefix) = Regions
 class_of (keys.LocalsOf p pcid) = Spaces
 class_of (keys.Local shift p pcid number) = if shift == 12 then Pages else LargePages
 class_of (keys.Global shift p number) = GlobalPages
+
+-- whether a class is that of large or of global pages
+abbrev pub is_wide_class : Class → Bool
+is_wide_class Pages = false
+is_wide_class LargePages = true
+is_wide_class GlobalPages = true
+is_wide_class Regions = false
+is_wide_class Spaces = false
+
+-- whether a key is that of a large or of a global page
+abbrev pub is_wide : DropKey → Bool
+is_wide k = is_wide_class (class_of k)
 
 -- what an invalidation on p drops of a class
 abbrev pub pages_in : ℕ → Invalidation → List DropKey

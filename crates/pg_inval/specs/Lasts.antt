@@ -1,9 +1,10 @@
 -- Up to which moment keys may have been dropped.
-use Rattle.std.specs.Prelude.{◌≡◌, ℕ, ◌+◌, ◌*◌, ◌%◌, ◌/◌, ◌^◌, ◌<◌, ◌≤◌, true, List}
+use Rattle.std.specs.Prelude.{◌≡◌, ℕ, ◌+◌, ◌*◌, ◌%◌, ◌/◌, ◌^◌, ◌<◌, ◌≤◌, true, List, cond}
 use Rattle.std.specs.Prelude.{length, get_or}
 use Rattle.pg_inval.specs.declared.key.DropKey.{DropKey}
 use Rattle.pg_inval.specs.declared.log.LogEntry.{LogEntry}
 use Rattle.pg_inval.specs.Hashed.{owner_of, number_of}
+use Rattle.pg_inval.specs.Classes.{is_wide}
 use Rattle.pg_inval.specs.Keys.{has_key}
 use Rattle.pg_inval.specs.Lists.{has_drop}
 
@@ -24,16 +25,25 @@ other_place_of k =
 abbrev pub MayBeAt : List ℕ → ℕ → ℕ → Type 0
 MayBeAt lasts place m = place < length lasts → m ≤ get_or lasts place 0
 
+-- the last moments of places, and from which moment on they bound the keys of large and global pages
+pub record Bounds : Type 0 where
+  pub moments : List ℕ
+  pub wide_from : ℕ
+
+-- from which moment on its places bound a key
+abbrev pub bounded_from : Bounds → DropKey → ℕ
+bounded_from b k = cond (is_wide k) b.wide_from 0
+
 -- a key may have a moment, as far as both of its places tell
-pub record MayHave (lasts : List ℕ) (k : DropKey) (m : ℕ) : Type 0 where
-  pub place : MayBeAt lasts (place_of k) m
-  pub other_place : MayBeAt lasts (other_place_of k) m
+pub record MayHave (b : Bounds) (k : DropKey) (m : ℕ) : Type 0 where
+  pub place : bounded_from b k ≤ m → MayBeAt b.moments (place_of k) m
+  pub other_place : bounded_from b k ≤ m → MayBeAt b.moments (other_place_of k) m
 
 -- whatever a key may have had it may still have, and each of some keys a moment more
-pub record AreRaised (old new : List ℕ) (keys : List DropKey) (moment : ℕ) : Type 0 where
+pub record AreRaised (old new : Bounds) (keys : List DropKey) (moment : ℕ) : Type 0 where
   pub kept : (k : DropKey) (m : ℕ) → MayHave old k m → MayHave new k m
   pub raised : (k : DropKey) → has_key keys k ≡ true → MayHave new k moment
 
 -- each key may have the moments that a log has of it
-abbrev pub AreBounded : List ℕ → List LogEntry → Type 0
+abbrev pub AreBounded : Bounds → List LogEntry → Type 0
 AreBounded lasts log = (k : DropKey) (m : ℕ) → has_drop log k m ≡ true → MayHave lasts k m

@@ -1,7 +1,7 @@
 //! Classes of keys. The lists of a class are made together.
 
 ghost use Rattle.std.specs.Prelude.{◌≡◌};
-ghost use Rattle.pg_inval.specs.Classes.{class_of};
+ghost use Rattle.pg_inval.specs.Classes.{class_of, is_wide};
 
 use crate::key::DropKey;
 
@@ -22,6 +22,7 @@ pub(crate) enum Class {
 }
 
 /// The class of a key.
+#[inline(always)]
 pub(crate) fn class_of(key: DropKey) -> Class
     ensures { result ≡ class_of key }
 {
@@ -37,5 +38,17 @@ pub(crate) fn class_of(key: DropKey) -> Class
         | DropKey::Globals { .. }
         | DropKey::StructuresOf { .. }
         | DropKey::LocalsOf { .. } => Class::Spaces,
+    }
+}
+
+/// Whether a key is that of a large or of a global page. Many runs have no such page, and an event
+/// that drops what is of an address has five such keys.
+#[inline(always)]
+pub(crate) fn is_wide(key: DropKey) -> bool
+    ensures { result ≡ is_wide key }
+{
+    match class_of(key) {
+        Class::LargePages | Class::GlobalPages => true,
+        Class::Pages | Class::Regions | Class::Spaces => false,
     }
 }

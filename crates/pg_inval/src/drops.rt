@@ -140,6 +140,19 @@ impl Drops {
         Ok(())
     }
 
+    /// Large and global pages are asked for: from now on their last moments are kept too.
+    pub fn keep_wide(&mut self)
+        ensures { self.new ≡ self.old }
+    {
+        self.lasts.raise_wide_too();
+    }
+
+    /// How many entries of the log `catch_up_pages` goes through. No clause speaks of it: it is
+    /// for those who weigh what that costs against what look-ups pass over.
+    pub fn unlisted_pages(&self) -> usize {
+        self.listed.unlisted_pages(self.log.as_slice().len())
+    }
+
     /// Makes all lists up to the last event that was noted. Where memory is refused, those of a
     /// class stay behind, and look-ups go through the rest of the log.
     pub fn catch_up(&mut self)

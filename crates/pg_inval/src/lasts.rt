@@ -1,10 +1,12 @@
 //! Up to which moment keys may have been dropped.
 
-ghost use Rattle.std.specs.Prelude.{◌<◌, ℕ, IsTrue};
+ghost use Rattle.std.specs.Prelude.{◌≡◌, ◌<◌, ◌≤◌, ℕ, IsTrue, true};
 ghost use Rattle.pg_inval.specs.declared.key.DropKey.{DropKey};
+ghost use Rattle.pg_inval.specs.Classes.{is_wide};
 ghost use Rattle.pg_inval.specs.Keys.{structures_for, locals_for, globals_for, dropped_keys};
-ghost use Rattle.pg_inval.specs.Lasts.{MayBeAt, MayHave, AreRaised};
+ghost use Rattle.pg_inval.specs.Lasts.{MayBeAt, MayHave, AreRaised, bounded_from};
 
+use crate::class::is_wide;
 use crate::key::{DropKey, global_at, local_at, structure_at};
 use pg_entry::Level;
 use pg_event::{Invalidation, structure_key, translation_key};
@@ -18,28 +20,57 @@ const PLACES: usize = 131_072;
 /// what is forgotten stays. So a key has no later moment, which is told without looking it up. A
 /// key has two places, by two hashes: what shares one with it rarely shares the other, and the
 /// lower of the two bounds it. Where memory is refused there is no place, and nothing is told.
+///
+/// Large and global pages have places of their own only once somebody asks for such a page: an
+/// event that drops what is of an address would raise five keys more, for nothing in most runs, and
+/// the fewer keys are raised the fewer share a place.
 #[derive(Drop)]
 pub(crate) struct Lasts {
     moments: Vec<u32>,
+    /// Whether the places of large and global pages are raised.
+    raises_wide: bool,
+    /// From this moment on they bound their keys.
+    wide_from: u64,
 }
 
 impl Model for Lasts {
-    ghost use Rattle.std.specs.Prelude.{ℕ, List};
+    ghost use Rattle.pg_inval.specs.Lasts.{Bounds};
 
-    ghost Value = { List ℕ };
+    ghost Value = { Bounds };
 
-    ghost view = { λ a. a.moments.items };
+    ghost view = { λ a. record { moments = a.moments.items; wide_from = a.wide_from } };
 }
 
 impl Lasts {
     /// No key has a moment above 0.
     pub(crate) fn new(alloc: Global) -> Lasts {
         match Vec::from_elem(alloc, 0, PLACES) {
-            Ok(moments) => Lasts { moments },
+            Ok(moments) => Lasts {
+                moments,
+                raises_wide: false,
+                wide_from: 0,
+            },
             Err(_) => Lasts {
                 moments: Vec::new(alloc),
+                raises_wide: false,
+                wide_from: 0,
             },
         }
+    }
+
+    /// The places of large and global pages are raised from now on.
+    pub(crate) fn raise_wide_too(&mut self)
+        ensures { self.new ≡ self.old }
+    {
+        self.raises_wide = true;
+    }
+
+    /// Whether the places of a key bound its moments from one on.
+    #[inline(always)]
+    fn bounds(&self, key: DropKey, from: u32) -> bool
+        ensures { IsTrue result → bounded_from self.now key ≤ from }
+    {
+        !is_wide(key) || self.wide_from <= from as u64
     }
 
     /// Whether a key has no moment from one on.
@@ -47,13 +78,14 @@ impl Lasts {
     pub(crate) fn is_over(&self, key: DropKey, from: u32) -> bool
         ensures { IsTrue result → (m : ℕ) → MayHave self.now key m → m < from }
     {
-        self.is_below(key.place(), from) || self.is_below(key.other_place(), from)
+        self.bounds(key, from)
+            && (self.is_below(key.place(), from) || self.is_below(key.other_place(), from))
     }
 
     /// Whether no key of a place has a moment from one on.
     #[inline(always)]
     fn is_below(&self, place: usize, from: u32) -> bool
-        ensures { IsTrue result → (m : ℕ) → MayBeAt self.now place m → m < from }
+        ensures { IsTrue result → (m : ℕ) → MayBeAt self.now.moments place m → m < from }
     {
         match self.moments.get(place) {
             Some(last) => *last < from,
@@ -83,12 +115,38 @@ impl Lasts {
     /// A key of a place may have this moment too.
     #[inline(always)]
     fn raise_at(&mut self, place: usize, moment: u32)
-        ensures kept { (i m : ℕ) → MayBeAt self.old i m → MayBeAt self.new i m }
-        ensures own { MayBeAt self.new place moment }
+        ensures kept { (i m : ℕ) →
+            MayBeAt self.old.moments i m → MayBeAt self.new.moments i m }
+        ensures own { MayBeAt self.new.moments place moment }
+        ensures wide { self.new.wide_from ≡ self.old.wide_from }
     {
         if place < self.moments.len() {
             self.moments[place] = self.moments[place].max(moment);
         }
+    }
+
+    /// A key of a large or of a global page may have this moment too. Where its places are not
+    /// raised, they bound such keys from the next moment on alone.
+    #[inline(always)]
+    fn raise_wide(&mut self, key: DropKey, moment: u32)
+        requires { is_wide key ≡ true }
+        ensures kept { (k : DropKey) (m : ℕ) → MayHave self.old k m → MayHave self.new k m }
+        ensures own { MayHave self.new key moment }
+    {
+        if self.raises_wide {
+            self.raise(key, moment);
+        } else {
+            self.pass_wide(moment);
+        }
+    }
+
+    /// All keys of large and of global pages may have this moment too.
+    #[inline(always)]
+    fn pass_wide(&mut self, moment: u32)
+        ensures kept { (k : DropKey) (m : ℕ) → MayHave self.old k m → MayHave self.new k m }
+        ensures wide { (k : DropKey) → is_wide k ≡ true → MayHave self.new k moment }
+    {
+        self.wide_from = self.wide_from.max(moment as u64 + 1);
     }
 
     /// What an invalidation drops that would be used for an address may have this moment too: the
@@ -112,17 +170,17 @@ impl Lasts {
         ensures { AreRaised self.old self.new (locals_for p pcid la) moment }
     {
         self.raise(local_at(p, translation_key(pcid, 12, false, la)), moment);
-        self.raise(local_at(p, translation_key(pcid, 21, false, la)), moment);
-        self.raise(local_at(p, translation_key(pcid, 30, false, la)), moment);
+        self.raise_wide(local_at(p, translation_key(pcid, 21, false, la)), moment);
+        self.raise_wide(local_at(p, translation_key(pcid, 30, false, la)), moment);
     }
 
     /// The global translations of that page.
     fn raise_globals(&mut self, p: u16, la: u64, moment: u32)
         ensures { AreRaised self.old self.new (globals_for p la) moment }
     {
-        self.raise(global_at(p, translation_key(0, 12, true, la)), moment);
-        self.raise(global_at(p, translation_key(0, 21, true, la)), moment);
-        self.raise(global_at(p, translation_key(0, 30, true, la)), moment);
+        self.raise_wide(global_at(p, translation_key(0, 12, true, la)), moment);
+        self.raise_wide(global_at(p, translation_key(0, 21, true, la)), moment);
+        self.raise_wide(global_at(p, translation_key(0, 30, true, la)), moment);
     }
 
     /// Each key that an invalidation drops may have this moment too. No list of them is made, since

@@ -38,6 +38,11 @@ impl Listed {
         }
     }
 
+    /// How many of so many entries of the log the lists of 4-KiB pages lack.
+    pub(crate) fn unlisted_pages(&self, count: usize) -> usize {
+        self.pages.unlisted(count)
+    }
+
     /// Goes through the rest of the log for each class. Where memory is refused, a class stays
     /// behind.
     pub(crate) fn catch_up(&mut self, alloc: Global, log: &[LogEntry])

@@ -122,6 +122,11 @@ impl Lists {
         }
     }
 
+    /// How many of so many entries of the log they lack.
+    pub(crate) fn unlisted(&self, count: usize) -> usize {
+        count.saturating_sub(self.known)
+    }
+
     /// Goes through the rest of the log. Where memory is refused, the lists stay behind it.
     #[inline(always)]
     pub(crate) fn catch_up(&mut self, class: Class, alloc: Global, log: &[LogEntry])

@@ -10,8 +10,8 @@ returns c =
     let first = c.local_at.ensures ∙ ap (local_at c.args.p) c.translation_key.ensures in
     let second = c.local_at-2.ensures ∙ ap (local_at c.args.p) c.translation_key-2.ensures in
     let third = c.local_at-3.ensures ∙ ap (local_at c.args.p) c.translation_key-3.ensures in
-    let own : AreRaised c.args.self.now c.raise-3.new.self (c.local_at.result ∷ c.local_at-2.result ∷ c.local_at-3.result ∷ []) m
+    let own : AreRaised c.args.self.now c.raise_wide-2.new.self (c.local_at.result ∷ c.local_at-2.result ∷ c.local_at-3.result ∷ []) m
     = AreRaised-two _ _ _ _ _ m (AreRaised-own _ _ c.local_at.result m c.raise.ensures.kept c.raise.ensures.own)
-    (AreRaised-two _ _ _ _ _ m (AreRaised-own _ _ c.local_at-2.result m c.raise-2.ensures.kept c.raise-2.ensures.own)
-    (AreRaised-own _ _ c.local_at-3.result m c.raise-3.ensures.kept c.raise-3.ensures.own)) in
+    (AreRaised-two _ _ _ _ _ m (AreRaised-own _ _ c.local_at-2.result m c.raise_wide.ensures.kept c.raise_wide.ensures.own)
+    (AreRaised-own _ _ c.local_at-3.result m c.raise_wide-2.ensures.kept c.raise_wide-2.ensures.own)) in
     rw (← first, ← second, ← third) own
