@@ -1,6 +1,6 @@
 //! Records that are certified as they are read.
 
-ghost use Rattle.std.specs.Prelude.{◌≡◌, ◌≢◌, ◌++◌, [], ℕ, List, Option, Err, OnOk, IfErr, IfSome};
+ghost use Rattle.std.specs.Prelude.{◌≡◌, ◌++◌, [], ℕ, List, Option, Err, OnOk, IfErr, IfSome};
 ghost use Rattle.pg_event.specs.declared.event.Event.{Event};
 ghost use Rattle.pg_event.specs.Heads.{Head};
 ghost use Rattle.pg_check.specs.Kept.{AreWellFormed};
@@ -8,34 +8,18 @@ ghost use Rattle.pg_codec.specs.declared.stage.Stage.TheVariants.{Start};
 ghost use Rattle.pg_codec.specs.Streams.{FailsWithDevice};
 ghost use Rattle.pg_certify.specs.Accounts.{IsAccount, MayComeNext};
 ghost use Rattle.pg_report.specs.Changes.{drawn};
-ghost use Rattle.pg_report.specs.Intake.{IsErrorOf, ReadsRecord, TellsDevice, is_device};
+ghost use Rattle.pg_report.specs.Intake.{ReadsRecord, TellsDevice, is_device};
 ghost use Rattle.pg_answers.specs.Accounts.{IsAccounting, IsAccountedTo, IsAccountOfAll};
 ghost use Rattle.pg_answers.specs.Accounts.{ReadsAccount};
 
 use pg_certify::StreamingCertifier;
-use pg_codec::{ReadError, RecordReader, Source};
+use pg_codec::{RecordReader, Source};
 use pg_event::{Event, Version};
-use pg_report::AuditError;
+use pg_report::{AuditError, MOST_CHUNKS, audit_error};
 use std::alloc::{AllocError, Global};
 
 /// Events are judged once so many wait, and then let go; the last segment may bring more.
 const WINDOW: usize = 1 << 16;
-
-/// At most this many parts follow a header: up to 2^32 - 1 segments, and the end mark.
-const MOST_CHUNKS: u64 = 1 << 32;
-
-fn read_error(error: ReadError) -> AuditError
-    requires { error ≢ ReadError.Failed }
-    ensures { IsErrorOf error result }
-{
-    match error {
-        ReadError::Refused(refusal) => AuditError::Refused(refusal),
-        ReadError::Device => AuditError::Device,
-        ReadError::Memory => AuditError::Memory,
-        // A reader that has refused is not asked again.
-        ReadError::Failed => unreachable!(),
-    }
-}
 
 /// Puts a segment into a window, and judges the window and lets it go once its events are many.
 /// After an error the account is not to be used.
@@ -91,7 +75,7 @@ fn account_rest<R: Source>(
                 account.window(window)?;
                 return Ok(());
             }
-            Err(error) => return Err(read_error(error)),
+            Err(error) => return Err(audit_error(error)),
         }
     }
     unreachable!()
@@ -110,7 +94,7 @@ fn account_by<R: Source>(
 {
     let header = match reader.read_header(alloc, source) {
         Ok(header) => header,
-        Err(error) => return Err(read_error(error)),
+        Err(error) => return Err(audit_error(error)),
     };
     let mut account = StreamingCertifier::new(alloc, header)?;
     let mut window = Vec::new(alloc);

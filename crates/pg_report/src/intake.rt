@@ -18,9 +18,11 @@ use pg_event::{Header, Version};
 use std::alloc::Global;
 
 /// At most this many parts follow a header: up to 2^32 - 1 segments, and the end mark.
-pub(crate) const MOST_CHUNKS: u64 = 1 << 32;
+pub const MOST_CHUNKS: u64 = 1 << 32;
 
-pub(crate) fn audit_error(error: ReadError) -> AuditError
+/// Why a record was not read, as an audit gives it. A reader that has refused is not asked again,
+/// so that it never fails for that.
+pub fn audit_error(error: ReadError) -> AuditError
     requires { error ≢ ReadError.Failed }
     ensures { IsErrorOf error result }
 {
@@ -28,7 +30,6 @@ pub(crate) fn audit_error(error: ReadError) -> AuditError
         ReadError::Refused(refusal) => AuditError::Refused(refusal),
         ReadError::Device => AuditError::Device,
         ReadError::Memory => AuditError::Memory,
-        // A reader that has refused is not asked again.
         ReadError::Failed => unreachable!(),
     }
 }

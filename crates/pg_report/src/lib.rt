@@ -13,7 +13,7 @@ mod whole_record;
 pub use auditor::{audit, audit_one, audit_watched, report_of, write_report, write_text};
 pub use crew::Crew;
 pub use error::{AuditError, MergeError, rule_number};
-pub use intake::{read_old_record, read_record};
+pub use intake::{MOST_CHUNKS, audit_error, read_old_record, read_record};
 pub use merger::merge;
 pub use report::{Report, Verdict, reason_name, reason_number};
 pub use whole_record::{judge_record, report_of_judged};

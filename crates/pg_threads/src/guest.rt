@@ -47,8 +47,17 @@ fn run_on<R: Threads + Wait + Sync, G: Gate, H: Gate, O: Onlooker>(
     }
 }
 
-/// The run with these checkers and this onlooker.
-fn run_by<R: Threads + Wait + Sync, G: Gate, H: Gate, O: Onlooker + Drop>(
+/// Runs a script, each processor in a thread of its own, and has its segments judged by a crew
+/// while the processors run. These share their record and its memory under one lock, and take it
+/// for one turn at a time. Each instruction goes through the gate, with the number of its processor
+/// and its own, and each segment's judging through that of the crew. The calling thread lets the
+/// onlooker see the counts of events and sealed segments, each time that it looks for segments to
+/// be judged, and once more when the processors' threads have ended, unless memory or a thread was
+/// refused. It was told nothing before.
+///
+/// Fails once all threads that were started have ended, by the lowest number that there is, where
+/// memory or a thread was refused.
+pub fn run_guest_followed<R: Threads + Wait + Sync, G: Gate, H: Gate, O: Onlooker + Drop>(
     crew: &Crew<'_, R, H>,
     script: &Script,
     gate: &G,
@@ -69,27 +78,17 @@ fn run_by<R: Threads + Wait + Sync, G: Gate, H: Gate, O: Onlooker + Drop>(
     run_on(crew, script, gate, board, &mut lookout, &mut judging)
 }
 
-/// Runs a script, each processor in a thread of its own, and has its segments judged by checkers
-/// while the processors run. These share their record and its memory under one lock, and take it
-/// for one turn at a time. Each instruction goes through the gate, with the number of its processor
-/// and its own, and each segment's judging through that of the checkers. The calling thread lets
-/// the onlooker see the counts of events and sealed segments, each time that it looks for segments
-/// to be judged, and once more when the processors' threads have ended, unless memory or a thread
-/// was refused. It was told nothing before.
+/// The same with no onlooker, by a crew of so many checkers, whose work goes through a gate.
 ///
-/// Fails where the number of checkers is none of 1 to 64, before all else. Else it fails once all
-/// threads that were started have ended, by the lowest number that there is, where memory or a
-/// thread was refused.
-pub fn run_guest_followed<R: Threads + Wait + Sync, G: Gate, H: Gate, O: Onlooker + Drop>(
+/// Fails where the number of checkers is none of 1 to 64, before all else.
+pub fn run_guest_watched<R: Threads + Wait + Sync, G: Gate, H: Gate>(
     rt: &R,
     alloc: Global,
     script: &Script,
     checkers: u32,
     gate: &G,
     checkers_gate: &H,
-    onlooker: O,
 ) -> Result<RunResult, RunError>
-    requires { O.told onlooker ≡ counts 0 0 }
     ensures ok { IfOk result (λ run. IsGuestRun script.now run) }
     ensures formed { IfOk result (λ run. IsRecord (record_of run.trace)) }
     ensures checkers { (result ≡ Err RunError.Checkers) ↔ (¬ AreCheckers checkers) }
@@ -104,24 +103,7 @@ pub fn run_guest_followed<R: Threads + Wait + Sync, G: Gate, H: Gate, O: Onlooke
         checkers,
         gate: checkers_gate,
     };
-    run_by(&crew, script, gate, onlooker)
-}
-
-/// The same, with no onlooker.
-pub fn run_guest_watched<R: Threads + Wait + Sync, G: Gate, H: Gate>(
-    rt: &R,
-    alloc: Global,
-    script: &Script,
-    checkers: u32,
-    gate: &G,
-    checkers_gate: &H,
-) -> Result<RunResult, RunError>
-    ensures ok { IfOk result (λ run. IsGuestRun script.now run) }
-    ensures formed { IfOk result (λ run. IsRecord (record_of run.trace)) }
-    ensures checkers { (result ≡ Err RunError.Checkers) ↔ (¬ AreCheckers checkers) }
-    ensures err { IfErr result (λ e. (e ≡ RunError.Checkers) ⊎ IsWant e) }
-{
-    run_guest_followed(rt, alloc, script, checkers, gate, checkers_gate, Nobody)
+    run_guest_followed(&crew, script, gate, Nobody)
 }
 
 /// The same, and with nothing round the checkers' work either.

@@ -37,10 +37,9 @@ many_stop single runs.Memory is stops = tt
 many_stop single runs.Thread is stops = is
 many_stop single runs.Checkers is stops = absurd stops
 
-pub stopped_by_many : (single : Bool) (result : Result RunResult RunError) → single ≡ false → (result ≡ Err runs.Checkers → ⊥) → IfErr result (λ e. (e ≡ runs.Checkers) ⊎ IsWant e) → IfErr result (StopsBy single)
-stopped_by_many single (Ok run) is able stops = tt
-stopped_by_many single (Err e) is able (inl same) = absurd (able (ap Err same))
-stopped_by_many single (Err e) is able (inr stops) = many_stop single e is stops
+pub stopped_by_many : (single : Bool) (result : Result RunResult RunError) → single ≡ false → IfErr result IsWant → IfErr result (StopsBy single)
+stopped_by_many single (Ok run) is stops = tt
+stopped_by_many single (Err e) is stops = many_stop single e is stops
 
 -- ---- what the program says
 

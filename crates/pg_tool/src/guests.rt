@@ -1,6 +1,6 @@
 //! Runs of guest scripts, from a script's bytes to its record or that record's report.
 
-ghost use Rattle.std.specs.Prelude.{◌≡◌, ◌≢◌, ◌⊎◌, IfOk, IfErr, Err};
+ghost use Rattle.std.specs.Prelude.{◌≡◌, IfOk, IfErr};
 ghost use Rattle.pg_event.specs.Spelling.{IsRecord, record_bytes};
 ghost use Rattle.pg_progress.specs.Seats.{counts};
 ghost use Rattle.pg_report.specs.Changes.{drawn, filled};
@@ -16,10 +16,10 @@ use pg_event::Record;
 use pg_plan::{Checkers, RunOptions};
 use pg_pool::OpenGate;
 use pg_progress::Onlooker;
-use pg_report::Report;
+use pg_report::{Crew, Report};
 use pg_runner::{RunError, RunResult, run_single};
 use pg_script::Script;
-use pg_threads::{run_guest, run_guest_followed};
+use pg_threads::run_guest_followed;
 use std::alloc::{AllocGlobal, Global};
 use std::sync::Wait;
 use std::thread::Threads;
@@ -69,34 +69,31 @@ fn write_trace<O: Sink>(output: &mut O, trace: &Record) -> Result<(), GuestError
 }
 
 /// A run of a script by a thread for each processor, whose record so many checkers judge. The
-/// onlooker sees how far it has come where progress is asked for.
+/// onlooker sees how far it has come.
 fn run_by_threads<T: AllocGlobal + Threads + Wait + Sync, P: Onlooker + Drop>(
     rt: &T,
     checkers: Checkers,
-    progress: bool,
     script: &Script,
     onlooker: P,
 ) -> Result<RunResult, RunError>
     requires { P.told onlooker ≡ counts 0 0 }
     ensures ok { IfOk result (λ run. IsThreadsRun script.now run) }
     ensures formed { IfOk result (λ run. IsRecord (record_of run.trace)) }
-    ensures able { result ≢ Err RunError.Checkers }
-    ensures err { IfErr result (λ e. (e ≡ RunError.Checkers) ⊎ IsWant e) }
+    ensures err { IfErr result IsWant }
 {
-    let alloc = rt.alloc();
-    let checkers = checkers.number() as u32;
-    if progress {
-        run_guest_followed(rt, alloc, script, checkers, &OpenGate, &OpenGate, onlooker)
-    } else {
-        run_guest(rt, alloc, script, checkers, &OpenGate)
-    }
+    let crew = Crew {
+        rt,
+        alloc: rt.alloc(),
+        checkers: checkers.number() as u32,
+        gate: &OpenGate,
+    };
+    run_guest_followed(&crew, script, &OpenGate, onlooker)
 }
 
 /// A run of a script by the calling thread alone, or by a thread for each processor.
 fn run_by<T: AllocGlobal + Threads + Wait + Sync, P: Onlooker + Drop>(
     rt: &T,
     asked: &RunOptions,
-    progress: bool,
     script: &Script,
     onlooker: P,
 ) -> Result<RunResult, RunError>
@@ -108,7 +105,7 @@ fn run_by<T: AllocGlobal + Threads + Wait + Sync, P: Onlooker + Drop>(
     if asked.single {
         run_single(rt.alloc(), script)
     } else {
-        run_by_threads(rt, asked.checkers, progress, script, onlooker)
+        run_by_threads(rt, asked.checkers, script, onlooker)
     }
 }
 
@@ -118,14 +115,7 @@ pub(crate) fn run_script<
     R: Source,
     O: Sink,
     P: Onlooker + Drop,
->(
-    rt: &T,
-    asked: &RunOptions,
-    progress: bool,
-    input: &mut R,
-    output: &mut O,
-    onlooker: P,
-) -> Result<(), GuestError>
+>(rt: &T, asked: &RunOptions, input: &mut R, output: &mut O, onlooker: P) -> Result<(), GuestError>
     requires { P.told onlooker ≡ counts 0 0 }
     ensures { IsGuestRun asked.now.single asked.now.bytes
         (drawn R.Source input.old input.new) (filled O.Sink output.old output.new) result }
@@ -134,7 +124,7 @@ pub(crate) fn run_script<
         Ok(script) => script,
         Err(error) => return Err(error),
     };
-    let run = match run_by(rt, asked, progress, &script, onlooker) {
+    let run = match run_by(rt, asked, &script, onlooker) {
         Ok(run) => run,
         Err(error) => return Err(GuestError::Run(error)),
     };

@@ -70,28 +70,19 @@ fn tell_run<E: Sink>(errors: &mut E, answer: Result<(), GuestError>) -> u8
 /// Runs the guest script on `input`, each of its processors in a thread, or all in this one, and
 /// writes the report of the run's record to `output`, or that record; or one line to `errors` that
 /// says why there is none. It gives the exit status: 0 a run, which is a yes, 2 refused, 3 memory
-/// or a thread. Where progress is asked for, the onlooker, which was told nothing before, sees how
-/// far threads have come.
+/// or a thread. The onlooker, which was told nothing before, sees how far threads have come.
 pub fn run_followed<
     T: AllocGlobal + Threads + Wait + Sync,
     R: Source,
     O: Sink,
     E: Sink,
     P: Onlooker + Drop,
->(
-    rt: &T,
-    asked: &RunOptions,
-    progress: bool,
-    input: &mut R,
-    output: &mut O,
-    errors: &mut E,
-    onlooker: P,
-) -> u8
+>(rt: &T, asked: &RunOptions, input: &mut R, output: &mut O, errors: &mut E, onlooker: P) -> u8
     requires { P.told onlooker ≡ counts 0 0 }
     ensures { RunsGuest asked.now.single asked.now.bytes (streams R.Source O.Sink E.Sink
         (input.old, output.old, errors.old) (input.new, output.new, errors.new)) result }
 {
-    let answer = run_script(rt, asked, progress, input, output, onlooker);
+    let answer = run_script(rt, asked, input, output, onlooker);
     tell_run(errors, answer)
 }
 
@@ -106,7 +97,7 @@ pub fn run<T: AllocGlobal + Threads + Wait + Sync, R: Source, O: Sink, E: Sink>(
     ensures { RunsGuest asked.now.single asked.now.bytes (streams R.Source O.Sink E.Sink
         (input.old, output.old, errors.old) (input.new, output.new, errors.new)) result }
 {
-    run_followed(rt, asked, false, input, output, errors, Nobody)
+    run_followed(rt, asked, input, output, errors, Nobody)
 }
 
 /// Gives a text that was asked for: help, or the version.
@@ -138,9 +129,11 @@ fn perform<T: AllocGlobal + Threads + Wait + Sync, R: Source, O: Sink, E: Sink, 
         (input.old, output.old, errors.old) (input.new, output.new, errors.new)) result }
 {
     match &plan.command {
-        Command::Run(asked) => {
-            run_followed(rt, asked, plan.progress, input, output, errors, onlooker)
-        }
+        Command::Run(asked) => if plan.progress {
+            run_followed(rt, asked, input, output, errors, onlooker)
+        } else {
+            run(rt, asked, input, output, errors)
+        },
         Command::Check(_)
         | Command::Certify(_)
         | Command::RunOf

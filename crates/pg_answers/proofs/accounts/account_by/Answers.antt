@@ -9,7 +9,7 @@ use Rattle.pg_answers.proofs.accounts.account_by.Goals as goal
 pub returns-in-Err-clause-reads : goal.returns-in-Err-clause-reads
 returns-in-Err-clause-reads g c =
     let pulls = pulled_at_start g.R.Source c.args.reader.now.stage _ _ _ (ap (λ (x : Reader). x.stage) c.requires) c.in-Err.ensures.pulls in
-    fresh_header_fails g.R.Source Two c.args.reader.now _ _ c.requires c.in-Err.error c.read_error.result c.read_error.ensures pulls
+    fresh_header_fails g.R.Source Two c.args.reader.now _ _ c.requires c.in-Err.error c.audit_error.result c.audit_error.ensures pulls
 
 pub account_rest-requires : goal.account_rest-requires
 account_rest-requires g c =

@@ -56,13 +56,13 @@ pub returns-in-Err-clause-refused : goal.returns-in-Err-clause-refused
 returns-in-Err-clause-refused g c = λ start f h.
     let was = c.loop.invariant.1 start f h in
     let r : Recorded = record { head = c.loop.account.findings.kept.head; events = was.before ++ c.loop.window.items } in
-    going_fails g.R.Source Two _ _ _ _ c.loop.reader.stage r c.loop.counter was.going c.in-Err.error c.read_error.result c.read_error.ensures c.in-Err.ensures.pulls
+    going_fails g.R.Source Two _ _ _ _ c.loop.reader.stage r c.loop.counter was.going c.in-Err.error c.audit_error.result c.audit_error.ensures c.in-Err.ensures.pulls
 
 pub returns-in-Err-clause-device : goal.returns-in-Err-clause-device
 returns-in-Err-clause-device g c = λ start f h.
     let was = c.loop.invariant.1 start f h in
     let r : Recorded = record { head = c.loop.account.findings.kept.head; events = was.before ++ c.loop.window.items } in
-    failure_counts g.R.Source Two _ _ _ _ c.loop.reader.stage r c.loop.counter was.going c.in-Err.error c.read_error.result c.read_error.ensures c.in-Err.ensures.pulls
+    failure_counts g.R.Source Two _ _ _ _ c.loop.reader.stage r c.loop.counter was.going c.in-Err.error c.audit_error.result c.audit_error.ensures c.in-Err.ensures.pulls
 
 pub loop-preserved : goal.loop-preserved
 loop-preserved g c =

@@ -12,4 +12,4 @@ returns-else-asked-clause-ok g c = by_many c.args.asked.now.single c.args.script
 
 pub returns-else-asked-clause-err : goal.returns-else-asked-clause-err
 returns-else-asked-clause-err g c =
-    stopped_by_many c.args.asked.now.single c.run_by_threads.result c.if-asked.false c.run_by_threads.ensures.able c.run_by_threads.ensures.err
+    stopped_by_many c.args.asked.now.single c.run_by_threads.result c.if-asked.false c.run_by_threads.ensures.err
