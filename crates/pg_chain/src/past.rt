@@ -17,7 +17,7 @@ ghost use Rattle.pg_inval.specs.Lists.{IsFirstDrop};
 ghost use Rattle.pg_chain.specs.Standing.{IsPast, InEachRun, IsNext, processor_count};
 ghost use Rattle.pg_chain.specs.Standing.{changes_nothing};
 
-use pg_entry::{AccessKind, Cfg, Entry, Rights, marked};
+use pg_entry::{AccessKind, Cfg, Entry, Rights, has_bit, marked};
 use pg_event::{
     Control, Event, Header, MemoryChange, Outcome, Request, StructureKey, TranslationKey, Version,
     Window, processor_of,
@@ -54,6 +54,13 @@ fn changes_nothing(event: &Event) -> bool
         },
         Request::Update { .. } | Request::Nothing => false,
     }
+}
+
+/// Whether a value may be the entry of a large or of a global page: of a present entry, bit 7 makes
+/// one of level 3 or 2 a leaf, and bit 8 a leaf global. Of other entries these bits say other
+/// things, and then more is kept than is needed.
+fn may_be_wide(value: u64) -> bool {
+    has_bit(value, 0) && (has_bit(value, 7) || has_bit(value, 8))
 }
 
 impl Past {
@@ -102,6 +109,37 @@ impl Past {
         ensures err { InEachRun self.old (λ head events.
             moment ≡ length events → OnErr result (IsPast self.new head events)) }
     {
+        self.watch(event);
+        self.note_kind(moment, event)
+    }
+
+    /// Looks out for entries of large and of global pages: in a run that writes none, nothing is
+    /// kept of the drops of such pages.
+    #[inline(always)]
+    fn watch(&mut self, event: &Event)
+        ensures { self.new ≡ self.old }
+    {
+        match event.memory_change() {
+            MemoryChange::Value { value, .. } => {
+                if may_be_wide(value) {
+                    self.drops.keep_wide();
+                }
+            }
+            MemoryChange::Flags { .. } | MemoryChange::Nothing => {}
+        }
+    }
+
+    /// Notes an event by what it does to memory.
+    #[inline(always)]
+    fn note_kind(&mut self, moment: u32, event: &Event) -> Result<(), AllocError>
+        requires next { IsNext self.old moment }
+        requires processor { processor_of event.now < processor_count self.old }
+        ensures ok { InEachRun self.old (λ head events.
+            moment ≡ length events →
+            OnOk result (IsPast self.new head (events ++ event.now ∷ []))) }
+        ensures err { InEachRun self.old (λ head events.
+            moment ≡ length events → OnErr result (IsPast self.new head events)) }
+    {
         match event.memory_change() {
             MemoryChange::Value { addr, value } => self.versions.note(moment, addr, value),
             MemoryChange::Flags { addr, dirty } => {
@@ -124,18 +162,9 @@ impl Past {
             moment ≡ length events → OnErr result (IsPast self.new head events)) }
         ensures nothing { changes_nothing event.now ≡ true → IsOk result }
     {
-        self.keep_wide();
         let noted = self.note_later(moment, event);
         self.catch_up();
         noted
-    }
-
-    /// Look-ups ask for large or global pages: from now on the last moments at which those were
-    /// dropped are kept too.
-    pub fn keep_wide(&mut self)
-        ensures { self.new ≡ self.old }
-    {
-        self.drops.keep_wide();
     }
 
     /// How many entries of the log `catch_up_pages` goes through, as far as 4-KiB pages need it. No
@@ -204,7 +233,6 @@ impl Past {
         ensures err { InEachRun self.old (λ head before.
             first ≡ length before → OnErr result (IsPast self.new head before)) }
     {
-        self.keep_wide();
         for (i, event) in events.iter().enumerate() {
             if let Err(refused) = self.note_later(first + i as u32, event) {
                 self.forget_from(first);

@@ -441,9 +441,6 @@ fn failing_slow(past: &mut Past, kept: &mut Kept, number: u32, event: &Event) ->
         result ≡ failing_event head events number event.now) }
 {
     let found = failing_by_past(past, kept, number, event);
-    if kept.wide {
-        past.keep_wide();
-    }
     if kept.wants_lists(past) {
         make_lists(past, kept);
         kept.passed = 0;

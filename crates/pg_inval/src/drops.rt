@@ -98,6 +98,7 @@ impl Drops {
             before ≡ control_at head events (processor_of event.now) moment →
             OnOk result (StandsFor self.new head (events ++ event.now ∷ [])) }
     {
+        self.keep_wide();
         let noted = self.note_later(moment, event, before);
         self.catch_up();
         noted
@@ -140,7 +141,8 @@ impl Drops {
         Ok(())
     }
 
-    /// Large and global pages are asked for: from now on their last moments are kept too.
+    /// There may be large or global pages: from now on their last moments are kept too, and their
+    /// lists are made. What was dropped of them before, look-ups find in the log.
     pub fn keep_wide(&mut self)
         ensures { self.new ≡ self.old }
     {
@@ -153,12 +155,16 @@ impl Drops {
         self.listed.unlisted_pages(self.log.as_slice().len())
     }
 
-    /// Makes all lists up to the last event that was noted. Where memory is refused, those of a
-    /// class stay behind, and look-ups go through the rest of the log.
+    /// Makes all lists up to the last event that was noted, those of large and global pages where
+    /// `keep_wide` was called. Where memory is refused, those of a class stay behind, and look-ups
+    /// go through the rest of the log.
     pub fn catch_up(&mut self)
         ensures { self.new ≡ self.old }
     {
         self.listed.catch_up(self.alloc, self.log.as_slice());
+        if self.lasts.raises_wide() {
+            self.listed.catch_up_wide(self.alloc, self.log.as_slice());
+        }
     }
 
     /// The same of the lists that most look-ups ask: those of translations of 4-KiB pages that are

@@ -58,6 +58,11 @@ impl Lasts {
         }
     }
 
+    /// Whether the places of large and global pages are raised.
+    pub(crate) fn raises_wide(&self) -> bool {
+        self.raises_wide
+    }
+
     /// The places of large and global pages are raised from now on.
     pub(crate) fn raise_wide_too(&mut self)
         ensures { self.new ≡ self.old }

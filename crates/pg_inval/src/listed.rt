@@ -43,8 +43,8 @@ impl Listed {
         self.pages.unlisted(count)
     }
 
-    /// Goes through the rest of the log for each class. Where memory is refused, a class stays
-    /// behind.
+    /// Goes through the rest of the log for each class but those of large and of global pages.
+    /// Where memory is refused, a class stays behind.
     pub(crate) fn catch_up(&mut self, alloc: Global, log: &[LogEntry])
         requires listed { AreListed log.now self.old }
         requires rising { IsRisingFrom 0 log.now }
@@ -52,6 +52,14 @@ impl Listed {
     {
         self.catch_up_pages(alloc, log);
         self.catch_up_regions(alloc, log);
+    }
+
+    /// The same for large and global pages.
+    pub(crate) fn catch_up_wide(&mut self, alloc: Global, log: &[LogEntry])
+        requires listed { AreListed log.now self.old }
+        requires rising { IsRisingFrom 0 log.now }
+        ensures { AreListed log.now self.new }
+    {
         self.large_pages.catch_up(Class::LargePages, alloc, log);
         self.global_pages.catch_up(Class::GlobalPages, alloc, log);
     }

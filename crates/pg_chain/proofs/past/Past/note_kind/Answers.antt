@@ -1,7 +1,7 @@
 use Rattle.std.proofs.Common.{refl, sym, ◌∙◌}
 use Rattle.std.proofs.lemmas.Result.{on_ok_weaker}
 use Rattle.pg_chain.proofs.Notes.{IsPast-value, IsPast-flags, Leaves-value, Leaves-flags}
-use Rattle.pg_chain.proofs.past.Past.note_change.Goals as goal
+use Rattle.pg_chain.proofs.past.Past.note_kind.Goals as goal
 
 pub returns-in-Value-clause-ok : goal.returns-in-Value-clause-ok
 returns-in-Value-clause-ok c = λ head events h count.
