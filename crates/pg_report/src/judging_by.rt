@@ -29,7 +29,7 @@ use std::thread::Threads;
 const FIRST_WINDOW: usize = 1 << 13;
 
 /// No window asks for more events. To start threads takes time, so rounds are few and long.
-const MOST_WINDOW: usize = 1 << 18;
+const MOST_WINDOW: usize = 1 << 17;
 
 /// How many events the next window asks for: twice as many as the one that is judged meanwhile has.
 fn next_size(judged: usize) -> usize
