@@ -22,7 +22,7 @@ use pg_event::{
     Control, Event, Header, MemoryChange, Outcome, Request, StructureKey, TranslationKey, Version,
     Window, processor_of,
 };
-use pg_inval::Drops;
+use pg_inval::{Drops, Tally};
 use pg_moment::Versions;
 use pg_state::Controls;
 use pg_timeline::{Probes, Span};
@@ -167,15 +167,15 @@ impl Past {
         noted
     }
 
-    /// How many entries of the log `catch_up_pages` goes through, as far as 4-KiB pages need it. No
-    /// clause speaks of it: it is for those who weigh what that costs.
-    pub fn unlisted_pages(&self) -> usize {
-        self.drops.unlisted_pages()
+    /// How many entries of the log each kind of list lacks. No clause speaks of it: it is for those
+    /// who weigh what lists cost.
+    pub fn unlisted(&self) -> Tally {
+        self.drops.unlisted()
     }
 
     /// Makes all lists of what was dropped, which look-ups ask where they are made and else go
     /// through the log.
-    pub fn catch_up(&mut self)
+    fn catch_up(&mut self)
         ensures { self.new ≡ self.old }
     {
         self.drops.catch_up();
@@ -194,6 +194,13 @@ impl Past {
         ensures { self.new ≡ self.old }
     {
         self.drops.catch_up_regions();
+    }
+
+    /// The same of the lists of translations of large and of global pages.
+    pub fn catch_up_wide(&mut self)
+        ensures { self.new ≡ self.old }
+    {
+        self.drops.catch_up_wide();
     }
 
     /// Notes an event that leaves memory as it is, and may drop entries and change control

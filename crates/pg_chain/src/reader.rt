@@ -14,6 +14,7 @@ use crate::past::Past;
 use crate::places::place_among;
 use pg_entry::Cfg;
 use pg_event::{Control, StructureKey, TranslationKey, Window};
+use pg_inval::Tally;
 use pg_timeline::{Probes, Span};
 use std::marker::Model;
 
@@ -40,10 +41,8 @@ pub struct Reader<'a> {
     words: Vec<Option<Word>>,
     spells: Vec<Option<Spell>>,
     probes: Probes,
-    /// Whether it was asked when a large or global translation had to go.
-    wide: bool,
-    /// How many entries of the log look-ups of paging-structure-cache entries passed over.
-    regions: u64,
+    /// How many entries of the log look-ups passed over.
+    passed: Tally,
 }
 
 impl<'a> Model for Reader<'a> {
@@ -93,8 +92,7 @@ impl<'a> Reader<'a> {
                 Err(_) => Vec::new(past.alloc),
             },
             probes: Probes::new(),
-            wide: false,
-            regions: 0,
+            passed: Tally::NONE,
         }
     }
 
@@ -108,8 +106,7 @@ impl<'a> Reader<'a> {
             words: Vec::new(past.alloc),
             spells: Vec::new(past.alloc),
             probes: Probes::new(),
-            wide: false,
-            regions: 0,
+            passed: Tally::NONE,
         }
     }
 
@@ -125,22 +122,10 @@ impl<'a> Reader<'a> {
         self.probes.count()
     }
 
-    /// How many entries of the log its look-ups passed over, which no list had yet.
-    /// `Past::catch_up`, `catch_up_pages` and `catch_up_regions` make lists.
-    pub fn passed(&self) -> u64 {
-        self.probes.entries()
-    }
-
-    /// Whether a look-up asked when a translation had to go that is global or of a large page:
-    /// lists of those are made by `Past::catch_up` alone.
-    pub fn asked_wide(&self) -> bool {
-        self.wide
-    }
-
-    /// How many of those entries look-ups of paging-structure-cache entries passed over: their
-    /// lists are made by `Past::catch_up_regions`.
-    pub fn passed_for_regions(&self) -> u64 {
-        self.regions
+    /// How many entries of the log its look-ups passed over, which no list had yet, by the lists
+    /// that they lacked. `Past::catch_up_pages`, `catch_up_regions` and `catch_up_wide` make those.
+    pub fn passed(&self) -> Tally {
+        self.passed
     }
 
     /// The settings of the run.
@@ -280,7 +265,7 @@ impl<'a> Reader<'a> {
         let probes = &mut self.probes;
         let survives = self.past.structure_survives_counted(p, key, window, probes);
         let passed = self.probes.entries().saturating_sub(before);
-        self.regions = self.regions.saturating_add(passed);
+        self.passed.regions = self.passed.regions.saturating_add(passed);
         survives
     }
 
@@ -297,8 +282,22 @@ impl<'a> Reader<'a> {
             (λ a b. not (survives head events p (λ c e. must_drop_translation c e key) a b))
             from (2 ^ 32 - 1) result) }
     {
-        self.wide |= key.global || key.shift != 12;
+        let before = self.probes.entries();
         let probes = &mut self.probes;
-        self.past.first_drop_of_translation(p, key, from, probes)
+        let first = self.past.first_drop_of_translation(p, key, from, probes);
+        let passed = self.probes.entries().saturating_sub(before);
+        self.pass_for(key, passed);
+        first
+    }
+
+    /// A look-up of a translation passed over so many entries of the log.
+    fn pass_for(&mut self, key: TranslationKey, passed: u64)
+        ensures { self.new ≡ self.old }
+    {
+        if key.global || key.shift != 12 {
+            self.passed.wide = self.passed.wide.saturating_add(passed);
+        } else {
+            self.passed.pages = self.passed.pages.saturating_add(passed);
+        }
     }
 }

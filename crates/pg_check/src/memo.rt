@@ -18,6 +18,7 @@ use crate::walk::is_in_order;
 use pg_chain::{Chain, EntryRead, Past, Reader, chain_by, kind_at};
 use pg_entry::{Kind, Level, Rights};
 use pg_event::{Claim, Control, Moments, Reason, Want};
+use pg_inval::Tally;
 use std::marker::Model;
 
 /// A walk that was made: which one, and what it came to. The page is told by its first address: no
@@ -228,18 +229,8 @@ impl<'a> Memo<'a> {
     }
 
     /// How many entries of the log its look-ups passed over.
-    pub(crate) fn passed(&self) -> u64 {
+    pub(crate) fn passed(&self) -> Tally {
         self.reader.passed()
-    }
-
-    /// Whether lists of large or global pages were asked.
-    pub(crate) fn asked_wide(&self) -> bool {
-        self.reader.asked_wide()
-    }
-
-    /// How many of them it passed over for paging-structure-cache entries.
-    pub(crate) fn passed_for_regions(&self) -> u64 {
-        self.reader.passed_for_regions()
     }
 
     /// The slots, where they rest on the first so many events.

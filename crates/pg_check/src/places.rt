@@ -7,6 +7,7 @@ ghost use Rattle.pg_check.specs.Remembered.{HasWalk, HaveWalks, page_bits, page_
 use crate::memo::{Slot, is_to};
 use crate::stems::Stem;
 use pg_chain::{Past, place_among};
+use pg_inval::Tally;
 use std::alloc::Global;
 
 /// Slots that outlive the memo that filled them, and upper parts of walks.
@@ -16,13 +17,8 @@ pub struct Kept {
     /// How many walks were made for them.
     pub made: usize,
     pub stems: Vec<Option<Stem>>,
-    /// How many entries of the log look-ups passed over since the lists of what was dropped were
-    /// made.
-    pub passed: u64,
-    /// Whether the lists of large or global pages were asked.
-    pub wide: bool,
-    /// How many of the passed entries were passed over for paging-structure-cache entries.
-    pub passed_for_regions: u64,
+    /// How many entries of the log look-ups passed over since lists of their kind were made.
+    pub passed: Tally,
 }
 
 impl Kept {
@@ -35,9 +31,7 @@ impl Kept {
             slots: Vec::new(alloc),
             made: 0,
             stems: Vec::new(alloc),
-            passed: 0,
-            wide: false,
-            passed_for_regions: 0,
+            passed: Tally::NONE,
         }
     }
 
@@ -49,9 +43,7 @@ impl Kept {
             slots: empty_slots(alloc, count),
             made: 0,
             stems: Vec::new(alloc),
-            passed: 0,
-            wide: false,
-            passed_for_regions: 0,
+            passed: Tally::NONE,
         }
     }
 
@@ -130,17 +122,6 @@ impl Kept {
         self.made > self.slots.len()
     }
 
-    /// Whether look-ups passed over so many entries of the log that lists are worth making: as many
-    /// as cost about what the lists of 4-KiB pages would cost that are not made.
-    pub(crate) fn wants_lists(&self, past: &Past) -> bool {
-        self.passed > (past.unlisted_pages() as u64).saturating_mul(PASSED_FOR_ONE)
-    }
-
-    /// Whether most of them were passed over for paging-structure-cache entries.
-    pub(crate) fn wants_regions(&self) -> bool {
-        self.passed_for_regions > self.passed / 2
-    }
-
     /// Makes room for more walks, up to so many, unless memory is refused. Where there is none or
     /// no more, it is asked for again after as many walks more as there are slots.
     #[inline(never)]
@@ -163,9 +144,6 @@ impl Kept {
         }
     }
 }
-
-/// To put an entry of the log into lists costs at least so many times what it costs to pass over it.
-const PASSED_FOR_ONE: u64 = 30;
 
 /// Slots that outlive a window are so many at first for each recorded processor.
 const SLOTS_FOR_EACH: usize = 1_024;

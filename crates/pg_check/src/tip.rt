@@ -32,6 +32,7 @@ use pg_entry::{Cfg, Kind};
 use pg_event::{
     Claim, Event, Moments, Reason, Request, Want, processor_of, translation_key, want_of,
 };
+use pg_inval::Tally;
 use std::mem;
 
 /// Whether nothing dropped the translation of a slot since that was asked, as is told without a
@@ -164,17 +165,11 @@ fn failing_by_past(past: &Past, kept: &mut Kept, number: u32, event: &Event) -> 
         slots: mem::replace(&mut kept.slots, Vec::new(past.alloc)),
         made: kept.made,
         stems: Vec::new(past.alloc),
-        passed: 0,
-        wide: false,
-        passed_for_regions: 0,
+        passed: Tally::NONE,
     };
     let mut memo = Memo::at_tip(past, own, number);
     let found = failing(&mut memo, number, event);
-    kept.passed = kept.passed.saturating_add(memo.passed());
-    kept.wide |= memo.asked_wide();
-    kept.passed_for_regions = kept
-        .passed_for_regions
-        .saturating_add(memo.passed_for_regions());
+    kept.passed = kept.passed.plus(memo.passed());
     let Kept { slots, made, .. } = memo.into_slots(number);
     kept.slots = slots;
     kept.made = made;
@@ -412,18 +407,33 @@ fn keep_walk(past: &Past, kept: &mut Kept, current: u16, number: u32, slot: Slot
     }
 }
 
-/// Makes the lists of what was dropped: all of them, or those of 4-KiB pages alone, and those of
-/// paging-structure-cache entries where most look-ups are of those.
-fn make_lists(past: &mut Past, kept: &Kept)
-    ensures { past.new ≡ past.old }
+/// To put an entry of the log into lists costs at least so many times what it costs to pass over it.
+const PASSED_FOR_ONE: u64 = 12;
+
+/// Whether look-ups passed over so many entries of the log that the lists are worth making which lack
+/// so many: as many as cost about what those lists would.
+fn is_worth_lists(passed: u64, unlisted: u64) -> bool {
+    passed > unlisted.saturating_mul(PASSED_FOR_ONE)
+}
+
+/// Makes those lists of what was dropped that are worth it.
+fn make_lists(past: &mut Past, kept: &mut Kept)
+    ensures past { past.new ≡ past.old }
+    ensures slots { kept.new.slots ≡ kept.old.slots }
+    ensures stems { kept.new.stems ≡ kept.old.stems }
 {
-    if kept.wide {
-        past.catch_up();
-        return;
+    let unlisted = past.unlisted();
+    if is_worth_lists(kept.passed.pages, unlisted.pages) {
+        past.catch_up_pages();
+        kept.passed.pages = 0;
     }
-    past.catch_up_pages();
-    if kept.wants_regions() {
+    if is_worth_lists(kept.passed.regions, unlisted.regions) {
         past.catch_up_regions();
+        kept.passed.regions = 0;
+    }
+    if is_worth_lists(kept.passed.wide, unlisted.wide) {
+        past.catch_up_wide();
+        kept.passed.wide = 0;
     }
 }
 
@@ -441,11 +451,7 @@ fn failing_slow(past: &mut Past, kept: &mut Kept, number: u32, event: &Event) ->
         result ≡ failing_event head events number event.now) }
 {
     let found = failing_by_past(past, kept, number, event);
-    if kept.wants_lists(past) {
-        make_lists(past, kept);
-        kept.passed = 0;
-        kept.passed_for_regions = 0;
-    }
+    make_lists(past, kept);
     found
 }
 

@@ -18,6 +18,7 @@ use crate::lasts::Lasts;
 use crate::listed::Listed;
 use crate::log::{LogEntry, forget_entries};
 use crate::packed::pack;
+use crate::tally::Tally;
 use pg_entry::Level;
 use pg_event::{
     Control, Event, Invalidation, StructureKey, TranslationKey, Window, processor_of,
@@ -149,10 +150,10 @@ impl Drops {
         self.lasts.raise_wide_too();
     }
 
-    /// How many entries of the log `catch_up_pages` goes through. No clause speaks of it: it is
-    /// for those who weigh what that costs against what look-ups pass over.
-    pub fn unlisted_pages(&self) -> usize {
-        self.listed.unlisted_pages(self.log.as_slice().len())
+    /// How many entries of the log each kind of list lacks. No clause speaks of it: it is for those
+    /// who weigh what lists cost against what look-ups pass over.
+    pub fn unlisted(&self) -> Tally {
+        self.listed.unlisted(self.log.as_slice().len())
     }
 
     /// Makes all lists up to the last event that was noted, those of large and global pages where
@@ -181,6 +182,13 @@ impl Drops {
     {
         self.listed
             .catch_up_regions(self.alloc, self.log.as_slice());
+    }
+
+    /// The same of the lists of translations of large and of global pages.
+    pub fn catch_up_wide(&mut self)
+        ensures { self.new ≡ self.old }
+    {
+        self.listed.catch_up_wide(self.alloc, self.log.as_slice());
     }
 
     /// Whether no event from a moment on drops a translation of processor `p`, as the last moments

@@ -10,5 +10,7 @@ mod listed;
 mod lists;
 mod log;
 mod packed;
+mod tally;
 
 pub use drops::Drops;
+pub use tally::Tally;

@@ -10,6 +10,7 @@ use crate::key::DropKey;
 use crate::lasts::Lasts;
 use crate::lists::Lists;
 use crate::log::LogEntry;
+use crate::tally::Tally;
 use pg_event::Window;
 use pg_timeline::Probes;
 use std::alloc::Global;
@@ -38,9 +39,13 @@ impl Listed {
         }
     }
 
-    /// How many of so many entries of the log the lists of 4-KiB pages lack.
-    pub(crate) fn unlisted_pages(&self, count: usize) -> usize {
-        self.pages.unlisted(count)
+    /// How many of so many entries of the log each kind of list lacks.
+    pub(crate) fn unlisted(&self, count: usize) -> Tally {
+        Tally {
+            pages: self.pages.unlisted(count),
+            regions: self.regions.unlisted(count),
+            wide: self.large_pages.unlisted(count),
+        }
     }
 
     /// Goes through the rest of the log for each class but those of large and of global pages.

@@ -123,8 +123,8 @@ impl Lists {
     }
 
     /// How many of so many entries of the log they lack.
-    pub(crate) fn unlisted(&self, count: usize) -> usize {
-        count.saturating_sub(self.known)
+    pub(crate) fn unlisted(&self, count: usize) -> u64 {
+        count.saturating_sub(self.known) as u64
     }
 
     /// Goes through the rest of the log. Where memory is refused, the lists stay behind it.
