@@ -407,11 +407,12 @@ fn keep_walk(past: &Past, kept: &mut Kept, current: u16, number: u32, slot: Slot
     }
 }
 
-/// To put an entry of the log into lists costs at least so many times what it costs to pass over it.
+/// To put an entry of the log into lists costs at least so many times what it costs to pass over
+/// it.
 const PASSED_FOR_ONE: u64 = 12;
 
-/// Whether look-ups passed over so many entries of the log that the lists are worth making which lack
-/// so many: as many as cost about what those lists would.
+/// Whether look-ups passed over so many entries of the log that the lists which lack so many are
+/// worth making: as many as cost about what those lists would.
 fn is_worth_lists(passed: u64, unlisted: u64) -> bool {
     passed > unlisted.saturating_mul(PASSED_FOR_ONE)
 }

@@ -25,7 +25,7 @@ other_place_of k =
 abbrev pub MayBeAt : List ℕ → ℕ → ℕ → Type 0
 MayBeAt lasts place m = place < length lasts → m ≤ get_or lasts place 0
 
--- the last moments of places, and from which moment on they bound the keys of large and global pages
+-- the last moments of places, and from which moment on they bound keys of large and global pages
 pub record Bounds : Type 0 where
   pub moments : List ℕ
   pub wide_from : ℕ

@@ -21,9 +21,9 @@ const PLACES: usize = 131_072;
 /// key has two places, by two hashes: what shares one with it rarely shares the other, and the
 /// lower of the two bounds it. Where memory is refused there is no place, and nothing is told.
 ///
-/// Large and global pages have places of their own only once somebody asks for such a page: an
-/// event that drops what is of an address would raise five keys more, for nothing in most runs, and
-/// the fewer keys are raised the fewer share a place.
+/// The keys of large and of global pages are raised only once the run may have such pages: an event
+/// that drops what is of an address has five of them, which would be raised for nothing in most
+/// runs, and the fewer keys are raised the fewer share a place.
 #[derive(Drop)]
 pub(crate) struct Lasts {
     moments: Vec<u32>,
