@@ -2,8 +2,6 @@
 #![tactic(auto)]
 
 #[cfg(test)]
-mod all_noes;
-#[cfg(test)]
 mod bent;
 #[cfg(test)]
 mod bent_scripts;
@@ -24,17 +22,11 @@ mod headers;
 #[cfg(test)]
 mod invalidations;
 #[cfg(test)]
-mod lines;
-#[cfg(test)]
 mod long_run;
-#[cfg(test)]
-mod many_lines;
 #[cfg(test)]
 mod namings;
 #[cfg(test)]
 mod new_headers;
-#[cfg(test)]
-mod pictures;
 #[cfg(test)]
 mod pieces;
 #[cfg(test)]
@@ -49,8 +41,6 @@ mod row;
 mod runs;
 #[cfg(test)]
 mod scripts;
-#[cfg(test)]
-mod span_pictures;
 #[cfg(test)]
 mod spans;
 #[cfg(test)]

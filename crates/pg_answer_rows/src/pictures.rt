@@ -1,8 +1,7 @@
 //! Pictures of what stands behind a no.
 
-use crate::explanations::STALE_LEAF;
+use crate::json::{FRESH_WALK, STALE_LEAF};
 use crate::row::Row;
-use crate::walks::FRESH_WALK;
 
 const DRAWING: &[&str] = &["explain", "--svg"];
 
@@ -11,6 +10,7 @@ pub const ROWS: [Row; 3] = [
     Row {
         name: "picture_of_a_stale_leaf",
         words: DRAWING,
+        input: STALE_LEAF,
         output: "<svg xmlns='http://www.w3.org/2000/svg' viewBox='0 0 1200 420' width='1200' \
             height='420' style='max-width:100%;height:auto' font-family='monospace' \
             font-size='14'>\n\
@@ -113,12 +113,16 @@ pub const ROWS: [Row; 3] = [
             <path fill='none' stroke-width='2' stroke='#c22' stroke-dasharray='6 3' \
             marker-end='url(#drops)' d='M216 372H200V347H216'/>\n\
             </svg>\n",
-        ..STALE_LEAF
+        line: "",
+        status: 1,
     },
     Row {
         name: "picture_of_a_fresh_walk",
         words: DRAWING,
-        ..FRESH_WALK
+        input: FRESH_WALK,
+        output: "verdict: yes\nevents: 5\nsegments: 1\n",
+        line: "",
+        status: 0,
     },
     Row {
         name: "picture_of_a_truncated_record",

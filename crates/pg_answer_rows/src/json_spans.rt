@@ -5,7 +5,7 @@ use crate::row::Row;
 
 /// The worked example of docs/FORMAT.md: processor 1's INVLPG overlaps the last of processor 0's
 /// writes, and its read comes behind both.
-const WALK: &[&str] = &[
+pub const WALK: &[&str] = &[
     "50475245434f5244030028030210000000011000000000000000011000000000000000",
     "010000000006000000",
     "10000000000000100000000000000720000000000000",

@@ -1,0 +1,24 @@
+//! Worked rows of what commands answer, as text, as pictures and as JSON, by the whole program over
+//! memory.
+#![tactic(auto)]
+
+#[cfg(test)]
+mod all_noes;
+#[cfg(test)]
+mod explanations;
+#[cfg(test)]
+mod json;
+#[cfg(test)]
+mod json_spans;
+#[cfg(test)]
+mod lines;
+#[cfg(test)]
+mod many_lines;
+#[cfg(test)]
+mod pictures;
+#[cfg(test)]
+mod row;
+#[cfg(test)]
+mod span_pictures;
+#[cfg(test)]
+mod tests;
