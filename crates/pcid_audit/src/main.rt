@@ -6,7 +6,7 @@ use pg_codec::Watched;
 use pg_follow::{Followed, Teller};
 use pg_plan::{NoWords, arguments, words_of};
 use pg_span_codec::Peeked;
-use pg_tool::{Followers, pcid_audit_followed, plan};
+use pg_tool::{Host, pcid_audit_followed, plan};
 use std::cell::Cell;
 use std::fs::{self, File};
 use std::io::{self, Lock, Read, Stderr, Write};
@@ -47,15 +47,15 @@ fn main(rt: HostRuntime) -> ExitCode {
         Watched::new(rt.stderr()),
         &progress,
     ));
-    let followers = Followers {
+    let host = Host {
+        opener: |name: &str| open_file(&rt, name, &progress),
         reading: &progress,
         onlooker: Teller::new(Watched::new(rt.stderr())),
     };
     ExitCode::from(pcid_audit_followed(
         &rt,
         plan(rt.alloc(), words.as_slice()),
-        |name: &str| open_file(&rt, name, &progress),
-        followers,
+        host,
         &mut input,
         &mut output,
         &mut errors,

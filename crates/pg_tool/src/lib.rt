@@ -1,16 +1,16 @@
 //! The whole program over any streams.
 #![tactic(auto)]
 
-mod followers;
 mod guest_error;
 mod guest_refusals;
 mod guests;
+mod host;
 mod pictures;
 mod program;
 mod records;
 
-pub use followers::Followers;
 pub use guest_error::GuestError;
+pub use host::Host;
 pub use pg_event::Selection;
 pub use pg_plan::{
     CertifyOptions, CheckOptions, Checkers, Command, ExplainOptions, Invocation, Plan, RunOptions,

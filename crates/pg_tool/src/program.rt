@@ -9,10 +9,10 @@ ghost use Rattle.pg_tool.specs.Guests.{guest_error_status, run_error_status};
 ghost use Rattle.pg_tool.specs.Guests.{RunsGuest, TellsGuest};
 ghost use Rattle.pg_auditing.specs.Streams.{streams};
 
-use crate::followers::Followers;
 use crate::guest_error::GuestError;
 use crate::guest_refusals::tell_guest;
 use crate::guests::run_script;
+use crate::host::Host;
 use crate::records::do_of_record;
 use pg_auditing::{
     MEMORY, REFUSED, UNOPENED, USAGE, YES, tell, tell_memory, tell_text, tell_unopened,
@@ -152,15 +152,16 @@ fn perform_on<
     O: Sink,
     E: Sink,
     P: Onlooker + Drop,
->(rt: &T, plan: &Plan, name: &str, opener: F, output: &mut O, errors: &mut E, onlooker: P) -> u8
+>(rt: &T, plan: &Plan, name: &str, host: Host<'_, F, P>, output: &mut O, errors: &mut E) -> u8
     requires logs { widening_of plan.now.command ≡ None }
-    requires opener { F.IsAlwaysCallable opener }
-    requires onlooker { P.told onlooker ≡ counts 0 0 }
-    ensures { DoesNamed (opens F.Fn ⟦<Peeked<S> as Source>⟧ opener) plan.now.command name.now
+    requires opener { F.IsAlwaysCallable host.opener }
+    requires onlooker { P.told host.onlooker ≡ counts 0 0 }
+    ensures { DoesNamed (opens F.Fn ⟦<Peeked<S> as Source>⟧ host.entry.opener)
+        plan.now.command name.now
         (filled O.Sink output.old output.new) (filled E.Sink errors.old errors.new) result }
 {
-    match opener(name) {
-        Some(mut file) => perform(rt, plan, &mut file, output, errors, onlooker),
+    match (host.opener)(name) {
+        Some(mut file) => perform(rt, plan, &mut file, output, errors, host.onlooker),
         None => {
             tell_unopened(errors, name);
             UNOPENED
@@ -245,30 +246,30 @@ fn perform_asked<
 >(
     rt: &T,
     asked: &Invocation<'_>,
-    opener: F,
+    host: Host<'_, F, P>,
     input: &mut Peeked<R>,
     output: &mut O,
     errors: &mut E,
-    onlooker: P,
 ) -> u8
     requires logs { widening_of asked.now.plan.command ≡ None }
-    requires opener { F.IsAlwaysCallable opener }
-    requires onlooker { P.told onlooker ≡ counts 0 0 }
-    ensures { DoesFile (opens F.Fn ⟦<Peeked<S> as Source>⟧ opener) (input.new ≡ input.old) asked.now
+    requires opener { F.IsAlwaysCallable host.opener }
+    requires onlooker { P.told host.onlooker ≡ counts 0 0 }
+    ensures { DoesFile (opens F.Fn ⟦<Peeked<S> as Source>⟧ host.entry.opener)
+        (input.new ≡ input.old) asked.now
         (streams ⟦<Peeked<R> as Source>⟧ O.Sink E.Sink
         (input.old, output.old, errors.old) (input.new, output.new, errors.new)) result }
 {
     match asked.file {
-        None => perform(rt, &asked.plan, input, output, errors, onlooker),
-        Some(name) => perform_on(rt, &asked.plan, name, opener, output, errors, onlooker),
+        None => perform(rt, &asked.plan, input, output, errors, host.onlooker),
+        Some(name) => perform_on(rt, &asked.plan, name, host, output, errors),
     }
 }
 
 /// The whole program, over any streams: what `plan` made of the words after its name, what opens a
 /// file, what it reads where the words name none, and what it writes to. It gives the exit status,
 /// which is 64 where the words are no command of it, and 66 where a file can't be opened. Where
-/// the words ask for progress the followers, which were told nothing before, come to know how far a
-/// record was read, or a run has come: telling of it is up to who made them.
+/// the words ask for progress the host, whose onlooker was told nothing before, comes to know how
+/// far a record was read, or a run has come: telling of it is up to who made the host.
 pub fn pcid_audit_followed<
     T: AllocGlobal + Threads + Wait + Sync,
     F: Fn(&str) -> Option<Peeked<S>>,
@@ -280,28 +281,26 @@ pub fn pcid_audit_followed<
 >(
     rt: &T,
     planned: Result<Invocation<'_>, Usage>,
-    opener: F,
-    followers: Followers<'_, P>,
+    host: Host<'_, F, P>,
     input: &mut Peeked<R>,
     output: &mut O,
     errors: &mut E,
 ) -> u8
-    requires opener { F.IsAlwaysCallable opener }
-    requires onlooker { P.told followers.onlooker ≡ counts 0 0 }
-    ensures { Answers planned.entry (opens F.Fn ⟦<Peeked<S> as Source>⟧ opener)
+    requires opener { F.IsAlwaysCallable host.opener }
+    requires onlooker { P.told host.onlooker ≡ counts 0 0 }
+    ensures { Answers planned.entry (opens F.Fn ⟦<Peeked<S> as Source>⟧ host.entry.opener)
         (input.new ≡ input.old)
         (streams ⟦<Peeked<R> as Source>⟧ O.Sink E.Sink
         (input.old, output.old, errors.old) (input.new, output.new, errors.new)) result }
 {
-    let Followers { reading, onlooker } = followers;
     let asked = match planned {
         Ok(asked) => asked,
         Err(why) => return tell_usage(why, output, errors),
     };
-    reading.set(tells_of_reading(&asked.plan));
+    host.reading.set(tells_of_reading(&asked.plan));
     match widening_of(&asked.plan.command) {
-        Some(error) => merge_asked(rt.alloc(), &asked, error, &opener, output, errors),
-        None => perform_asked(rt, &asked, opener, input, output, errors, onlooker),
+        Some(error) => merge_asked(rt.alloc(), &asked, error, &host.opener, output, errors),
+        None => perform_asked(rt, &asked, host, input, output, errors),
     }
 }
 
@@ -327,9 +326,10 @@ pub fn pcid_audit<
         (streams ⟦<Peeked<R> as Source>⟧ O.Sink E.Sink
         (input.old, output.old, errors.old) (input.new, output.new, errors.new)) result }
 {
-    let followers = Followers {
+    let host = Host {
+        opener,
         reading: &Cell::new(false),
         onlooker: Nobody,
     };
-    pcid_audit_followed(rt, planned, opener, followers, input, output, errors)
+    pcid_audit_followed(rt, planned, host, input, output, errors)
 }

@@ -10,6 +10,6 @@ returns-in-Some g c =
     let file = drawn (peeked.ghosts g.row.S g.S.Source g.S.Source-dict) c.in-Some.file c.perform.new.input in
     inl (file, (c.in-Some.file, c.perform.new.input, says_at g.F.Fn c.in-Some.ensures refl, refl), c.perform.ensures)
 
-pub returns : goal.returns
-returns g c =
+pub returns-in-None : goal.returns-in-None
+returns-in-None g c =
     inr (says_at g.F.Fn c.in-None.ensures refl, stays_same g.O.Sink c.args.output.now, c.tell_unopened.ensures, refl)

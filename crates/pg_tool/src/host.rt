@@ -1,0 +1,15 @@
+//! What the program is given besides its streams.
+
+use std::cell::Cell;
+
+/// What the program is given besides its streams: what opens a file, and who comes to know, where
+/// the words of the command line ask for progress, how far it is.
+#[derive(Drop)]
+pub struct Host<'a, F, P> {
+    /// Opens the file of a name. It gives `None` where that can't be opened.
+    pub opener: F,
+    /// Set, before anything is read or opened, where the reading of a record is to be told of.
+    pub reading: &'a Cell<bool>,
+    /// Sees how far a guest's processors have come, each with a thread of its own.
+    pub onlooker: P,
+}
