@@ -56,6 +56,13 @@ found_with head events i e ws fits good = record { same = same_without ws e; fit
 pub found_by : (head : Head) (events : List Event) (i : ℕ) (e : Event) (ws : List ℕ) → AreMoments ws → AreWitness head events i e ws → IsFoundFor head events i e (with_moments ws e)
 found_by head events i e ws fits by = found_with head events i e ws fits by.good
 
+-- by moments that were found
+pub found_for : (head : Head) (events : List Event) (i : ℕ) (e : Event) (r : Option (List ℕ)) (ws : List ℕ) (x : Event) → r ≡ Some ws → IfSome r (AreWitness head events i e) → AreMoments ws → x ≡ with_moments ws e → IsFoundFor head events i e x
+found_for head events i e None ws x is by fits same = absurd (cc)
+found_for head events i e (Some us) ws x is by fits same =
+    let one : us ≡ ws = cc in
+    subst (IsFoundFor head events i e) (sym same) (found_by head events i e ws fits (subst (AreWitness head events i e) one by))
+
 -- an event that names no moments
 pub found_itself : (head : Head) (events : List Event) (i : ℕ) (e : Event) → names_moments e ≡ false → IsFoundFor head events i e e
 found_itself head events i (Write p addr value) h = record { same = refl; fits = tt; good = refl }

@@ -5,19 +5,19 @@ ghost use Rattle.std.specs.Prelude.{IfOk, IfSome, IfNone};
 ghost use Rattle.std.specs.List.{AllByRecursion};
 ghost use Rattle.pg_event.specs.Form.{broken_rule, processor_of};
 ghost use Rattle.pg_event.specs.Spelling.{AreMoments};
-ghost use Rattle.pg_search.specs.Law.{names_moments};
+ghost use Rattle.pg_search.specs.Law.{names_moments, AreWitness};
 ghost use Rattle.pg_certify.specs.Certified.{IsFoundFor, IsUnwitnessed};
 
 use crate::case::{Asks, Case, case_of};
 use crate::guesses::{Guesses, Part, Scope, key_of};
+use crate::lately::Lately;
 use crate::mapped::Events;
-use crate::pcids::Pcids;
 use crate::walk::{Walk, address_by, first_moments, is_global, last_of, tables_up_to, walk_by};
 use pg_check::{Memo, failing};
 use pg_entry::has_bit;
 use pg_event::{Event, Moments, Outcome, Reason, Request};
 use pg_reach::any_moments;
-use pg_search::{Seen, with_moments};
+use pg_search::{Seen, names_moments, with_moments};
 use std::alloc::{AllocError, Global};
 use std::marker::Model;
 
@@ -38,7 +38,7 @@ pub(crate) struct Certifier<'a> {
     events: Events<'a>,
     memo: Memo<'a>,
     guesses: Guesses,
-    pcids: Pcids,
+    lately: Lately,
 }
 
 impl<'a> Model for Certifier<'a> {
@@ -64,18 +64,6 @@ fn moments_fit(moments: Moments)
     ensures { AreMoments moments }
 {
     numbers_fit(moments.as_slice());
-}
-
-/// The pages other than one of 4 KBytes of the own PCID that may serve an access: large ones, and
-/// global ones of each size.
-fn rare_pages_of(pcid: u16) -> [(Scope, Part); 5] {
-    [
-        (Scope::Page(pcid), Part::Of2M),
-        (Scope::Page(pcid), Part::Of1G),
-        (Scope::GlobalPage, Part::Of4K),
-        (Scope::GlobalPage, Part::Of2M),
-        (Scope::GlobalPage, Part::Of1G),
-    ]
 }
 
 /// So many changes of a word are looked at.
@@ -152,7 +140,7 @@ impl<'a> Certifier<'a> {
             events,
             memo,
             guesses,
-            pcids: Pcids::new(alloc),
+            lately: Lately::new(alloc),
         }
     }
 
@@ -161,30 +149,41 @@ impl<'a> Certifier<'a> {
         self.guesses
     }
 
-    /// The event with these moments, or the least reason by which they do not witness it. Each
-    /// event asks it, so that to copy what it gives would cost much.
+    /// The least reason by which these moments do not witness an event, or `None` where they do.
+    /// Each event asks it, so that to copy the event with them once more would cost much.
     #[inline(always)]
-    fn judge(&mut self, event: &Event, i: u32, moments: Moments) -> Result<Event, Reason>
+    fn judge(&mut self, event: &Event, i: u32, moments: Moments) -> Option<Reason>
         requires { broken_rule self.old.head event.now ≡ None }
         ensures same { self.new ≡ self.old }
-        ensures found { IfOk result
-            (IsFoundFor self.old.head self.old.events i event.now) }
+        ensures found { IfNone result
+            (AreWitness self.old.head self.old.events i event.now moments) }
     {
         moments_fit(moments);
         let guessed = with_moments(event, moments);
-        match failing(&mut self.memo, i, &guessed) {
-            None => Ok(guessed),
-            Some(reason) => Err(reason),
-        }
+        failing(&mut self.memo, i, &guessed)
     }
 
-    /// The event with moments that were found for a page, if they witness it. Those whose
-    /// translation was dropped are forgotten.
-    fn judge_kept(&mut self, event: &Event, case: Case, scope: Scope, part: Part) -> Option<Event>
+    /// These moments, if they witness an event.
+    fn judged(&mut self, event: &Event, i: u32, moments: Moments) -> Option<Moments>
         requires { broken_rule self.old.head event.now ≡ None }
         ensures same { self.new ≡ self.old }
         ensures found { IfSome result
-            (IsFoundFor self.old.head self.old.events case.i event.now) }
+            (AreWitness self.old.head self.old.events i event.now) }
+    {
+        match self.judge(event, i, moments) {
+            None => Some(moments),
+            Some(_) => None,
+        }
+    }
+
+    /// The moments that were found for a page, if they witness the event. Those whose translation
+    /// was dropped are forgotten.
+    #[inline(always)]
+    fn judge_kept(&mut self, event: &Event, case: Case, scope: Scope, part: Part) -> Option<Moments>
+        requires { broken_rule self.old.head event.now ≡ None }
+        ensures same { self.new ≡ self.old }
+        ensures found { IfSome result
+            (AreWitness self.old.head self.old.events case.i event.now) }
     {
         let key = key_of(case.p, scope, part, case.la);
         let moments = self.guesses.page(key, part)?;
@@ -192,61 +191,65 @@ impl<'a> Certifier<'a> {
             return None;
         }
         match self.judge(event, case.i, moments) {
-            Ok(found) => Some(found),
-            Err(reason) => {
-                if matches!(reason, Reason::TranslationDropped) {
-                    self.guesses.forget(key);
-                }
+            None => Some(moments),
+            Some(reason) => {
+                self.guesses.note_failed(key, reason);
                 None
             }
         }
     }
 
-    /// The access to a large or a global page with moments that were found for that, if these
-    /// witness it.
-    fn guess_rare(&mut self, event: &Event, case: Case) -> Option<Event>
+    /// The moments that were found for a large or a global page, if there is any of its kind and
+    /// they witness the access.
+    #[inline(always)]
+    fn judge_rare(&mut self, event: &Event, case: Case, scope: Scope, part: Part) -> Option<Moments>
         requires { broken_rule self.old.head event.now ≡ None }
         ensures same { self.new ≡ self.old }
         ensures found { IfSome result
-            (IsFoundFor self.old.head self.old.events case.i event.now) }
+            (AreWitness self.old.head self.old.events case.i event.now) }
     {
-        for (scope, part) in rare_pages_of(case.pcid) {
-            if let Some(found) = self.judge_kept(event, case, scope, part) {
-                return Some(found);
-            }
-        }
-        None
-    }
-
-    /// The access to a page with moments that were found for that, if they witness it.
-    fn guess_last(&mut self, event: &Event, case: Case) -> Option<Event>
-        requires { broken_rule self.old.head event.now ≡ None }
-        ensures same { self.new ≡ self.old }
-        ensures found { IfSome result
-            (IsFoundFor self.old.head self.old.events case.i event.now) }
-    {
-        let own = Scope::Page(case.pcid);
-        if let Some(found) = self.judge_kept(event, case, own, Part::Of4K) {
-            return Some(found);
-        }
-        if self.guesses.has_rare() {
-            self.guess_rare(event, case)
+        if self.guesses.has_any(scope, part) {
+            self.judge_kept(event, case, scope, part)
         } else {
             None
         }
     }
 
-    /// The assist with the moments of a walk as far as it reads a word, if they witness it.
-    fn judge_word(&mut self, event: &Event, i: u32, word: u64, walk: &Walk) -> Option<Event>
+    /// The moments that were found for the large or global page of an access, if they witness it.
+    #[inline(never)]
+    fn guess_rare(&mut self, event: &Event, case: Case) -> Option<Moments>
         requires { broken_rule self.old.head event.now ≡ None }
         ensures same { self.new ≡ self.old }
         ensures found { IfSome result
-            (IsFoundFor self.old.head self.old.events i event.now) }
+            (AreWitness self.old.head self.old.events case.i event.now) }
+    {
+        let own = Scope::Page(case.pcid);
+        if let Some(found) = self.judge_rare(event, case, own, Part::Of2M) {
+            return Some(found);
+        }
+        if let Some(found) = self.judge_rare(event, case, own, Part::Of1G) {
+            return Some(found);
+        }
+        if let Some(found) = self.judge_rare(event, case, Scope::GlobalPage, Part::Of4K) {
+            return Some(found);
+        }
+        if let Some(found) = self.judge_rare(event, case, Scope::GlobalPage, Part::Of2M) {
+            return Some(found);
+        }
+        self.judge_rare(event, case, Scope::GlobalPage, Part::Of1G)
+    }
+
+    /// The moments of a walk as far as it reads a word, if they witness the assist.
+    fn judge_word(&mut self, event: &Event, i: u32, word: u64, walk: &Walk) -> Option<Moments>
+        requires { broken_rule self.old.head event.now ≡ None }
+        ensures same { self.new ≡ self.old }
+        ensures found { IfSome result
+            (AreWitness self.old.head self.old.events i event.now) }
     {
         for level in 0..walk.moments.len() {
             if walk.words[level] == word {
                 let moments = first_moments(&walk.moments, level + 1);
-                if let Ok(found) = self.judge(event, i, moments) {
+                if let Some(found) = self.judged(event, i, moments) {
                     return Some(found);
                 }
             }
@@ -260,7 +263,7 @@ impl<'a> Certifier<'a> {
         ensures { self.new ≡ self.old }
     {
         self.guesses
-            .note_tables(case.p, case.pcid, case.la, walk.moments);
+            .note_tables(case.p, case.pcid, case.la, &walk.moments);
         if matches!(case.asks, Asks::Page) {
             let global = is_global(&self.seen, case.p, walk);
             self.guesses
@@ -268,16 +271,16 @@ impl<'a> Certifier<'a> {
         }
     }
 
-    /// The event with the moments of a walk, if they witness it.
-    fn judge_walk(&mut self, event: &Event, case: Case, walk: &Walk) -> Option<Event>
+    /// The moments of a walk, or those up to the word of an assist, if they witness the event.
+    fn judge_walk(&mut self, event: &Event, case: Case, walk: &Walk) -> Option<Moments>
         requires well { broken_rule self.old.head event.now ≡ None }
         requires processor { case.p < length self.old.head.processors }
         ensures same { self.new ≡ self.old }
         ensures found { IfSome result
-            (IsFoundFor self.old.head self.old.events case.i event.now) }
+            (AreWitness self.old.head self.old.events case.i event.now) }
     {
         let found = match case.asks {
-            Asks::Page | Asks::Entry => self.judge(event, case.i, walk.moments).ok(),
+            Asks::Page | Asks::Entry => self.judged(event, case.i, walk.moments),
             Asks::Word(word) => self.judge_word(event, case.i, word, walk),
         };
         if found.is_some() {
@@ -295,16 +298,22 @@ impl<'a> Certifier<'a> {
         }
     }
 
-    /// The event with the moments of a walk that reads its first entries at these moments, and what
-    /// comes below at one moment, if they witness it.
-    fn guess_walk(&mut self, event: &Event, case: Case, front: &[u32], moment: u32) -> Option<Event>
+    /// The moments of a walk that reads its first entries at these moments, and what comes below at
+    /// one moment, if they witness the event.
+    fn guess_walk(
+        &mut self,
+        event: &Event,
+        case: Case,
+        front: &[u32],
+        moment: u32,
+    ) -> Option<Moments>
         requires well { broken_rule self.old.head event.now ≡ None }
         requires processor { case.p < length self.old.head.processors }
         ensures same { self.new ≡ self.old }
         ensures found { IfSome result
-            (IsFoundFor self.old.head self.old.events case.i event.now) }
+            (AreWitness self.old.head self.old.events case.i event.now) }
     {
-        let walk = walk_by(&self.seen, case.p, case.la, front, moment);
+        let walk = walk_by(&self.seen, &mut self.lately, case.p, case.la, front, moment);
         if self.is_likely(event, case, &walk) {
             self.judge_walk(event, case, &walk)
         } else {
@@ -312,26 +321,26 @@ impl<'a> Certifier<'a> {
         }
     }
 
-    /// The event by the walk that is read now.
-    fn guess_now(&mut self, event: &Event, case: Case) -> Option<Event>
+    /// Moments by the walk that is read now.
+    fn guess_now(&mut self, event: &Event, case: Case) -> Option<Moments>
         requires well { broken_rule self.old.head event.now ≡ None }
         requires processor { case.p < length self.old.head.processors }
         ensures same { self.new ≡ self.old }
         ensures found { IfSome result
-            (IsFoundFor self.old.head self.old.events case.i event.now) }
+            (AreWitness self.old.head self.old.events case.i event.now) }
     {
-        let walk = walk_by(&self.seen, case.p, case.la, &[], case.i);
+        let walk = walk_by(&self.seen, &mut self.lately, case.p, case.la, &[], case.i);
         self.judge_walk(event, case, &walk)
     }
 
-    /// The event by the tables of the walk that was found last in the same part of the address
+    /// Moments by the tables of the walk that was found last in the same part of the address
     /// space, and what lies below as it is read now, or by all moments of that walk.
-    fn guess_near(&mut self, event: &Event, case: Case) -> Option<Event>
+    fn guess_near(&mut self, event: &Event, case: Case) -> Option<Moments>
         requires well { broken_rule self.old.head event.now ≡ None }
         requires processor { case.p < length self.old.head.processors }
         ensures same { self.new ≡ self.old }
         ensures found { IfSome result
-            (IsFoundFor self.old.head self.old.events case.i event.now) }
+            (AreWitness self.old.head self.old.events case.i event.now) }
     {
         let near = self.guesses.tables(case.p, case.pcid, case.la)?;
         for count in [3, 2, 4] {
@@ -378,13 +387,13 @@ impl<'a> Certifier<'a> {
         self.latest(case, before, under)
     }
 
-    /// The event by the tables of an earlier moment, and what lies below as it is read now.
-    fn guess_stale(&mut self, event: &Event, case: Case, moment: u32) -> Option<Event>
+    /// Moments by the tables of an earlier moment, and what lies below as it is read now.
+    fn guess_stale(&mut self, event: &Event, case: Case, moment: u32) -> Option<Moments>
         requires well { broken_rule self.old.head event.now ≡ None }
         requires processor { case.p < length self.old.head.processors }
         ensures same { self.new ≡ self.old }
         ensures found { IfSome result
-            (IsFoundFor self.old.head self.old.events case.i event.now) }
+            (AreWitness self.old.head self.old.events case.i event.now) }
     {
         let tables = [moment; 3];
         for count in 1..4 {
@@ -395,19 +404,19 @@ impl<'a> Certifier<'a> {
         None
     }
 
-    /// The event by a walk at an earlier moment: of the own PCID, or of a global page.
+    /// Moments by a walk at an earlier moment: of the own PCID, or of a global page.
     fn judge_earlier(
         &mut self,
         event: &Event,
         case: Case,
         walk: &Walk,
         under: Under,
-    ) -> Option<Event>
+    ) -> Option<Moments>
         requires well { broken_rule self.old.head event.now ≡ None }
         requires processor { case.p < length self.old.head.processors }
         ensures same { self.new ≡ self.old }
         ensures found { IfSome result
-            (IsFoundFor self.old.head self.old.events case.i event.now) }
+            (AreWitness self.old.head self.old.events case.i event.now) }
     {
         let may_be = match under {
             Under::Own => true,
@@ -420,7 +429,7 @@ impl<'a> Certifier<'a> {
         }
     }
 
-    /// The event by walks before the last changes of a word, the newest first.
+    /// Moments by walks before the last changes of a word, the newest first.
     fn guess_changes(
         &mut self,
         event: &Event,
@@ -428,12 +437,12 @@ impl<'a> Certifier<'a> {
         word: u64,
         under: Under,
         since: u32,
-    ) -> Option<Event>
+    ) -> Option<Moments>
         requires well { broken_rule self.old.head event.now ≡ None }
         requires processor { case.p < length self.old.head.processors }
         ensures same { self.new ≡ self.old }
         ensures found { IfSome result
-            (IsFoundFor self.old.head self.old.events case.i event.now) }
+            (AreWitness self.old.head self.old.events case.i event.now) }
     {
         let mut change = case.i;
         for _ in 0..MOST_CHANGES {
@@ -442,7 +451,7 @@ impl<'a> Certifier<'a> {
             if moment < since {
                 return None;
             }
-            let walk = walk_by(&self.seen, case.p, case.la, &[], moment);
+            let walk = walk_by(&self.seen, &mut self.lately, case.p, case.la, &[], moment);
             if let Some(found) = self.judge_earlier(event, case, &walk, under) {
                 return Some(found);
             }
@@ -450,21 +459,21 @@ impl<'a> Certifier<'a> {
         None
     }
 
-    /// The event by walks before the last changes of what is read now, from the last entry up.
+    /// Moments by walks before the last changes of what is read now, from the last entry up.
     fn guess_changed(
         &mut self,
         event: &Event,
         case: Case,
         under: Under,
         since: u32,
-    ) -> Option<Event>
+    ) -> Option<Moments>
         requires well { broken_rule self.old.head event.now ≡ None }
         requires processor { case.p < length self.old.head.processors }
         ensures same { self.new ≡ self.old }
         ensures found { IfSome result
-            (IsFoundFor self.old.head self.old.events case.i event.now) }
+            (AreWitness self.old.head self.old.events case.i event.now) }
     {
-        let walk = walk_by(&self.seen, case.p, case.la, &[], case.i);
+        let walk = walk_by(&self.seen, &mut self.lately, case.p, case.la, &[], case.i);
         let depth = walk.moments.len();
         for place in 1..depth + 1 {
             let word = walk.words[depth - place];
@@ -475,7 +484,7 @@ impl<'a> Certifier<'a> {
         None
     }
 
-    /// The event by walks at one earlier moment each, the newest first. Each step goes back to what
+    /// Moments by walks at one earlier moment each, the newest first. Each step goes back to what
     /// was read before anything that the walk of the step before reads was changed.
     fn guess_earlier(
         &mut self,
@@ -483,22 +492,22 @@ impl<'a> Certifier<'a> {
         case: Case,
         under: Under,
         since: u32,
-    ) -> Option<Event>
+    ) -> Option<Moments>
         requires well { broken_rule self.old.head event.now ≡ None }
         requires processor { case.p < length self.old.head.processors }
         ensures same { self.new ≡ self.old }
         ensures found { IfSome result
-            (IsFoundFor self.old.head self.old.events case.i event.now) }
+            (AreWitness self.old.head self.old.events case.i event.now) }
     {
         let reach = reach_of(case.asks);
         let mut moment = case.i;
-        let mut walk = walk_by(&self.seen, case.p, case.la, &[], moment);
+        let mut walk = walk_by(&self.seen, &mut self.lately, case.p, case.la, &[], moment);
         for step in 0..reach.walks {
             moment = self.before(case, &walk, moment, under)?;
             if moment < since {
                 return None;
             }
-            walk = walk_by(&self.seen, case.p, case.la, &[], moment);
+            walk = walk_by(&self.seen, &mut self.lately, case.p, case.la, &[], moment);
             if let Some(found) = self.judge_earlier(event, case, &walk, under) {
                 return Some(found);
             }
@@ -511,13 +520,19 @@ impl<'a> Certifier<'a> {
         None
     }
 
-    /// The event by walks at earlier moments.
-    fn guess_under(&mut self, event: &Event, case: Case, under: Under, since: u32) -> Option<Event>
+    /// Moments by walks at earlier moments.
+    fn guess_under(
+        &mut self,
+        event: &Event,
+        case: Case,
+        under: Under,
+        since: u32,
+    ) -> Option<Moments>
         requires well { broken_rule self.old.head event.now ≡ None }
         requires processor { case.p < length self.old.head.processors }
         ensures same { self.new ≡ self.old }
         ensures found { IfSome result
-            (IsFoundFor self.old.head self.old.events case.i event.now) }
+            (AreWitness self.old.head self.old.events case.i event.now) }
     {
         match self.guess_changed(event, case, under, since) {
             Some(found) => Some(found),
@@ -525,14 +540,14 @@ impl<'a> Certifier<'a> {
         }
     }
 
-    /// The event by walks at earlier moments, under its PCID or, as a global page may serve it,
+    /// Moments by walks at earlier moments, under its PCID or, as a global page may serve it,
     /// under any.
-    fn guess_back(&mut self, event: &Event, case: Case) -> Option<Event>
+    fn guess_back(&mut self, event: &Event, case: Case) -> Option<Moments>
         requires well { broken_rule self.old.head event.now ≡ None }
         requires processor { case.p < length self.old.head.processors }
         ensures same { self.new ≡ self.old }
         ensures found { IfSome result
-            (IsFoundFor self.old.head self.old.events case.i event.now) }
+            (AreWitness self.old.head self.old.events case.i event.now) }
     {
         let since = self.guesses.since(case.p, Scope::Page(case.pcid));
         if let Some(found) = self.guess_under(event, case, Under::Own, since) {
@@ -546,14 +561,14 @@ impl<'a> Certifier<'a> {
         }
     }
 
-    /// The access to a page by walks that read the entry from when on the page was mapped: whole,
-    /// or by the tables that were found last near by, up to then.
-    fn guess_mapped_at(&mut self, event: &Event, case: Case, moment: u32) -> Option<Event>
+    /// Moments for the access to a page by walks that read the entry from when on the page was
+    /// mapped: whole, or by the tables that were found last near by, up to then.
+    fn guess_mapped_at(&mut self, event: &Event, case: Case, moment: u32) -> Option<Moments>
         requires well { broken_rule self.old.head event.now ≡ None }
         requires processor { case.p < length self.old.head.processors }
         ensures same { self.new ≡ self.old }
         ensures found { IfSome result
-            (IsFoundFor self.old.head self.old.events case.i event.now) }
+            (AreWitness self.old.head self.old.events case.i event.now) }
     {
         if let Some(found) = self.guess_walk(event, case, &[], moment) {
             return Some(found);
@@ -563,13 +578,13 @@ impl<'a> Certifier<'a> {
         self.guess_walk(event, case, tables.as_slice(), moment)
     }
 
-    /// The access to a page by the moments at which that was mapped last.
-    fn guess_mapped(&mut self, event: &Event, case: Case, page: u64) -> Option<Event>
+    /// Moments for the access to a page by those at which that was mapped last.
+    fn guess_mapped(&mut self, event: &Event, case: Case, page: u64) -> Option<Moments>
         requires well { broken_rule self.old.head event.now ≡ None }
         requires processor { case.p < length self.old.head.processors }
         ensures same { self.new ≡ self.old }
         ensures found { IfSome result
-            (IsFoundFor self.old.head self.old.events case.i event.now) }
+            (AreWitness self.old.head self.old.events case.i event.now) }
     {
         let moments = self.guesses.mapped(self.events, case.i, page)?;
         for moment in moments {
@@ -582,26 +597,26 @@ impl<'a> Certifier<'a> {
         None
     }
 
-    /// The assist by the tables of the one that was found last in the same table.
-    fn guess_assist(&mut self, event: &Event, case: Case, word: u64) -> Option<Event>
+    /// Moments for the assist by the tables of the one that was found last in the same table.
+    fn guess_assist(&mut self, event: &Event, case: Case, word: u64) -> Option<Moments>
         requires well { broken_rule self.old.head event.now ≡ None }
         requires processor { case.p < length self.old.head.processors }
         ensures same { self.new ≡ self.old }
         ensures found { IfSome result
-            (IsFoundFor self.old.head self.old.events case.i event.now) }
+            (AreWitness self.old.head self.old.events case.i event.now) }
     {
         let other = self.guesses.assist(case.p, case.pcid, word)?;
         let all = other.as_slice();
         self.guess_walk(event, case, &all[..all.len() - 1], case.i)
     }
 
-    /// The event by what searches of all moments have told.
-    fn guess_learned(&mut self, event: &Event, case: Case) -> Option<Event>
+    /// Moments by what searches of all moments have told.
+    fn guess_learned(&mut self, event: &Event, case: Case) -> Option<Moments>
         requires well { broken_rule self.old.head event.now ≡ None }
         requires processor { case.p < length self.old.head.processors }
         ensures same { self.new ≡ self.old }
         ensures found { IfSome result
-            (IsFoundFor self.old.head self.old.events case.i event.now) }
+            (AreWitness self.old.head self.old.events case.i event.now) }
     {
         match case.asks {
             Asks::Word(word) => self.guess_assist(event, case, word),
@@ -613,13 +628,13 @@ impl<'a> Certifier<'a> {
         }
     }
 
-    /// The event by walks that are made anew: now, near by, or earlier.
-    fn guess_new(&mut self, event: &Event, case: Case) -> Option<Event>
+    /// Moments by walks that are made anew: now, near by, or earlier.
+    fn guess_new(&mut self, event: &Event, case: Case) -> Option<Moments>
         requires well { broken_rule self.old.head event.now ≡ None }
         requires processor { case.p < length self.old.head.processors }
         ensures same { self.new ≡ self.old }
         ensures found { IfSome result
-            (IsFoundFor self.old.head self.old.events case.i event.now) }
+            (AreWitness self.old.head self.old.events case.i event.now) }
     {
         if let Some(found) = self.guess_now(event, case) {
             return Some(found);
@@ -638,7 +653,14 @@ impl<'a> Certifier<'a> {
         requires { case.p < length self.old.head.processors }
         ensures { self.new ≡ self.old }
     {
-        let walk = walk_by(&self.seen, case.p, case.la, moments.as_slice(), case.i);
+        let walk = walk_by(
+            &self.seen,
+            &mut self.lately,
+            case.p,
+            case.la,
+            moments.as_slice(),
+            case.i,
+        );
         self.note_walk(case, &walk);
         if let Asks::Word(word) = case.asks {
             self.guesses.note_assist(case.p, case.pcid, word, moments);
@@ -646,16 +668,15 @@ impl<'a> Certifier<'a> {
         self.guesses.look_for_frames(self.alloc);
     }
 
-    /// The event with moments that witness it, by a search of all that there are, or `None` where
-    /// none do.
-    fn search(&mut self, event: &Event, case: Case) -> Result<Option<Event>, AllocError>
+    /// Moments that witness the event, by a search of all that there are, or `None` where none do.
+    fn search(&mut self, event: &Event, case: Case) -> Result<Option<Moments>, AllocError>
         requires well { broken_rule self.old.head event.now ≡ None }
         requires names { names_moments event.now ≡ true }
         requires within { case.i ≤ length self.old.events }
         requires processor { case.p < length self.old.head.processors }
         ensures same { self.new ≡ self.old }
         ensures found { IfOk result
-            (λ r. IfSome r (IsFoundFor self.old.head self.old.events case.i event.now)) }
+            (λ r. IfSome r (AreWitness self.old.head self.old.events case.i event.now)) }
         ensures none { IfOk result
             (λ r. IfNone r (IsUnwitnessed self.old.head self.old.events case.i event.now)) }
     {
@@ -663,53 +684,77 @@ impl<'a> Certifier<'a> {
         let Some(moments) = found else {
             return Ok(None);
         };
-        moments_fit(moments);
         self.learn(case, moments);
-        Ok(Some(with_moments(event, moments)))
+        Ok(Some(moments))
     }
 
-    /// The event with moments of a walk that is made anew, or of a search of all, or `None` where
-    /// no moments witness it.
-    fn find_new(&mut self, event: &Event, case: Case) -> Result<Option<Event>, AllocError>
+    /// Moments that witness an event, where those that were found for its page under its PCID do
+    /// not, or `None` where none do. It is apart from what most events ask, so that these do not
+    /// pay for its locals.
+    #[inline(never)]
+    fn find_other(&mut self, i: u32, event: &Event) -> Result<Option<Moments>, AllocError>
         requires well { broken_rule self.old.head event.now ≡ None }
         requires names { names_moments event.now ≡ true }
-        requires within { case.i ≤ length self.old.events }
-        requires processor { case.p < length self.old.head.processors }
+        requires within { i ≤ length self.old.events }
         ensures same { self.new ≡ self.old }
         ensures found { IfOk result
-            (λ r. IfSome r (IsFoundFor self.old.head self.old.events case.i event.now)) }
+            (λ r. IfSome r (AreWitness self.old.head self.old.events i event.now)) }
         ensures none { IfOk result
-            (λ r. IfNone r (IsUnwitnessed self.old.head self.old.events case.i event.now)) }
+            (λ r. IfNone r (IsUnwitnessed self.old.head self.old.events i event.now)) }
     {
+        let Some(case) = case_of(&self.seen, &mut self.lately, i, event) else {
+            unreachable!()
+        };
+        if matches!(case.asks, Asks::Page) && self.guesses.has_rare() {
+            if let Some(found) = self.guess_rare(event, case) {
+                return Ok(Some(found));
+            }
+        }
         match self.guess_new(event, case) {
             Some(found) => Ok(Some(found)),
             None => self.search(event, case),
         }
     }
 
-    /// The event with moments that witness it, or `None` where it names moments and none do.
-    fn find_case(&mut self, event: &Event, case: Case) -> Result<Option<Event>, AllocError>
-        requires well { broken_rule self.old.head event.now ≡ None }
-        requires names { names_moments event.now ≡ true }
-        requires within { case.i ≤ length self.old.events }
-        requires processor { case.p < length self.old.head.processors }
+    /// The moments that were found for the 4-KB page of an access under its PCID, if they witness
+    /// it.
+    #[inline(always)]
+    fn guess_own(&mut self, i: u32, event: &Event) -> Option<Moments>
+        requires { broken_rule self.old.head event.now ≡ None }
         ensures same { self.new ≡ self.old }
-        ensures found { IfOk result
-            (λ r. IfSome r (IsFoundFor self.old.head self.old.events case.i event.now)) }
-        ensures none { IfOk result
-            (λ r. IfNone r (IsUnwitnessed self.old.head self.old.events case.i event.now)) }
+        ensures found { IfSome result
+            (AreWitness self.old.head self.old.events i event.now) }
     {
+        let case = case_of(&self.seen, &mut self.lately, i, event)?;
         if matches!(case.asks, Asks::Page) {
-            if let Some(found) = self.guess_last(event, case) {
-                return Ok(Some(found));
-            }
+            self.judge_kept(event, case, Scope::Page(case.pcid), Part::Of4K)
+        } else {
+            None
         }
-        self.find_new(event, case)
     }
 
-    /// Takes note of an event that drops all that its processor has for a PCID, or for any, but for
-    /// global translations (Intel SDM, vol. 3, 4.10.4.1).
-    pub(crate) fn see(&mut self, i: u32, event: &Event)
+    /// Moments that witness an event that names moments, or `None` where none do.
+    #[inline(always)]
+    fn find_moments(&mut self, i: u32, event: &Event) -> Result<Option<Moments>, AllocError>
+        requires well { broken_rule self.old.head event.now ≡ None }
+        requires names { names_moments event.now ≡ true }
+        requires within { i ≤ length self.old.events }
+        ensures same { self.new ≡ self.old }
+        ensures found { IfOk result
+            (λ r. IfSome r (AreWitness self.old.head self.old.events i event.now)) }
+        ensures none { IfOk result
+            (λ r. IfNone r (IsUnwitnessed self.old.head self.old.events i event.now)) }
+    {
+        match self.guess_own(i, event) {
+            Some(moments) => Ok(Some(moments)),
+            None => self.find_other(i, event),
+        }
+    }
+
+    /// Takes note that an event dropped what its processor had for a PCID, or for any, but for
+    /// global translations (Intel SDM, vol. 3, 4.10.4.1), or all.
+    #[inline(never)]
+    fn note_drop(&mut self, i: u32, event: &Event)
         requires { processor_of event.now < length self.old.head.processors }
         ensures { self.new ≡ self.old }
     {
@@ -737,8 +782,27 @@ impl<'a> Certifier<'a> {
         }
     }
 
+    /// Takes note of an event that drops all that its processor has for a PCID, or for any: few do.
+    #[inline(always)]
+    pub(crate) fn see(&mut self, i: u32, event: &Event)
+        requires { processor_of event.now < length self.old.head.processors }
+        ensures { self.new ≡ self.old }
+    {
+        match event {
+            Event::MovCr3 { .. } | Event::Invpcid { .. } | Event::MovCr4Pge { .. } => {
+                self.note_drop(i, event);
+            }
+            Event::Write { .. }
+            | Event::Access { .. }
+            | Event::Assist { .. }
+            | Event::Invlpg { .. } => {}
+        }
+    }
+
     /// The event, as one with this number, with moments that witness it, which is itself where it
-    /// names none, or `None` where no moments do.
+    /// names none, or `None` where no moments do. It is inlined, so that who does not ask for the
+    /// event does not pay for a copy.
+    #[inline(always)]
     pub(crate) fn find(&mut self, i: u32, event: &Event) -> Result<Option<Event>, AllocError>
         requires well { broken_rule self.old.head event.now ≡ None }
         requires within { i ≤ length self.old.events }
@@ -749,9 +813,15 @@ impl<'a> Certifier<'a> {
         ensures none { IfOk result
             (λ r. IfNone r (IsUnwitnessed self.old.head self.old.events i event.now)) }
     {
-        match case_of(&self.seen, &mut self.pcids, i, event) {
-            Some(case) => self.find_case(event, case),
-            None => Ok(Some(*event)),
+        if !names_moments(event) {
+            return Ok(Some(*event));
+        }
+        match self.find_moments(i, event)? {
+            Some(moments) => {
+                moments_fit(moments);
+                Ok(Some(with_moments(event, moments)))
+            }
+            None => Ok(None),
         }
     }
 }

@@ -1,10 +1,13 @@
 //! Moments that were found, kept to guess from. Nothing is claimed of a guess: it is judged before
 //! it is taken, so that a wrong one costs time alone.
 
+ghost use Rattle.std.specs.Prelude.{◌<◌};
+
+use crate::flushes::Flushes;
 use crate::mapped::{Events, Mapped};
-use crate::pages::Pages;
+use crate::pages::{NO_MOMENT, NOTHING, Pages};
 use crate::walk::and_then;
-use pg_event::{Moments, bits_from};
+use pg_event::{Moments, Reason, bits_from};
 use std::alloc::Global;
 use std::collections::HashMap;
 
@@ -23,12 +26,14 @@ pub(crate) enum Scope {
 /// PCID may serve. Where memory is refused, some are not kept.
 #[derive(Drop)]
 pub(crate) struct Guesses {
+    /// Those of pages and of tables, by their keys.
     pages: Pages,
-    tables: HashMap<u64, Moments>,
     /// The moments of assists, by the table that their word lies in.
     assists: HashMap<u64, Moments>,
-    flushes: HashMap<u64, u32>,
-    has_large: bool,
+    flushes: Flushes,
+    /// Which pages were found other than those of 4 KBytes of the own PCID, by `kind_of`.
+    rare: [bool; 8],
+    has_rare: bool,
     has_global: bool,
     /// When frames were mapped, from the first search of all moments on.
     mapped: Option<Mapped>,
@@ -49,6 +54,7 @@ pub(crate) enum Part {
 }
 
 /// What moments were found for: a part of the address space of a processor.
+#[inline(always)]
 pub(crate) fn key_of(p: u16, scope: Scope, part: Part, la: u64) -> u64 {
     let scope = match scope {
         Scope::Page(pcid) => pcid as u64 % 4096,
@@ -64,24 +70,25 @@ pub(crate) fn key_of(p: u16, scope: Scope, part: Part, la: u64) -> u64 {
     (p as u64) << 52 | scope << 38 | part << 36 | number
 }
 
-/// A key that tells a PCID of a processor.
-fn space_of(p: u16, pcid: u16) -> u64 {
-    (p as u64) << 32 | (pcid as u64) << 8 | 1
-}
-
-/// A key that tells all PCIDs of a processor.
-fn spaces_of(p: u16) -> u64 {
-    (p as u64) << 32 | 2
-}
-
-/// A key that tells the global pages of a processor.
-fn globals_of(p: u16) -> u64 {
-    (p as u64) << 32 | 3
-}
-
 /// A key that tells the table of a word, under a PCID of a processor.
 fn table_key(p: u16, pcid: u16, word: u64) -> u64 {
     ((p as u64) << 52) ^ ((pcid as u64) << 40) ^ (word >> 12)
+}
+
+/// Which of eight kinds a page is: of four sizes, and global or of a PCID.
+fn kind_of(scope: Scope, part: Part) -> usize
+    ensures { result < 8 }
+{
+    let size = match part {
+        Part::Of4K => 0,
+        Part::Of2M => 1,
+        Part::Of1G => 2,
+        Part::Of512G => 3,
+    };
+    match scope {
+        Scope::Page(_) | Scope::Tables(_) => size,
+        Scope::GlobalPage => 4 + size,
+    }
 }
 
 /// The page that a walk by so many moments comes to.
@@ -94,22 +101,50 @@ fn page_by(count: usize) -> Part {
     }
 }
 
+/// One to four moments, and `NO_MOMENT` in each place behind them.
+fn filled(moments: &Moments) -> [u32; 4] {
+    let mut all = NOTHING;
+    for (place, moment) in all.iter_mut().zip(moments.as_slice()) {
+        *place = *moment;
+    }
+    all
+}
+
+/// The moments before the first `NO_MOMENT`, if there are any.
+fn listed(all: [u32; 4]) -> Option<Moments> {
+    let [first, second, third, fourth] = all;
+    if first == NO_MOMENT {
+        return None;
+    }
+    let mut moments = Moments::first(first);
+    for moment in [second, third, fourth] {
+        if moment != NO_MOMENT {
+            moments = and_then(moments, moment);
+        }
+    }
+    Some(moments)
+}
+
 impl Guesses {
     pub(crate) fn new(alloc: Global) -> Guesses {
         Guesses {
             pages: Pages::new(alloc),
-            tables: HashMap::new(alloc),
             assists: HashMap::new(alloc),
-            flushes: HashMap::new(alloc),
-            has_large: false,
+            flushes: Flushes::new(alloc),
+            rare: [false; 8],
+            has_rare: false,
             has_global: false,
             mapped: None,
         }
     }
 
     /// The moments that were found last for a page of this size.
+    #[inline(always)]
     pub(crate) fn page(&mut self, key: u64, part: Part) -> Option<Moments> {
-        let [first, second, third, fourth] = self.pages.get(key)?;
+        let [first, second, third, fourth] = self.pages.get(key);
+        if first == NO_MOMENT {
+            return None;
+        }
         let one = Moments::first(first);
         Some(match part {
             Part::Of512G => one,
@@ -120,14 +155,11 @@ impl Guesses {
     }
 
     /// The moments that were found last in the same 1 GB of the address space.
-    pub(crate) fn tables(&self, p: u16, pcid: u16, la: u64) -> Option<Moments> {
-        match self
-            .tables
-            .get(&key_of(p, Scope::Tables(pcid), Part::Of1G, la))
-        {
-            Some(moments) => Some(*moments),
-            None => None,
-        }
+    pub(crate) fn tables(&mut self, p: u16, pcid: u16, la: u64) -> Option<Moments> {
+        let found = self
+            .pages
+            .get(key_of(p, Scope::Tables(pcid), Part::Of1G, la));
+        listed(found)
     }
 
     /// Keeps moments that witness an assist for the others in its table.
@@ -172,7 +204,12 @@ impl Guesses {
 
     /// Whether any page was large or global.
     pub(crate) fn has_rare(&self) -> bool {
-        self.has_large || self.has_global
+        self.has_rare
+    }
+
+    /// Whether any page of this size was.
+    pub(crate) fn has_any(&self, scope: Scope, part: Part) -> bool {
+        self.rare[kind_of(scope, part)]
     }
 
     /// Whether any page was global.
@@ -180,62 +217,51 @@ impl Guesses {
         self.has_global
     }
 
-    /// The moment behind the last event that dropped all that a key tells, and 0 where none did.
-    fn flushed(&self, key: u64) -> u32 {
-        match self.flushes.get(&key) {
-            Some(moment) => *moment,
-            None => 0,
-        }
-    }
-
     /// The first moment since which what serves a scope may have been read on a processor.
-    pub(crate) fn since(&self, p: u16, scope: Scope) -> u32 {
+    #[inline(always)]
+    pub(crate) fn since(&mut self, p: u16, scope: Scope) -> u32 {
         match scope {
-            Scope::Page(pcid) | Scope::Tables(pcid) => self
-                .flushed(space_of(p, pcid))
-                .max(self.flushed(spaces_of(p))),
-            Scope::GlobalPage => self.flushed(globals_of(p)),
+            Scope::Page(pcid) | Scope::Tables(pcid) => self.flushes.since(p, pcid),
+            Scope::GlobalPage => self.flushes.globals_since(p),
         }
-    }
-
-    fn keep_flush(&mut self, event: u32, key: u64) {
-        let _refused = self.flushes.insert(key, event.saturating_add(1)).is_err();
     }
 
     /// Takes note that an event dropped what a processor had for a PCID.
     pub(crate) fn flush(&mut self, event: u32, p: u16, pcid: u16) {
-        self.keep_flush(event, space_of(p, pcid));
+        self.flushes.note(event.saturating_add(1), p, pcid);
     }
 
     /// Takes note that an event dropped what a processor had for any PCID, but for global pages.
     pub(crate) fn flush_all(&mut self, event: u32, p: u16) {
-        self.keep_flush(event, spaces_of(p));
+        self.flushes.note_all(event.saturating_add(1), p);
     }
 
     /// Takes note that an event dropped all that a processor had.
     pub(crate) fn flush_with_globals(&mut self, event: u32, p: u16) {
-        self.flush_all(event, p);
-        self.keep_flush(event, globals_of(p));
+        self.flushes.note_with_globals(event.saturating_add(1), p);
     }
 
-    /// Forgets the moments that were found for a page.
-    pub(crate) fn forget(&mut self, key: u64) {
-        self.pages.forget(key);
-    }
-
-    /// Keeps moments that were found for a page, whose size tells how many there are.
-    fn keep(&mut self, key: u64, moments: &Moments) {
-        let mut all = [0; 4];
-        for (place, moment) in all.iter_mut().zip(moments.as_slice()) {
-            *place = *moment;
+    /// Takes note that the moments of a page do not witness an event. They are forgotten where
+    /// their translation was dropped: it does not come back.
+    #[inline(never)]
+    pub(crate) fn note_failed(&mut self, key: u64, reason: Reason) {
+        if matches!(reason, Reason::TranslationDropped) {
+            self.pages.forget(key);
         }
-        self.pages.keep(key, all);
     }
 
     /// Keeps moments that witness an event under a PCID for the tables that they come by.
-    pub(crate) fn note_tables(&mut self, p: u16, pcid: u16, la: u64, moments: Moments) {
+    pub(crate) fn note_tables(&mut self, p: u16, pcid: u16, la: u64, moments: &Moments) {
         let key = key_of(p, Scope::Tables(pcid), Part::Of1G, la);
-        let _refused = self.tables.insert(key, moments).is_err();
+        self.pages.keep(key, filled(moments));
+    }
+
+    /// Keeps moments that witness an event for the page that serves it.
+    fn keep_page(&mut self, p: u16, scope: Scope, la: u64, moments: &Moments) {
+        let part = page_by(moments.len());
+        self.rare[kind_of(scope, part)] = true;
+        self.has_rare = self.has_rare || kind_of(scope, part) > 0;
+        self.pages.keep(key_of(p, scope, part, la), filled(moments));
     }
 
     /// Keeps moments that witness an event under a PCID for the page that serves it.
@@ -247,12 +273,10 @@ impl Guesses {
         moments: &Moments,
         is_global: bool,
     ) {
-        let part = page_by(moments.len());
-        self.keep(key_of(p, Scope::Page(pcid), part, la), moments);
+        self.keep_page(p, Scope::Page(pcid), la, moments);
         if is_global {
-            self.keep(key_of(p, Scope::GlobalPage, part, la), moments);
+            self.has_global = true;
+            self.keep_page(p, Scope::GlobalPage, la, moments);
         }
-        self.has_large = self.has_large || part != Part::Of4K;
-        self.has_global = self.has_global || is_global;
     }
 }

@@ -3,6 +3,7 @@
 
 ghost use Rattle.std.specs.Prelude.{◌<◌, length};
 
+use crate::lately::Lately;
 use pg_entry::{Cfg, Entry, Kind, Level, classify, has_bit, page_offset, table_of};
 use pg_event::{Moments, entry_address};
 use pg_search::Seen;
@@ -70,12 +71,19 @@ pub(crate) fn tables_up_to(moments: &Moments, moment: u32) -> Moments {
 
 /// The walk of a processor for an address that reads its first entries at these moments, and what
 /// comes below at one moment.
-pub(crate) fn walk_by(seen: &Seen<'_>, p: u16, la: u64, front: &[u32], moment: u32) -> Walk
+pub(crate) fn walk_by(
+    seen: &Seen<'_>,
+    lately: &mut Lately,
+    p: u16,
+    la: u64,
+    front: &[u32],
+    moment: u32,
+) -> Walk
     requires { p < length seen.now.head.processors }
 {
     let cfg = seen.header().cfg;
     let mut at = moment_at(front, 0, moment);
-    let mut table = seen.control_at(p, at).root;
+    let mut table = lately.root_at(seen, p, at);
     let mut moments = Moments::first(at);
     let mut words = [0; 4];
     let mut last = Entry(0);
@@ -86,9 +94,9 @@ pub(crate) fn walk_by(seen: &Seen<'_>, p: u16, la: u64, front: &[u32], moment: u
             moments = and_then(moments, at);
         }
         words[i] = entry_address(table, LEVELS[i], la);
-        let span = seen.value_span(at, words[i]);
-        last = Entry(span.value);
-        since = since.max(span.from);
+        let (value, from) = lately.word_at(seen, at, words[i]);
+        last = Entry(value);
+        since = since.max(from);
         if !matches!(classify(cfg, LEVELS[i], last), Kind::Table { .. }) {
             break;
         }
