@@ -21,4 +21,6 @@ mod row;
 #[cfg(test)]
 mod span_pictures;
 #[cfg(test)]
+mod spans;
+#[cfg(test)]
 mod tests;

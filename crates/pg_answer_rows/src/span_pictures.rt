@@ -1,7 +1,7 @@
 //! Pictures of why no order of events with spans has a run.
 
-use crate::json_spans::WALK;
 use crate::row::Row;
+use crate::spans::WALK;
 
 const DRAWING: &[&str] = &["explain", "--svg"];
 

@@ -1,5 +1,7 @@
 use crate::row::run_all;
-use crate::{all_noes, explanations, json, json_spans, lines, many_lines, pictures, span_pictures};
+use crate::{
+    all_noes, explanations, json, json_spans, lines, many_lines, pictures, span_pictures, spans,
+};
 use std::test::Fail;
 
 #[test]
@@ -17,6 +19,11 @@ fn records_shown(rt: HostRuntime) -> Result<(), Fail> {
     run_all(&rt, &lines::SAMPLES)?;
     run_all(&rt, &lines::RANGES)?;
     run_all(&rt, &many_lines::ROWS)
+}
+
+#[test]
+fn records_with_spans(rt: HostRuntime) -> Result<(), Fail> {
+    run_all(&rt, &spans::ROWS)
 }
 
 #[test]

@@ -22,6 +22,8 @@ mod headers;
 #[cfg(test)]
 mod invalidations;
 #[cfg(test)]
+mod logs;
+#[cfg(test)]
 mod long_run;
 #[cfg(test)]
 mod namings;
@@ -29,8 +31,6 @@ mod namings;
 mod new_headers;
 #[cfg(test)]
 mod pieces;
-#[cfg(test)]
-mod plans;
 #[cfg(test)]
 mod refusals;
 #[cfg(test)]
@@ -41,8 +41,6 @@ mod row;
 mod runs;
 #[cfg(test)]
 mod scripts;
-#[cfg(test)]
-mod spans;
 #[cfg(test)]
 mod spliced;
 #[cfg(test)]

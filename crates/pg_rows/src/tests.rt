@@ -1,7 +1,7 @@
 use crate::row::run_all;
 use crate::{
-    certificates, explanations, headers, invalidations, refusals, rights, runs, spans, spliced,
-    versions, walks,
+    certificates, explanations, headers, invalidations, refusals, rights, runs, spliced, versions,
+    walks,
 };
 use std::test::Fail;
 
@@ -25,11 +25,6 @@ fn runs_step_by_step(rt: HostRuntime) -> Result<(), Fail> {
 #[test]
 fn samples_explained(rt: HostRuntime) -> Result<(), Fail> {
     run_all(&rt, &explanations::SAMPLES)
-}
-
-#[test]
-fn records_with_spans(rt: HostRuntime) -> Result<(), Fail> {
-    run_all(&rt, &spans::ROWS)
 }
 
 #[test]

@@ -1,15 +1,6 @@
-//! Records whose events have spans in the place of one order, and logs.
+//! Records whose events have spans in the place of one order.
 
-use crate::case::{Case, is_answered};
-use crate::row::{Row, bytes_of};
-use pg_codec::Watched;
-use pg_span_codec::Peeked;
-use pg_tool::{pcid_audit, plan};
-use std::alloc::AllocGlobal;
-use std::process::Abort;
-use std::sync::Wait;
-use std::test::Fail;
-use std::thread::Threads;
+use crate::row::Row;
 
 /// The worked example of docs/FORMAT.md: processor 1's INVLPG overlaps the last of processor 0's
 /// writes, and its read comes behind both.
@@ -26,7 +17,7 @@ pub const WALK: &[&str] = &[
 ];
 
 /// The entry is replaced before processor 1 invalidates its page and reads it by the old one.
-const STALE: &[&str] = &[
+pub const STALE: &[&str] = &[
     "50475245434f5244030028030210000000011000000000000000011000000000000000",
     "010000000007000000",
     "10000000000000100000000000000720000000000000",
@@ -41,7 +32,7 @@ const STALE: &[&str] = &[
 
 /// Processor 1 reads the new page, invalidates it and reads the old one, while processor 0 replaces
 /// the entry. Each read may come in some order: the first behind the write, the second before it.
-const NEW_THEN_OLD: &[&str] = &[
+pub const NEW_THEN_OLD: &[&str] = &[
     "50475245434f5244030028030210000000011000000000000000011000000000000000",
     "010000000008000000",
     "10000000000000100000000000000720000000000000",
@@ -61,7 +52,7 @@ const THREE_INVLPGS: &str =
 
 /// The same of 71 events, too many to try all orders: 63 times processor 0 invalidates the page
 /// first.
-const MANY_NEW_THEN_OLD: &[&str] = &[
+pub const MANY_NEW_THEN_OLD: &[&str] = &[
     "50475245434f5244030028030200010000011000000000000000011000000000000000",
     "010000000047000000",
     "10000000000000100000000000000720000000000000",
@@ -109,7 +100,7 @@ const ONE: &[&str] = &[
 ];
 
 /// The span of event 0 begins before it.
-const BACK: &[&str] = &[
+pub const BACK: &[&str] = &[
     "50475245434f5244030028030110000000011000000000000000",
     "010000000001000000",
     "10000100000000100000000000000720000000000000",
@@ -298,73 +289,3 @@ pub const ROWS: [Row; 16] = [
         status: 1,
     },
 ];
-
-/// What the two logs below make: the worked example in segments of 65,536 events.
-const MERGED: &[&str] = &[
-    "50475245434f5244030028030200000100011000000000000000011000000000000000",
-    "010000000006000000",
-    "10000000000000100000000000000720000000000000",
-    "10000000000000200000000000000730000000000000",
-    "10000000000000300000000000000740000000000000",
-    "10000000000028400000000000000790000000000000",
-    "1301010000000050000000000000",
-    "110100000000042351000000000000002391000000000000",
-    "0206000000",
-];
-
-/// Processor 0's log of the worked example.
-const LOG_0: &[&str] = &[
-    "50474350554c4f470100280302000000011000000000000000",
-    "01000000000000000200000000000000100000100000000000000720000000000000",
-    "03000000000000000400000000000000100000200000000000000730000000000000",
-    "05000000000000000600000000000000100000300000000000000740000000000000",
-    "07000000000000000a00000000000000100028400000000000000790000000000000",
-    "ffffffffffffffff0400000000000000",
-];
-
-/// Processor 1's.
-const LOG_1: &[&str] = &[
-    "50474350554c4f470100280302000100011000000000000000",
-    "08000000000000000b0000000000000013010050000000000000",
-    "0c000000000000000d000000000000001101042351000000000000002391000000000000",
-    "ffffffffffffffff0200000000000000",
-];
-
-/// The log of that name.
-fn log_of<'a>(name: &str, first: &'a [u8], second: &'a [u8]) -> &'a [u8] {
-    if name == "a.log" { first } else { second }
-}
-
-/// Merges the two logs, which are the only files.
-fn merge_logs<'a, T: AllocGlobal + Abort + Threads + Wait + Sync>(
-    rt: &T,
-    merged: Case<'a>,
-    first: &'a [u8],
-    second: &'a [u8],
-) {
-    let mut input = Peeked::new(Watched::new(merged.input));
-    let mut output = Watched::new(Vec::new(rt.alloc()));
-    let mut errors = Watched::new(Vec::new(rt.alloc()));
-    let opener = |name: &str| Some(Peeked::new(Watched::new(log_of(name, first, second))));
-    let planned = plan(rt.alloc(), merged.words);
-    let status = pcid_audit(rt, planned, opener, &mut input, &mut output, &mut errors);
-    let is_right = is_answered(merged, status, &output.inner, &errors.inner);
-    assert!(rt; is_right, "{}: {status}", merged.name);
-}
-
-#[test]
-fn logs_merged(rt: HostRuntime) -> Result<(), Fail> {
-    let output = bytes_of(rt.alloc(), MERGED)?;
-    let first = bytes_of(rt.alloc(), LOG_0)?;
-    let second = bytes_of(rt.alloc(), LOG_1)?;
-    let merged = Case {
-        name: "logs_merged",
-        words: &["merge", "b.log", "a.log"],
-        input: &[],
-        output: &output,
-        line: "",
-        status: 0,
-    };
-    merge_logs(&rt, merged, &first, &second);
-    Ok(())
-}

@@ -1,0 +1,5 @@
+//! Tests of what the words of a command line ask for.
+#![tactic(auto)]
+
+#[cfg(test)]
+mod plans;
