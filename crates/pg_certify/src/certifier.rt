@@ -8,6 +8,7 @@ ghost use Rattle.pg_event.specs.Spelling.{AreMoments};
 ghost use Rattle.pg_search.specs.Law.{names_moments, AreWitness};
 ghost use Rattle.pg_certify.specs.Certified.{IsFoundFor, IsUnwitnessed};
 
+use crate::back::{MOST_CHANGES, MOST_LOADS, Under, reach_of};
 use crate::case::{Asks, Case, case_of};
 use crate::guesses::{Guesses, Part, Scope, key_of};
 use crate::lately::Lately;
@@ -64,43 +65,6 @@ fn moments_fit(moments: Moments)
     ensures { AreMoments moments }
 {
     numbers_fit(moments.as_slice());
-}
-
-/// So many changes of a word are looked at.
-const MOST_CHANGES: usize = 8;
-
-/// How far back walks at earlier moments are tried.
-#[derive(Clone, Copy)]
-struct Reach {
-    /// So many of them.
-    walks: usize,
-    /// So many times their tables with what lies below as it is read now.
-    tables: usize,
-}
-
-/// How far back it is of use to look: a page may have been used long since, while another entry is
-/// read at the event.
-fn reach_of(asks: Asks) -> Reach {
-    match asks {
-        Asks::Page => Reach {
-            walks: 64,
-            tables: 4,
-        },
-        Asks::Entry | Asks::Word(_) => Reach {
-            walks: 16,
-            tables: 16,
-        },
-    }
-}
-
-/// So many changes of a processor's control registers are gone back.
-const MOST_LOADS: usize = 64;
-
-/// Under which PCID a walk may have been made: its own alone or, where the page is global, any.
-#[derive(Clone, Copy, PartialEq, Eq)]
-enum Under {
-    Own,
-    Any,
 }
 
 /// The physical address that an access came to, if it was done.

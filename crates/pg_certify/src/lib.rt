@@ -4,6 +4,7 @@
 #![tactic(auto)]
 
 mod account;
+mod back;
 mod case;
 mod certifier;
 mod certifying;
