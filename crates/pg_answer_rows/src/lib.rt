@@ -5,6 +5,8 @@
 #[cfg(test)]
 mod all_noes;
 #[cfg(test)]
+mod bent_scripts;
+#[cfg(test)]
 mod explanations;
 #[cfg(test)]
 mod json;
@@ -24,3 +26,7 @@ mod span_pictures;
 mod spans;
 #[cfg(test)]
 mod tests;
+#[cfg(test)]
+mod texts;
+#[cfg(test)]
+mod words;

@@ -25,7 +25,7 @@ pub struct Row {
 }
 
 /// There are no files.
-fn no_file(_name: &str) -> Option<Peeked<Watched<&'static [u8]>>> {
+pub fn no_file(_name: &str) -> Option<Peeked<Watched<&'static [u8]>>> {
     None
 }
 

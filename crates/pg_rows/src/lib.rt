@@ -4,8 +4,6 @@
 #[cfg(test)]
 mod bent;
 #[cfg(test)]
-mod bent_scripts;
-#[cfg(test)]
 mod case;
 #[cfg(test)]
 mod cells;
@@ -48,12 +46,8 @@ mod streams;
 #[cfg(test)]
 mod tests;
 #[cfg(test)]
-mod texts;
-#[cfg(test)]
 mod upgrades;
 #[cfg(test)]
 mod versions;
 #[cfg(test)]
 mod walks;
-#[cfg(test)]
-mod words;

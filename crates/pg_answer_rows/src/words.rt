@@ -1,6 +1,6 @@
 //! Words that are no command of the program, and help.
 
-use crate::case::no_file;
+use crate::row::no_file;
 use crate::texts::{FAULTS, TEXTS, Told};
 use pg_codec::Watched;
 use pg_span_codec::Peeked;

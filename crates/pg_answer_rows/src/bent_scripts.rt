@@ -1,7 +1,7 @@
 //! Scripts that end early, and of which one byte is bent: each byte to each other value. One thread
 //! and a thread for the processor say the same of each.
 
-use crate::case::no_file;
+use crate::row::no_file;
 use pg_codec::Watched;
 use pg_span_codec::Peeked;
 use pg_tool::{pcid_audit, plan};
