@@ -1,4 +1,4 @@
-//! Tests of what the words of a command line ask for.
+//! Tests of what the arguments of the program ask for.
 #![tactic(auto)]
 
 #[cfg(test)]
