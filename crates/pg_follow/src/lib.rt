@@ -5,8 +5,6 @@ mod counter;
 mod followed;
 mod line;
 mod teller;
-#[cfg(test)]
-mod tests;
 
 pub use counter::Counter;
 pub use followed::Followed;

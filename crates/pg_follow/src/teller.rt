@@ -13,7 +13,8 @@ use pg_progress::{Counts, Onlooker};
 pub struct Teller<E> {
     /// What it was told last.
     pub last: Counts,
-    pub(crate) errors: E,
+    /// Where the lines go.
+    pub errors: E,
 }
 
 impl<E: Sink> Teller<E> {

@@ -51,7 +51,7 @@ const CHECKED: [(&[&str], u32, bool, bool); 6] = [
 
 #[test]
 fn plans_of_check(rt: HostRuntime) -> Result<(), Fail> {
-    for (words, number, all, progress) in CHECKED {
+    for &(words, number, all, progress) in &CHECKED {
         let checkers = Checkers::new(number).ok_or("no number of checkers")?;
         let asked = CheckOptions {
             checkers,
@@ -80,7 +80,7 @@ const CERTIFIED: [(&[&str], u32, [bool; 3]); 6] = [
 
 #[test]
 fn plans_of_certify(rt: HostRuntime) -> Result<(), Fail> {
-    for (words, number, [bytes, order, json]) in CERTIFIED {
+    for &(words, number, [bytes, order, json]) in &CERTIFIED {
         let checkers = Checkers::new(number).ok_or("no number of checkers")?;
         let asked = CertifyOptions {
             checkers,
@@ -110,7 +110,7 @@ const RUNS: [(&[&str], u32, [bool; 3]); 5] = [
 
 #[test]
 fn plans_of_run(rt: HostRuntime) -> Result<(), Fail> {
-    for (words, number, [single, bytes, progress]) in RUNS {
+    for &(words, number, [single, bytes, progress]) in &RUNS {
         let checkers = Checkers::new(number).ok_or("no number of checkers")?;
         let asked = RunOptions {
             checkers,
@@ -179,7 +179,7 @@ const SHOWN: [(&[&str], Selection); 8] = [
 
 #[test]
 fn plans_of_show(rt: HostRuntime) -> Result<(), Fail> {
-    for (words, selection) in SHOWN {
+    for &(words, selection) in &SHOWN {
         let asked = ShowOptions {
             selection,
             json: false,
@@ -203,7 +203,7 @@ const EXPLAINED: [(&[&str], Telling, bool); 3] = [
 
 #[test]
 fn plans_of_explain(rt: HostRuntime) -> Result<(), Fail> {
-    for (words, telling, progress) in EXPLAINED {
+    for &(words, telling, progress) in &EXPLAINED {
         let asked = ExplainOptions {
             telling,
             json: false,
@@ -227,7 +227,7 @@ const PLAIN: [(&[&str], Command, bool); 4] = [
 
 #[test]
 fn plans_of_plain_commands(rt: HostRuntime) -> Result<(), Fail> {
-    for (words, command, progress) in PLAIN {
+    for &(words, command, progress) in &PLAIN {
         let wanted = Plan { command, progress };
         assert!(rt; asks_for(rt.alloc(), words, wanted), "{words:?}");
     }
@@ -248,7 +248,7 @@ const NAMED: [(&[&str], Option<&str>); 8] = [
 
 #[test]
 fn names_of_files(rt: HostRuntime) -> Result<(), Fail> {
-    for (words, file) in NAMED {
+    for &(words, file) in &NAMED {
         let wanted = Invocation {
             plan: quiet(Command::Check(CheckOptions {
                 checkers: Checkers::default(),
@@ -276,7 +276,7 @@ const LOGGED: [(&[&str], u32, &[&str]); 3] = [
 
 #[test]
 fn names_of_logs(rt: HostRuntime) -> Result<(), Fail> {
-    for (words, error, names) in LOGGED {
+    for &(words, error, names) in &LOGGED {
         let mut logs = Vec::new(rt.alloc());
         logs.extend_from_slice(names)?;
         let wanted = Invocation {
@@ -360,20 +360,37 @@ fn is_fault(alloc: Global, words: &[&str]) -> bool {
     matches!(plan(alloc, words), Err(Usage::Fault(_)))
 }
 
-#[test]
-fn tells_faults(rt: HostRuntime) -> Result<(), Fail> {
-    for words in FAULTS {
-        assert!(rt; is_fault(rt.alloc(), words), "{words:?}");
-    }
-    for [command, option] in WITH_NUMBERS {
-        for number in NO_NUMBERS {
-            assert!(rt;
-                is_fault(rt.alloc(), &[command, option, number]),
-                "{option} {number}"
-            );
+/// The first of some command lines that is not refused.
+fn first_taken(
+    alloc: Global,
+    lines: &'static [&'static [&'static str]],
+) -> Option<&'static [&'static str]> {
+    for words in lines {
+        if !is_fault(alloc, words) {
+            return Some(*words);
         }
     }
-    Ok(())
+    None
+}
+
+/// The first of some options, each with its command, that takes what is no number.
+fn first_taking(alloc: Global, options: &'static [[&'static str; 2]]) -> Option<&'static str> {
+    for [command, option] in options {
+        for number in &NO_NUMBERS {
+            if !is_fault(alloc, &[*command, *option, *number]) {
+                return Some(*option);
+            }
+        }
+    }
+    None
+}
+
+#[test]
+fn tells_faults(rt: HostRuntime) {
+    let taken = first_taken(rt.alloc(), &FAULTS);
+    assert!(rt; taken.is_none(), "{taken:?}");
+    let taking = first_taking(rt.alloc(), &WITH_NUMBERS);
+    assert!(rt; taking.is_none(), "{taking:?}");
 }
 
 fn is_help(alloc: Global, words: &[&str]) -> bool {

@@ -380,8 +380,8 @@ fn refuses_lines(rt: HostRuntime) -> Result<(), Fail> {
 
 #[test]
 fn refuses_bytes_of_lines(rt: HostRuntime) -> Result<(), Fail> {
-    for (head, line) in HEADS {
-        for (lines, end) in BYTES {
+    for &(head, line) in &HEADS {
+        for &(lines, end) in &BYTES {
             refuses(&rt, head, lines, end, (line, ScriptRefusal::LineEnd))?;
         }
     }
@@ -481,7 +481,7 @@ const NAMES: [(ScriptRefusal, u8, &str); 3] = [
 
 #[test]
 fn numbers_and_names_refusals(rt: HostRuntime) -> Result<(), Fail> {
-    for (refusal, number, name) in NAMES {
+    for &(refusal, number, name) in &NAMES {
         assert!(rt;
             refusal.number() == number && refusal.name() == name,
             "{name}"

@@ -98,7 +98,7 @@ const UNOPENED: [&[&str]; 7] = [
 
 #[test]
 fn files_that_can_not_be_opened(rt: HostRuntime) -> Result<(), Fail> {
-    for words in UNOPENED {
+    for &words in &UNOPENED {
         let unopened = Case {
             name: "file_that_can_not_be_opened",
             words,

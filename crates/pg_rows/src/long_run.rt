@@ -155,7 +155,7 @@ const ROWS: [LongRow; 5] = [
 
 #[test]
 fn thousands_of_events_in_windows(rt: HostRuntime) -> Result<(), Fail> {
-    for (events, segment, bad, output, status) in ROWS {
+    for &(events, segment, bad, output, status) in &ROWS {
         let bytes = push_record(rt.alloc(), events, segment.max(1), bad)?;
         let long = Case {
             name: output,

@@ -63,7 +63,7 @@ const HEADERS: [(&str, &str); 12] = [
 
 #[test]
 fn headers_of_version_2_out_of_range(rt: HostRuntime) -> Result<(), Fail> {
-    for (field, header) in HEADERS {
+    for &(field, header) in &HEADERS {
         let bytes = bytes_of(rt.alloc(), &[header, REST])?;
         let refused = Case {
             name: field,

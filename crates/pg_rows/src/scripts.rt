@@ -208,7 +208,7 @@ fn reports_and_records_of_scripts(rt: HostRuntime) -> Result<(), Fail> {
     for row in &ROWS {
         let text = text_of(rt.alloc(), row)?;
         let record = bytes_of(rt.alloc(), row.record)?;
-        for words in REPORTS {
+        for &words in &REPORTS {
             answer(&rt, ran(row.name, words, &text, row.report.as_bytes()));
         }
         let words = ["run", "--single", "--bytes"];
@@ -233,7 +233,7 @@ const TWO_THREADS: &str = "pcid-guest 1\nmachine 40 wp nxe\nsegment 16\n\
 #[test]
 fn two_processors_in_threads(rt: HostRuntime) -> Result<(), Fail> {
     let text = TWO_THREADS.as_bytes();
-    for words in REPORTS {
+    for &words in &REPORTS {
         let report = b"verdict: yes\nevents: 10\nsegments: 1\n";
         answer(&rt, ran("two_threads", words, text, report));
     }
@@ -287,7 +287,7 @@ const REFUSED: [(&str, &str); 11] = [
 
 #[test]
 fn texts_that_are_no_script(rt: HostRuntime) -> Result<(), Fail> {
-    for (text, line) in REFUSED {
+    for &(text, line) in &REFUSED {
         let refused = Case {
             name: line,
             words: &["run", "--single"],

@@ -92,7 +92,7 @@ const READERS: [&[&str]; 7] = [
 #[test]
 fn each_read_of_ten_segments(rt: HostRuntime) -> Result<(), Fail> {
     let input = bytes_of(rt.alloc(), TEN_SEGMENTS.input)?;
-    for words in READERS {
+    for &words in &READERS {
         let whole = Case {
             words,
             ..TEN_SEGMENTS.case(&input)
@@ -106,7 +106,7 @@ fn each_read_of_ten_segments(rt: HostRuntime) -> Result<(), Fail> {
 #[test]
 fn each_read_of_a_long_record(rt: HostRuntime) -> Result<(), Fail> {
     let input = push_record(rt.alloc(), 5000, 100, 5000)?;
-    for words in READERS {
+    for &words in &READERS {
         let whole = Case {
             words,
             ..TEN_SEGMENTS.case(&input)
@@ -210,11 +210,11 @@ fn run_over_streams<'a, T: AllocGlobal + Abort + Threads + Wait + Sync>(
 #[test]
 fn each_read_and_write_of_a_run(rt: HostRuntime) -> Result<(), Fail> {
     let record = bytes_of(rt.alloc(), &RECORD)?;
-    for words in REPORTS {
+    for &words in &REPORTS {
         let report = b"verdict: yes\nevents: 3\nsegments: 2\n";
         run_over_streams(&rt, run_for(words, report))?;
     }
-    for words in RECORDS {
+    for &words in &RECORDS {
         run_over_streams(&rt, run_for(words, &record))?;
     }
     Ok(())

@@ -1,9 +1,10 @@
+//! How many events the bytes of a record have, and the lines of `--progress`.
+
 ghost use Rattle.std.specs.Prelude.{◌≡◌};
 ghost use Rattle.pg_progress.specs.Seats.{counts};
 
-use crate::counter::Counter;
-use crate::teller::Teller;
 use pg_codec::Watched;
+use pg_follow::{Counter, Teller};
 use pg_progress::{Counts, Onlooker};
 use std::alloc::{AllocError, Global};
 use std::test::Fail;
