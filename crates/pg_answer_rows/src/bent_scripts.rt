@@ -1,10 +1,8 @@
 //! Scripts that end early, and of which one byte is bent: each byte to each other value. One thread
 //! and a thread for the processor say the same of each.
 
-use crate::row::no_file;
+use crate::row::run_on;
 use pg_codec::Watched;
-use pg_span_codec::Peeked;
-use pg_tool::{pcid_audit, plan};
 use std::alloc::{AllocError, AllocGlobal, Global};
 use std::process::Abort;
 use std::sync::Wait;
@@ -26,19 +24,6 @@ const SCRIPT: &str = "pcid-guest 1\nmachine 40 wp nxe\nsegment 16\ncpu 0x1001 1\
 /// What the program wrote, and to where.
 type Written = Watched<Vec<u8>>;
 
-/// Runs a script on one thread, or on a thread for the processor.
-fn run<T: AllocGlobal + Abort + Threads + Wait + Sync>(
-    rt: &T,
-    words: &[&str],
-    text: &[u8],
-    output: &mut Written,
-    errors: &mut Written,
-) -> u8 {
-    let mut input = Peeked::new(Watched::new(text));
-    let planned = plan(rt.alloc(), words);
-    pcid_audit(rt, planned, no_file, &mut input, output, errors)
-}
-
 /// What `run` comes to, which a thread for the processor and one thread for all have to say alike.
 fn ran<T: AllocGlobal + Abort + Threads + Wait + Sync>(
     rt: &T,
@@ -46,10 +31,10 @@ fn ran<T: AllocGlobal + Abort + Threads + Wait + Sync>(
     output: &mut Written,
     errors: &mut Written,
 ) -> u8 {
-    let alone = run(rt, &["run", "--single"], text, output, errors);
+    let alone = run_on(rt, &["run", "--single"], text, output, errors);
     let mut other = Watched::new(Vec::new(rt.alloc()));
     let mut others = Watched::new(Vec::new(rt.alloc()));
-    let by_threads = run(rt, &["run"], text, &mut other, &mut others);
+    let by_threads = run_on(rt, &["run"], text, &mut other, &mut others);
     let is_alike = output.inner.as_slice() == other.inner.as_slice()
         && errors.inner.as_slice() == others.inner.as_slice();
     assert!(rt; is_alike && alone == by_threads);

@@ -25,7 +25,7 @@ pub struct Row {
 }
 
 /// There are no files.
-pub fn no_file(_name: &str) -> Option<Peeked<Watched<&'static [u8]>>> {
+fn no_file(_name: &str) -> Option<Peeked<Watched<&'static [u8]>>> {
     None
 }
 
@@ -44,14 +44,26 @@ fn is_answered(row: &Row, status: u8, output: &[u8], line: &[u8]) -> bool {
     status == row.status && output == row.output.as_bytes() && line == row.line.as_bytes()
 }
 
-fn answer<T: AllocGlobal + Abort + Threads + Wait + Sync>(rt: &T, row: &Row, bytes: &[u8]) {
+/// The exit status of the program with these words on this input, where there are no files. What the
+/// program promises is long: who calls this carries none of it, and is proved sooner.
+pub fn run_on<T: AllocGlobal + Threads + Wait + Sync>(
+    rt: &T,
+    words: &[&str],
+    bytes: &[u8],
+    output: &mut Watched<Vec<u8>>,
+    errors: &mut Watched<Vec<u8>>,
+) -> u8 {
     let mut input = Peeked::new(Watched::new(bytes));
+    let planned = plan(rt.alloc(), words);
+    pcid_audit(rt, planned, no_file, &mut input, output, errors)
+}
+
+/// Whether the program answers as the row says.
+fn answers<T: AllocGlobal + Threads + Wait + Sync>(rt: &T, row: &Row, bytes: &[u8]) -> bool {
     let mut output = Watched::new(Vec::new(rt.alloc()));
     let mut errors = Watched::new(Vec::new(rt.alloc()));
-    let planned = plan(rt.alloc(), row.words);
-    let status = pcid_audit(rt, planned, no_file, &mut input, &mut output, &mut errors);
-    let is_right = is_answered(row, status, &output.inner, &errors.inner);
-    assert!(rt; is_right, "{}: {status}", row.name);
+    let status = run_on(rt, row.words, bytes, &mut output, &mut errors);
+    is_answered(row, status, &output.inner, &errors.inner)
 }
 
 /// Runs the program on each row, over memory. A row is named where it fails.
@@ -61,7 +73,7 @@ pub fn run_all<T: AllocGlobal + Abort + Threads + Wait + Sync>(
 ) -> Result<(), Fail> {
     for row in rows {
         let bytes = bytes_of(rt.alloc(), row.input)?;
-        answer(rt, row, &bytes);
+        assert!(rt; answers(rt, row, &bytes), "{}", row.name);
     }
     Ok(())
 }

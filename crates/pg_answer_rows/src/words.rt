@@ -1,10 +1,8 @@
 //! Words that are no command of the program, and help.
 
-use crate::row::no_file;
+use crate::row::run_on;
 use crate::texts::{FAULTS, TEXTS, Told};
 use pg_codec::Watched;
-use pg_span_codec::Peeked;
-use pg_tool::{pcid_audit, plan};
 use std::alloc::AllocGlobal;
 use std::process::Abort;
 use std::sync::Wait;
@@ -20,14 +18,11 @@ fn is_told(told: Told, is_fault: bool, status: u8, output: &[u8], errors: &[u8])
     }
 }
 
-fn expect<T: AllocGlobal + Abort + Threads + Wait + Sync>(rt: &T, told: Told, is_fault: bool) {
-    let mut input = Peeked::new(Watched::new([].as_slice()));
+fn tells<T: AllocGlobal + Threads + Wait + Sync>(rt: &T, told: Told, is_fault: bool) -> bool {
     let mut output = Watched::new(Vec::new(rt.alloc()));
     let mut errors = Watched::new(Vec::new(rt.alloc()));
-    let planned = plan(rt.alloc(), told.words);
-    let status = pcid_audit(rt, planned, no_file, &mut input, &mut output, &mut errors);
-    let is_right = is_told(told, is_fault, status, &output.inner, &errors.inner);
-    assert!(rt; is_right, "{:?}", told.words);
+    let status = run_on(rt, told.words, &[], &mut output, &mut errors);
+    is_told(told, is_fault, status, &output.inner, &errors.inner)
 }
 
 fn expect_all<T: AllocGlobal + Abort + Threads + Wait + Sync>(
@@ -36,7 +31,7 @@ fn expect_all<T: AllocGlobal + Abort + Threads + Wait + Sync>(
     is_fault: bool,
 ) {
     for told in rows {
-        expect(rt, *told, is_fault);
+        assert!(rt; tells(rt, *told, is_fault), "{:?}", told.words);
     }
 }
 

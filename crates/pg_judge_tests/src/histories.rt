@@ -207,14 +207,23 @@ fn take(history: &mut History, step: &Step) -> Result<bool, Fail> {
     }
 }
 
+/// Takes all steps of a case.
+fn take_steps(
+    rt: &(impl AllocGlobal + Abort),
+    history: &mut History,
+    case: &Case,
+) -> Result<(), Fail> {
+    add_all(history, &MAPPED)?;
+    for (place, step) in case.steps.iter().enumerate() {
+        assert!(rt; take(history, step)?, "{}, step {place}", case.name);
+    }
+    Ok(())
+}
+
 /// Takes all steps of a case in a history of its own.
 fn take_all(rt: &(impl AllocGlobal + Abort), case: &Case) -> Result<(), Fail> {
     let mut history = started(rt.alloc(), case.version, case.segment, 2)?;
-    add_all(&mut history, &MAPPED)?;
-    for (place, step) in case.steps.iter().enumerate() {
-        assert!(rt; take(&mut history, step)?, "{}, step {place}", case.name);
-    }
-    Ok(())
+    take_steps(rt, &mut history, case)
 }
 
 #[test]

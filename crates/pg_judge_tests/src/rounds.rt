@@ -206,17 +206,27 @@ fn came_both(gate: &Held) -> bool {
     [failed, comings, first, second] == [0, 2, 1, 2]
 }
 
-/// The round of both segments of the stale leaf, by so many checkers.
+/// The round of both segments of a history that has two, by so many checkers.
+fn audit_both<R: AllocGlobal + Threads + Wait + Sync, G: Gate>(
+    rt: &R,
+    history: &History,
+    checkers: u32,
+    gate: &G,
+) -> Option<Result<Vec<SegmentVerdict>, PoolError>> {
+    if history.segments() != 2 {
+        return None;
+    }
+    Some(audit_round(rt, rt.alloc(), history.stretch(), BOTH, checkers, gate))
+}
+
+/// The same of the stale leaf.
 fn audited<R: AllocGlobal + Threads + Wait + Sync, G: Gate>(
     rt: &R,
     checkers: u32,
     gate: &G,
 ) -> Result<Result<Vec<SegmentVerdict>, PoolError>, Fail> {
     let history = stale_leaf(rt.alloc())?;
-    if history.segments() != 2 {
-        return Err(Fail::from("not two segments"));
-    }
-    Ok(audit_round(rt, rt.alloc(), history.stretch(), BOTH, checkers, gate))
+    Ok(audit_both(rt, &history, checkers, gate).ok_or("not two segments")?)
 }
 
 #[test]

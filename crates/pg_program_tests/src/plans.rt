@@ -23,10 +23,13 @@ fn quiet(command: Command) -> Plan {
     }
 }
 
-/// Whether a command line asks for this, and names no file and no log.
-fn asks_for(alloc: Global, words: &[&str], wanted: Plan) -> bool {
+/// Whether a command line asks for a plan, and names no file and no log.
+fn asks_for(alloc: Global, words: &[&str], wanted: Option<Plan>) -> bool {
+    let Some(plan_wanted) = wanted else {
+        return false;
+    };
     let wanted = Invocation {
-        plan: wanted,
+        plan: plan_wanted,
         file: None,
         logs: Vec::new(alloc),
     };
@@ -49,22 +52,25 @@ const CHECKED: [(&[&str], u32, bool, bool); 6] = [
     ),
 ];
 
+/// What `check` asks for so; none where that is no number of checkers.
+fn checked(number: u32, all: bool, progress: bool) -> Option<Plan> {
+    let asked = CheckOptions {
+        checkers: Checkers::new(number)?,
+        all,
+        json: false,
+    };
+    Some(Plan {
+        command: Command::Check(asked),
+        progress,
+    })
+}
+
 #[test]
-fn plans_of_check(rt: HostRuntime) -> Result<(), Fail> {
+fn plans_of_check(rt: HostRuntime) {
     for &(words, number, all, progress) in &CHECKED {
-        let checkers = Checkers::new(number).ok_or("no number of checkers")?;
-        let asked = CheckOptions {
-            checkers,
-            all,
-            json: false,
-        };
-        let wanted = Plan {
-            command: Command::Check(asked),
-            progress,
-        };
+        let wanted = checked(number, all, progress);
         assert!(rt; asks_for(rt.alloc(), words, wanted), "{words:?}");
     }
-    Ok(())
 }
 
 /// Command lines of `certify`: how many checkers they ask for, whether for the record, for the
@@ -78,20 +84,23 @@ const CERTIFIED: [(&[&str], u32, [bool; 3]); 6] = [
     (&["certify", "--json", "--bytes"], 1, [true, false, true]),
 ];
 
+fn certified(number: u32, options: [bool; 3]) -> Option<Plan> {
+    let [bytes, order, json] = options;
+    let asked = CertifyOptions {
+        checkers: Checkers::new(number)?,
+        bytes,
+        order,
+        json,
+    };
+    Some(quiet(Command::Certify(asked)))
+}
+
 #[test]
-fn plans_of_certify(rt: HostRuntime) -> Result<(), Fail> {
-    for &(words, number, [bytes, order, json]) in &CERTIFIED {
-        let checkers = Checkers::new(number).ok_or("no number of checkers")?;
-        let asked = CertifyOptions {
-            checkers,
-            bytes,
-            order,
-            json,
-        };
-        let wanted = quiet(Command::Certify(asked));
+fn plans_of_certify(rt: HostRuntime) {
+    for &(words, number, options) in &CERTIFIED {
+        let wanted = certified(number, options);
         assert!(rt; asks_for(rt.alloc(), words, wanted), "{words:?}");
     }
-    Ok(())
 }
 
 /// Command lines of `run`: how many checkers they ask for, whether for a single thread, for the
@@ -108,22 +117,25 @@ const RUNS: [(&[&str], u32, [bool; 3]); 5] = [
     (&["run", "--progress"], 1, [false, false, true]),
 ];
 
+fn run(number: u32, options: [bool; 3]) -> Option<Plan> {
+    let [single, bytes, progress] = options;
+    let asked = RunOptions {
+        checkers: Checkers::new(number)?,
+        single,
+        bytes,
+    };
+    Some(Plan {
+        command: Command::Run(asked),
+        progress,
+    })
+}
+
 #[test]
-fn plans_of_run(rt: HostRuntime) -> Result<(), Fail> {
-    for &(words, number, [single, bytes, progress]) in &RUNS {
-        let checkers = Checkers::new(number).ok_or("no number of checkers")?;
-        let asked = RunOptions {
-            checkers,
-            single,
-            bytes,
-        };
-        let wanted = Plan {
-            command: Command::Run(asked),
-            progress,
-        };
+fn plans_of_run(rt: HostRuntime) {
+    for &(words, number, options) in &RUNS {
+        let wanted = run(number, options);
         assert!(rt; asks_for(rt.alloc(), words, wanted), "{words:?}");
     }
-    Ok(())
 }
 
 /// Command lines of `show`, and the events that they ask for.
@@ -178,16 +190,15 @@ const SHOWN: [(&[&str], Selection); 8] = [
 ];
 
 #[test]
-fn plans_of_show(rt: HostRuntime) -> Result<(), Fail> {
+fn plans_of_show(rt: HostRuntime) {
     for &(words, selection) in &SHOWN {
         let asked = ShowOptions {
             selection,
             json: false,
         };
-        let wanted = quiet(Command::Show(asked));
+        let wanted = Some(quiet(Command::Show(asked)));
         assert!(rt; asks_for(rt.alloc(), words, wanted), "{words:?}");
     }
-    Ok(())
 }
 
 /// Command lines of `explain`: what they ask to be told, and whether for progress.
@@ -202,19 +213,18 @@ const EXPLAINED: [(&[&str], Telling, bool); 3] = [
 ];
 
 #[test]
-fn plans_of_explain(rt: HostRuntime) -> Result<(), Fail> {
+fn plans_of_explain(rt: HostRuntime) {
     for &(words, telling, progress) in &EXPLAINED {
         let asked = ExplainOptions {
             telling,
             json: false,
         };
-        let wanted = Plan {
+        let wanted = Some(Plan {
             command: Command::Explain(asked),
             progress,
-        };
+        });
         assert!(rt; asks_for(rt.alloc(), words, wanted), "{words:?}");
     }
-    Ok(())
 }
 
 /// Command lines of commands that have no options of their own, and whether they ask for progress.
@@ -226,12 +236,11 @@ const PLAIN: [(&[&str], Command, bool); 4] = [
 ];
 
 #[test]
-fn plans_of_plain_commands(rt: HostRuntime) -> Result<(), Fail> {
+fn plans_of_plain_commands(rt: HostRuntime) {
     for &(words, command, progress) in &PLAIN {
-        let wanted = Plan { command, progress };
+        let wanted = Some(Plan { command, progress });
         assert!(rt; asks_for(rt.alloc(), words, wanted), "{words:?}");
     }
-    Ok(())
 }
 
 /// Command lines with a file's name, and that name.
@@ -246,21 +255,25 @@ const NAMED: [(&[&str], Option<&str>); 8] = [
     (&["check", "/tmp/\u{e9}.record"], Some("/tmp/\u{e9}.record")),
 ];
 
+/// Whether a command line is one of `check` that names this file.
+fn names_file(alloc: Global, words: &[&str], file: Option<&str>) -> bool {
+    let wanted = Invocation {
+        plan: quiet(Command::Check(CheckOptions {
+            checkers: Checkers::default(),
+            all: false,
+            json: false,
+        })),
+        file,
+        logs: Vec::new(alloc),
+    };
+    plan(alloc, words).ok() == Some(wanted)
+}
+
 #[test]
-fn names_of_files(rt: HostRuntime) -> Result<(), Fail> {
+fn names_of_files(rt: HostRuntime) {
     for &(words, file) in &NAMED {
-        let wanted = Invocation {
-            plan: quiet(Command::Check(CheckOptions {
-                checkers: Checkers::default(),
-                all: false,
-                json: false,
-            })),
-            file,
-            logs: Vec::new(rt.alloc()),
-        };
-        assert_eq!(rt; plan(rt.alloc(), words).ok(), Some(wanted), "{words:?}");
+        assert!(rt; names_file(rt.alloc(), words, file), "{words:?}");
     }
-    Ok(())
 }
 
 /// Command lines that name logs, the ticks of their clocks, and the logs.
@@ -274,17 +287,27 @@ const LOGGED: [(&[&str], u32, &[&str]); 3] = [
     (&["merge", "--error", "7", "--", "--error"], 7, &["--error"]),
 ];
 
+/// Whether a command line is one of `merge` that names these logs.
+fn names_logs(
+    alloc: Global,
+    words: &[&str],
+    error: u32,
+    names: &'static [&'static str],
+) -> Result<bool, Fail> {
+    let mut logs = Vec::new(alloc);
+    logs.extend_from_slice(names)?;
+    let wanted = Invocation {
+        plan: quiet(Command::Merge { error }),
+        file: None,
+        logs,
+    };
+    Ok(plan(alloc, words).ok() == Some(wanted))
+}
+
 #[test]
 fn names_of_logs(rt: HostRuntime) -> Result<(), Fail> {
     for &(words, error, names) in &LOGGED {
-        let mut logs = Vec::new(rt.alloc());
-        logs.extend_from_slice(names)?;
-        let wanted = Invocation {
-            plan: quiet(Command::Merge { error }),
-            file: None,
-            logs,
-        };
-        assert_eq!(rt; plan(rt.alloc(), words).ok(), Some(wanted), "{words:?}");
+        assert!(rt; names_logs(rt.alloc(), words, error, names)?, "{words:?}");
     }
     Ok(())
 }

@@ -53,47 +53,66 @@ fn counted(bytes: &[u8], piece: usize) -> (u64, u64) {
     found
 }
 
+/// A header of version 1, eight events in two segments, and the end mark. Gives where the last
+/// event ends.
+fn put_version_1(bytes: &mut Vec<u8>) -> Result<u64, AllocError> {
+    put(bytes, b"PGRECORD\x01\x00\x28\x03\x02", 4 + 18)?;
+    put(bytes, b"\x01\x00\x00\x00\x00\x07\x00\x00\x00", 0)?;
+    put_events(bytes, 1)?;
+    put(bytes, b"\x01\x01\x00\x00\x00\x01\x00\x00\x00", 0)?;
+    put(bytes, b"\x15", 2)?;
+    let end = bytes.len() as u64;
+    put(bytes, b"\x02\x08\x00\x00\x00", 0)?;
+    Ok(end)
+}
+
 #[test]
 fn events_of_version_1(rt: HostRuntime) -> Result<(), Fail> {
     let mut bytes = Vec::new(rt.alloc());
-    put(&mut bytes, b"PGRECORD\x01\x00\x28\x03\x02", 4 + 18)?;
-    put(&mut bytes, b"\x01\x00\x00\x00\x00\x07\x00\x00\x00", 0)?;
-    put_events(&mut bytes, 1)?;
-    put(&mut bytes, b"\x01\x01\x00\x00\x00\x01\x00\x00\x00", 0)?;
-    put(&mut bytes, b"\x15", 2)?;
-    let end = bytes.len() as u64;
-    put(&mut bytes, b"\x02\x08\x00\x00\x00", 0)?;
+    let end = put_version_1(&mut bytes)?;
     for piece in [1, 2, 7, 1000] {
-        assert_eq!(&rt; counted(&bytes, piece), (8, end));
+        assert!(rt; counted(&bytes, piece) == (8, end), "{piece}");
     }
     Ok(())
+}
+
+/// The same of version 2, with an assist, in one segment.
+fn put_version_2(bytes: &mut Vec<u8>) -> Result<u64, AllocError> {
+    put(bytes, b"PGRECORD\x02\x00\x28\x03\x01\x01", 4 + 9 * 257)?;
+    put(bytes, b"\x01\x00\x00\x00\x00\x08\x00\x00\x00", 0)?;
+    put_events(bytes, 2)?;
+    put(bytes, b"\x16", 2 + 17)?;
+    put(bytes, b"\x02", 8)?;
+    let end = bytes.len() as u64;
+    put(bytes, b"\x02\x08\x00\x00\x00", 0)?;
+    Ok(end)
 }
 
 #[test]
 fn events_of_version_2(rt: HostRuntime) -> Result<(), Fail> {
     let mut bytes = Vec::new(rt.alloc());
-    put(&mut bytes, b"PGRECORD\x02\x00\x28\x03\x01\x01", 4 + 9 * 257)?;
-    put(&mut bytes, b"\x01\x00\x00\x00\x00\x08\x00\x00\x00", 0)?;
-    put_events(&mut bytes, 2)?;
-    put(&mut bytes, b"\x16", 2 + 17)?;
-    put(&mut bytes, b"\x02", 8)?;
-    let end = bytes.len() as u64;
-    put(&mut bytes, b"\x02\x08\x00\x00\x00", 0)?;
+    let end = put_version_2(&mut bytes)?;
     for piece in [1, 2, 7, 1000] {
-        assert_eq!(&rt; counted(&bytes, piece), (8, end));
+        assert!(rt; counted(&bytes, piece) == (8, end), "{piece}");
     }
     Ok(())
+}
+
+/// An event, and behind it bytes that begin none. Gives where the event ends.
+fn put_no_record(bytes: &mut Vec<u8>) -> Result<u64, AllocError> {
+    put(bytes, b"PGRECORD\x01\x00\x28\x03\x00", 4)?;
+    put(bytes, b"\x01\x00\x00\x00\x00\x02\x00\x00\x00", 0)?;
+    put(bytes, b"\x15", 2)?;
+    let end = bytes.len() as u64;
+    put(bytes, b"\x99\x15\x00\x00\x15\x00\x00", 0)?;
+    Ok(end)
 }
 
 #[test]
 fn bytes_that_are_no_record(rt: HostRuntime) -> Result<(), Fail> {
     let mut bytes = Vec::new(rt.alloc());
-    put(&mut bytes, b"PGRECORD\x01\x00\x28\x03\x00", 4)?;
-    put(&mut bytes, b"\x01\x00\x00\x00\x00\x02\x00\x00\x00", 0)?;
-    put(&mut bytes, b"\x15", 2)?;
-    let end = bytes.len() as u64;
-    put(&mut bytes, b"\x99\x15\x00\x00\x15\x00\x00", 0)?;
-    assert_eq!(&rt; counted(&bytes, 3), (1, end));
+    let end = put_no_record(&mut bytes)?;
+    assert!(rt; counted(&bytes, 3) == (1, end));
     Ok(())
 }
 

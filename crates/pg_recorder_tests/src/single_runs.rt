@@ -1,7 +1,9 @@
 use crate::threads::is_accepted;
 use crate::written::script_of;
 use pg_runner::{RunError, run_single};
+use pg_script::Script;
 use pg_world::Receipt;
+use std::alloc::Global;
 use std::test::Fail;
 
 /// A page read, taken away, read from what is cached, invalidated and read again.
@@ -31,15 +33,18 @@ fn are_of_two(transcripts: &[Vec<Receipt>]) -> bool {
     (transcripts.len(), first.len(), moment) == (2, 13, Some(13))
 }
 
+/// Whether the script above has 14 events and is accepted: four assists set accessed flags before
+/// the first read.
+fn is_run(alloc: Global, script: &Script) -> Result<bool, Fail> {
+    let run = run_single(alloc, script)?;
+    let are_all = run.trace.events.len() == 14 && are_of_two(&run.transcripts);
+    Ok(are_all && is_accepted(run.report, 14, 1))
+}
+
 #[test]
 fn every_line_on_one_thread(rt: HostRuntime) -> Result<(), Fail> {
     let script = script_of(rt.alloc(), SCRIPT)?;
-    let run = run_single(rt.alloc(), &script)?;
-    // Four assists set accessed flags before the first read.
-    let is_right = is_accepted(run.report, 14, 1)
-        && run.trace.events.len() == 14
-        && are_of_two(&run.transcripts);
-    assert!(rt; is_right);
+    assert!(rt; is_run(rt.alloc(), &script)?);
     Ok(())
 }
 

@@ -8,12 +8,14 @@ use pg_event::{Outcome, Record};
 use pg_pool::{Gate, OpenGate};
 use pg_report::{Report, Verdict};
 use pg_runner::{RunError, RunResult};
+use pg_script::Script;
 use pg_threads::{run_guest, run_guest_watched};
 use pg_world::Receipt;
-use std::alloc::Global;
+use std::alloc::{AllocGlobal, Global};
+use std::sync::Wait;
 use std::sync::atomic::{AtomicU64, Ordering};
 use std::test::Fail;
-use std::thread;
+use std::thread::{self, Threads};
 
 /// How often a waiting thread yields before a test fails.
 const TURNS: u32 = 10_000_000;
@@ -117,6 +119,16 @@ fn is_other_first(alloc: Global, run: &RunResult) -> bool
         && are_nine_and_fault(&run.transcripts)
 }
 
+/// Whether processor 1 comes first where the gate has processor 0 wait for it.
+fn is_other_first_by<T: AllocGlobal + Threads + Wait + Sync>(
+    rt: &T,
+    script: &Script,
+    gate: &OtherFirst,
+) -> Result<bool, Fail> {
+    let run = run_guest(rt, rt.alloc(), script, 2, gate)?;
+    Ok(is_other_first(rt.alloc(), &run))
+}
+
 #[test]
 fn both_run_at_the_same_time(rt: HostRuntime) -> Result<(), Fail> {
     let script = script_of(rt.alloc(), STALE)?;
@@ -125,22 +137,28 @@ fn both_run_at_the_same_time(rt: HostRuntime) -> Result<(), Fail> {
         left: AtomicU64::new(0),
         failed: AtomicU64::new(0),
     };
-    let run = run_guest(&rt, rt.alloc(), &script, 2, &gate)?;
-    let is_right = gate.failed.load(Ordering::SeqCst) == 0 && is_other_first(rt.alloc(), &run);
-    assert!(rt; is_right);
+    let is_first = is_other_first_by(&rt, &script, &gate)?;
+    assert!(rt; is_first && gate.failed.load(Ordering::SeqCst) == 0);
     Ok(())
+}
+
+/// Whether so many checkers judge the run of a script of ten events, or are refused.
+fn is_judged_or_refused<T: AllocGlobal + Threads + Wait + Sync>(
+    rt: &T,
+    script: &Script,
+    checkers: u32,
+) -> bool {
+    match run_guest(rt, rt.alloc(), script, checkers, &OpenGate) {
+        Ok(run) => matches!(checkers, 1 | 64) && is_accepted(run.report, 10, 1),
+        Err(error) => matches!(checkers, 0 | 65) && error == RunError::Checkers,
+    }
 }
 
 #[test]
 fn numbers_of_checkers(rt: HostRuntime) -> Result<(), Fail> {
     let script = script_of(rt.alloc(), STALE)?;
     for checkers in [0, 1, 64, 65] {
-        let run = run_guest(&rt, rt.alloc(), &script, checkers, &OpenGate);
-        let is_right = match run {
-            Ok(run) => matches!(checkers, 1 | 64) && is_accepted(run.report, 10, 1),
-            Err(error) => matches!(checkers, 0 | 65) && error == RunError::Checkers,
-        };
-        assert!(rt; is_right, "{checkers}");
+        assert!(rt; is_judged_or_refused(&rt, &script, checkers), "{checkers}");
     }
     Ok(())
 }
@@ -195,6 +213,17 @@ impl<'a> Gate for Tells<'a> {
     }
 }
 
+/// Whether a run of nine events in five segments is accepted, through these gates.
+fn is_accepted_through<T: AllocGlobal + Threads + Wait + Sync>(
+    rt: &T,
+    script: &Script,
+    gate: &LastWaits<'_>,
+    tells: &Tells<'_>,
+) -> Result<bool, Fail> {
+    let run = run_guest_watched(rt, rt.alloc(), script, 1, gate, tells)?;
+    Ok(is_accepted(run.report, 9, 5))
+}
+
 #[test]
 fn judged_while_a_processor_runs(rt: HostRuntime) -> Result<(), Fail> {
     let script = script_of(rt.alloc(), SEGMENTS)?;
@@ -204,8 +233,7 @@ fn judged_while_a_processor_runs(rt: HostRuntime) -> Result<(), Fail> {
         failed: AtomicU64::new(0),
     };
     let tells = Tells { judged: &judged };
-    let run = run_guest_watched(&rt, rt.alloc(), &script, 1, &gate, &tells)?;
-    let is_right = gate.failed.load(Ordering::SeqCst) == 0 && is_accepted(run.report, 9, 5);
-    assert!(rt; is_right);
+    let is_right = is_accepted_through(&rt, &script, &gate, &tells)?;
+    assert!(rt; is_right && gate.failed.load(Ordering::SeqCst) == 0);
     Ok(())
 }

@@ -1,7 +1,7 @@
 //! What the program is given and must answer, over streams that are whole, small or failing.
 
 use crate::pieces::{Crumbs, Fault, Pieces};
-use pg_codec::{Source, Watched};
+use pg_codec::{Sink, Source, Watched};
 use pg_span_codec::Peeked;
 use pg_tool::{pcid_audit, plan};
 use std::alloc::AllocGlobal;
@@ -35,9 +35,34 @@ pub fn no_file(_name: &str) -> Option<Peeked<Watched<&'static [u8]>>> {
     None
 }
 
+/// The exit status of the program with these words on these streams, where there are no files. What
+/// the program promises is long: who calls this carries none of it, and is proved sooner.
+pub fn run_on<T: AllocGlobal + Threads + Wait + Sync, R: Source, O: Sink, E: Sink>(
+    rt: &T,
+    words: &[&str],
+    input: &mut Peeked<R>,
+    output: &mut O,
+    errors: &mut E,
+) -> u8 {
+    let planned = plan(rt.alloc(), words);
+    pcid_audit(rt, planned, no_file, input, output, errors)
+}
+
 /// Whether the program ended and wrote as the case says.
 pub fn is_answered<'a>(case: Case<'a>, status: u8, output: &[u8], line: &[u8]) -> bool {
     status == case.status && output == case.output && line == case.line.as_bytes()
+}
+
+/// Whether the program answers as the case says on a source in the place of the case's input.
+fn is_answered_on<'a, T: AllocGlobal + Threads + Wait + Sync, R: Source>(
+    rt: &T,
+    case: Case<'a>,
+    input: &mut Peeked<R>,
+) -> bool {
+    let mut output = Watched::new(Vec::new(rt.alloc()));
+    let mut errors = Watched::new(Vec::new(rt.alloc()));
+    let status = run_on(rt, case.words, input, &mut output, &mut errors);
+    is_answered(case, status, &output.inner, &errors.inner)
 }
 
 /// Runs the program on a source in the place of the case's input. The case is named where it fails.
@@ -47,12 +72,7 @@ pub fn answer_on<'a, T: AllocGlobal + Abort + Threads + Wait + Sync, R: Source>(
     at: usize,
     input: &mut Peeked<R>,
 ) {
-    let mut output = Watched::new(Vec::new(rt.alloc()));
-    let mut errors = Watched::new(Vec::new(rt.alloc()));
-    let planned = plan(rt.alloc(), case.words);
-    let status = pcid_audit(rt, planned, no_file, input, &mut output, &mut errors);
-    let is_right = is_answered(case, status, &output.inner, &errors.inner);
-    assert!(rt; is_right, "{}, {at}: {status}", case.name);
+    assert!(rt; is_answered_on(rt, case, input), "{}, {at}", case.name);
 }
 
 /// Over memory.
@@ -61,24 +81,24 @@ pub fn answer<'a, T: AllocGlobal + Abort + Threads + Wait + Sync>(rt: &T, case: 
     answer_on(rt, case, 0, &mut input);
 }
 
+/// Whether the program answers as the case says by one byte a read, and one byte a write.
+fn is_answered_by_bytes<'a, T: AllocGlobal + Threads + Wait + Sync>(
+    rt: &T,
+    case: Case<'a>,
+) -> Result<bool, Fail> {
+    let mut input = Peeked::new(Watched::new(Pieces::new(case.input, 1)));
+    let mut output = Watched::new(Crumbs::new(rt.alloc(), None)?);
+    let mut errors = Watched::new(Crumbs::new(rt.alloc(), None)?);
+    let status = run_on(rt, case.words, &mut input, &mut output, &mut errors);
+    Ok(is_answered(case, status, &output.inner.taken, &errors.inner.taken))
+}
+
 /// One byte a read, and one byte a write.
 pub fn answer_by_bytes<'a, T: AllocGlobal + Abort + Threads + Wait + Sync>(
     rt: &T,
     case: Case<'a>,
 ) -> Result<(), Fail> {
-    let mut input = Peeked::new(Watched::new(Pieces::new(case.input, 1)));
-    let mut output = Watched::new(Crumbs::new(rt.alloc(), None)?);
-    let mut errors = Watched::new(Crumbs::new(rt.alloc(), None)?);
-    let status = pcid_audit(
-        rt,
-        plan(rt.alloc(), case.words),
-        no_file,
-        &mut input,
-        &mut output,
-        &mut errors,
-    );
-    let is_right = is_answered(case, status, &output.inner.taken, &errors.inner.taken);
-    assert!(rt; is_right, "{}: {status}", case.name);
+    assert!(rt; is_answered_by_bytes(rt, case)?, "{}", case.name);
     Ok(())
 }
 
@@ -120,29 +140,31 @@ pub fn fail_each_read<'a, T: AllocGlobal + Abort + Threads + Wait + Sync>(
     }
 }
 
-/// The write of this number to standard output fails so, one byte a write: what was written stays,
-/// and is a beginning of the whole.
+/// Whether a write of this number to standard output that fails so ends the program, one byte a
+/// write: what was written stays, and is a beginning of the whole.
+fn ends_at_write<'a, T: AllocGlobal + Threads + Wait + Sync>(
+    rt: &T,
+    case: Case<'a>,
+    write: usize,
+    fault: Fault,
+) -> Result<bool, Fail> {
+    let mut input = Peeked::new(Watched::new(case.input));
+    let mut output = Watched::new(Crumbs::new(rt.alloc(), Some((write, fault)))?);
+    let mut errors = Watched::new(Vec::new(rt.alloc()));
+    let status = run_on(rt, case.words, &mut input, &mut output, &mut errors);
+    let taken = output.inner.taken.as_slice();
+    let is_told = status == 2 && errors.inner.as_slice() == DEVICE.as_bytes();
+    Ok(is_told && taken.len() == write && case.output.starts_with(taken))
+}
+
 fn fail_write<'a, T: AllocGlobal + Abort + Threads + Wait + Sync>(
     rt: &T,
     case: Case<'a>,
     write: usize,
     fault: Fault,
 ) -> Result<(), Fail> {
-    let mut input = Peeked::new(Watched::new(case.input));
-    let mut output = Watched::new(Crumbs::new(rt.alloc(), Some((write, fault)))?);
-    let mut errors = Watched::new(Vec::new(rt.alloc()));
-    let status = pcid_audit(
-        rt,
-        plan(rt.alloc(), case.words),
-        no_file,
-        &mut input,
-        &mut output,
-        &mut errors,
-    );
-    let taken = output.inner.taken.as_slice();
-    let is_told = status == 2 && errors.inner.as_slice() == DEVICE.as_bytes();
-    let is_begun = taken.len() == write && case.output.starts_with(taken);
-    assert!(rt; is_told && is_begun, "{}, {fault:?} at {write}", case.name);
+    let is_ended = ends_at_write(rt, case, write, fault)?;
+    assert!(rt; is_ended, "{}, {fault:?} at {write}", case.name);
     Ok(())
 }
 

@@ -7,26 +7,42 @@ use pg_codec::Watched;
 use pg_event::Reason;
 use pg_pool::Gate;
 use pg_report::{AuditError, Verdict, audit, audit_watched};
+use std::alloc::AllocGlobal;
+use std::sync::Wait;
 use std::sync::atomic::{AtomicU64, Ordering};
 use std::test::Fail;
-use std::thread;
+use std::thread::{self, Threads};
 
 /// How often a waiting thread yields before a test fails.
 const TURNS: u32 = 10_000_000;
 
-#[test]
-fn the_same_by_any_number_of_checkers(rt: HostRuntime) -> Result<(), Fail> {
-    let bytes = bytes_of(rt.alloc(), TEN_SEGMENTS.input)?;
+/// What an audit by so many checkers comes to.
+fn audited<T: AllocGlobal + Threads + Wait + Sync>(
+    rt: &T,
+    checkers: u32,
+    input: &mut Watched<&[u8]>,
+    output: &mut Watched<Vec<u8>>,
+) -> Result<Verdict, AuditError> {
+    audit(rt, rt.alloc(), input, output, checkers)
+}
+
+/// Whether so many checkers find event 7 bad, and the report of the ten segments is written.
+fn is_told<T: AllocGlobal + Threads + Wait + Sync>(rt: &T, checkers: u32, bytes: &[u8]) -> bool {
+    let mut input = Watched::new(bytes);
+    let mut output = Watched::new(Vec::new(rt.alloc()));
+    let verdict = audited(rt, checkers, &mut input, &mut output);
     let no = Ok(Verdict::No {
         event: 7,
         reason: Reason::Answer,
     });
+    verdict == no && output.inner.as_slice() == TEN_SEGMENTS.output.as_bytes()
+}
+
+#[test]
+fn the_same_by_any_number_of_checkers(rt: HostRuntime) -> Result<(), Fail> {
+    let bytes = bytes_of(rt.alloc(), TEN_SEGMENTS.input)?;
     for checkers in [1, 2, 7, 64] {
-        let mut input = Watched::new(bytes.as_slice());
-        let mut output = Watched::new(Vec::new(rt.alloc()));
-        let verdict = audit(&rt, rt.alloc(), &mut input, &mut output, checkers);
-        let is_told = output.inner.as_slice() == TEN_SEGMENTS.output.as_bytes();
-        assert!(rt; verdict == no && is_told, "{checkers}");
+        assert!(rt; is_told(&rt, checkers, &bytes), "{checkers}");
     }
     Ok(())
 }
@@ -44,17 +60,22 @@ fn the_same_by_the_program(rt: HostRuntime) -> Result<(), Fail> {
     Ok(())
 }
 
+/// Whether so many checkers are refused, and nothing is read or written.
+fn is_refused<T: AllocGlobal + Threads + Wait + Sync>(rt: &T, checkers: u32, bytes: &[u8]) -> bool {
+    let mut input = Watched::new(bytes);
+    let mut output = Watched::new(Vec::new(rt.alloc()));
+    let refused = audited(rt, checkers, &mut input, &mut output);
+    let is_unread = input.inner.len() == bytes.len() && output.inner.is_empty();
+    refused == Err(AuditError::Checkers) && is_unread
+}
+
 #[test]
 fn no_checkers_or_too_many(rt: HostRuntime) -> Result<(), Fail> {
     let bytes = bytes_of(rt.alloc(), TEN_SEGMENTS.input)?;
     for checkers in [0, 65] {
-        let mut input = Watched::new(bytes.as_slice());
-        let mut output = Watched::new(Vec::new(rt.alloc()));
-        let refused = audit(&rt, rt.alloc(), &mut input, &mut output, checkers);
-        let is_unread = input.inner.len() == bytes.len() && output.inner.is_empty();
-        assert!(rt; refused == Err(AuditError::Checkers) && is_unread);
-        assert_eq!(rt; AuditError::Checkers.number(), 15);
+        assert!(rt; is_refused(&rt, checkers, &bytes), "{checkers}");
     }
+    assert!(rt; AuditError::Checkers.number() == 15);
     Ok(())
 }
 
@@ -117,6 +138,18 @@ impl Gate for Held {
     }
 }
 
+/// Whether two checkers judge the ten segments through this gate, and the report is written.
+fn is_judged_by_two<T: AllocGlobal + Threads + Wait + Sync>(
+    rt: &T,
+    bytes: &[u8],
+    gate: &Held,
+) -> bool {
+    let mut input = Watched::new(bytes);
+    let mut output = Watched::new(Vec::new(rt.alloc()));
+    let verdict = audit_watched(rt, rt.alloc(), &mut input, &mut output, 2, gate);
+    verdict.is_ok() && output.inner.as_slice() == TEN_SEGMENTS.output.as_bytes()
+}
+
 #[test]
 fn two_checkers_of_one_record_at_the_same_time(rt: HostRuntime) -> Result<(), Fail> {
     let bytes = bytes_of(rt.alloc(), TEN_SEGMENTS.input)?;
@@ -127,11 +160,6 @@ fn two_checkers_of_one_record_at_the_same_time(rt: HostRuntime) -> Result<(), Fa
         workers: [AtomicU64::new(0), AtomicU64::new(0)],
         failed: AtomicU64::new(0),
     };
-    let mut input = Watched::new(bytes.as_slice());
-    let mut output = Watched::new(Vec::new(rt.alloc()));
-    let verdict = audit_watched(&rt, rt.alloc(), &mut input, &mut output, 2, &gate);
-    let is_told = output.inner.as_slice() == TEN_SEGMENTS.output.as_bytes();
-    assert!(rt; verdict.is_ok() && is_told);
-    assert!(rt; gate.is_met());
+    assert!(rt; is_judged_by_two(&rt, &bytes, &gate) && gate.is_met());
     Ok(())
 }

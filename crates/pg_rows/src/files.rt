@@ -4,7 +4,7 @@ use crate::case::{Case, answer, is_answered};
 use crate::pieces::Pieces;
 use crate::row::bytes_of;
 use crate::walks::FRESH_WALK;
-use pg_codec::Watched;
+use pg_codec::{Sink, Source, Watched};
 use pg_span_codec::Peeked;
 use pg_tool::{pcid_audit, plan};
 use std::alloc::AllocGlobal;
@@ -17,16 +17,14 @@ use std::thread::Threads;
 /// What the words name.
 const NAME: &str = "the.file";
 
-/// The input is that of the one file there is, and standard input is not read.
-fn answer_of_file<'a, T: AllocGlobal + Abort + Threads + Wait + Sync>(rt: &T, case: Case<'a>) {
-    let mut input = Peeked::new(Watched::new(Pieces {
-        left: &[],
-        most: 1,
-        reads: 0,
-        failing: Some((0, ErrorKind::Interrupted)),
-    }));
-    let mut output = Watched::new(Vec::new(rt.alloc()));
-    let mut errors = Watched::new(Vec::new(rt.alloc()));
+/// The exit status of the program where this is what the one file has that there is.
+fn run_with_file<T: AllocGlobal + Threads + Wait + Sync, R: Source, O: Sink, E: Sink>(
+    rt: &T,
+    case: Case<'_>,
+    input: &mut Peeked<R>,
+    output: &mut O,
+    errors: &mut E,
+) -> u8 {
     let opener = |name: &str| {
         if name == NAME {
             Some(Peeked::new(Watched::new(case.input)))
@@ -35,13 +33,28 @@ fn answer_of_file<'a, T: AllocGlobal + Abort + Threads + Wait + Sync>(rt: &T, ca
         }
     };
     let planned = plan(rt.alloc(), case.words);
-    let status = pcid_audit(rt, planned, opener, &mut input, &mut output, &mut errors);
+    pcid_audit(rt, planned, opener, input, output, errors)
+}
+
+/// Whether the program answers as the case says, whose input the file has, and reads no standard
+/// input.
+fn is_answered_of_file<'a, T: AllocGlobal + Threads + Wait + Sync>(rt: &T, case: Case<'a>) -> bool {
+    let mut input = Peeked::new(Watched::new(Pieces {
+        left: &[],
+        most: 1,
+        reads: 0,
+        failing: Some((0, ErrorKind::Interrupted)),
+    }));
+    let mut output = Watched::new(Vec::new(rt.alloc()));
+    let mut errors = Watched::new(Vec::new(rt.alloc()));
+    let status = run_with_file(rt, case, &mut input, &mut output, &mut errors);
     let is_right = is_answered(case, status, &output.inner, &errors.inner);
-    assert!(rt;
-        is_right && input.inner.inner.reads == 0,
-        "{}: {status}",
-        case.name
-    );
+    is_right && input.inner.inner.reads == 0
+}
+
+/// The input is that of the one file there is, and standard input is not read.
+fn answer_of_file<'a, T: AllocGlobal + Abort + Threads + Wait + Sync>(rt: &T, case: Case<'a>) {
+    assert!(rt; is_answered_of_file(rt, case), "{}", case.name);
 }
 
 #[test]

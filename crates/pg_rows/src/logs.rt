@@ -6,7 +6,6 @@ use pg_codec::Watched;
 use pg_span_codec::Peeked;
 use pg_tool::{pcid_audit, plan};
 use std::alloc::AllocGlobal;
-use std::process::Abort;
 use std::sync::Wait;
 use std::test::Fail;
 use std::thread::Threads;
@@ -47,21 +46,31 @@ fn log_of<'a>(name: &str, first: &'a [u8], second: &'a [u8]) -> &'a [u8] {
     if name == "a.log" { first } else { second }
 }
 
-/// Merges the two logs, which are the only files.
-fn merge_logs<'a, T: AllocGlobal + Abort + Threads + Wait + Sync>(
+/// The exit status of the program where the two logs are the only files.
+fn run_with_logs<'a, T: AllocGlobal + Threads + Wait + Sync>(
     rt: &T,
     merged: Case<'a>,
-    first: &'a [u8],
-    second: &'a [u8],
-) {
+    logs: [&'a [u8]; 2],
+    output: &mut Watched<Vec<u8>>,
+    errors: &mut Watched<Vec<u8>>,
+) -> u8 {
+    let [first, second] = logs;
     let mut input = Peeked::new(Watched::new(merged.input));
-    let mut output = Watched::new(Vec::new(rt.alloc()));
-    let mut errors = Watched::new(Vec::new(rt.alloc()));
     let opener = |name: &str| Some(Peeked::new(Watched::new(log_of(name, first, second))));
     let planned = plan(rt.alloc(), merged.words);
-    let status = pcid_audit(rt, planned, opener, &mut input, &mut output, &mut errors);
-    let is_right = is_answered(merged, status, &output.inner, &errors.inner);
-    assert!(rt; is_right, "{}: {status}", merged.name);
+    pcid_audit(rt, planned, opener, &mut input, output, errors)
+}
+
+/// Whether the two logs are merged as the case says.
+fn are_merged<'a, T: AllocGlobal + Threads + Wait + Sync>(
+    rt: &T,
+    merged: Case<'a>,
+    logs: [&'a [u8]; 2],
+) -> bool {
+    let mut output = Watched::new(Vec::new(rt.alloc()));
+    let mut errors = Watched::new(Vec::new(rt.alloc()));
+    let status = run_with_logs(rt, merged, logs, &mut output, &mut errors);
+    is_answered(merged, status, &output.inner, &errors.inner)
 }
 
 #[test]
@@ -77,6 +86,10 @@ fn logs_merged(rt: HostRuntime) -> Result<(), Fail> {
         line: "",
         status: 0,
     };
-    merge_logs(&rt, merged, &first, &second);
+    assert!(rt;
+        are_merged(&rt, merged, [&first, &second]),
+        "{}",
+        merged.name
+    );
     Ok(())
 }

@@ -1,12 +1,11 @@
 //! Records that are written with the moments that were found for them.
 
-use crate::case::{Case, answer, answer_by_bytes, fail_each_write, no_file};
+use crate::case::{Case, answer, answer_by_bytes, fail_each_write, run_on};
 use crate::certificates::{FRESH_WALK, ROWS};
 use crate::row::{Row, bytes_of};
 use crate::walks;
 use pg_codec::Watched;
 use pg_span_codec::Peeked;
-use pg_tool::{pcid_audit, plan};
 use std::alloc::AllocGlobal;
 use std::process::Abort;
 use std::sync::Wait;
@@ -32,18 +31,26 @@ fn expect_denied<T: AllocGlobal + Abort + Threads + Wait + Sync>(
     answer_by_bytes(rt, denied)
 }
 
+/// Whether the record of a row is written with moments, and nothing is told.
+fn is_named<T: AllocGlobal + Threads + Wait + Sync>(
+    rt: &T,
+    row: &Row,
+    output: &mut Watched<Vec<u8>>,
+) -> Result<bool, Fail> {
+    let bytes = bytes_of(rt.alloc(), row.input)?;
+    let mut input = Peeked::new(Watched::new(bytes.as_slice()));
+    let mut errors = Watched::new(Vec::new(rt.alloc()));
+    let status = run_on(rt, NAMING, &mut input, output, &mut errors);
+    Ok(status == 0 && errors.inner.is_empty())
+}
+
 /// Of a yes the record is written, and `check` says yes to it.
 fn expect_named<T: AllocGlobal + Abort + Threads + Wait + Sync>(
     rt: &T,
     row: &Row,
 ) -> Result<(), Fail> {
-    let bytes = bytes_of(rt.alloc(), row.input)?;
-    let mut input = Peeked::new(Watched::new(bytes.as_slice()));
     let mut output = Watched::new(Vec::new(rt.alloc()));
-    let mut errors = Watched::new(Vec::new(rt.alloc()));
-    let planned = plan(rt.alloc(), NAMING);
-    let status = pcid_audit(rt, planned, no_file, &mut input, &mut output, &mut errors);
-    assert!(rt; status == 0 && errors.inner.is_empty(), "{}", row.name);
+    assert!(rt; is_named(rt, row, &mut output)?, "{}", row.name);
     let checked = Case {
         name: row.name,
         words: &["check"],
