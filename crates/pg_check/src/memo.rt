@@ -14,6 +14,7 @@ ghost use Rattle.pg_check.specs.Lasting.{IsAsked, IsLasting, IsWalk};
 ghost use Rattle.pg_check.specs.Remembered.{HasWalk, HaveWalks, IsWithin, frame_in, walk_in};
 
 use crate::lasting::{Asking, Lasting, asked_up_to, is_asked, lasting_walk};
+use crate::place::Place;
 use crate::places::{Kept, first_slots, most_slots, page_of, place_of};
 use crate::walk::is_in_order;
 use pg_chain::{Chain, EntryRead, Past, Reader, chain_by, kind_at};
@@ -24,26 +25,28 @@ use std::marker::Model;
 
 /// A walk that was made: which one, and what it came to. The page is told by its first address: no
 /// walk depends on the offset in it. The walk's parts stand side by side, so that a slot is short.
+/// A large block begins 16 bytes behind the start of a line of the cache, so that the first 48 bytes
+/// of each slot lie in one line: what a look reads first stands there.
 #[derive(Clone, Copy)]
 pub struct Slot {
     pub page: u64,
-    pub address: u64,
-    pub value: u64,
-    pub moments: Moments,
-    pub moment: u32,
-    /// Up to this event, not with it, it was looked up when the translation had to go.
-    pub asked: u32,
     pub p: u16,
     pub pcid: u16,
-    pub level: Level,
-    pub rights: Rights,
-    pub tables: bool,
-    pub global: bool,
+    /// Up to this event, not with it, it was looked up when the translation had to go.
+    pub asked: u32,
+    pub value: u64,
+    pub moments: Moments,
+    /// The binary logarithm of the size of the page that the leaf maps.
+    pub shift: u8,
     /// Whether it had to go at the last of these events, and at none before. So one number says
     /// both.
     pub dropped: bool,
-    /// The binary logarithm of the size of the page that the leaf maps.
-    pub shift: u8,
+    pub global: bool,
+    pub tables: bool,
+    pub rights: Rights,
+    pub level: Level,
+    pub moment: u32,
+    pub address: u64,
 }
 
 /// What the walk of a slot came to.
@@ -73,9 +76,8 @@ pub(crate) fn walk_in(slot: &Slot) -> Lasting
     }
 }
 
-/// The first physical address of the page that the leaf of a slot maps. A leaf has no bit between
-/// the page's number and bit 52 that does not belong to the address, so that no hit asks the run's
-/// settings.
+/// The first physical address of the page that the leaf of a slot maps. The bits of a leaf from the
+/// width of physical addresses up to 52 are 0, so that no hit asks for that width.
 #[inline(always)]
 pub(crate) fn frame_in(slot: &Slot) -> u64
     requires { IsPageShift slot.now.shift }
@@ -111,19 +113,19 @@ pub(crate) fn slot_of(p: u16, page: u64, moments: &Moments, walk: Lasting, shift
     let end = walk.chain.end;
     Slot {
         page,
-        address: end.address,
-        value: end.value,
-        moments: *moments,
-        moment: end.moment,
-        asked: asked_in(walk),
         p,
         pcid: walk.chain.pcid,
-        level: end.level,
-        rights: end.rights,
-        tables: walk.chain.tables,
-        global: walk.global,
-        dropped: walk.dropped.is_some(),
+        asked: asked_in(walk),
+        value: end.value,
+        moments: *moments,
         shift,
+        dropped: walk.dropped.is_some(),
+        global: walk.global,
+        tables: walk.chain.tables,
+        rights: end.rights,
+        level: end.level,
+        moment: end.moment,
+        address: end.address,
     }
 }
 
@@ -195,7 +197,7 @@ fn is_of(slot: &Slot, p: u16, page: u64, moments: &Moments) -> bool
 /// cost much.
 #[inline(always)]
 pub(crate) fn slot_at(
-    slots: &[Option<Slot>],
+    slots: &[Place],
     place: usize,
     p: u16,
     page: u64,
@@ -206,13 +208,11 @@ pub(crate) fn slot_at(
     ensures walk { (past : Past) (limit : ℕ) → HaveWalks past limit slots.now →
         IfSome result (λ s. HasWalk past limit (Some s)) }
 {
-    match slots.get(place)? {
-        Some(slot) => if is_of(slot, p, page, moments) {
-            Some(*slot)
-        } else {
-            None
-        },
-        None => None,
+    let slot = slots.get(place)?.slot()?;
+    if is_of(slot, p, page, moments) {
+        Some(*slot)
+    } else {
+        None
     }
 }
 
