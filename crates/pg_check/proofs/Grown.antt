@@ -58,7 +58,6 @@ walk_later past n m (Some s) le has =
         ordered = in_order-later s.moments n m le within.ordered;
         read = omega (arith, le, read);
         asked = omega (arith, le, asked);
-        frame = within.frame;
         shift = within.shift;
       },
       has.1,

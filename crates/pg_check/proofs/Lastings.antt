@@ -1,16 +1,16 @@
 -- What the first event that drops a translation says of an access.
-use Rattle.std.proofs.Common.{◌≡◌, ℕ, ◌+◌, ◌-◌, ◌<◌, ◌≤◌, Bool, true, false, not, nat_lt, List, Option, Some, None, MatchOption, ◌⊎◌, inl, inr, refl, sym, ap, subst, ◌∙◌, arith}
+use Rattle.std.proofs.Common.{◌≡◌, ℕ, ◌+◌, ◌-◌, ◌<◌, ◌≤◌, Bool, true, false, not, cond, nat_lt, List, Option, Some, None, MatchOption, ◌⊎◌, inl, inr, refl, sym, ap, subst, ◌∙◌, arith}
 use Rattle.std.specs.Option.{is_some}
 use Rattle.std.proofs.lemmas.Bool.{ltb-true, lt-ltb, false≢true, false_from_ne_true, cases_lt}
 use Rattle.pg_event.specs.declared.event.Event.{Event}
 use Rattle.pg_event.specs.Heads.{Head}
 use Rattle.std.specs.Prelude.{slice_get}
 use Rattle.pg_event.specs.declared.keys.TranslationKey.{TranslationKey}
-use Rattle.pg_event.specs.Invalidation.{must_drop_translation}
+use Rattle.pg_event.specs.Invalidation.{translation_key, must_drop_translation}
 use Rattle.pg_event.specs.Values.{control_at}
 use Rattle.pg_event.specs.Witness.{any_from, takes_out}
 use Rattle.pg_entry.specs.declared.Kind.{Kind}
-use Rattle.pg_entry.specs.declared.Kind.TheVariants.{Table, Absent, Reserved}
+use Rattle.pg_entry.specs.declared.Kind.TheVariants.{Leaf, Table, Absent, Reserved}
 use Rattle.pg_inval.specs.Lists.{IsFirstDrop}
 use Rattle.pg_check.specs.declared.lasting.Lasting.{Lasting}
 use Rattle.pg_check.specs.Lasting.{LastsTo, IsAsked, IsDroppedAt}
@@ -116,3 +116,28 @@ lasts_on test from middle to found none before stands =
 pub none_there : (found : Option ℕ) → is_some found ≡ false → found ≡ None
 none_there None h = refl
 none_there (Some m) h = absurd (false≢true (sym h))
+
+-- the first number that passes, if one does, and a window that ends behind it
+abbrev pub last_of : ℕ → Option ℕ → Option ℕ
+last_of asked found = cond (is_some found) (Some (asked - 1)) None
+
+first_of_window : (test : ℕ → Bool) (from to asked : ℕ) (found : Option ℕ) → (found ≡ None → asked ≡ to) → ((m : ℕ) → found ≡ Some m → m < to → asked ≡ m + 1) →
+    IsFirstDrop (passes_in test) from to found → IsFirstDrop (passes_in test) from asked (last_of asked found)
+first_of_window test from to asked None none some first = subst (λ (n : ℕ). passes_in test from n ≡ false) (sym (none refl)) first
+first_of_window test from to asked (Some m) none some first =
+    let next : asked ≡ m + 1 = some m refl first.1 in
+    let last : asked - 1 ≡ m = omega (arith, next) in
+    subst (λ (n : ℕ). (from ≤ n) × (n < asked) × (passes_in test from n ≡ false) × (passes_in test n (n + 1) ≡ true)) (sym last)
+    (first.0, omega (arith, next), first.2, first.3)
+
+-- the same walk, asked up to the event that drops its translation
+abbrev pub asked_to : ℕ → Lasting → Lasting
+asked_to asked l = record { chain = l.chain; global = l.global; asked = asked; dropped = last_of asked l.dropped }
+
+pub lasts_shorter : (head : Head) (events : List Event) (p la asked : ℕ) (l : Lasting) → (l.dropped ≡ None → asked ≡ l.asked) → ((m : ℕ) → l.dropped ≡ Some m → m < l.asked → asked ≡ m + 1) →
+    (k : Kind) → LastsTo head events p la l k → LastsTo head events p la (asked_to asked l) k
+lasts_shorter head events p la asked l none some (Leaf frame shift global_bit) lasts =
+    (lasts.0, first_of_window (drops_at head events p (translation_key l.chain.pcid shift l.global la)) l.chain.end.moment l.asked asked l.dropped none some lasts.1)
+lasts_shorter head events p la asked l none some (Table addr) lasts = tt
+lasts_shorter head events p la asked l none some Absent lasts = tt
+lasts_shorter head events p la asked l none some Reserved lasts = tt

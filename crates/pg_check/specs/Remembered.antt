@@ -1,5 +1,5 @@
 -- What a memo of walks keeps true.
-use Rattle.std.specs.Prelude.{◌≡◌, ℕ, ◌-◌, ◌%◌, ◌^◌, ◌<◌, ◌≤◌, ◌==◌, Bool, true, if◌then◌else◌}
+use Rattle.std.specs.Prelude.{◌≡◌, ℕ, ◌-◌, ◌%◌, ◌^◌, ◌≤◌, ◌==◌, Bool, true, if◌then◌else◌}
 use Rattle.std.specs.Prelude.{List, length, Option, Some, None, Ok}
 use Rattle.std.specs.List.{AllByRecursion}
 use Rattle.pg_entry.specs.declared.Kind.TheVariants as kinds
@@ -24,6 +24,10 @@ page_bits levels = if levels == 4 then 12 else if levels == 3 then 21 else 30
 abbrev pub page_start : ℕ → ℕ → ℕ
 page_start k la = la - la % 2 ^ k
 
+-- the first physical address of the page that the leaf of a slot maps
+abbrev pub frame_in : Slot → ℕ
+frame_in s = page_start s.shift (s.value % 2 ^ 52)
+
 -- what the walk of a slot came to
 abbrev pub walk_in : Slot → Lasting
 walk_in s = record {
@@ -40,7 +44,7 @@ walk_in s = record {
   };
   global = s.global;
   asked = s.asked;
-  dropped = s.dropped;
+  dropped = if s.dropped then Some (s.asked - 1) else None;
 }
 
 -- the same walk, of which it is known that nothing drops its translation before a number
@@ -55,7 +59,7 @@ lasting_to number s = record {
 -- the walk of a slot ends with a leaf, which maps the page that the slot names
 pub record IsLeaf (head : Head) (s : Slot) : Type 0 where
   pub global_bit : Bool
-  pub kind : kind_of head.cfg s.level s.value ≡ kinds.Leaf s.frame s.shift global_bit
+  pub kind : kind_of head.cfg s.level s.value ≡ kinds.Leaf (frame_in s) s.shift global_bit
 
 -- what a slot says rests on the first so many events alone
 pub record IsWithin (limit : ℕ) (s : Slot) : Type 0 where
@@ -63,7 +67,6 @@ pub record IsWithin (limit : ℕ) (s : Slot) : Type 0 where
   pub ordered : is_in_order s.moments limit ≡ true
   pub read : s.moment ≤ limit
   pub asked : s.asked ≤ limit
-  pub frame : s.frame < 2 ^ 52
   pub shift : IsPageShift s.shift
 
 -- a slot has what the walk comes to that it names, of every run that the past stands for, and goes

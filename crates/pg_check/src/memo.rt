@@ -1,6 +1,7 @@
 //! Walks that were made, kept so that they need not be made again.
 
-ghost use Rattle.std.specs.Prelude.{◌≡◌, ◌<◌, ◌^◌, ℕ, List, Ok, Some, IfOk, IfSome, IsTrue};
+ghost use Rattle.std.specs.Prelude.{◌≡◌, ◌+◌, ◌<◌, ◌^◌, ℕ, List, Ok, Some, None};
+ghost use Rattle.std.specs.Prelude.{IfOk, IfSome, IsTrue};
 ghost use Rattle.pg_event.specs.declared.event.Event.{Event};
 ghost use Rattle.pg_event.specs.declared.event.Want.TheVariants.{Leaf};
 ghost use Rattle.pg_event.specs.Heads.{Head};
@@ -9,39 +10,43 @@ ghost use Rattle.pg_chain.specs.declared.past.Past.{Past};
 ghost use Rattle.pg_chain.specs.Standing.{IsPast, processor_count};
 ghost use Rattle.pg_chain.specs.Walked.{chain_of};
 ghost use Rattle.pg_entry.specs.Kinds.{IsPageShift};
-ghost use Rattle.pg_check.specs.Lasting.{IsAsked, IsWalk};
-ghost use Rattle.pg_check.specs.Remembered.{HasWalk, HaveWalks, IsWithin, walk_in};
+ghost use Rattle.pg_check.specs.Lasting.{IsAsked, IsLasting, IsWalk};
+ghost use Rattle.pg_check.specs.Remembered.{HasWalk, HaveWalks, IsWithin, frame_in, walk_in};
 
 use crate::lasting::{Asking, Lasting, asked_up_to, is_asked, lasting_walk};
+use crate::place::Place;
 use crate::places::{Kept, first_slots, most_slots, page_of, place_of};
 use crate::walk::is_in_order;
 use pg_chain::{Chain, EntryRead, Past, Reader, chain_by, kind_at};
-use pg_entry::{Kind, Level, Rights};
+use pg_entry::{Kind, Level, Rights, page_offset};
 use pg_event::{Claim, Control, Moments, Reason, Want};
 use pg_inval::Tally;
 use std::marker::Model;
 
 /// A walk that was made: which one, and what it came to. The page is told by its first address: no
 /// walk depends on the offset in it. The walk's parts stand side by side, so that a slot is short.
+/// A large block begins 16 bytes behind the start of a line of the cache, so that the first 48 bytes
+/// of each slot lie in one line: what a look reads first stands there.
 #[derive(Clone, Copy)]
 pub struct Slot {
     pub page: u64,
-    pub address: u64,
-    pub value: u64,
-    pub moments: Moments,
-    pub moment: u32,
-    pub asked: u32,
-    pub dropped: Option<u32>,
     pub p: u16,
     pub pcid: u16,
-    pub level: Level,
-    pub rights: Rights,
-    pub tables: bool,
-    pub global: bool,
+    /// Up to this event, not with it, it was looked up when the translation had to go.
+    pub asked: u32,
+    pub value: u64,
+    pub moments: Moments,
     /// The binary logarithm of the size of the page that the leaf maps.
     pub shift: u8,
-    /// Its first physical address.
-    pub frame: u64,
+    /// Whether it had to go at the last of these events, and at none before. So one number says
+    /// both.
+    pub dropped: bool,
+    pub global: bool,
+    pub tables: bool,
+    pub rights: Rights,
+    pub level: Level,
+    pub moment: u32,
+    pub address: u64,
 }
 
 /// What the walk of a slot came to.
@@ -63,47 +68,70 @@ pub(crate) fn walk_in(slot: &Slot) -> Lasting
         },
         global: slot.global,
         asked: slot.asked,
-        dropped: slot.dropped,
+        dropped: if slot.dropped {
+            Some(slot.asked.saturating_sub(1))
+        } else {
+            None
+        },
+    }
+}
+
+/// The first physical address of the page that the leaf of a slot maps. The bits of a leaf from the
+/// width of physical addresses up to 52 are 0, so that no hit asks for that width.
+#[inline(always)]
+pub(crate) fn frame_in(slot: &Slot) -> u64
+    requires { IsPageShift slot.now.shift }
+    ensures frame { result ≡ frame_in slot.now }
+    ensures within { result < 2 ^ 52 }
+{
+    let address = slot.value % (1 << 52);
+    address - page_offset(address, slot.shift)
+}
+
+/// Up to which event it is said when the translation of a walk had to go: where that is known, up
+/// to the event after it, which is enough.
+fn asked_in(walk: Lasting) -> u32
+    ensures none { walk.dropped ≡ None → result ≡ walk.asked }
+    ensures some { (first : ℕ) → walk.dropped ≡ Some first → first < walk.asked →
+        result ≡ first + 1 }
+{
+    match walk.dropped {
+        Some(first) => first.saturating_add(1),
+        None => walk.asked,
     }
 }
 
 /// The slot of a walk that ends with a leaf, which maps a page of 2 to the power of `shift` bytes.
-pub(crate) fn slot_of(
-    p: u16,
-    page: u64,
-    moments: &Moments,
-    walk: Lasting,
-    frame: u64,
-    shift: u8,
-) -> Slot
+pub(crate) fn slot_of(p: u16, page: u64, moments: &Moments, walk: Lasting, shift: u8) -> Slot
     ensures names { (result.p ≡ p) × (result.page ≡ page) × (result.moments ≡ moments.now) }
-    ensures leaf { (result.frame ≡ frame) × (result.shift ≡ shift) }
-    ensures walk { walk_in result ≡ walk }
+    ensures leaf { result.shift ≡ shift }
+    ensures chain { (walk_in result).chain ≡ walk.chain }
+    ensures standing { walk.dropped ≡ None → walk_in result ≡ walk }
+    ensures lasting { (head : Head) (events : List Event) → IsLasting head events p page walk →
+        IsLasting head events p page (walk_in result) }
 {
     let end = walk.chain.end;
     Slot {
         page,
-        address: end.address,
-        value: end.value,
-        moments: *moments,
-        moment: end.moment,
-        asked: walk.asked,
-        dropped: walk.dropped,
         p,
         pcid: walk.chain.pcid,
-        level: end.level,
-        rights: end.rights,
-        tables: walk.chain.tables,
-        global: walk.global,
+        asked: asked_in(walk),
+        value: end.value,
+        moments: *moments,
         shift,
-        frame,
+        dropped: walk.dropped.is_some(),
+        global: walk.global,
+        tables: walk.chain.tables,
+        rights: end.rights,
+        level: end.level,
+        moment: end.moment,
+        address: end.address,
     }
 }
 
 /// Whether what a slot says rests on the first so many events alone, so that later ones leave it.
 pub(crate) fn is_within(slot: &Slot, limit: u32) -> bool
-    requires frame { slot.now.frame < 2 ^ 52 }
-    requires shift { IsPageShift slot.now.shift }
+    requires { IsPageShift slot.now.shift }
     ensures { IsTrue result → IsWithin limit slot.now }
 {
     slot.moment <= limit && slot.asked <= limit && is_in_order(slot.moments.as_slice(), limit)
@@ -169,7 +197,7 @@ fn is_of(slot: &Slot, p: u16, page: u64, moments: &Moments) -> bool
 /// cost much.
 #[inline(always)]
 pub(crate) fn slot_at(
-    slots: &[Option<Slot>],
+    slots: &[Place],
     place: usize,
     p: u16,
     page: u64,
@@ -180,13 +208,11 @@ pub(crate) fn slot_at(
     ensures walk { (past : Past) (limit : ℕ) → HaveWalks past limit slots.now →
         IfSome result (λ s. HasWalk past limit (Some s)) }
 {
-    match slots.get(place)? {
-        Some(slot) => if is_of(slot, p, page, moments) {
-            Some(*slot)
-        } else {
-            None
-        },
-        None => None,
+    let slot = slots.get(place)?.slot()?;
+    if is_of(slot, p, page, moments) {
+        Some(*slot)
+    } else {
+        None
     }
 }
 
@@ -340,10 +366,10 @@ impl<'a> Memo<'a> {
             IsWalk head events p page Leaf moments.now (Ok walk) }
         ensures { self.new ≡ self.old }
     {
-        let Kind::Leaf { frame, shift, .. } = kind_at(self.reader.cfg(), walk.chain.end) else {
+        let Kind::Leaf { shift, .. } = kind_at(self.reader.cfg(), walk.chain.end) else {
             return;
         };
-        let slot = slot_of(p, page, moments, walk, frame, shift);
+        let slot = slot_of(p, page, moments, walk, shift);
         if is_within(&slot, self.limit) {
             self.kept.put(place, slot);
         }

@@ -1,10 +1,12 @@
 //! Where walks are kept, and how many places there are.
 
 ghost use Rattle.std.specs.Prelude.{◌≡◌, ℕ, [], Some};
+ghost use Rattle.pg_entry.specs.Kinds.{IsPageShift};
 ghost use Rattle.pg_chain.specs.declared.past.Past.{Past};
 ghost use Rattle.pg_check.specs.Remembered.{HasWalk, HaveWalks, page_bits, page_start};
 
 use crate::memo::{Slot, is_to};
+use crate::place::Place;
 use crate::stems::Stem;
 use pg_chain::{Past, place_among};
 use pg_inval::Tally;
@@ -13,7 +15,7 @@ use std::alloc::Global;
 /// Slots that outlive the memo that filled them, and upper parts of walks.
 #[derive(Drop)]
 pub struct Kept {
-    pub slots: Vec<Option<Slot>>,
+    pub slots: Vec<Place>,
     /// How many walks were made for them.
     pub made: usize,
     pub stems: Vec<Option<Stem>>,
@@ -78,8 +80,11 @@ impl Kept {
     /// Whether a place has a walk to a page under this PCID, by whatever moments.
     fn is_taken_for(&self, place: usize, p: u16, page: u64, pcid: u16) -> bool {
         match self.slots.get(place) {
-            Some(Some(slot)) => is_to(slot, p, page) && slot.pcid == pcid,
-            Some(None) | None => false,
+            Some(kept) => match kept.slot() {
+                Some(slot) => is_to(slot, p, page) && slot.pcid == pcid,
+                None => false,
+            },
+            None => false,
         }
     }
 
@@ -102,12 +107,13 @@ impl Kept {
 
     /// Keeps a walk at a place, where there is one.
     pub(crate) fn put(&mut self, place: usize, slot: Slot)
+        requires { IsPageShift slot.shift }
         ensures walks { (past : Past) (limit : ℕ) → HasWalk past limit (Some slot) →
             HaveWalks past limit self.old.slots.items → HaveWalks past limit self.new.slots.items }
         ensures stems { self.new.stems ≡ self.old.stems }
     {
         if place < self.slots.len() {
-            self.slots[place] = Some(slot);
+            self.slots[place] = Place::of(slot);
         }
     }
 
@@ -218,37 +224,37 @@ pub(crate) fn most_slots(past: &Past) -> usize {
 }
 
 /// So many slots. Where memory is refused there are none.
-fn empty_slots(alloc: Global, count: usize) -> Vec<Option<Slot>>
+fn empty_slots(alloc: Global, count: usize) -> Vec<Place>
     ensures { (past : Past) (limit : ℕ) → HaveWalks past limit result.items }
 {
-    match Vec::from_elem(alloc, None, count) {
+    match Vec::from_elem(alloc, Place::empty(), count) {
         Ok(slots) => slots,
         Err(_) => Vec::new(alloc),
     }
 }
 
-/// Keeps what a slot has at its place among others, where there is one.
-fn put(slots: &mut Vec<Option<Slot>>, slot: Option<Slot>)
-    ensures { (past : Past) (limit : ℕ) → HasWalk past limit slot →
+/// Keeps what a place has at its own among others, where there is one.
+fn put(slots: &mut Vec<Place>, kept: Place)
+    ensures { (past : Past) (limit : ℕ) → HasWalk past limit kept →
         HaveWalks past limit slots.old.items → HaveWalks past limit slots.new.items }
 {
-    let Some(walk) = slot else {
+    let Some(slot) = kept.slot() else {
         return;
     };
-    let levels = walk.moments.len();
-    let place = place_of(slots.len(), walk.p, walk.page, levels, walk.pcid);
+    let levels = slot.moments.len();
+    let place = place_of(slots.len(), slot.p, slot.page, levels, slot.pcid);
     if place < slots.len() {
-        slots[place] = Some(walk);
+        slots[place] = kept;
     }
 }
 
 /// Keeps what slots have among others too.
-fn put_all(from: &[Option<Slot>], to: &mut Vec<Option<Slot>>)
+fn put_all(from: &[Place], to: &mut Vec<Place>)
     ensures { (past : Past) (limit : ℕ) → HaveWalks past limit from.now →
         HaveWalks past limit to.old.items → HaveWalks past limit to.new.items }
 {
-    for slot in from {
-        put(to, *slot);
+    for kept in from {
+        put(to, *kept);
     }
 }
 

@@ -2,7 +2,7 @@
 //! dropped its translation since, as a processor uses its TLB.
 
 ghost use Rattle.std.specs.Prelude.{◌≡◌, ◌<◌, ◌≤◌, ◌^◌, ℕ, List, length, Ok, Some, None, IfSome};
-ghost use Rattle.std.specs.Prelude.{IsTrue, true};
+ghost use Rattle.std.specs.Prelude.{IsTrue, true, false};
 ghost use Rattle.pg_entry.specs.declared.Kind.TheVariants as kinds;
 ghost use Rattle.pg_entry.specs.Kinds.{IsPageShift, kind_of};
 ghost use Rattle.pg_event.specs.declared.event.Event.{Event};
@@ -24,7 +24,7 @@ ghost use Rattle.pg_check.specs.Stems.{HaveStems};
 use crate::access::failing_leaf_chain;
 use crate::judge::failing;
 use crate::lasting::Lasting;
-use crate::memo::{Memo, Slot, slot_at, slot_of, walk_in};
+use crate::memo::{Memo, Slot, frame_in, slot_at, slot_of, walk_in};
 use crate::places::{Kept, most_slots, page_of, place_of};
 use crate::stems::{Region, Stem, split_last, stem_for};
 use pg_chain::{Chain, EntryRead, Past, chain_further, kind_at};
@@ -40,14 +40,14 @@ use std::mem;
 #[inline(always)]
 fn outlasts(past: &Past, slot: &Slot) -> bool
     requires { IsPageShift slot.now.shift }
-    ensures found { IsTrue result → slot.now.dropped ≡ None }
+    ensures found { IsTrue result → slot.now.dropped ≡ false }
     ensures run { IsTrue result → let s = slot.now in
         let key = translation_key s.pcid s.shift s.global s.page in
         (to : ℕ) → InEachRun past.now (λ head events.
         survives head events s.p (λ c e. must_drop_translation c e key) s.asked to ≡ true) }
 {
     let key = translation_key(slot.pcid, slot.shift, slot.global, slot.page);
-    slot.dropped.is_none() && past.translation_outlasts(slot.p, key, slot.asked)
+    !slot.dropped && past.translation_outlasts(slot.p, key, slot.asked)
 }
 
 /// The slot of an access to a page that the first of two places has, or else the other.
@@ -132,8 +132,8 @@ fn failing_standing(
     match standing_slot(past, kept, current, claim, moments) {
         Some(slot) => {
             let walk = lasting_to(claim.number, &slot);
-            let Slot { frame, shift, .. } = slot;
-            Some(failing_leaf_chain(past, current, claim, walk, frame, shift))
+            let frame = frame_in(&slot);
+            Some(failing_leaf_chain(past, current, claim, walk, frame, slot.shift))
         }
         None => None,
     }
@@ -301,7 +301,7 @@ fn failing_by_chain(
     let leaf = leaf_at(past.cfg(), chain.end)?;
     let page = page_of(la, moments.len());
     let walk = lasting_now(past, number, p, page, chain, leaf);
-    let slot = slot_of(p, page, moments, walk, leaf.frame, leaf.shift);
+    let slot = slot_of(p, page, moments, walk, leaf.shift);
     keep_walk(past, kept, current, number, slot);
     let LeafPage { frame, shift, .. } = leaf;
     Some(failing_leaf_chain(past, current, claim, walk, frame, shift))

@@ -6,6 +6,7 @@ use Rattle.pg_check.proofs.memo.slot_at.Goals as goal
 
 pub returns-then-is_of-clause-walk : goal.returns-then-is_of-clause-walk
 returns-then-is_of-clause-walk c = λ past limit have.
-    let found = c.in_ok-slot.field-0.now in
-    let at = c.in_ok-slot.ensures.lookup in
-    subst (λ (s : Option Slot). HasWalk past limit s) (sym (at.3.1 found) ∙ c.in-Some.is) (memos.slot_at past limit c.args.slots.now c.args.place found have at.3.0)
+    let found = c.in_ok-get.field-0.now in
+    let at = c.in_ok-get.ensures.lookup in
+    subst (λ (s : Option Slot). HasWalk past limit s) (sym (at.3.1 found) ∙ c.in_ok-slot.ensures)
+    (memos.slot_at past limit c.args.slots.now c.args.place found have at.3.0)

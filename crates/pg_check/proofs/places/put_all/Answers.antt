@@ -4,9 +4,9 @@ use Rattle.pg_check.specs.Remembered.{HasWalk}
 use Rattle.pg_check.proofs.Memos.{slot_at}
 use Rattle.pg_check.proofs.places.put_all.Goals as goal
 
-pub loop-slot-preserved : goal.loop-slot-preserved
-loop-slot-preserved c = λ past limit have was.
+pub loop-kept-preserved : goal.loop-kept-preserved
+loop-kept-preserved c = λ past limit have was.
     c.put.ensures past limit
-    (subst (λ (s : Option Slot). HasWalk past limit s) (sym c.slot-item.is)
-    (slot_at past limit c.args.from.now c.loop-slot.slot-index _ have c.loop-slot-test.true))
-    (c.loop-slot.invariant past limit have was)
+    (subst (λ (s : Option Slot). HasWalk past limit s) (sym c.kept-item.is)
+    (slot_at past limit c.args.from.now c.loop-kept.kept-index _ have c.loop-kept-test.true))
+    (c.loop-kept.invariant past limit have was)

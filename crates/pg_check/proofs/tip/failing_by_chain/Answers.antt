@@ -28,25 +28,25 @@ keep_walk-requires-clause-slot c =
     let page : c.page_of-page.result ≡ page_start (page_bits (length ws)) claim.la =
     c.page_of-page.ensures ∙ ap (λ n. page_start (page_bits n) claim.la) c.len.ensures.length in
     let moment : slot.result.moment ≡ claim.number =
-    ap (λ (l : Lasting). l.chain.end.moment) slot.ensures.walk ∙ ap (λ (x : Chain). x.end.moment) c.lasting_now-walk.ensures.chain ∙ c.requires.moment in
-    let asked : slot.result.asked ≡ claim.number = ap (λ (l : Lasting). l.asked) slot.ensures.walk ∙ c.lasting_now-walk.ensures.asked.0 in
+    ap (λ (x : Chain). x.end.moment) (slot.ensures.chain ∙ c.lasting_now-walk.ensures.chain) ∙ c.requires.moment in
+    let asked : slot.result.asked ≡ claim.number =
+    ap (λ (l : Lasting). l.asked) (slot.ensures.standing c.lasting_now-walk.ensures.asked.1) ∙ c.lasting_now-walk.ensures.asked.0 in
     let within : IsWithin claim.number slot.result = record {
       few = rw (slot.ensures.names.2, ← c.len.ensures.length) c.len.ensures.within.1;
       ordered = rw (slot.ensures.names.2) c.requires.ordered;
       read = omega (arith, moment);
       asked = omega (arith, asked);
-      frame = rw (slot.ensures.leaf.0) c.in_ok-leaf.ensures.frame;
-      shift = rw (slot.ensures.leaf.1) c.in_ok-leaf.ensures.shift;
+      shift = rw (slot.ensures.leaf) c.in_ok-leaf.ensures.shift;
     } in
-    made_slot c.args.past.now claim.number slot.result claim.p c.page_of-page.result ws walk leaf.frame leaf.shift leaf.global_bit
-    slot.ensures.names slot.ensures.leaf slot.ensures.walk within
+    made_slot c.args.past.now claim.number slot.result claim.p c.page_of-page.result ws walk c.cfg.result leaf.frame leaf.shift leaf.global_bit
+    slot.ensures.names slot.ensures.leaf slot.ensures.chain slot.ensures.lasting within
     (λ head events h. (
       subst (λ (la : ℕ). chain_of head events claim.p la ws wants.Leaf ≡ Ok walk.chain) (sym page)
           (c.requires.walk head events h ∙ ap (λ (x : Chain). Ok x) (sym c.lasting_now-walk.ensures.chain)),
       c.lasting_now-walk.ensures.lasting head events h,
     ))
-    (λ head events h. ap (λ (x : Chain). kind_of head.cfg x.end.level x.end.value) c.lasting_now-walk.ensures.chain
-    ∙ sym (ap (λ (x : Cfg). kind_of x c.args.chain.end.level c.args.chain.end.value) (c.cfg.ensures.run head events h)) ∙ c.in_ok-leaf.ensures.kind)
+    c.cfg.ensures.within c.cfg.ensures.run
+    (ap (λ (x : Chain). kind_of c.cfg.result x.end.level x.end.value) c.lasting_now-walk.ensures.chain ∙ c.in_ok-leaf.ensures.kind)
 
 pub returns-clause-failing : goal.returns-clause-failing
 returns-clause-failing c = λ head events h.

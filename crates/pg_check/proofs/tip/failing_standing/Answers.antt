@@ -23,7 +23,8 @@ returns-in-Some c = λ head events h.
     let leaf = c.in-Some.ensures.leaf head events h in
     let same = c.lasting_to-walk.ensures in
     c.failing_leaf_chain.ensures head events leaf.global_bit h
-    (subst (λ (l : Lasting). kind_of head.cfg l.chain.end.level l.chain.end.value ≡ Leaf c.in-Some.slot.frame c.in-Some.slot.shift leaf.global_bit) (sym same) leaf.kind)
+    (subst (λ (l : Lasting). kind_of head.cfg l.chain.end.level l.chain.end.value ≡ Leaf c.frame_in-frame.result c.in-Some.slot.shift leaf.global_bit) (sym same)
+    (leaf.kind ∙ ap (λ n. Leaf n c.in-Some.slot.shift leaf.global_bit) (sym c.frame_in-frame.ensures.frame)))
     (subst (λ (l : Lasting). IsLasting head events claim.p claim.la l) (sym same) found.1)
     ∙ ap (λ (l : Lasting). failing_chain head events claim l.chain) same
     ∙ failing_access-ordered head events claim ws c.standing_slot.ensures.some (ap (λ vs. is_in_order vs claim.number) (sym c.in-Some.ensures.within.1) ∙ c.in-Some.ensures.within.0.ordered)
