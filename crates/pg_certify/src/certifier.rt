@@ -5,6 +5,7 @@ ghost use Rattle.std.specs.Prelude.{IfOk, IfSome, IfNone};
 ghost use Rattle.std.specs.List.{AllByRecursion};
 ghost use Rattle.pg_event.specs.Form.{broken_rule, processor_of};
 ghost use Rattle.pg_event.specs.Spelling.{AreMoments};
+ghost use Rattle.pg_check.specs.Right.{AreRight};
 ghost use Rattle.pg_search.specs.Law.{names_moments, AreWitness};
 ghost use Rattle.pg_certify.specs.Certified.{IsFoundFor, IsUnwitnessed};
 
@@ -14,11 +15,11 @@ use crate::guesses::{Guesses, Part, Scope, key_of};
 use crate::lately::Lately;
 use crate::mapped::Events;
 use crate::walk::{Walk, address_by, first_moments, is_global, last_of, tables_up_to, walk_by};
-use pg_check::{Memo, failing};
+use pg_check::{KeptWalks, Memo, failing};
 use pg_entry::has_bit;
 use pg_event::{Event, Moments, Outcome, Reason, Request};
 use pg_reach::any_moments;
-use pg_search::{Seen, names_moments, with_moments};
+use pg_search::{KeptRun, Seen, names_moments, with_moments};
 use std::alloc::{AllocError, Global};
 use std::marker::Model;
 
@@ -108,9 +109,37 @@ impl<'a> Certifier<'a> {
         }
     }
 
-    /// What was found, for those that come after.
-    pub(crate) fn into_guesses(self) -> Guesses {
-        self.guesses
+    /// The same for events of one window, with the walks that those before it left too, which rest
+    /// on the events up to the window's end.
+    pub(crate) fn going_on(
+        alloc: Global,
+        kept: &'a KeptRun,
+        guesses: Guesses,
+        walks: KeptWalks,
+        count: usize,
+    ) -> Certifier<'a>
+        requires { AreRight kept.now.head kept.now.events (length kept.now.events) walks }
+        ensures { result ≡ kept.now }
+    {
+        let seen = Seen::among(kept);
+        let memo = seen.memo_keeping(walks, kept.len() as u32, count);
+        Certifier {
+            alloc,
+            seen,
+            events: Events::Kept(kept),
+            memo,
+            guesses,
+            lately: Lately::new(alloc),
+        }
+    }
+
+    /// What was found, and the walks that rest on the first so many events, for those that come
+    /// after.
+    pub(crate) fn into_found(self, limit: u32) -> (Guesses, KeptWalks)
+        ensures { AreRight self.entry.head self.entry.events limit result.1 }
+    {
+        let Certifier { guesses, memo, .. } = self;
+        (guesses, memo.into_walks(limit))
     }
 
     /// The least reason by which these moments do not witness an event, or `None` where they do.

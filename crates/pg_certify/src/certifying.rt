@@ -11,6 +11,7 @@ ghost use Rattle.pg_certify.specs.Windows.{IsCertifying, MayCome, IsJudgedWindow
 
 use crate::guesses::Guesses;
 use crate::window::first_denied_among;
+use pg_check::KeptWalks;
 use pg_event::{Event, Header};
 use pg_search::{KeptRun, witnessed_among_kept};
 use std::alloc::{AllocError, Global};
@@ -24,6 +25,8 @@ pub struct Certifying {
     alloc: Global,
     kept: KeptRun,
     guesses: Guesses,
+    /// Walks that were made by the events that were judged.
+    walks: KeptWalks,
     count: u64,
     denied: Option<u64>,
 }
@@ -33,7 +36,13 @@ impl Model for Certifying {
 
     ghost Value = { Findings };
 
+    ghost use Rattle.std.specs.Prelude.{length};
+    ghost use Rattle.pg_check.specs.Right.{AreRight};
+
     ghost view = { λ c. record { kept = c.kept; count = c.count; denied = c.denied } };
+
+    ghost invariant = { λ c.
+        AreRight c.kept.head c.kept.events (length c.kept.events) c.walks };
 }
 
 impl Certifying {
@@ -47,6 +56,7 @@ impl Certifying {
             alloc,
             kept,
             guesses: Guesses::new(alloc),
+            walks: KeptWalks::new(alloc),
             count: 0,
             denied: None,
         })
@@ -89,7 +99,14 @@ impl Certifying {
     {
         let first = self.kept.len() as u32;
         self.kept.extend(window)?;
-        match first_denied_among(self.alloc, &self.kept, &mut self.guesses, first, window) {
+        match first_denied_among(
+            self.alloc,
+            &self.kept,
+            &mut self.guesses,
+            &mut self.walks,
+            first,
+            window,
+        ) {
             Ok(found) => {
                 self.take(found, window.len());
                 Ok(())

@@ -14,10 +14,10 @@ use Rattle.pg_check.proofs.Alike.{AreAlike, alike-next, alike-past, alike-longer
 use Rattle.pg_check.proofs.Pages.{kind_paged}
 
 -- what a slot says of a run
-abbrev Says : Slot → Head → List Event → Type 0
+abbrev pub Says : Slot → Head → List Event → Type 0
 Says s head events = (chain_of head events s.p s.page s.moments wants.Leaf ≡ Ok (walk_in s).chain) × IsLasting head events s.p s.page (walk_in s)
 
-says_alike : (n : ℕ) (head : Head) (xs ys : List Event) (s : Slot) → AreAlike n head xs ys → IsWithin n s → Says s head xs → Says s head ys
+pub says_alike : (n : ℕ) (head : Head) (xs ys : List Event) (s : Slot) → AreAlike n head xs ys → IsWithin n s → Says s head xs → Says s head ys
 says_alike n head xs ys s alike within says = (
   sym (alike_chain n head xs ys s.p s.page s.moments wants.Leaf alike within.ordered within.few) ∙ says.0,
   alike_lasts n head xs ys s.p s.page (walk_in s) (kind_of head.cfg s.level s.value) alike within.read within.asked (kind_paged head.cfg s.level s.value) says.1,
@@ -47,22 +47,21 @@ walks_noted (Ok x) old new n head before more slots within was noted refused hav
 walks_noted (Err e) old new n head before more slots within was noted refused have = walks_stay old new n head before before slots was refused (alike-past new n head before before refused refused) have
 
 -- what rests on so many events rests on more of them
+pub within_later : (n m : ℕ) (s : Slot) → n ≤ m → IsWithin n s → IsWithin m s
+within_later n m s le within =
+    let read : s.moment ≤ n = within.read in
+    let asked : s.asked ≤ n = within.asked in
+    record {
+      few = within.few;
+      ordered = in_order-later s.moments n m le within.ordered;
+      read = omega (arith, le, read);
+      asked = omega (arith, le, asked);
+      shift = within.shift;
+    }
+
 walk_later : (past : Past) (n m : ℕ) (slot : Option Slot) → n ≤ m → HasWalk past n slot → HasWalk past m slot
 walk_later past n m None le has = tt
-walk_later past n m (Some s) le has =
-    let within = has.0 in
-    let read : s.moment ≤ n = within.read in
-    let asked : s.asked ≤ n = within.asked in (
-      record {
-        few = within.few;
-        ordered = in_order-later s.moments n m le within.ordered;
-        read = omega (arith, le, read);
-        asked = omega (arith, le, asked);
-        shift = within.shift;
-      },
-      has.1,
-      has.2,
-    )
+walk_later past n m (Some s) le has = (within_later n m s le has.0, has.1, has.2)
 
 pub walks_later : (past : Past) (n m : ℕ) (slots : List (Option Slot)) → n ≤ m → HaveWalks past n slots → HaveWalks past m slots
 walks_later past n m [] le have = tt

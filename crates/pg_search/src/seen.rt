@@ -10,6 +10,7 @@ ghost use Rattle.pg_event.specs.Witness.{survives};
 ghost use Rattle.pg_timeline.specs.Timelines.{IsSpan};
 ghost use Rattle.pg_inval.specs.Drops.{IsTableLevel};
 ghost use Rattle.pg_chain.specs.Standing.{IsPast};
+ghost use Rattle.pg_check.specs.Right.{AreRight};
 ghost use Rattle.pg_search.specs.Lasts.{IsEnd};
 ghost use Rattle.pg_search.specs.Writers.{IsWriter};
 
@@ -17,7 +18,7 @@ use crate::brief::writes;
 use crate::kept_run::KeptRun;
 use crate::lookup::Lookup;
 use pg_chain::Past;
-use pg_check::{History, Memo, Stretch};
+use pg_check::{History, KeptWalks, Memo, Stretch};
 use pg_entry::Level;
 use pg_event::{Control, Event, Header, Window, structure_key, translation_key};
 use pg_timeline::{Probes, Span};
@@ -210,17 +211,32 @@ impl<'a> Seen<'a> {
         }
     }
 
-    /// A memo for judging by this run, with room for so many walks, up to a limit.
-    pub fn memo(&self, walks: usize) -> Memo<'a>
-        ensures { IsPast result self.now.head self.now.events }
+    /// The past of the run, for who judges by it: no event of it is at hand there.
+    fn stretch(&self) -> Stretch<'a>
+        ensures { IsPast result.past.now self.now.head self.now.events }
     {
         let header = self.header;
-        let stretch = Stretch {
+        Stretch {
             past: self.past,
             segment: header.segment,
             first: 0,
             events: &[],
-        };
-        stretch.memo(walks)
+        }
+    }
+
+    /// A memo for judging by this run, with room for so many walks, up to a limit.
+    pub fn memo(&self, walks: usize) -> Memo<'a>
+        ensures { IsPast result self.now.head self.now.events }
+    {
+        self.stretch().memo(walks)
+    }
+
+    /// The same, with walks that were kept, which rest on the first so many events, and limits
+    /// those that it keeps to such.
+    pub fn memo_keeping(&self, kept: KeptWalks, limit: u32, walks: usize) -> Memo<'a>
+        requires { AreRight self.now.head self.now.events limit kept }
+        ensures { IsPast result self.now.head self.now.events }
+    {
+        self.stretch().memo_keeping(kept, limit, walks)
     }
 }
