@@ -26,7 +26,9 @@ fn first_denied_in(
     requires well { AreWellFormed certifier.old.head window.now }
     requires kept { first + length window.now ≤ length certifier.old.events }
     requires room { length certifier.old.events < 2 ^ 32 }
-    ensures { IfOk result (IsFirstDenied certifier.old.head certifier.old.events first window.now) }
+    ensures same { certifier.new ≡ certifier.old }
+    ensures denied { IfOk result
+        (IsFirstDenied certifier.old.head certifier.old.events first window.now) }
 {
     for (i, event) in window.iter().enumerate() {
         let number = first + i as u32;

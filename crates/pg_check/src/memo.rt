@@ -167,6 +167,10 @@ impl<'a> Model for Memo<'a> {
 /// processor that judges.
 const MOST_SLOTS: usize = 16_384;
 
+/// So many are kept at most from one window to the next. With half of them a million mixed events
+/// make half as many walks again.
+const MOST_KEPT: usize = 32_768;
+
 /// Whether a walk is worth a slot: one to a leaf. One that ends otherwise is used at its own event
 /// alone.
 fn may_be_kept(want: Want) -> bool
@@ -246,7 +250,7 @@ impl<'a> Memo<'a> {
         requires { HaveWalks past.now limit kept.slots.items }
         ensures { result ≡ past.now }
     {
-        let most = walks.min(MOST_SLOTS);
+        let most = walks.min(MOST_KEPT);
         let mut own = kept;
         own.make_first_room(past, most);
         Memo {

@@ -12,8 +12,8 @@ use Rattle.pg_certify.proofs.window.first_denied_in.Goals as goal
 here : (xs : List Event) (i : ℕ) (x : Event) → i < length xs → x ≡ get_or xs i x → slice_get xs i ≡ Some x
 here xs i x lt is = slice_get-get_or xs i x lt ∙ ap (λ (y : Event). Some y) (sym is)
 
-pub returns-in-None : goal.returns-in-None
-returns-in-None c =
+pub returns-in-None-clause-denied : goal.returns-in-None-clause-denied
+returns-in-None-clause-denied c =
     let e : Event = c.index-window-i.result in
     let lt : c.loop-i.i < length c.args.window.now = omega arith in
     let at : slice_get c.args.window.now c.loop-i.i ≡ Some e = here c.args.window.now c.loop-i.i e lt c.index-window-i.is in
