@@ -1,6 +1,6 @@
 //! All bad events of a record: their explanations, and their summary.
 
-use crate::row::Row;
+use pg_cases::Row;
 
 /// Event 4 has a wrong answer, and event 6 uses what event 5 dropped.
 const TWO_NOES: &[&str] = &[

@@ -1,7 +1,7 @@
 //! Scripts that end early, and of which one byte is bent: each byte to each other value. One thread
 //! and a thread for the processor say the same of each.
 
-use crate::row::run_on;
+use pg_cases::run_over;
 use pg_codec::Watched;
 use std::alloc::{AllocError, AllocGlobal, Global};
 use std::process::Abort;
@@ -31,10 +31,10 @@ fn ran<T: AllocGlobal + Abort + Threads + Wait + Sync>(
     output: &mut Written,
     errors: &mut Written,
 ) -> u8 {
-    let alone = run_on(rt, &["run", "--single"], text, output, errors);
+    let alone = run_over(rt, &["run", "--single"], text, output, errors);
     let mut other = Watched::new(Vec::new(rt.alloc()));
     let mut others = Watched::new(Vec::new(rt.alloc()));
-    let by_threads = run_on(rt, &["run"], text, &mut other, &mut others);
+    let by_threads = run_over(rt, &["run"], text, &mut other, &mut others);
     let is_alike = output.inner.as_slice() == other.inner.as_slice()
         && errors.inner.as_slice() == others.inner.as_slice();
     assert!(rt; is_alike && alone == by_threads);

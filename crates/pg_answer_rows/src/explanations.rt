@@ -1,6 +1,6 @@
 //! What stands behind a no: a row for each reason.
 
-use crate::row::Row;
+use pg_cases::Row;
 
 /// Walks that no entries of the moments make.
 pub const WALKS: [Row; 4] = [

@@ -1,7 +1,7 @@
 //! Answers as JSON by the whole program, over memory. Expected objects were written by hand from
 //! the texts of docs/COMMANDS.md.
 
-use crate::row::Row;
+use pg_cases::Row;
 
 /// A fresh walk.
 pub const FRESH_WALK: &[&str] = &[

@@ -1,8 +1,8 @@
 //! The same of records with spans. Expected objects were written by hand from the texts of
 //! docs/COMMANDS.md.
 
-use crate::row::Row;
 use crate::spans::{BACK, MANY_NEW_THEN_OLD, NEW_THEN_OLD, STALE, WALK};
+use pg_cases::Row;
 
 /// As `STALE`, of version 4, where CR4.PGE is 1 and a load of CR3 invalidates the page.
 const RELOADED: &[&str] = &[

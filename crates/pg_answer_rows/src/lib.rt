@@ -19,8 +19,6 @@ mod many_lines;
 #[cfg(test)]
 mod pictures;
 #[cfg(test)]
-mod row;
-#[cfg(test)]
 mod span_pictures;
 #[cfg(test)]
 mod spans;

@@ -1,6 +1,6 @@
 //! Events of records, a line each.
 
-use crate::row::Row;
+use pg_cases::Row;
 
 /// The records in `samples/`.
 pub const SAMPLES: [Row; 7] = [

@@ -1,6 +1,6 @@
 //! Events of a longer record by their numbers. No table was ever written, so event 85 is bad.
 
-use crate::row::Row;
+use pg_cases::Row;
 
 /// INVLPG of address 0 by processor 0.
 const INVLPG: &str = "13000000000000000000";

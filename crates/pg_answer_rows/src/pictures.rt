@@ -1,7 +1,7 @@
 //! Pictures of what stands behind a no.
 
 use crate::json::{FRESH_WALK, STALE_LEAF};
-use crate::row::Row;
+use pg_cases::Row;
 
 const DRAWING: &[&str] = &["explain", "--svg"];
 

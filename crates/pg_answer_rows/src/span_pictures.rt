@@ -1,7 +1,7 @@
 //! Pictures of why no order of events with spans has a run.
 
-use crate::row::Row;
 use crate::spans::WALK;
+use pg_cases::Row;
 
 const DRAWING: &[&str] = &["explain", "--svg"];
 

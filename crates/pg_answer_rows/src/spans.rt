@@ -1,6 +1,6 @@
 //! Records whose events have spans in the place of one order.
 
-use crate::row::Row;
+use pg_cases::Row;
 
 /// The worked example of docs/FORMAT.md: processor 1's INVLPG overlaps the last of processor 0's
 /// writes, and its read comes behind both.

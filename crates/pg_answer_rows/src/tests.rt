@@ -1,7 +1,7 @@
-use crate::row::run_all;
 use crate::{
     all_noes, explanations, json, json_spans, lines, many_lines, pictures, span_pictures, spans,
 };
+use pg_cases::run_all;
 use std::test::Fail;
 
 #[test]

@@ -1,7 +1,7 @@
 //! Words that are no command of the program, and help.
 
-use crate::row::run_on;
 use crate::texts::{FAULTS, TEXTS, Told};
+use pg_cases::run_over;
 use pg_codec::Watched;
 use std::alloc::AllocGlobal;
 use std::process::Abort;
@@ -21,7 +21,7 @@ fn is_told(told: Told, is_fault: bool, status: u8, output: &[u8], errors: &[u8])
 fn tells<T: AllocGlobal + Threads + Wait + Sync>(rt: &T, told: Told, is_fault: bool) -> bool {
     let mut output = Watched::new(Vec::new(rt.alloc()));
     let mut errors = Watched::new(Vec::new(rt.alloc()));
-    let status = run_on(rt, told.words, &[], &mut output, &mut errors);
+    let status = run_over(rt, told.words, &[], &mut output, &mut errors);
     is_told(told, is_fault, status, &output.inner, &errors.inner)
 }
 

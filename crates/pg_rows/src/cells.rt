@@ -1,7 +1,7 @@
 //! Each cell of the table of allowed accesses (Intel SDM, vol. 3, 4.6.1), and each summand of the
 //! error code (4.7), through the whole program.
 
-use crate::case::{Case, answer_on};
+use pg_cases::{Case, answer_on};
 use pg_codec::Watched;
 use pg_span_codec::Peeked;
 use std::alloc::{AllocError, AllocGlobal, Global};

@@ -1,6 +1,6 @@
 //! Records whose moments nobody named: each access and each assist has the placeholder 0.
 
-use crate::row::Row;
+use pg_cases::Row;
 
 pub const FRESH_WALK: Row = Row {
     name: "certified_fresh_walk",

@@ -1,6 +1,6 @@
 //! Entries that were dropped, and entries that were not.
 
-use crate::row::Row;
+use pg_cases::Row;
 
 pub const ROWS: [Row; 35] = [
     Row {

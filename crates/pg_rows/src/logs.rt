@@ -1,7 +1,6 @@
 //! Logs of single processors, merged.
 
-use crate::case::{Case, is_answered};
-use crate::row::bytes_of;
+use pg_cases::{Case, bytes_of, is_answered};
 use pg_codec::Watched;
 use pg_span_codec::Peeked;
 use pg_tool::{pcid_audit, plan};

@@ -1,9 +1,7 @@
 //! Records that are written with the moments that were found for them.
 
-use crate::case::{Case, answer, answer_by_bytes, fail_each_write, run_on};
 use crate::certificates::{FRESH_WALK, ROWS};
-use crate::row::{Row, bytes_of};
-use crate::walks;
+use pg_cases::{Case, Row, answer, answer_by_bytes, bytes_of, fail_each_write, run_on, walks};
 use pg_codec::Watched;
 use pg_span_codec::Peeked;
 use std::alloc::AllocGlobal;

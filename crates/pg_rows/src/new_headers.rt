@@ -1,7 +1,6 @@
 //! Headers of version 2 with a field out of its range.
 
-use crate::case::{Case, answer};
-use crate::row::bytes_of;
+use pg_cases::{Case, answer, bytes_of};
 use std::test::Fail;
 
 /// What stands behind the header: a dirty assist, and the write that it was for.

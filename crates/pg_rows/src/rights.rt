@@ -1,6 +1,6 @@
 //! Kinds of entries, rights and error codes.
 
-use crate::row::Row;
+use pg_cases::Row;
 
 pub const ROWS: [Row; 20] = [
     Row {

@@ -2,8 +2,7 @@
 
 ghost use Rattle.std.specs.Prelude.{None};
 
-use crate::case::{Case, answer, answer_on};
-use crate::row::bytes_of;
+use pg_cases::{Case, answer, answer_on, bytes_of};
 use pg_codec::{Failed, Source};
 use pg_span_codec::Peeked;
 use std::alloc::{AllocError, Global};

@@ -1,7 +1,7 @@
 //! Records put together of parts of others: segments in another order, left out, repeated, of
 //! another version, and records twice over.
 
-use crate::row::Row;
+use pg_cases::Row;
 
 // A record of 20 events in segments of two.
 const HEAD: &str = "50475245434f5244010028030102000000011000000000000001";

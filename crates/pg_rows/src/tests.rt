@@ -1,8 +1,5 @@
-use crate::row::run_all;
-use crate::{
-    certificates, explanations, headers, invalidations, refusals, rights, runs, spliced, versions,
-    walks,
-};
+use crate::{certificates, invalidations, rights, spliced};
+use pg_cases::{explanations, headers, refusals, run_all, runs, versions, walks};
 use std::test::Fail;
 
 #[test]

@@ -1,7 +1,6 @@
 //! Version 2 records of the events of version 1 records.
 
-use crate::case::{Case, answer};
-use crate::row::bytes_of;
+use pg_cases::{Case, answer, bytes_of};
 use std::test::Fail;
 
 /// A record to upgrade, and what the program must answer.

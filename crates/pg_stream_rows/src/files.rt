@@ -1,9 +1,7 @@
 //! Records and scripts that are read from files by their names.
 
-use crate::case::{Case, answer, is_answered};
-use crate::pieces::Pieces;
-use crate::row::bytes_of;
-use crate::walks::FRESH_WALK;
+use pg_cases::walks::FRESH_WALK;
+use pg_cases::{Case, Pieces, answer, bytes_of, is_answered};
 use pg_codec::{Sink, Source, Watched};
 use pg_span_codec::Peeked;
 use pg_tool::{pcid_audit, plan};

@@ -28,10 +28,10 @@ pub struct Case<'a> {
 }
 
 /// What it says where a stream fails.
-pub const DEVICE: &str = "pcid-audit: refused 11 device\n";
+const DEVICE: &str = "pcid-audit: refused 11 device\n";
 
 /// There are no files.
-pub fn no_file(_name: &str) -> Option<Peeked<Watched<&'static [u8]>>> {
+fn no_file(_name: &str) -> Option<Peeked<Watched<&'static [u8]>>> {
     None
 }
 
@@ -46,6 +46,18 @@ pub fn run_on<T: AllocGlobal + Threads + Wait + Sync, R: Source, O: Sink, E: Sin
 ) -> u8 {
     let planned = plan(rt.alloc(), words);
     pcid_audit(rt, planned, no_file, input, output, errors)
+}
+
+/// The same over memory.
+pub fn run_over<T: AllocGlobal + Threads + Wait + Sync>(
+    rt: &T,
+    words: &[&str],
+    bytes: &[u8],
+    output: &mut Watched<Vec<u8>>,
+    errors: &mut Watched<Vec<u8>>,
+) -> u8 {
+    let mut input = Peeked::new(Watched::new(bytes));
+    run_on(rt, words, &mut input, output, errors)
 }
 
 /// Whether the program ended and wrote as the case says.

@@ -1,8 +1,7 @@
 //! Records audited by many checkers.
 
-use crate::case::{Case, answer};
-use crate::row::bytes_of;
 use crate::streams::TEN_SEGMENTS;
+use pg_cases::{Case, answer, bytes_of};
 use pg_codec::Watched;
 use pg_event::Reason;
 use pg_pool::Gate;

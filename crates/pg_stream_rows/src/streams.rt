@@ -1,10 +1,10 @@
 //! The program over streams that move few bytes a call, that end early and that fail.
 
-use crate::case::{Case, answer, answer_by_bytes, fail_each_read, fail_each_write};
-use crate::long_run::push_record;
-use crate::row::{Row, bytes_of};
-use crate::walks::FRESH_WALK;
-use crate::{explanations, headers, refusals, runs};
+use pg_cases::walks::FRESH_WALK;
+use pg_cases::{
+    Case, Row, answer, answer_by_bytes, bytes_of, explanations, fail_each_read, fail_each_write,
+    headers, push_record, refusals, runs,
+};
 use std::alloc::AllocGlobal;
 use std::process::Abort;
 use std::sync::Wait;

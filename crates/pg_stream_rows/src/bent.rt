@@ -1,9 +1,8 @@
 //! Records that end early, and of which one byte is bent, each byte to each other value: one
 //! checker and two say the same of each.
 
-use crate::row::{Row, bytes_of};
-use crate::versions;
-use crate::walks::FRESH_WALK;
+use pg_cases::walks::FRESH_WALK;
+use pg_cases::{Row, bytes_of, versions};
 use pg_codec::Watched;
 use pg_event::Refusal;
 use pg_report::{AuditError, Verdict, audit, audit_one, reason_number};

@@ -1,0 +1,22 @@
+//! Cases that the whole program is run on, over memory and over streams that fail: for the crates
+//! that test it.
+#![tactic(auto)]
+
+mod case;
+pub mod explanations;
+pub mod headers;
+mod long;
+mod pieces;
+pub mod refusals;
+mod row;
+pub mod runs;
+pub mod versions;
+pub mod walks;
+
+pub use case::{
+    Case, answer, answer_by_bytes, answer_on, fail_each_read, fail_each_write, is_answered, run_on,
+    run_over,
+};
+pub use long::push_record;
+pub use pieces::Pieces;
+pub use row::{Row, bytes_of, run_all};
