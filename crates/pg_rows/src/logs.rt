@@ -49,11 +49,11 @@ fn log_of<'a>(name: &str, first: &'a [u8], second: &'a [u8]) -> &'a [u8] {
 fn run_with_logs<'a, T: AllocGlobal + Threads + Wait + Sync>(
     rt: &T,
     merged: Case<'a>,
-    logs: [&'a [u8]; 2],
+    first: &'a [u8],
+    second: &'a [u8],
     output: &mut Watched<Vec<u8>>,
     errors: &mut Watched<Vec<u8>>,
 ) -> u8 {
-    let [first, second] = logs;
     let mut input = Peeked::new(Watched::new(merged.input));
     let opener = |name: &str| Some(Peeked::new(Watched::new(log_of(name, first, second))));
     let planned = plan(rt.alloc(), merged.words);
@@ -64,11 +64,12 @@ fn run_with_logs<'a, T: AllocGlobal + Threads + Wait + Sync>(
 fn are_merged<'a, T: AllocGlobal + Threads + Wait + Sync>(
     rt: &T,
     merged: Case<'a>,
-    logs: [&'a [u8]; 2],
+    first: &'a [u8],
+    second: &'a [u8],
 ) -> bool {
     let mut output = Watched::new(Vec::new(rt.alloc()));
     let mut errors = Watched::new(Vec::new(rt.alloc()));
-    let status = run_with_logs(rt, merged, logs, &mut output, &mut errors);
+    let status = run_with_logs(rt, merged, first, second, &mut output, &mut errors);
     is_answered(merged, status, &output.inner, &errors.inner)
 }
 
