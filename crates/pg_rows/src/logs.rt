@@ -86,10 +86,6 @@ fn logs_merged(rt: HostRuntime) -> Result<(), Fail> {
         line: "",
         status: 0,
     };
-    assert!(rt;
-        are_merged(&rt, merged, [&first, &second]),
-        "{}",
-        merged.name
-    );
+    assert!(rt; are_merged(&rt, merged, &first, &second), "{}", merged.name);
     Ok(())
 }
