@@ -6,7 +6,6 @@ use pg_span_codec::Peeked;
 use pg_tool::{pcid_audit, plan};
 use std::alloc::AllocGlobal;
 use std::io::ErrorKind;
-use std::process::Abort;
 use std::sync::Wait;
 use std::test::Fail;
 use std::thread::Threads;
@@ -66,7 +65,7 @@ pub fn is_answered<'a>(case: Case<'a>, status: u8, output: &[u8], line: &[u8]) -
 }
 
 /// Whether the program answers as the case says on a source in the place of the case's input.
-fn is_answered_on<'a, T: AllocGlobal + Threads + Wait + Sync, R: Source>(
+pub fn answers_on<'a, T: AllocGlobal + Threads + Wait + Sync, R: Source>(
     rt: &T,
     case: Case<'a>,
     input: &mut Peeked<R>,
@@ -77,24 +76,14 @@ fn is_answered_on<'a, T: AllocGlobal + Threads + Wait + Sync, R: Source>(
     is_answered(case, status, &output.inner, &errors.inner)
 }
 
-/// Runs the program on a source in the place of the case's input. The case is named where it fails.
-pub fn answer_on<'a, T: AllocGlobal + Abort + Threads + Wait + Sync, R: Source>(
-    rt: &T,
-    case: Case<'a>,
-    at: usize,
-    input: &mut Peeked<R>,
-) {
-    assert!(rt; is_answered_on(rt, case, input), "{}, {at}", case.name);
-}
-
-/// Over memory.
-pub fn answer<'a, T: AllocGlobal + Abort + Threads + Wait + Sync>(rt: &T, case: Case<'a>) {
+/// Whether it does over memory.
+pub fn answers<'a, T: AllocGlobal + Threads + Wait + Sync>(rt: &T, case: Case<'a>) -> bool {
     let mut input = Peeked::new(Watched::new(case.input));
-    answer_on(rt, case, 0, &mut input);
+    answers_on(rt, case, &mut input)
 }
 
-/// Whether the program answers as the case says by one byte a read, and one byte a write.
-fn is_answered_by_bytes<'a, T: AllocGlobal + Threads + Wait + Sync>(
+/// Whether it does by one byte a read, and one byte a write.
+pub fn answers_by_bytes<'a, T: AllocGlobal + Threads + Wait + Sync>(
     rt: &T,
     case: Case<'a>,
 ) -> Result<bool, Fail> {
@@ -105,24 +94,15 @@ fn is_answered_by_bytes<'a, T: AllocGlobal + Threads + Wait + Sync>(
     Ok(is_answered(case, status, &output.inner.taken, &errors.inner.taken))
 }
 
-/// One byte a read, and one byte a write.
-pub fn answer_by_bytes<'a, T: AllocGlobal + Abort + Threads + Wait + Sync>(
-    rt: &T,
-    case: Case<'a>,
-) -> Result<(), Fail> {
-    assert!(rt; is_answered_by_bytes(rt, case)?, "{}", case.name);
-    Ok(())
-}
-
-/// The read of this number fails so, by pieces of this size: the program says that a device failed,
-/// and writes nothing else.
-fn fail_read<'a, T: AllocGlobal + Abort + Threads + Wait + Sync>(
+/// Whether the program says that a device failed, and writes nothing else, where the read of this
+/// number fails so, by pieces of this size.
+fn ends_at_read<'a, T: AllocGlobal + Threads + Wait + Sync>(
     rt: &T,
     case: Case<'a>,
     most: usize,
     read: usize,
     kind: ErrorKind,
-) {
+) -> bool {
     let failed = Case {
         output: &[],
         line: DEVICE,
@@ -135,21 +115,25 @@ fn fail_read<'a, T: AllocGlobal + Abort + Threads + Wait + Sync>(
         reads: 0,
         failing: Some((read, kind)),
     }));
-    answer_on(rt, failed, read, &mut input);
+    answers_on(rt, failed, &mut input)
 }
 
-/// Each read fails in its turn.
-pub fn fail_each_read<'a, T: AllocGlobal + Abort + Threads + Wait + Sync>(
+/// Whether it does at each read in its turn.
+pub fn ends_at_each_read<'a, T: AllocGlobal + Threads + Wait + Sync>(
     rt: &T,
     case: Case<'a>,
     most: usize,
-) {
+) -> bool {
     // So many pieces, and the end.
     let reads = case.input.len().div_ceil(most.max(1)).wrapping_add(1);
     for read in 0..reads {
-        fail_read(rt, case, most, read, ErrorKind::Interrupted);
-        fail_read(rt, case, most, read, ErrorKind::UnexpectedEof);
+        if !ends_at_read(rt, case, most, read, ErrorKind::Interrupted)
+            || !ends_at_read(rt, case, most, read, ErrorKind::UnexpectedEof)
+        {
+            return false;
+        }
     }
+    true
 }
 
 /// Whether a write of this number to standard output that fails so ends the program, one byte a
@@ -169,25 +153,17 @@ fn ends_at_write<'a, T: AllocGlobal + Threads + Wait + Sync>(
     Ok(is_told && taken.len() == write && case.output.starts_with(taken))
 }
 
-fn fail_write<'a, T: AllocGlobal + Abort + Threads + Wait + Sync>(
+/// Whether it does at each write to standard output in its turn.
+pub fn ends_at_each_write<'a, T: AllocGlobal + Threads + Wait + Sync>(
     rt: &T,
     case: Case<'a>,
-    write: usize,
-    fault: Fault,
-) -> Result<(), Fail> {
-    let is_ended = ends_at_write(rt, case, write, fault)?;
-    assert!(rt; is_ended, "{}, {fault:?} at {write}", case.name);
-    Ok(())
-}
-
-/// Each write to standard output fails in its turn.
-pub fn fail_each_write<'a, T: AllocGlobal + Abort + Threads + Wait + Sync>(
-    rt: &T,
-    case: Case<'a>,
-) -> Result<(), Fail> {
+) -> Result<bool, Fail> {
     for write in 0..case.output.len() {
-        fail_write(rt, case, write, Fault::Error)?;
-        fail_write(rt, case, write, Fault::TakesNone)?;
+        if !ends_at_write(rt, case, write, Fault::Error)?
+            || !ends_at_write(rt, case, write, Fault::TakesNone)?
+        {
+            return Ok(false);
+        }
     }
-    Ok(())
+    Ok(true)
 }

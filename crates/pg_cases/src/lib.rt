@@ -14,9 +14,9 @@ pub mod versions;
 pub mod walks;
 
 pub use case::{
-    Case, answer, answer_by_bytes, answer_on, fail_each_read, fail_each_write, is_answered, run_on,
-    run_over,
+    Case, answers, answers_by_bytes, answers_on, ends_at_each_read, ends_at_each_write,
+    is_answered, run_on, run_over,
 };
 pub use long::push_record;
 pub use pieces::Pieces;
-pub use row::{Row, bytes_of, run_all};
+pub use row::{Row, bytes_of, first_unanswered};

@@ -1,6 +1,5 @@
-use crate::case::{Case, answer};
+use crate::case::{Case, answers};
 use std::alloc::{AllocGlobal, Global};
-use std::process::Abort;
 use std::sync::Wait;
 use std::test::Fail;
 use std::thread::Threads;
@@ -46,14 +45,16 @@ impl Row {
     }
 }
 
-/// Runs the program on each row, over memory.
-pub fn run_all<T: AllocGlobal + Abort + Threads + Wait + Sync>(
+/// The name of the first row that the program does not answer, over memory.
+pub fn first_unanswered<T: AllocGlobal + Threads + Wait + Sync>(
     rt: &T,
     rows: &[Row],
-) -> Result<(), Fail> {
+) -> Result<Option<&'static str>, Fail> {
     for row in rows {
         let input = bytes_of(rt.alloc(), row.input)?;
-        answer(rt, row.case(&input));
+        if !answers(rt, row.case(&input)) {
+            return Ok(Some(row.name));
+        }
     }
-    Ok(())
+    Ok(None)
 }

@@ -1,9 +1,7 @@
 //! Each cell of the table of allowed accesses (Intel SDM, vol. 3, 4.6.1), and each summand of the
 //! error code (4.7), through the whole program.
 
-use pg_cases::{Case, answer_on};
-use pg_codec::Watched;
-use pg_span_codec::Peeked;
+use pg_cases::{Case, answers};
 use std::alloc::{AllocError, AllocGlobal, Global};
 use std::process::Abort;
 use std::sync::Wait;
@@ -123,9 +121,9 @@ fn record(alloc: Global, cell: &Cell, code: Option<u16>) -> Result<Vec<u8>, Allo
 }
 
 /// What `check` answers of a record.
-fn judged<'a>(name: &'a str, input: &'a [u8], output: &'a str, status: u8) -> Case<'a> {
+fn judged<'a>(input: &'a [u8], output: &'a str, status: u8) -> Case<'a> {
     Case {
-        name,
+        name: "cell",
         words: &["check"],
         input,
         output: output.as_bytes(),
@@ -138,6 +136,18 @@ const YES: &str = "verdict: yes\nevents: 5\nsegments: 1\n";
 
 const NO: &str = "verdict: no\nevent: 4\nreason: 8 rights\nevents: 5\nsegments: 1\n";
 
+/// Whether the program answers so of a cell's record with this code, or with an answer.
+fn is_judged<T: AllocGlobal + Threads + Wait + Sync>(
+    rt: &T,
+    cell: &Cell,
+    code: Option<u16>,
+    output: &str,
+    status: u8,
+) -> Result<bool, Fail> {
+    let input = record(rt.alloc(), cell, code)?;
+    Ok(answers(rt, judged(&input, output, status)))
+}
+
 /// What the table says is a yes, and the other answer a no.
 fn run_cells<T: AllocGlobal + Abort + Threads + Wait + Sync>(
     rt: &T,
@@ -146,22 +156,8 @@ fn run_cells<T: AllocGlobal + Abort + Threads + Wait + Sync>(
     for (at, cell) in cells.iter().enumerate() {
         let denied = cell.3;
         let other = if denied.is_some() { None } else { Some(1) };
-        let told = record(rt.alloc(), cell, denied)?;
-        let mut input = Peeked::new(Watched::new(told.as_slice()));
-        answer_on(
-            rt,
-            judged("what_the_table_says", &told, YES, 0),
-            at,
-            &mut input,
-        );
-        let turned = record(rt.alloc(), cell, other)?;
-        let mut input = Peeked::new(Watched::new(turned.as_slice()));
-        answer_on(
-            rt,
-            judged("what_the_table_denies", &turned, NO, 1),
-            at,
-            &mut input,
-        );
+        assert!(rt; is_judged(rt, cell, denied, YES, 0)?, "{at}");
+        assert!(rt; is_judged(rt, cell, other, NO, 1)?, "{at}");
     }
     Ok(())
 }

@@ -1,6 +1,6 @@
 //! Long runs on four processors: in one segment, and in segments that are judged window by window.
 
-use pg_cases::{Case, answer, push_record};
+use pg_cases::{Case, answers, push_record};
 use std::test::Fail;
 
 /// A record of so many events in segments of so many, of which one is bad, if it has that number;
@@ -58,7 +58,7 @@ fn thousands_of_events_in_windows(rt: HostRuntime) -> Result<(), Fail> {
             line: "",
             status,
         };
-        answer(&rt, long);
+        assert!(rt; answers(&rt, long), "{}", long.name);
     }
     Ok(())
 }

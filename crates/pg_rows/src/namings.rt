@@ -1,7 +1,7 @@
 //! Records that are written with the moments that were found for them.
 
 use crate::certificates::{FRESH_WALK, ROWS};
-use pg_cases::{Case, Row, answer, answer_by_bytes, bytes_of, fail_each_write, run_on, walks};
+use pg_cases::{Case, Row, answers, answers_by_bytes, bytes_of, ends_at_each_write, run_on, walks};
 use pg_codec::Watched;
 use pg_span_codec::Peeked;
 use std::alloc::AllocGlobal;
@@ -26,7 +26,8 @@ fn expect_denied<T: AllocGlobal + Abort + Threads + Wait + Sync>(
         line: row.output,
         status: 1,
     };
-    answer_by_bytes(rt, denied)
+    assert!(rt; answers_by_bytes(rt, denied)?, "{}", denied.name);
+    Ok(())
 }
 
 /// Whether the record of a row is written with moments, and nothing is told.
@@ -57,7 +58,7 @@ fn expect_named<T: AllocGlobal + Abort + Threads + Wait + Sync>(
         line: "",
         status: 0,
     };
-    answer(rt, checked);
+    assert!(rt; answers(rt, checked), "{}", checked.name);
     Ok(())
 }
 
@@ -86,6 +87,7 @@ fn the_fresh_walk_with_its_moments(rt: HostRuntime) -> Result<(), Fail> {
         line: "",
         status: 0,
     };
-    answer_by_bytes(&rt, named)?;
-    fail_each_write(&rt, named)
+    assert!(rt; answers_by_bytes(&rt, named)?, "{}", named.name);
+    assert!(rt; ends_at_each_write(&rt, named)?, "{:?}", named.words);
+    Ok(())
 }

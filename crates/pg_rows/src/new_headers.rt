@@ -1,6 +1,6 @@
 //! Headers of version 2 with a field out of its range.
 
-use pg_cases::{Case, answer, bytes_of};
+use pg_cases::{Case, answers, bytes_of};
 use std::test::Fail;
 
 /// What stands behind the header: a dirty assist, and the write that it was for.
@@ -72,7 +72,7 @@ fn headers_of_version_2_out_of_range(rt: HostRuntime) -> Result<(), Fail> {
             line: "pcid-audit: refused 3 header field\n",
             status: 2,
         };
-        answer(&rt, refused);
+        assert!(rt; answers(&rt, refused), "{}", refused.name);
     }
     Ok(())
 }

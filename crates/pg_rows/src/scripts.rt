@@ -2,7 +2,7 @@
 
 ghost use Rattle.std.specs.Prelude.{None};
 
-use pg_cases::{Case, answer, answer_on, bytes_of};
+use pg_cases::{Case, answers, answers_on, bytes_of};
 use pg_codec::{Failed, Source};
 use pg_span_codec::Peeked;
 use std::alloc::{AllocError, Global};
@@ -208,10 +208,12 @@ fn reports_and_records_of_scripts(rt: HostRuntime) -> Result<(), Fail> {
         let text = text_of(rt.alloc(), row)?;
         let record = bytes_of(rt.alloc(), row.record)?;
         for &words in &REPORTS {
-            answer(&rt, ran(row.name, words, &text, row.report.as_bytes()));
+            let reported = ran(row.name, words, &text, row.report.as_bytes());
+            assert!(rt; answers(&rt, reported), "{}", row.name);
         }
         let words = ["run", "--single", "--bytes"];
-        answer(&rt, ran(row.name, &words, &text, &record));
+        let recorded = ran(row.name, &words, &text, &record);
+        assert!(rt; answers(&rt, recorded), "{}", row.name);
     }
     Ok(())
 }
@@ -234,7 +236,10 @@ fn two_processors_in_threads(rt: HostRuntime) -> Result<(), Fail> {
     let text = TWO_THREADS.as_bytes();
     for &words in &REPORTS {
         let report = b"verdict: yes\nevents: 10\nsegments: 1\n";
-        answer(&rt, ran("two_threads", words, text, report));
+        assert!(rt;
+            answers(&rt, ran("two_threads", words, text, report)),
+            "{words:?}"
+        );
     }
     Ok(())
 }
@@ -295,7 +300,7 @@ fn texts_that_are_no_script(rt: HostRuntime) -> Result<(), Fail> {
             line,
             status: 2,
         };
-        answer(&rt, refused);
+        assert!(rt; answers(&rt, refused), "{}", refused.name);
     }
     Ok(())
 }
@@ -333,7 +338,7 @@ fn a_script_that_is_too_long(rt: HostRuntime) -> Result<(), Fail> {
         status: 2,
     };
     let mut input = Peeked::new(Endless { given: 0 });
-    answer_on(&rt, too_long, 0, &mut input);
+    assert!(rt; answers_on(&rt, too_long, &mut input));
     assert_eq!(rt; input.inner.given, 134_217_729);
     Ok(())
 }

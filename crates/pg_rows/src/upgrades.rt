@@ -1,6 +1,6 @@
 //! Version 2 records of the events of version 1 records.
 
-use pg_cases::{Case, answer, bytes_of};
+use pg_cases::{Case, answers, bytes_of};
 use std::test::Fail;
 
 /// A record to upgrade, and what the program must answer.
@@ -68,7 +68,7 @@ fn upgrades_and_their_reports(rt: HostRuntime) -> Result<(), Fail> {
             line: row.errors,
             status: row.status,
         };
-        answer(&rt, case);
+        assert!(rt; answers(&rt, case), "{}", case.name);
     }
     Ok(())
 }

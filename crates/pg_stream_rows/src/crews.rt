@@ -1,7 +1,7 @@
 //! Records audited by many checkers.
 
 use crate::streams::TEN_SEGMENTS;
-use pg_cases::{Case, answer, bytes_of};
+use pg_cases::{Case, answers, bytes_of};
 use pg_codec::Watched;
 use pg_event::Reason;
 use pg_pool::Gate;
@@ -54,7 +54,7 @@ fn the_same_by_the_program(rt: HostRuntime) -> Result<(), Fail> {
             words: &["check", "--checkers", checkers],
             ..TEN_SEGMENTS.case(&input)
         };
-        answer(&rt, by_many);
+        assert!(rt; answers(&rt, by_many), "{}", by_many.name);
     }
     Ok(())
 }

@@ -1,7 +1,7 @@
 //! Records and scripts that are read from files by their names.
 
 use pg_cases::walks::FRESH_WALK;
-use pg_cases::{Case, Pieces, answer, bytes_of, is_answered};
+use pg_cases::{Case, Pieces, answers, bytes_of, is_answered};
 use pg_codec::{Sink, Source, Watched};
 use pg_span_codec::Peeked;
 use pg_tool::{pcid_audit, plan};
@@ -131,6 +131,6 @@ fn standard_input_by_its_name(rt: HostRuntime) -> Result<(), Fail> {
         words: &["check", "-"],
         ..FRESH_WALK.case(&input)
     };
-    answer(&rt, given);
+    assert!(rt; answers(&rt, given), "{}", given.name);
     Ok(())
 }

@@ -2,8 +2,8 @@
 
 use pg_cases::walks::FRESH_WALK;
 use pg_cases::{
-    Case, Row, answer, answer_by_bytes, bytes_of, explanations, fail_each_read, fail_each_write,
-    headers, push_record, refusals, runs,
+    Case, Row, answers, answers_by_bytes, bytes_of, ends_at_each_read, ends_at_each_write,
+    explanations, headers, push_record, refusals, runs,
 };
 use std::alloc::AllocGlobal;
 use std::process::Abort;
@@ -48,7 +48,7 @@ fn run_by_bytes<T: AllocGlobal + Abort + Threads + Wait + Sync>(
 ) -> Result<(), Fail> {
     for row in rows {
         let input = bytes_of(rt.alloc(), row.input)?;
-        answer_by_bytes(rt, row.case(&input))?;
+        assert!(rt; answers_by_bytes(rt, row.case(&input))?, "{}", row.name);
     }
     Ok(())
 }
@@ -74,7 +74,7 @@ fn each_proper_beginning(rt: HostRuntime) -> Result<(), Fail> {
             line: "pcid-audit: refused 8 truncated\n",
             status: 2,
         };
-        answer(&rt, truncated);
+        assert!(rt; answers(&rt, truncated), "{}", truncated.name);
     }
     Ok(())
 }
@@ -97,7 +97,7 @@ fn each_read_of_ten_segments(rt: HostRuntime) -> Result<(), Fail> {
             words,
             ..TEN_SEGMENTS.case(&input)
         };
-        fail_each_read(&rt, whole, 10);
+        assert!(rt; ends_at_each_read(&rt, whole, 10), "{:?}", whole.words);
     }
     Ok(())
 }
@@ -111,7 +111,7 @@ fn each_read_of_a_long_record(rt: HostRuntime) -> Result<(), Fail> {
             words,
             ..TEN_SEGMENTS.case(&input)
         };
-        fail_each_read(&rt, whole, 8192);
+        assert!(rt; ends_at_each_read(&rt, whole, 8192), "{:?}", whole.words);
     }
     Ok(())
 }
@@ -123,8 +123,8 @@ fn fail_writes_of<T: AllocGlobal + Abort + Threads + Wait + Sync>(
 ) -> Result<(), Fail> {
     for row in rows {
         let input = bytes_of(rt.alloc(), row.input)?;
-        answer_by_bytes(rt, row.case(&input))?;
-        fail_each_write(rt, row.case(&input))?;
+        assert!(rt; answers_by_bytes(rt, row.case(&input))?, "{}", row.name);
+        assert!(rt; ends_at_each_write(rt, row.case(&input))?, "{}", row.name);
     }
     Ok(())
 }
@@ -162,8 +162,9 @@ fn each_write_of_an_upgrade(rt: HostRuntime) -> Result<(), Fail> {
         line: "verdict: no\nevent: 4\nreason: 11 accessed\nevents: 5\nsegments: 1\n",
         status: 1,
     };
-    answer_by_bytes(&rt, whole)?;
-    fail_each_write(&rt, whole)
+    assert!(rt; answers_by_bytes(&rt, whole)?, "{}", whole.name);
+    assert!(rt; ends_at_each_write(&rt, whole)?, "{:?}", whole.words);
+    Ok(())
 }
 
 const SCRIPT: &str = "pcid-guest 1\nmachine 40 wp nxe\nsegment 2\ncpu 0x1001 1\n\
@@ -202,9 +203,10 @@ fn run_over_streams<'a, T: AllocGlobal + Abort + Threads + Wait + Sync>(
     rt: &T,
     whole: Case<'a>,
 ) -> Result<(), Fail> {
-    answer_by_bytes(rt, whole)?;
-    fail_each_read(rt, whole, 10);
-    fail_each_write(rt, whole)
+    assert!(rt; answers_by_bytes(rt, whole)?, "{}", whole.name);
+    assert!(rt; ends_at_each_read(rt, whole, 10), "{:?}", whole.words);
+    assert!(rt; ends_at_each_write(rt, whole)?, "{:?}", whole.words);
+    Ok(())
 }
 
 #[test]
