@@ -305,10 +305,14 @@ const STALE_LEAF: [Written; 6] = [
     READ_PAGE,
 ];
 
+/// What is found for the last event of the stale leaf.
+fn certified_stale_leaf(alloc: Global) -> Result<Option<(usize, Option<u32>)>, Fail> {
+    let mut history = started(alloc, Version::One, 1)?;
+    certified(alloc, &mut history, &STALE_LEAF)
+}
+
 #[test]
 fn a_stale_leaf_is_certified_by_its_one_moment(rt: HostRuntime) -> Result<(), Fail> {
-    let mut history = started(rt.alloc(), Version::One, 1)?;
-    let certified = certified(rt.alloc(), &mut history, &STALE_LEAF)?;
-    assert!(rt; certified == Some((6, Some(4))));
+    assert!(rt; certified_stale_leaf(rt.alloc())? == Some((6, Some(4))));
     Ok(())
 }

@@ -97,16 +97,21 @@ fn take_windows(
     Ok(())
 }
 
-/// The event that is denied once the windows with these ends have come, and how many events and
-/// segments there are then.
+/// The event that is denied, and how many events and segments there are.
+fn settled(certifying: &Certifying) -> (Option<u64>, u64, u64) {
+    (certifying.settle(), certifying.len(), certifying.segments())
+}
+
+/// The same once the windows with these ends have come.
 fn known(
     alloc: Global,
     history: &History,
     ends: &[usize],
 ) -> Result<(Option<u64>, u64, u64), AllocError> {
-    let mut certifying = Certifying::new(alloc, history.header().clone()?)?;
+    let header = history.header().clone()?;
+    let mut certifying = Certifying::new(alloc, header)?;
     take_windows(&mut certifying, history, ends)?;
-    Ok((certifying.settle(), certifying.len(), certifying.segments()))
+    Ok(settled(&certifying))
 }
 
 /// Whether the same is known in whatever way the run is cut.
