@@ -85,7 +85,7 @@ def taker_of(event):
 
 
 def key_of(taken, report, words):
-    """One line for noes alike: what took the moments away, which access, and the page's size."""
+    """One line for rejections alike: what took the moments away, which access, and the page's size."""
     access = re.search(r"^event: \d+ cpu \d+ (.*)$", report, re.M).group(1)
     kind, answer = re.fullmatch(r"(.*) 0x[0-9a-f]+(?: \[.*)? -> (.*?)(?: moments .*)?",
                                 access).groups() if " -> " in access else (access, "assist")

@@ -216,7 +216,7 @@ class Overlapping:
         return f"taken by {kind}"
 
     def key(self):
-        """One line for noes alike, as `causes.key_of` has them."""
+        """One line for rejections alike, as `causes.key_of` has them."""
         taken = self.taken()
         context = [number for number in self.all
                    if self.is_write(number) or self.record.events[number][0] in CONTEXT]

@@ -39,7 +39,7 @@ pub const ROWS: [Row; 10] = [
         status: 1,
     },
     Row {
-        name: "all_noes",
+        name: "all_rejections",
         words: &["check", "--all", "--json"],
         input: STALE_LEAF,
         output: "{\"bad_events\":1,\"event\":6,\"events\":7,\"reason\":5,\"reason_name\":\"transl\

@@ -3,7 +3,7 @@
 #![tactic(auto)]
 
 #[cfg(test)]
-mod all_noes;
+mod all_rejections;
 #[cfg(test)]
 mod bent_scripts;
 #[cfg(test)]

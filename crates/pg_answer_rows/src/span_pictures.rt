@@ -33,9 +33,11 @@ pub const ROWS: [Row; 3] = [
             <title>event 6</title>\n\
             <rect width='1104' height='356' fill='#fff'/>\n\
             <path d='M42 44V228' stroke-width='2' stroke='#bbb'/>\n\
-            <text fill='#555' font-size='11' transform='translate(42 40) rotate(-45)'>cpu 1</text>\n\
+            <text fill='#555' font-size='11' transform='translate(42 40) rotate(-45)'>\
+            cpu 1</text>\n\
             <path d='M18 44V228' stroke-width='2' stroke='#bbb'/>\n\
-            <text fill='#555' font-size='11' transform='translate(18 40) rotate(-45)'>cpu 0</text>\n\
+            <text fill='#555' font-size='11' transform='translate(18 40) rotate(-45)'>\
+            cpu 0</text>\n\
             <rect x='36' y='192' width='12' height='18' fill='#c22'/>\n\
             <text x='72' y='206' fill='#c22'>6 cpu 1 user read 0x5123 -> 0x9123 began 6</text>\n\
             <rect x='36' y='168' width='12' height='18' fill='#1f5fa8'/>\n\
@@ -59,7 +61,8 @@ pub const ROWS: [Row; 3] = [
             1</tspan>\n\
             <tspan x='12' dy='16'>may read: level 2 [0x3000] = 0x4007 table, written by event \
             2</tspan>\n\
-            <tspan x='12' dy='16'>may read: level 1 [0x4028] = 0xa007 leaf 0xa000, written by event \
+            <tspan x='12' dy='16'>may read: level 1 [0x4028] = 0xa007 leaf 0xa000, \
+            written by event \
             4</tspan>\n\
             <tspan x='12' dy='16'>can't read: [0x4028] = 0x9007, written by event 3: event 4 \
             overwrites it and comes before event 5</tspan>\n\

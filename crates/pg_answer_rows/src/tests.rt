@@ -1,5 +1,6 @@
 use crate::{
-    all_noes, explanations, json, json_spans, lines, many_lines, pictures, span_pictures, spans,
+    all_rejections, explanations, json, json_spans, lines, many_lines, pictures, span_pictures,
+    spans,
 };
 use pg_cases::{Row, first_unanswered};
 use std::alloc::AllocGlobal;
@@ -25,7 +26,7 @@ fn records_explained(rt: HostRuntime) -> Result<(), Fail> {
     expect_all(&rt, &explanations::ANSWERS)?;
     expect_all(&rt, &explanations::FLAGS)?;
     expect_all(&rt, &pictures::ROWS)?;
-    expect_all(&rt, &all_noes::ROWS)
+    expect_all(&rt, &all_rejections::ROWS)
 }
 
 #[test]

@@ -1,5 +1,5 @@
-//! Worked rows by the whole program, over streams, from files, by several checkers, and with changed
-//! bytes.
+//! Worked rows by the whole program, over streams, from files, by several checkers, and with
+//! changed bytes.
 #![tactic(auto)]
 
 #[cfg(test)]

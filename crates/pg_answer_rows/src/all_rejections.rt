@@ -18,7 +18,7 @@ const TWO_NOES: &[&str] = &[
 
 pub const ROWS: [Row; 5] = [
     Row {
-        name: "two_noes_explained",
+        name: "two_rejections_explained",
         words: &["explain", "--all"],
         input: TWO_NOES,
         output: "verdict: no
@@ -51,7 +51,7 @@ bad events: 2
         status: 1,
     },
     Row {
-        name: "one_of_two_noes_explained",
+        name: "one_of_two_rejections_explained",
         words: &["explain", "--all", "--most", "1"],
         input: TWO_NOES,
         output: "verdict: no
@@ -76,7 +76,7 @@ bad events: 2
         status: 1,
     },
     Row {
-        name: "two_noes_summed_up",
+        name: "two_rejections_summed_up",
         words: &["check", "--all"],
         input: TWO_NOES,
         output: "verdict: no
@@ -92,7 +92,7 @@ bad events: 2
         status: 1,
     },
     Row {
-        name: "no_noes_summed_up",
+        name: "no_rejections_summed_up",
         words: &["check", "--all"],
         input: &[
             "50475245434f5244010028030110000000011000000000000001",
@@ -107,7 +107,7 @@ bad events: 0
         status: 0,
     },
     Row {
-        name: "all_noes_of_a_truncated_record",
+        name: "all_rejections_of_a_truncated_record",
         words: &["explain", "--all", "--progress"],
         input: &[
             "50475245434f5244010028030110000000011000000000000001",
