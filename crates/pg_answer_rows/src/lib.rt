@@ -1,13 +1,19 @@
 //! Worked rows of what commands answer, as text, as pictures and as JSON, by the whole program over
-//! memory.
+//! memory; and rows over streams, from files, by several checkers, and with changed bytes.
 #![tactic(auto)]
 
 #[cfg(test)]
 mod all_rejections;
 #[cfg(test)]
+mod bent;
+#[cfg(test)]
 mod bent_scripts;
 #[cfg(test)]
+mod crews;
+#[cfg(test)]
 mod explanations;
+#[cfg(test)]
+mod files;
 #[cfg(test)]
 mod json;
 #[cfg(test)]
@@ -22,6 +28,8 @@ mod pictures;
 mod span_pictures;
 #[cfg(test)]
 mod spans;
+#[cfg(test)]
+mod streams;
 #[cfg(test)]
 mod tests;
 #[cfg(test)]

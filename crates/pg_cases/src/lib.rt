@@ -19,4 +19,4 @@ pub use case::{
 };
 pub use long::push_record;
 pub use pieces::Pieces;
-pub use row::{Row, bytes_of, first_unanswered};
+pub use row::{Row, bytes_of, first_unanswered, row_of, rows_of};

@@ -1,7 +1,9 @@
 //! Records that are written with the moments that were found for them.
 
-use crate::certificates::{FRESH_WALK, ROWS};
-use pg_cases::{Case, Row, answers, answers_by_bytes, bytes_of, ends_at_each_write, run_on, walks};
+use crate::certificates::ROWS;
+use pg_cases::{
+    Case, Row, answers, answers_by_bytes, ends_at_each_write, row_of, rows_of, run_on, walks,
+};
 use pg_codec::Watched;
 use pg_span_codec::Peeked;
 use std::alloc::AllocGlobal;
@@ -15,16 +17,13 @@ const NAMING: &[&str] = &["certify", "--bytes"];
 /// A no is told on standard error, and nothing is written.
 fn expect_denied<T: AllocGlobal + Abort + Threads + Wait + Sync>(
     rt: &T,
-    row: &Row,
+    row: &Row<'_>,
 ) -> Result<(), Fail> {
-    let input = bytes_of(rt.alloc(), row.input)?;
     let denied = Case {
-        name: row.name,
         words: NAMING,
-        input: &input,
         output: &[],
-        line: row.output,
-        status: 1,
+        line: row.output.as_str(),
+        ..row.case()
     };
     assert!(rt; answers_by_bytes(rt, denied)?, "{}", denied.name);
     Ok(())
@@ -33,57 +32,62 @@ fn expect_denied<T: AllocGlobal + Abort + Threads + Wait + Sync>(
 /// Whether the record of a row is written with moments, and nothing is told.
 fn is_named<T: AllocGlobal + Threads + Wait + Sync>(
     rt: &T,
-    row: &Row,
+    row: &Row<'_>,
     output: &mut Watched<Vec<u8>>,
-) -> Result<bool, Fail> {
-    let bytes = bytes_of(rt.alloc(), row.input)?;
-    let mut input = Peeked::new(Watched::new(bytes.as_slice()));
+) -> bool {
+    let mut input = Peeked::new(Watched::new(row.input.as_slice()));
     let mut errors = Watched::new(Vec::new(rt.alloc()));
     let status = run_on(rt, NAMING, &mut input, output, &mut errors);
-    Ok(status == 0 && errors.inner.is_empty())
+    status == 0 && errors.inner.is_empty()
 }
 
 /// Of a yes the record is written, and `check` says yes to it.
 fn expect_named<T: AllocGlobal + Abort + Threads + Wait + Sync>(
     rt: &T,
-    row: &Row,
+    row: &Row<'_>,
 ) -> Result<(), Fail> {
     let mut output = Watched::new(Vec::new(rt.alloc()));
-    assert!(rt; is_named(rt, row, &mut output)?, "{}", row.name);
+    assert!(rt; is_named(rt, row, &mut output), "{}", row.name);
     let checked = Case {
-        name: row.name,
         words: &["check"],
         input: &output.inner,
-        output: row.output.as_bytes(),
-        line: "",
-        status: 0,
+        ..row.case()
     };
     assert!(rt; answers(rt, checked), "{}", checked.name);
     Ok(())
 }
 
-#[test]
-fn records_with_moments_that_were_found(rt: HostRuntime) -> Result<(), Fail> {
-    for row in &ROWS {
+/// Each row is told so, by its exit status.
+fn expect_each<T: AllocGlobal + Abort + Threads + Wait + Sync>(
+    rt: &T,
+    rows: &[Row<'_>],
+) -> Result<(), Fail> {
+    for row in rows {
         if row.status == 0 {
-            expect_named(&rt, row)?;
+            expect_named(rt, row)?;
         } else {
-            expect_denied(&rt, row)?;
+            expect_denied(rt, row)?;
         }
     }
     Ok(())
 }
 
+#[test]
+fn records_with_moments_that_were_found(rt: HostRuntime) -> Result<(), Fail> {
+    let rows = rows_of(rt.alloc(), &[ROWS])?;
+    expect_each(&rt, &rows)
+}
+
 /// The fresh walk whose moments nobody named gets those of the walk at its event.
 #[test]
 fn the_fresh_walk_with_its_moments(rt: HostRuntime) -> Result<(), Fail> {
-    let input = bytes_of(rt.alloc(), FRESH_WALK.input)?;
-    let output = bytes_of(rt.alloc(), walks::FRESH_WALK.input)?;
+    let unnamed = row_of(rt.alloc(), ROWS, "certified_fresh_walk")?;
+    let walk = walks::fresh_walk(rt.alloc())?;
     let named = Case {
         name: "fresh_walk_named",
         words: NAMING,
-        input: &input,
-        output: &output,
+        input: &unnamed.input,
+        output: &walk.input,
         line: "",
         status: 0,
     };

@@ -1,7 +1,7 @@
 //! Records audited by many checkers.
 
-use crate::streams::TEN_SEGMENTS;
-use pg_cases::{Case, answers, bytes_of};
+use crate::streams::ten_segments;
+use pg_cases::{Case, Row, answers};
 use pg_codec::Watched;
 use pg_event::Reason;
 use pg_pool::Gate;
@@ -26,33 +26,33 @@ fn audited<T: AllocGlobal + Threads + Wait + Sync>(
 }
 
 /// Whether so many checkers find event 7 bad, and the report of the ten segments is written.
-fn is_told<T: AllocGlobal + Threads + Wait + Sync>(rt: &T, checkers: u32, bytes: &[u8]) -> bool {
-    let mut input = Watched::new(bytes);
+fn is_told<T: AllocGlobal + Threads + Wait + Sync>(rt: &T, checkers: u32, ten: &Row<'_>) -> bool {
+    let mut input = Watched::new(ten.input.as_slice());
     let mut output = Watched::new(Vec::new(rt.alloc()));
     let verdict = audited(rt, checkers, &mut input, &mut output);
     let no = Ok(Verdict::No {
         event: 7,
         reason: Reason::Answer,
     });
-    verdict == no && output.inner.as_slice() == TEN_SEGMENTS.output.as_bytes()
+    verdict == no && output.inner.as_slice() == ten.output.as_bytes()
 }
 
 #[test]
 fn the_same_by_any_number_of_checkers(rt: HostRuntime) -> Result<(), Fail> {
-    let bytes = bytes_of(rt.alloc(), TEN_SEGMENTS.input)?;
+    let ten = ten_segments(rt.alloc())?;
     for checkers in [1, 2, 7, 64] {
-        assert!(rt; is_told(&rt, checkers, &bytes), "{checkers}");
+        assert!(rt; is_told(&rt, checkers, &ten), "{checkers}");
     }
     Ok(())
 }
 
 #[test]
 fn the_same_by_the_program(rt: HostRuntime) -> Result<(), Fail> {
-    let input = bytes_of(rt.alloc(), TEN_SEGMENTS.input)?;
+    let ten = ten_segments(rt.alloc())?;
     for checkers in ["1", "2", "7", "64"] {
         let by_many = Case {
             words: &["check", "--checkers", checkers],
-            ..TEN_SEGMENTS.case(&input)
+            ..ten.case()
         };
         assert!(rt; answers(&rt, by_many), "{}", by_many.name);
     }
@@ -70,9 +70,9 @@ fn is_refused<T: AllocGlobal + Threads + Wait + Sync>(rt: &T, checkers: u32, byt
 
 #[test]
 fn no_checkers_or_too_many(rt: HostRuntime) -> Result<(), Fail> {
-    let bytes = bytes_of(rt.alloc(), TEN_SEGMENTS.input)?;
+    let ten = ten_segments(rt.alloc())?;
     for checkers in [0, 65] {
-        assert!(rt; is_refused(&rt, checkers, &bytes), "{checkers}");
+        assert!(rt; is_refused(&rt, checkers, &ten.input), "{checkers}");
     }
     assert!(rt; AuditError::Checkers.number() == 15);
     Ok(())
@@ -140,18 +140,18 @@ impl Gate for Held {
 /// Whether two checkers judge the ten segments through this gate, and the report is written.
 fn is_judged_by_two<T: AllocGlobal + Threads + Wait + Sync>(
     rt: &T,
-    bytes: &[u8],
+    ten: &Row<'_>,
     gate: &Held,
 ) -> bool {
-    let mut input = Watched::new(bytes);
+    let mut input = Watched::new(ten.input.as_slice());
     let mut output = Watched::new(Vec::new(rt.alloc()));
     let verdict = audit_watched(rt, rt.alloc(), &mut input, &mut output, 2, gate);
-    verdict.is_ok() && output.inner.as_slice() == TEN_SEGMENTS.output.as_bytes()
+    verdict.is_ok() && output.inner.as_slice() == ten.output.as_bytes()
 }
 
 #[test]
 fn two_checkers_of_one_record_at_the_same_time(rt: HostRuntime) -> Result<(), Fail> {
-    let bytes = bytes_of(rt.alloc(), TEN_SEGMENTS.input)?;
+    let ten = ten_segments(rt.alloc())?;
     let gate = Held {
         came: AtomicU64::new(0),
         left: AtomicU64::new(0),
@@ -159,6 +159,6 @@ fn two_checkers_of_one_record_at_the_same_time(rt: HostRuntime) -> Result<(), Fa
         workers: [AtomicU64::new(0), AtomicU64::new(0)],
         failed: AtomicU64::new(0),
     };
-    assert!(rt; is_judged_by_two(&rt, &bytes, &gate) && gate.is_met());
+    assert!(rt; is_judged_by_two(&rt, &ten, &gate) && gate.is_met());
     Ok(())
 }

@@ -1,7 +1,6 @@
 //! Records and scripts that are read from files by their names.
 
-use pg_cases::walks::FRESH_WALK;
-use pg_cases::{Case, Pieces, answers, bytes_of, is_answered};
+use pg_cases::{Case, Pieces, answers, bytes_of, is_answered, walks};
 use pg_codec::{Sink, Source, Watched};
 use pg_span_codec::Peeked;
 use pg_tool::{pcid_audit, plan};
@@ -57,10 +56,10 @@ fn answer_of_file<'a, T: AllocGlobal + Abort + Threads + Wait + Sync>(rt: &T, ca
 
 #[test]
 fn a_record_by_its_name(rt: HostRuntime) -> Result<(), Fail> {
-    let input = bytes_of(rt.alloc(), FRESH_WALK.input)?;
+    let walk = walks::fresh_walk(rt.alloc())?;
     let named = Case {
         words: &["check", NAME],
-        ..FRESH_WALK.case(&input)
+        ..walk.case()
     };
     answer_of_file(&rt, named);
     Ok(())
@@ -68,12 +67,12 @@ fn a_record_by_its_name(rt: HostRuntime) -> Result<(), Fail> {
 
 #[test]
 fn an_upgrade_by_its_name(rt: HostRuntime) -> Result<(), Fail> {
-    let input = bytes_of(rt.alloc(), FRESH_WALK.input)?;
+    let walk = walks::fresh_walk(rt.alloc())?;
     let output = bytes_of(rt.alloc(), &crate::streams::UPGRADED)?;
     let upgraded = Case {
         name: "upgrade_by_name",
         words: &["upgrade", NAME],
-        input: &input,
+        input: &walk.input,
         output: &output,
         line: "verdict: no\nevent: 4\nreason: 11 accessed\nevents: 5\nsegments: 1\n",
         status: 1,
@@ -126,10 +125,10 @@ fn files_that_can_not_be_opened(rt: HostRuntime) -> Result<(), Fail> {
 /// The name `-` is that of standard input.
 #[test]
 fn standard_input_by_its_name(rt: HostRuntime) -> Result<(), Fail> {
-    let input = bytes_of(rt.alloc(), FRESH_WALK.input)?;
+    let walk = walks::fresh_walk(rt.alloc())?;
     let given = Case {
         words: &["check", "-"],
-        ..FRESH_WALK.case(&input)
+        ..walk.case()
     };
     assert!(rt; answers(&rt, given), "{}", given.name);
     Ok(())

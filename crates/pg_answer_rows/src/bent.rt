@@ -1,8 +1,7 @@
 //! Records that end early, and of which one byte is bent, each byte to each other value: one
 //! checker and two say the same of each.
 
-use pg_cases::walks::FRESH_WALK;
-use pg_cases::{Row, bytes_of, versions};
+use pg_cases::{versions, walks};
 use pg_codec::Watched;
 use pg_event::Refusal;
 use pg_report::{AuditError, Verdict, audit, audit_one, reason_number};
@@ -65,17 +64,16 @@ fn audited<T: AllocGlobal + Abort + Threads + Wait + Sync>(
     alone
 }
 
-/// Bends each byte of a row's record to each other value.
+/// Bends each byte of a record to each other value.
 fn bend_each<T: AllocGlobal + Abort + Threads + Wait + Sync>(
     rt: &T,
-    row: &Row,
+    record: &[u8],
 ) -> Result<Tally, Fail> {
-    let record = bytes_of(rt.alloc(), row.input)?;
     let mut tally: Tally = [0; 24];
     for (at, byte) in record.iter().enumerate() {
         for value in 0..=255u8 {
             if value != *byte {
-                let bytes = bent(rt.alloc(), &record, at, value)?;
+                let bytes = bent(rt.alloc(), record, at, value)?;
                 let place = place_of(audited(rt, &bytes, at));
                 if let Some(count) = tally.get_mut(place) {
                     *count = count.wrapping_add(1);
@@ -98,21 +96,33 @@ const DIRTY_ASSISTS: Tally = [
     2040, 509, 2519, 1021, 1011, 2809, 9774, 0, 1020, 1,
 ];
 
-#[test]
-fn each_byte_of_a_record(rt: HostRuntime) -> Result<(), Fail> {
-    assert_eq!(rt; bend_each(&rt, &FRESH_WALK)?, FRESH_WALKS);
-    assert_eq!(rt; bend_each(&rt, &versions::DIRTY_ASSIST)?, DIRTY_ASSISTS);
+/// Each proper beginning of a record is refused.
+fn cut_each<T: AllocGlobal + Abort + Threads + Wait + Sync>(rt: &T, record: &[u8]) {
+    for k in 0..record.len() {
+        let answer = audited(rt, &record[..k], k);
+        assert_eq!(rt; answer, Err(AuditError::Refused(Refusal::Truncated)), "{k}");
+    }
+}
+
+/// A record is refused at each proper beginning, and its bent records come to so much.
+fn cut_and_bend<T: AllocGlobal + Abort + Threads + Wait + Sync>(
+    rt: &T,
+    record: &[u8],
+    tally: Tally,
+) -> Result<(), Fail> {
+    cut_each(rt, record);
+    assert_eq!(rt; bend_each(rt, record)?, tally);
     Ok(())
 }
 
 #[test]
-fn each_proper_beginning_by_one_and_two_checkers(rt: HostRuntime) -> Result<(), Fail> {
-    for row in [&FRESH_WALK, &versions::DIRTY_ASSIST] {
-        let record = bytes_of(rt.alloc(), row.input)?;
-        for k in 0..record.len() {
-            let answer = audited(&rt, &record[..k], k);
-            assert_eq!(rt; answer, Err(AuditError::Refused(Refusal::Truncated)), "{k}");
-        }
-    }
-    Ok(())
+fn each_byte_of_a_record(rt: HostRuntime) -> Result<(), Fail> {
+    let walk = walks::fresh_walk(rt.alloc())?;
+    cut_and_bend(&rt, &walk.input, FRESH_WALKS)
+}
+
+#[test]
+fn each_byte_of_a_record_with_assists(rt: HostRuntime) -> Result<(), Fail> {
+    let assist = versions::dirty_assist(rt.alloc())?;
+    cut_and_bend(&rt, &assist.input, DIRTY_ASSISTS)
 }
