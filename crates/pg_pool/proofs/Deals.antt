@@ -1,5 +1,5 @@
 -- Each number of a round is dealt once, and who is seated while the ways are laid.
-use Rattle.std.proofs.Common.{All, ◌≡◌, ◌≢◌, ◌⊎◌, inl, inr, ⊎_elim, ℕ, zero, suc, ◌+◌, ◌-◌, ◌%◌, ◌≤◌, ◌<◌, ◌==◌, Bool, true, false, true≢false, cond, if◌then◌else◌, List, [], ◌∷◌, ◌++◌, length, set, map, filter, get_or, sym, refl, ap, ◌∙◌, subst, arith, append-nil}
+use Rattle.std.proofs.Common.{All, ◌≡◌, ◌≢◌, ◌⊎◌, inl, inr, ⊎_elim, ℕ, zero, suc, ◌+◌, ◌-◌, ◌/◌, ◌%◌, ◌≤◌, ◌<◌, ◌==◌, Bool, true, false, true≢false, cond, if◌then◌else◌, List, [], ◌∷◌, ◌++◌, length, set, map, filter, get_or, sym, refl, ap, ◌∙◌, subst, arith, append-nil}
 use Rattle.std.specs.List.{range_with_len}
 use Rattle.std.proofs.lemmas.Bool.Decides.{nat_tests}
 use Rattle.std.proofs.lemmas.List.{get_or-set_same, get_or-set_other, length-set, map-append, set-get_or, get_or_read}
@@ -33,14 +33,14 @@ pub left_more : (p : ℕ → Bool) (a n : ℕ) → a ≤ n → p n ≡ false →
 left_more p a n h is =
     ap (filter p) (numbers-more a n h) ∙ filter-append p (numbers (round a n)) (n ∷ []) ∙ ap (λ (b : Bool). filter p (numbers (round a n)) ++ cond b (n ∷ []) []) is ∙ append-nil _
 
-pub dealt_kept : (a n checkers c : ℕ) (old new : Hand) → a ≤ n → (n - a) % checkers ≡ c → old ≡ hand true (dealt (round a n) checkers c) []
-    → Pushed old (n ∷ []) new → new ≡ hand true (dealt (round a (n + 1)) checkers c) []
-dealt_kept a n checkers c old new h own was pushed =
+pub dealt_kept : (a n size checkers c : ℕ) (old new : Hand) → a ≤ n → ((n - a) / size) % checkers ≡ c → old ≡ hand true (dealt (round a n) size checkers c) []
+    → Pushed old (n ∷ []) new → new ≡ hand true (dealt (round a (n + 1)) size checkers c) []
+dealt_kept a n size checkers c old new h own was pushed =
     pushed ∙ ap (λ (u : Hand). hand u.alone (u.pushed ++ n ∷ []) u.taken) was
-    ∙ ap (λ (l : List ℕ). hand true l []) (sym (kept_more (λ x. (x - a) % checkers == c) a n h (same_test _ _ own)))
+    ∙ ap (λ (l : List ℕ). hand true l []) (sym (kept_more (λ x. ((x - a) / size) % checkers == c) a n h (same_test _ _ own)))
 
-pub dealt_left : (a n checkers c : ℕ) → a ≤ n → ((n - a) % checkers ≡ c → ⊥) → hand true (dealt (round a n) checkers c) [] ≡ hand true (dealt (round a (n + 1)) checkers c) []
-dealt_left a n checkers c h other = ap (λ (l : List ℕ). hand true l []) (sym (left_more (λ x. (x - a) % checkers == c) a n h (other_test _ _ other)))
+pub dealt_left : (a n size checkers c : ℕ) → a ≤ n → (((n - a) / size) % checkers ≡ c → ⊥) → hand true (dealt (round a n) size checkers c) [] ≡ hand true (dealt (round a (n + 1)) size checkers c) []
+dealt_left a n size checkers c h other = ap (λ (l : List ℕ). hand true l []) (sym (left_more (λ x. ((x - a) / size) % checkers == c) a n h (other_test _ _ other)))
 
 -- how often a number was dealt
 
@@ -97,46 +97,46 @@ filter_none p n fails (x ∷ xs) = go (p x) refl (filter_none p n fails xs)
         (λ (t : (x ≢ n) × (one_at n x ≡ 0)). omega (arith, times-cons n x (filter p xs), t.1, ih)) (one_is n x)
     go false e ih = ih
 
-module _ (r : Round) (checkers n : ℕ) where
+module _ (r : Round) (size checkers n : ℕ) where
   owner : ℕ
-  owner = (n - r.first) % checkers
+  owner = ((n - r.first) / size) % checkers
 
-  dealt-once : (c : ℕ) → times n (dealt r checkers c) ≤ times owner (c ∷ [])
+  dealt-once : (c : ℕ) → times n (dealt r size checkers c) ≤ times owner (c ∷ [])
   unfolding owner
   dealt-once c =
-      let p : ℕ → Bool = λ x. (x - r.first) % checkers == c in
+      let p : ℕ → Bool = λ x. ((x - r.first) / size) % checkers == c in
       elim (ℕ_discrete owner c) [
         | yes e ↦
             omega (arith, filter_le p n (numbers r), (times-range n r.first (r.last - r.first)).0, ap (λ (k : ℕ). times k (c ∷ [])) e, times-same c)
         | no apart ↦ omega (arith, filter_none p n (other_test owner c apart) (numbers r))
       ]
 
-  dealt-within : (c : ℕ) → 0 < times n (dealt r checkers c) → IsIn r n
+  dealt-within : (c : ℕ) → 0 < times n (dealt r size checkers c) → IsIn r n
   dealt-within c some =
-      let p : ℕ → Bool = λ x. (x - r.first) % checkers == c in
+      let p : ℕ → Bool = λ x. ((x - r.first) / size) % checkers == c in
       let within = (times-range n r.first (r.last - r.first)).1 (omega (arith, some, filter_le p n (numbers r))) in
       (within.0, omega (arith, within.0, within.1))
 
-  pushed-once : (deques : Deques) (cs : List ℕ) → times_pushed n (map (part_at_start deques r checkers) cs) ≤ times owner cs
+  pushed-once : (deques : Deques) (cs : List ℕ) → times_pushed n (map (part_at_start deques r size checkers) cs) ≤ times owner cs
   pushed-once deques [] = omega arith
   pushed-once deques (c ∷ cs) =
-      omega (arith, sum_by-cons (λ (d : Part). times n d.pushed) (part_at_start deques r checkers c) (map (part_at_start deques r checkers) cs), dealt-once c, times-append owner (c ∷ []) cs, pushed-once deques cs)
+      omega (arith, sum_by-cons (λ (d : Part). times n d.pushed) (part_at_start deques r size checkers c) (map (part_at_start deques r size checkers) cs), dealt-once c, times-append owner (c ∷ []) cs, pushed-once deques cs)
 
-  pushed-within : (deques : Deques) (cs : List ℕ) → 0 < times_pushed n (map (part_at_start deques r checkers) cs) → IsIn r n
+  pushed-within : (deques : Deques) (cs : List ℕ) → 0 < times_pushed n (map (part_at_start deques r size checkers) cs) → IsIn r n
   pushed-within deques [] some = absurd (omega arith)
   pushed-within deques (c ∷ cs) some =
       ⊎_elim (λ here. dealt-within c here) (λ there. pushed-within deques cs there)
-      (either_part _ _ (subst (λ (k : ℕ). 0 < k) (sum_by-cons (λ (d : Part). times n d.pushed) (part_at_start deques r checkers c) (map (part_at_start deques r checkers) cs)) some))
+      (either_part _ _ (subst (λ (k : ℕ). 0 < k) (sum_by-cons (λ (d : Part). times n d.pushed) (part_at_start deques r size checkers c) (map (part_at_start deques r size checkers) cs)) some))
     where
       either_part : (a b : ℕ) → 0 < a + b → (0 < a) ⊎ (0 < b)
       either_part zero b h = inr (omega arith)
       either_part (suc a) b h = inl (omega arith)
 
 -- different checkers own different numbers
-deal_of : (deques : Deques) (r : Round) (checkers : ℕ) (cs : List ℕ) → ((m : ℕ) → times m cs ≤ 1) → IsDeal r (map (part_at_start deques r checkers) cs)
-deal_of deques r checkers cs apart = record {
-  within = λ n some. pushed-within r checkers n deques cs some;
-  once = λ n. omega (arith, pushed-once r checkers n deques cs, apart (owner r checkers n));
+deal_of : (deques : Deques) (r : Round) (size checkers : ℕ) (cs : List ℕ) → ((m : ℕ) → times m cs ≤ 1) → IsDeal r (map (part_at_start deques r size checkers) cs)
+deal_of deques r size checkers cs apart = record {
+  within = λ n some. pushed-within r size checkers n deques cs some;
+  once = λ n. omega (arith, pushed-once r size checkers n deques cs, apart (owner r size checkers n));
 }
 
 visited-apart : (checkers c m : ℕ) → times m (visited checkers c) ≤ 1
@@ -161,16 +161,16 @@ visited-apart checkers c m =
     (zero_or (times m below)))
     (one_is m c)
 
-pub lone_deal : (deques : Deques) (r : Round) (checkers c : ℕ) → IsDeal r (part_at_start deques r checkers c ∷ [])
-lone_deal deques r checkers c = deal_of deques r checkers (c ∷ []) (λ m. ⊎_elim (λ (t : (c ≡ m) × (one_at m c ≡ 1)). omega (arith, t.1, times-cons m c [])) (λ (t : (c ≢ m) × (one_at m c ≡ 0)). omega (arith, t.1, times-cons m c [])) (one_is m c))
+pub lone_deal : (deques : Deques) (r : Round) (size checkers c : ℕ) → IsDeal r (part_at_start deques r size checkers c ∷ [])
+lone_deal deques r size checkers c = deal_of deques r size checkers (c ∷ []) (λ m. ⊎_elim (λ (t : (c ≡ m) × (one_at m c ≡ 1)). omega (arith, t.1, times-cons m c [])) (λ (t : (c ≢ m) × (one_at m c ≡ 0)). omega (arith, t.1, times-cons m c [])) (one_is m c))
 
-pub seat_deal : (deques : Deques) (r : Round) (checkers c : ℕ) → IsDeal r (map (part_at_start deques r checkers) (visited checkers c))
-seat_deal deques r checkers c = deal_of deques r checkers (visited checkers c) (visited-apart checkers c)
+pub seat_deal : (deques : Deques) (r : Round) (size checkers c : ℕ) → IsDeal r (map (part_at_start deques r size checkers) (visited checkers c))
+seat_deal deques r size checkers c = deal_of deques r size checkers (visited checkers c) (visited-apart checkers c)
 
-pub none_taken : (deques : Deques) (r : Round) (checkers : ℕ) (cs : List ℕ) → All (λ d. d.taken ≡ []) (map (part_at_start deques r checkers) cs)
-none_taken deques r checkers [] = All-nil (λ (d : Part). d.taken ≡ [])
-none_taken deques r checkers (c ∷ cs) =
-    All-cons (λ (d : Part). d.taken ≡ []) (part_at_start deques r checkers c) (map (part_at_start deques r checkers) cs) refl (none_taken deques r checkers cs)
+pub none_taken : (deques : Deques) (r : Round) (size checkers : ℕ) (cs : List ℕ) → All (λ d. d.taken ≡ []) (map (part_at_start deques r size checkers) cs)
+none_taken deques r size checkers [] = All-nil (λ (d : Part). d.taken ≡ [])
+none_taken deques r size checkers (c ∷ cs) =
+    All-cons (λ (d : Part). d.taken ≡ []) (part_at_start deques r size checkers c) (map (part_at_start deques r size checkers) cs) refl (none_taken deques r size checkers cs)
 
 -- seats alone with their deques, once one more has come
 with_deque : Deques → ℕ → DequeId → Deques
@@ -184,104 +184,104 @@ this_deque : (deques : Deques) (number : ℕ) (id : DequeId) → with_deque dequ
 unfolding with_deque
 this_deque deques number id = ap (λ (b : Bool). cond b id (deques number)) (same_test number number refl)
 
-lone-others : (deques : Deques) (r : Round) (checkers number : ℕ) (id : DequeId) (len a : ℕ) → a + len ≤ number →
-    map (lone_seat deques r checkers) (range_with_len a len) ≡ map (lone_seat (with_deque deques number id) r checkers) (range_with_len a len)
-lone-others deques r checkers number id zero a h = refl
-lone-others deques r checkers number id (suc len) a h =
+lone-others : (deques : Deques) (r : Round) (size checkers number : ℕ) (id : DequeId) (len a : ℕ) → a + len ≤ number →
+    map (lone_seat deques r size checkers) (range_with_len a len) ≡ map (lone_seat (with_deque deques number id) r size checkers) (range_with_len a len)
+lone-others deques r size checkers number id zero a h = refl
+lone-others deques r size checkers number id (suc len) a h =
     let e : deques a ≡ with_deque deques number id a = sym (other_deque deques number a id (λ e. absurd (omega arith))) in
-    let here : lone_seat deques r checkers a ≡ lone_seat (with_deque deques number id) r checkers a =
-    ap (λ (d : DequeId). record { number = a; round = r; parts = untouched d (dealt r checkers a) ∷ [] }) e in
-    λ i. here i ∷ lone-others deques r checkers number id len (a + 1) (omega (arith, h)) i
+    let here : lone_seat deques r size checkers a ≡ lone_seat (with_deque deques number id) r size checkers a =
+    ap (λ (d : DequeId). record { number = a; round = r; parts = untouched d (dealt r size checkers a) ∷ [] }) e in
+    λ i. here i ∷ lone-others deques r size checkers number id len (a + 1) (omega (arith, h)) i
 
 -- seats alone with their deques
-abbrev pub Lone : Round → ℕ → ℕ → List Checker → Type 0
-Lone r checkers count seats = (deques : Deques) × (seats ≡ map (lone_seat deques r checkers) (range_with_len 0 count))
+abbrev pub Lone : Round → ℕ → ℕ → ℕ → List Checker → Type 0
+Lone r size checkers count seats = (deques : Deques) × (seats ≡ map (lone_seat deques r size checkers) (range_with_len 0 count))
 
-pub Lone-more : (r : Round) (checkers number : ℕ) (id : DequeId) (old new : List Checker) (seat : Checker) → Lone r checkers number old
-    → seat ≡ record { number = number; round = r; parts = untouched id (dealt r checkers number) ∷ [] } → new ≡ old ++ seat ∷ [] → Lone r checkers (number + 1) new
-Lone-more r checkers number id old new seat (deques, is) seat-is pushed =
+pub Lone-more : (r : Round) (size checkers number : ℕ) (id : DequeId) (old new : List Checker) (seat : Checker) → Lone r size checkers number old
+    → seat ≡ record { number = number; round = r; parts = untouched id (dealt r size checkers number) ∷ [] } → new ≡ old ++ seat ∷ [] → Lone r size checkers (number + 1) new
+Lone-more r size checkers number id old new seat (deques, is) seat-is pushed =
     let more = with_deque deques number id in
-    let same : seat ≡ lone_seat more r checkers number =
-    seat-is ∙ ap (λ (d : DequeId). record { number = number; round = r; parts = untouched d (dealt r checkers number) ∷ [] }) (sym (this_deque deques number id)) in (
+    let same : seat ≡ lone_seat more r size checkers number =
+    seat-is ∙ ap (λ (d : DequeId). record { number = number; round = r; parts = untouched d (dealt r size checkers number) ∷ [] }) (sym (this_deque deques number id)) in (
       more,
       pushed
-          ∙ (λ i. (is ∙ lone-others deques r checkers number id number 0 (omega arith)) i ++ same i ∷ [])
-          ∙ sym (map-range_with_len_more (lone_seat more r checkers) 0 number number (omega arith)),
+          ∙ (λ i. (is ∙ lone-others deques r size checkers number id number 0 (omega arith)) i ++ same i ∷ [])
+          ∙ sym (map-range_with_len_more (lone_seat more r size checkers) 0 number number (omega arith)),
     )
 
 -- the seats below a place have all their ways, and the others have none
-pub record Seated (deques : Deques) (r : Round) (checkers place : ℕ) (seats : List Checker) : Type 0 where
+pub record Seated (deques : Deques) (r : Round) (size checkers place : ℕ) (seats : List Checker) : Type 0 where
   pub count : length seats ≡ checkers
-  pub joined : (j : ℕ) → j < place → j < checkers → seat_of seats j ≡ seat_at_start deques r checkers j
-  pub lone : (j : ℕ) → place ≤ j → j < checkers → seat_of seats j ≡ lone_seat deques r checkers j
+  pub joined : (j : ℕ) → j < place → j < checkers → seat_of seats j ≡ seat_at_start deques r size checkers j
+  pub lone : (j : ℕ) → place ≤ j → j < checkers → seat_of seats j ≡ lone_seat deques r size checkers j
 
-pub Seated-start : (deques : Deques) (r : Round) (checkers : ℕ) (seats : List Checker) → seats ≡ map (lone_seat deques r checkers) (range_with_len 0 checkers) → Seated deques r checkers 0 seats
-Seated-start deques r checkers seats is = record {
-  count = ap length is ∙ length-map-range_with_len (lone_seat deques r checkers) 0 checkers;
+pub Seated-start : (deques : Deques) (r : Round) (size checkers : ℕ) (seats : List Checker) → seats ≡ map (lone_seat deques r size checkers) (range_with_len 0 checkers) → Seated deques r size checkers 0 seats
+Seated-start deques r size checkers seats is = record {
+  count = ap length is ∙ length-map-range_with_len (lone_seat deques r size checkers) 0 checkers;
   joined = λ j below inside. absurd (omega arith);
-  lone = λ j from inside. ap (λ (l : List Checker). seat_of l j) is ∙ get_or-map-range_with_len (lone_seat deques r checkers) 0 checkers j j nobody inside (omega arith);
+  lone = λ j from inside. ap (λ (l : List Checker). seat_of l j) is ∙ get_or-map-range_with_len (lone_seat deques r size checkers) 0 checkers j j nobody inside (omega arith);
 }
 
-Seated-way : (deques : Deques) (r : Round) (checkers place : ℕ) (seats : List Checker) → Seated deques r checkers place seats → (j : ℕ) → j < checkers → way_to seats j ≡ part_at_start deques r checkers j
-Seated-way deques r checkers place seats s j inside = go (ltb_cases j place)
+Seated-way : (deques : Deques) (r : Round) (size checkers place : ℕ) (seats : List Checker) → Seated deques r size checkers place seats → (j : ℕ) → j < checkers → way_to seats j ≡ part_at_start deques r size checkers j
+Seated-way deques r size checkers place seats s j inside = go (ltb_cases j place)
   where
     ltb_cases : (a b : ℕ) → (a < b) ⊎ (b ≤ a)
     ltb_cases a b = grind arith
 
-    go : (j < place) ⊎ (place ≤ j) → way_to seats j ≡ part_at_start deques r checkers j
+    go : (j < place) ⊎ (place ≤ j) → way_to seats j ≡ part_at_start deques r size checkers j
     go (inl below) = ap (λ (c : Checker). way_to_part (part_at c.parts 0)) (s.joined j below inside)
     go (inr from) = ap (λ (c : Checker). way_to_part (part_at c.parts 0)) (s.lone j from inside)
 
-ways-range : (deques : Deques) (r : Round) (checkers place : ℕ) (seats : List Checker) → Seated deques r checkers place seats → (len a : ℕ) → a + len ≤ checkers → map (way_to seats) (range_with_len a len) ≡ map (part_at_start deques r checkers) (range_with_len a len)
-ways-range deques r checkers place seats s zero a h = refl
-ways-range deques r checkers place seats s (suc len) a h =
-    λ i. Seated-way deques r checkers place seats s a (omega (arith, h)) i ∷ ways-range deques r checkers place seats s len (a + 1) (omega (arith, h)) i
+ways-range : (deques : Deques) (r : Round) (size checkers place : ℕ) (seats : List Checker) → Seated deques r size checkers place seats → (len a : ℕ) → a + len ≤ checkers → map (way_to seats) (range_with_len a len) ≡ map (part_at_start deques r size checkers) (range_with_len a len)
+ways-range deques r size checkers place seats s zero a h = refl
+ways-range deques r size checkers place seats s (suc len) a h =
+    λ i. Seated-way deques r size checkers place seats s a (omega (arith, h)) i ∷ ways-range deques r size checkers place seats s len (a + 1) (omega (arith, h)) i
 
-pub Seated-ways : (deques : Deques) (r : Round) (checkers place count : ℕ) (seats : List Checker) (ways : List Part) → Seated deques r checkers place seats → place < checkers → count ≡ checkers
-    → ways ≡ map (way_to seats) (others count place) → ways ≡ map (part_at_start deques r checkers) (others checkers place)
-Seated-ways deques r checkers place count seats ways s inside same is =
+pub Seated-ways : (deques : Deques) (r : Round) (size checkers place count : ℕ) (seats : List Checker) (ways : List Part) → Seated deques r size checkers place seats → place < checkers → count ≡ checkers
+    → ways ≡ map (way_to seats) (others count place) → ways ≡ map (part_at_start deques r size checkers) (others checkers place)
+Seated-ways deques r size checkers place count seats ways s inside same is =
     let above = range_with_len (place + 1) (checkers - (place + 1)) in
     let below = range_with_len 0 place in
     is
     ∙ ap (λ (n : ℕ). map (way_to seats) (others n place)) same
     ∙ map-append (way_to seats) above below
-    ∙ (λ i. ways-range deques r checkers place seats s (checkers - (place + 1)) (place + 1) (omega (arith, inside)) i ++ ways-range deques r checkers place seats s place 0 (omega (arith, inside)) i)
-    ∙ sym (map-append (part_at_start deques r checkers) above below)
+    ∙ (λ i. ways-range deques r size checkers place seats s (checkers - (place + 1)) (place + 1) (omega (arith, inside)) i ++ ways-range deques r size checkers place seats s place 0 (omega (arith, inside)) i)
+    ∙ sym (map-append (part_at_start deques r size checkers) above below)
 
 -- the seat at the place, as it is read from the same seats
-pub Seated-here : (deques : Deques) (r : Round) (checkers place : ℕ) (seats same : List Checker) (seat : Checker) → Seated deques r checkers place seats → place < checkers → same ≡ seats → seat ≡ get_or same place seat → seat ≡ lone_seat deques r checkers place
-Seated-here deques r checkers place seats same seat s inside is read =
+pub Seated-here : (deques : Deques) (r : Round) (size checkers place : ℕ) (seats same : List Checker) (seat : Checker) → Seated deques r size checkers place seats → place < checkers → same ≡ seats → seat ≡ get_or same place seat → seat ≡ lone_seat deques r size checkers place
+Seated-here deques r size checkers place seats same seat s inside is read =
     get_or_read same place seat (omega (arith, inside, s.count, ap (λ (l : List Checker). length l) is)) read nobody
     ∙ ap (λ (l : List Checker). seat_of l place) is
     ∙ s.lone place (omega arith) inside
 
-pub Seated-more : (deques : Deques) (r : Round) (checkers place : ℕ) (seats : List Checker) → Seated deques r checkers place seats → place < checkers → Seated deques r checkers (place + 1) (set seats place (seat_at_start deques r checkers place))
-Seated-more deques r checkers place seats s inside =
-    let new : Checker = seat_at_start deques r checkers place in record {
+pub Seated-more : (deques : Deques) (r : Round) (size checkers place : ℕ) (seats : List Checker) → Seated deques r size checkers place seats → place < checkers → Seated deques r size checkers (place + 1) (set seats place (seat_at_start deques r size checkers place))
+Seated-more deques r size checkers place seats s inside =
+    let new : Checker = seat_at_start deques r size checkers place in record {
       count = length-set seats place new ∙ s.count;
       joined = λ j below within. elim (ℕ_discrete j place) [
-        | yes e ↦ ap (seat_of (set seats place new)) e ∙ get_or-set_same seats place new nobody (omega (arith, inside, s.count)) ∙ ap (seat_at_start deques r checkers) (sym e)
+        | yes e ↦ ap (seat_of (set seats place new)) e ∙ get_or-set_same seats place new nobody (omega (arith, inside, s.count)) ∙ ap (seat_at_start deques r size checkers) (sym e)
         | no apart ↦ get_or-set_other seats place j new nobody apart ∙ s.joined j (omega (arith, below, apart)) within
       ];
       lone = λ j from within. get_or-set_other seats place j new nobody (λ e. absurd (omega (arith, e, from))) ∙ s.lone j (omega (arith, from)) within;
     }
 
-pub Seated-all : (deques : Deques) (r : Round) (checkers : ℕ) (seats : List Checker) → Seated deques r checkers checkers seats → seats ≡ seats_at_start deques r checkers
-Seated-all deques r checkers seats s = fill_by_all (seat_at_start deques r checkers) seats checkers nobody s.count (λ k below. s.joined k below below)
+pub Seated-all : (deques : Deques) (r : Round) (size checkers : ℕ) (seats : List Checker) → Seated deques r size checkers checkers seats → seats ≡ seats_at_start deques r size checkers
+Seated-all deques r size checkers seats s = fill_by_all (seat_at_start deques r size checkers) seats checkers nobody s.count (λ k below. s.joined k below below)
 
 pub set-same : (seats : List Checker) (k : ℕ) (old new : Checker) → old ≡ get_or seats k old → new ≡ old → set seats k new ≡ seats
 set-same seats k old new read same = ap (set seats k) (same ∙ read) ∙ set-get_or seats k old
 
 -- the seats once one more has its ways
-pub Seated-next : (deques : Deques) (r : Round) (checkers place : ℕ) (seats same : List Checker) (seat new : Checker) (ways : List Part) → Seated deques r checkers place seats → place < checkers → same ≡ seats
-    → seat ≡ lone_seat deques r checkers place → ways ≡ map (part_at_start deques r checkers) (others checkers place) → new ≡ record seat { parts = seat.parts ++ ways } → Seated deques r checkers (place + 1) (set same place new)
-Seated-next deques r checkers place seats same seat new ways s inside is lone to joined =
-    let full : new ≡ seat_at_start deques r checkers place =
-    joined ∙ ap (λ (c : Checker). record c { parts = c.parts ++ ways }) lone ∙ ap (λ (l : List Part). record { number = place; round = r; parts = part_at_start deques r checkers place ∷ l }) to in
-    subst (λ (l : List Checker). Seated deques r checkers (place + 1) l) (λ i. set (sym is i) place (sym full i)) (Seated-more deques r checkers place seats s inside)
+pub Seated-next : (deques : Deques) (r : Round) (size checkers place : ℕ) (seats same : List Checker) (seat new : Checker) (ways : List Part) → Seated deques r size checkers place seats → place < checkers → same ≡ seats
+    → seat ≡ lone_seat deques r size checkers place → ways ≡ map (part_at_start deques r size checkers) (others checkers place) → new ≡ record seat { parts = seat.parts ++ ways } → Seated deques r size checkers (place + 1) (set same place new)
+Seated-next deques r size checkers place seats same seat new ways s inside is lone to joined =
+    let full : new ≡ seat_at_start deques r size checkers place =
+    joined ∙ ap (λ (c : Checker). record c { parts = c.parts ++ ways }) lone ∙ ap (λ (l : List Part). record { number = place; round = r; parts = part_at_start deques r size checkers place ∷ l }) to in
+    subst (λ (l : List Checker). Seated deques r size checkers (place + 1) l) (λ i. set (sym is i) place (sym full i)) (Seated-more deques r size checkers place seats s inside)
 
 -- a seat may take the ways that are laid
-pub joined_deal : (deques : Deques) (r : Round) (checkers place : ℕ) (seat : Checker) (ways : List Part) → seat ≡ lone_seat deques r checkers place → ways ≡ map (part_at_start deques r checkers) (others checkers place) → IsDeal seat.round (seat.parts ++ ways)
-joined_deal deques r checkers place seat ways lone to =
+pub joined_deal : (deques : Deques) (r : Round) (size checkers place : ℕ) (seat : Checker) (ways : List Part) → seat ≡ lone_seat deques r size checkers place → ways ≡ map (part_at_start deques r size checkers) (others checkers place) → IsDeal seat.round (seat.parts ++ ways)
+joined_deal deques r size checkers place seat ways lone to =
     subst (λ (c : Checker). IsDeal c.round (c.parts ++ ways)) (sym lone)
-    (subst (λ (l : List Part). IsDeal r (part_at_start deques r checkers place ∷ l)) (sym to) (seat_deal deques r checkers place))
+    (subst (λ (l : List Part). IsDeal r (part_at_start deques r size checkers place ∷ l)) (sym to) (seat_deal deques r size checkers place))

@@ -198,10 +198,10 @@ have_places r old more now left room is all =
     All-weaker (IsIn r) (IsIn (round r.first (r.first + length now))) (λ n within. has_place r (length now) n size within) left all
 
 -- no seat has taken anything at the start
-pub all_fresh : (r : Round) (checkers : ℕ) (seats : List Checker) → AreAtStart r checkers seats → All (IsFreshIn r) seats
-all_fresh r checkers seats (deques, is) =
+pub all_fresh : (r : Round) (size checkers : ℕ) (seats : List Checker) → AreAtStart r size checkers seats → All (IsFreshIn r) seats
+all_fresh r size checkers seats (deques, is) =
     subst (λ (l : List Checker). All (IsFreshIn r) l) (sym is)
-    (All-map (IsFreshIn r) (seat_at_start deques r checkers) (range_with_len 0 checkers) (λ k d less. fresh (get_or (range_with_len 0 checkers) k d)))
+    (All-map (IsFreshIn r) (seat_at_start deques r size checkers) (range_with_len 0 checkers) (λ k d less. fresh (get_or (range_with_len 0 checkers) k d)))
   where
-    fresh : (c : ℕ) → IsFreshIn r (seat_at_start deques r checkers c)
-    fresh c = (refl, λ n. ap (nat_lt 0) (times_taken-none n (map (part_at_start deques r checkers) (visited checkers c)) (none_taken deques r checkers (visited checkers c))))
+    fresh : (c : ℕ) → IsFreshIn r (seat_at_start deques r size checkers c)
+    fresh c = (refl, λ n. ap (nat_lt 0) (times_taken-none n (map (part_at_start deques r size checkers) (visited checkers c)) (none_taken deques r size checkers (visited checkers c))))

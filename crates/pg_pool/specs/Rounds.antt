@@ -1,5 +1,5 @@
 -- The numbers of a round, and how they are dealt.
-use Rattle.std.specs.Prelude.{ℕ, ◌+◌, ◌-◌, ◌%◌, ◌≤◌, ◌<◌, ◌==◌, List, ◌∷◌, ◌++◌, filter}
+use Rattle.std.specs.Prelude.{ℕ, ◌+◌, ◌-◌, ◌/◌, ◌%◌, ◌≤◌, ◌<◌, ◌==◌, List, ◌∷◌, ◌++◌, filter}
 use Rattle.std.specs.List.{range_with_len}
 use Rattle.pg_pool.specs.declared.round.Round.{Round}
 
@@ -17,9 +17,9 @@ numbers r = range_with_len r.first (r.last - r.first)
 abbrev pub AreCheckers : ℕ → Type 0
 AreCheckers n = (1 ≤ n) × (n ≤ 64)
 
--- the numbers that are dealt to one of so many checkers
-abbrev pub dealt : Round → ℕ → ℕ → List ℕ
-dealt r checkers c = filter (λ n. (n - r.first) % checkers == c) (numbers r)
+-- the numbers that are dealt to one of so many checkers, so many at a time
+abbrev pub dealt : Round → ℕ → ℕ → ℕ → List ℕ
+dealt r size checkers c = filter (λ n. ((n - r.first) / size) % checkers == c) (numbers r)
 
 -- the other checkers of so many, in the order in which one visits their deques: those above it,
 -- then those below it

@@ -85,30 +85,31 @@ abbrev pub Deques : Type 0
 Deques = ℕ → DequeId
 
 -- the part of the deque of one of so many checkers at the start of a round
-abbrev pub part_at_start : Deques → Round → ℕ → ℕ → Part
-part_at_start deques r checkers c = untouched (deques c) (dealt r checkers c)
+abbrev pub part_at_start : Deques → Round → ℕ → ℕ → ℕ → Part
+part_at_start deques r size checkers c = untouched (deques c) (dealt r size checkers c)
 
 -- the seat of one of so many checkers at the start of a round
-abbrev pub seat_at_start : Deques → Round → ℕ → ℕ → Checker
-seat_at_start deques r checkers c = record {
+abbrev pub seat_at_start : Deques → Round → ℕ → ℕ → ℕ → Checker
+seat_at_start deques r size checkers c = record {
   number = c;
   round = r;
-  parts = map (part_at_start deques r checkers) (visited checkers c);
+  parts = map (part_at_start deques r size checkers) (visited checkers c);
 }
 
 -- all seats at the start of a round: each reaches the same deques, one of each checker
-abbrev pub seats_at_start : Deques → Round → ℕ → List Checker
-seats_at_start deques r checkers =
-    map (seat_at_start deques r checkers) (range_with_len 0 checkers)
+abbrev pub seats_at_start : Deques → Round → ℕ → ℕ → List Checker
+seats_at_start deques r size checkers =
+    map (seat_at_start deques r size checkers) (range_with_len 0 checkers)
 
 -- these are all seats at the start of a round
-abbrev pub AreAtStart : Round → ℕ → List Checker → Type 0
-AreAtStart r checkers seats = (deques : Deques) × (seats ≡ seats_at_start deques r checkers)
+abbrev pub AreAtStart : Round → ℕ → ℕ → List Checker → Type 0
+AreAtStart r size checkers seats =
+    (deques : Deques) × (seats ≡ seats_at_start deques r size checkers)
 
 -- a seat that reaches its own deque alone
-abbrev pub lone_seat : Deques → Round → ℕ → ℕ → Checker
-lone_seat deques r checkers c =
-    record { number = c; round = r; parts = part_at_start deques r checkers c ∷ [] }
+abbrev pub lone_seat : Deques → Round → ℕ → ℕ → ℕ → Checker
+lone_seat deques r size checkers c =
+    record { number = c; round = r; parts = part_at_start deques r size checkers c ∷ [] }
 
 -- the seat that stands where none is
 abbrev pub nobody : Checker

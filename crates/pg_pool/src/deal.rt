@@ -15,19 +15,27 @@ use crate::steps::{new_deque, push};
 use crate::thief::Thief;
 use std::alloc::{AllocError, Global};
 
-/// The deque of one of so many checkers, with the numbers that are its own.
-fn deal(alloc: Global, round: Round, checkers: u32, number: u32) -> Result<Deque, AllocError>
+/// The deque of one of so many checkers, with its own numbers of those that are dealt so many at a
+/// time.
+fn deal(
+    alloc: Global,
+    round: Round,
+    size: u32,
+    checkers: u32,
+    number: u32,
+) -> Result<Deque, AllocError>
     requires ordered { round.first ≤ round.last }
+    requires size { 0 < size }
     requires some { 0 < checkers }
     ensures fifo { IfOk result (λ deque. worker_flavor deque ≡ 0) }
     ensures dealt { IfOk result (λ deque.
-        worker_view deque ≡ hand true (dealt round checkers number) []) }
+        worker_view deque ≡ hand true (dealt round size checkers number) []) }
 {
     // Room for all comes at once, so that a push is refused for want of memory alone.
-    let room = (round.last - round.first).div_ceil(checkers);
-    let mut deque = new_deque(alloc, room as usize)?;
+    let blocks = (round.last - round.first).div_ceil(size).div_ceil(checkers);
+    let mut deque = new_deque(alloc, blocks.saturating_mul(size) as usize)?;
     for n in round.first..round.last {
-        if (n - round.first) % checkers == number {
+        if (n - round.first) / size % checkers == number {
             push(&mut deque, n)?;
         }
     }
@@ -35,15 +43,22 @@ fn deal(alloc: Global, round: Round, checkers: u32, number: u32) -> Result<Deque
 }
 
 /// The seats with their own deques alone.
-fn lone_seats(alloc: Global, round: Round, checkers: u32) -> Result<Vec<Seat>, AllocError>
+fn lone_seats(
+    alloc: Global,
+    round: Round,
+    size: u32,
+    checkers: u32,
+) -> Result<Vec<Seat>, AllocError>
     requires ordered { round.first ≤ round.last }
+    requires size { 0 < size }
     requires some { 0 < checkers }
     ensures { IfOk result (λ seats. (deques : Deques)
-        × (seats.items ≡ map (lone_seat deques round checkers) (range_with_len 0 checkers))) }
+        × (seats.items ≡ map (lone_seat deques round size checkers)
+        (range_with_len 0 checkers))) }
 {
     let mut seats = Vec::new(alloc);
     for number in 0..checkers {
-        let deque = deal(alloc, round, checkers, number)?;
+        let deque = deal(alloc, round, size, checkers, number)?;
         seats.push(Seat::new(alloc, number, round, deque)?)?;
     }
     Ok(seats)
@@ -84,6 +99,29 @@ fn ways(alloc: Global, seats: &mut Vec<Seat>, place: usize) -> Result<Vec<Thief>
     Ok(thieves)
 }
 
+/// Deals the numbers of a round to so many checkers, so many at a time: each block of that many to
+/// the checker of its place modulo their number. Gives their seats, each with ways to the deques of
+/// all others. Fails where memory is refused.
+pub(crate) fn open_blocks(
+    alloc: Global,
+    round: Round,
+    size: u32,
+    checkers: u32,
+) -> Result<Vec<Seat>, AllocError>
+    requires ordered { round.first ≤ round.last }
+    requires size { 0 < size }
+    requires checkers { AreCheckers checkers }
+    ensures { IfOk result (λ seats. AreAtStart round size checkers seats.items) }
+{
+    let mut seats = lone_seats(alloc, round, size, checkers)?;
+    for place in 0..seats.len() {
+        let thieves = ways(alloc, &mut seats, place)?;
+        let seat = &mut seats[place];
+        seat.join(thieves);
+    }
+    Ok(seats)
+}
+
 /// Deals the numbers from `first` on and below `last` to so many checkers, each number to the
 /// checker of its place modulo their number, and gives their seats, each with ways to the deques of
 /// all others. Fails where memory is refused.
@@ -95,13 +133,7 @@ pub fn open_round(
 ) -> Result<Vec<Seat>, AllocError>
     requires ordered { first ≤ last }
     requires checkers { AreCheckers checkers }
-    ensures { IfOk result (λ seats. AreAtStart (round first last) checkers seats.items) }
+    ensures { IfOk result (λ seats. AreAtStart (round first last) 1 checkers seats.items) }
 {
-    let mut seats = lone_seats(alloc, Round { first, last }, checkers)?;
-    for place in 0..seats.len() {
-        let thieves = ways(alloc, &mut seats, place)?;
-        let seat = &mut seats[place];
-        seat.join(thieves);
-    }
-    Ok(seats)
+    open_blocks(alloc, Round { first, last }, 1, checkers)
 }

@@ -9,7 +9,7 @@ use crate::beside::Beside;
 use crate::checker::Done;
 use crate::checkers::run_checkers;
 use crate::close::close_round;
-use crate::deal::open_round;
+use crate::deal::open_blocks;
 use crate::error::PoolError;
 use crate::gate::Gate;
 use crate::judge::Judge;
@@ -81,6 +81,16 @@ fn gather_done<J: Judge, G: Gate>(
     }
 }
 
+/// How many segments that follow each other are dealt to a checker: its whole share. They have most
+/// walks in common, and each checker makes its own.
+fn block_of(round: Round, checkers: u32) -> u32
+    requires ordered { round.first ≤ round.last }
+    requires some { 0 < checkers }
+    ensures { 0 < result }
+{
+    (round.last - round.first).div_ceil(checkers).max(1)
+}
+
 /// The verdicts of a round's segments, in order, by so many checkers, and what the work beside them
 /// gives. The calling thread does that work while they judge, and then judges what they left, as
 /// the worker after the last of them.
@@ -101,7 +111,8 @@ pub(crate) fn judge_round<R: Threads + Wait + Sync, J: Judge, G: Gate, B: Beside
     ensures beside { B.gives beside result.1 }
 {
     let round = judge.round();
-    let seats = match open_round(alloc, round.first, round.last, checkers) {
+    let block = block_of(round, checkers);
+    let seats = match open_blocks(alloc, round, block, checkers) {
         Ok(seats) => seats,
         Err(_) => return (Err(PoolError::Memory), beside.run()),
     };

@@ -5,4 +5,4 @@ use Rattle.pg_pool.specs.Shares.{hand}
 use Rattle.pg_pool.proofs.deal.deal.Given as goal
 
 abbrev pub invariant-loop-n : goal.invariant-loop-n
-invariant-loop-n l = (worker_flavor l.deque ≡ 0) × (worker_view l.deque ≡ hand true (dealt (round l.round.first l.n) l.checkers l.number) [])
+invariant-loop-n l = (worker_flavor l.deque ≡ 0) × (worker_view l.deque ≡ hand true (dealt (round l.round.first l.n) l.size l.checkers l.number) [])

@@ -1,7 +1,0 @@
-use Rattle.pg_pool.specs.Rounds.{round}
-use Rattle.pg_pool.specs.Seats.{Deques}
-use Rattle.pg_pool.proofs.Deals.{Seated}
-use Rattle.pg_pool.proofs.deal.open_round.Given as goal
-
-abbrev pub invariant-loop-place : goal.invariant-loop-place
-invariant-loop-place l = (deques : Deques) × Seated deques (round l.first l.last) l.checkers l.place l.seats.items
