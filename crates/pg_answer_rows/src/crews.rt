@@ -100,13 +100,16 @@ fn comes(flag: &AtomicU64) -> bool {
 }
 
 impl Held {
-    /// Both came in time, ten segments came, and the first two to workers 1 and 2: checker 1 begins
-    /// with segment 1, and waits in it for segment 0.
+    /// Both came in time, ten segments came, and the first two to different workers, whichever these
+    /// are: who begins late finds that the other took segment 0 from its deque.
     fn is_met(&self) -> bool {
+        let first = self.workers[0].load(Ordering::SeqCst);
+        let second = self.workers[1].load(Ordering::SeqCst);
         self.failed.load(Ordering::SeqCst) == 0
             && self.comings.load(Ordering::SeqCst) == 10
-            && self.workers[0].load(Ordering::SeqCst) == 1
-            && self.workers[1].load(Ordering::SeqCst) == 2
+            && first != 0
+            && second != 0
+            && first != second
     }
 
     fn await_other(&self, number: usize) -> bool {
