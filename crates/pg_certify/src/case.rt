@@ -60,3 +60,22 @@ pub(crate) fn case_of(seen: &Seen<'_>, lately: &mut Lately, i: u32, event: &Even
         asks,
     })
 }
+
+/// The physical address that an access came to, if it was done.
+pub(crate) fn page_of(event: &Event) -> Option<u64> {
+    match event.request() {
+        Request::Access { outcome, .. } => match outcome {
+            Outcome::Page(page) => Some(page),
+            Outcome::Fault(_) => None,
+        },
+        Request::Update { .. } | Request::Nothing => None,
+    }
+}
+
+/// Whether an address that a walk gives may be what an event was served by.
+pub(crate) fn may_serve(event: &Event, address: Option<u64>) -> bool {
+    match page_of(event) {
+        Some(page) => address == Some(page),
+        None => address.is_some(),
+    }
+}

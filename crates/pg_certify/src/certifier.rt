@@ -1,23 +1,23 @@
 //! Events judged one by one, each by moments that are guessed or, where guesses fail, searched.
 
-ghost use Rattle.std.specs.Prelude.{◌≡◌, ◌<◌, ◌≤◌, ◌^◌, true, length, None};
+ghost use Rattle.std.specs.Prelude.{◌≡◌, ◌<◌, ◌≤◌, true, length, None};
 ghost use Rattle.std.specs.Prelude.{IfOk, IfSome, IfNone};
-ghost use Rattle.std.specs.List.{AllByRecursion};
 ghost use Rattle.pg_event.specs.Form.{broken_rule, processor_of};
-ghost use Rattle.pg_event.specs.Spelling.{AreMoments};
 ghost use Rattle.pg_check.specs.Right.{AreRight};
 ghost use Rattle.pg_search.specs.Law.{names_moments, AreWitness};
 ghost use Rattle.pg_certify.specs.Certified.{IsFoundFor, IsUnwitnessed};
 
 use crate::back::{MOST_CHANGES, MOST_LOADS, Under, reach_of};
-use crate::case::{Asks, Case, case_of};
+use crate::case::{Asks, Case, case_of, may_serve, page_of};
 use crate::guesses::{Guesses, Part, Scope, key_of};
 use crate::lately::Lately;
 use crate::mapped::Events;
-use crate::walk::{Walk, address_by, first_moments, is_global, last_of, tables_up_to, walk_by};
+use crate::walk::{
+    Walk, address_by, first_moments, is_global, last_of, moments_fit, tables_up_to, walk_by,
+};
 use pg_check::{KeptWalks, Memo, failing};
 use pg_entry::has_bit;
-use pg_event::{Event, Moments, Outcome, Reason, Request};
+use pg_event::{Event, Moments, Reason};
 use pg_reach::any_moments;
 use pg_search::{KeptRun, Seen, names_moments, with_moments};
 use std::alloc::{AllocError, Global};
@@ -52,39 +52,6 @@ impl<'a> Model for Certifier<'a> {
     ghost view = { λ c. c.seen };
 
     ghost invariant = { λ c. IsPast c.memo c.seen.head c.seen.events };
-}
-
-/// The numbers of a list of moments are within their field.
-fn numbers_fit(numbers: &[u32])
-    ensures { AllByRecursion (λ w. w < 2 ^ 32) numbers.now }
-{
-    let _count = numbers.len();
-}
-
-/// A list of moments is one that an event may name. It does nothing: its contract is the fact.
-fn moments_fit(moments: Moments)
-    ensures { AreMoments moments }
-{
-    numbers_fit(moments.as_slice());
-}
-
-/// The physical address that an access came to, if it was done.
-fn page_of(event: &Event) -> Option<u64> {
-    match event.request() {
-        Request::Access { outcome, .. } => match outcome {
-            Outcome::Page(page) => Some(page),
-            Outcome::Fault(_) => None,
-        },
-        Request::Update { .. } | Request::Nothing => None,
-    }
-}
-
-/// Whether an address that a walk gives may be what an event was served by.
-fn may_serve(event: &Event, address: Option<u64>) -> bool {
-    match page_of(event) {
-        Some(page) => address == Some(page),
-        None => address.is_some(),
-    }
 }
 
 impl<'a> Certifier<'a> {

@@ -1,7 +1,9 @@
 //! Walks that a processor may have made. Nothing is claimed of them: the moments that come of one
 //! are judged before they are taken.
 
-ghost use Rattle.std.specs.Prelude.{◌<◌, length};
+ghost use Rattle.std.specs.Prelude.{◌<◌, ◌^◌, length};
+ghost use Rattle.std.specs.List.{AllByRecursion};
+ghost use Rattle.pg_event.specs.Spelling.{AreMoments};
 
 use crate::lately::Lately;
 use pg_entry::{Cfg, Entry, Kind, Level, classify, has_bit, page_offset, table_of};
@@ -125,4 +127,18 @@ pub(crate) fn address_by(seen: &Seen<'_>, walk: &Walk, la: u64) -> Option<u64> {
         Kind::Leaf { frame, shift, .. } => Some(frame | page_offset(la, shift)),
         Kind::Absent | Kind::Reserved | Kind::Table { .. } => None,
     }
+}
+
+/// The numbers of a list of moments are within their field.
+fn numbers_fit(numbers: &[u32])
+    ensures { AllByRecursion (λ w. w < 2 ^ 32) numbers.now }
+{
+    let _count = numbers.len();
+}
+
+/// A list of moments is one that an event may name. It does nothing: its contract is the fact.
+pub(crate) fn moments_fit(moments: Moments)
+    ensures { AreMoments moments }
+{
+    numbers_fit(moments.as_slice());
 }

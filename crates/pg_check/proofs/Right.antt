@@ -1,12 +1,12 @@
 -- Kept walks are right of a run where they are of its past, and stay so as events are added.
-use Rattle.std.proofs.Common.{◌≡◌, ℕ, ◌≤◌, List, [], ◌∷◌, ◌++◌, length, Option, Some, None, sym, subst, arith}
+use Rattle.std.proofs.Common.{◌≡◌, ℕ, ◌≤◌, List, [], ◌∷◌, ◌++◌, length, Option, Some, None, sym, subst}
 use Rattle.pg_event.specs.declared.event.Event.{Event}
 use Rattle.pg_event.specs.Heads.{Head}
 use Rattle.pg_chain.specs.declared.past.Past.{Past}
 use Rattle.pg_chain.specs.Standing.{IsPast}
 use Rattle.pg_check.specs.declared.memo.Slot.{Slot}
 use Rattle.pg_check.specs.Remembered.{HasWalk, HaveWalks, IsLeaf}
-use Rattle.pg_check.specs.Right.{IsRight, IsRightIfThere, AreRight}
+use Rattle.pg_check.specs.Right.{IsRightIfThere, AreRight}
 use Rattle.pg_check.proofs.Alike.{alike-past, alike-longer, same-head}
 use Rattle.pg_check.proofs.Grown.{Says, says_alike, within_later}
 

@@ -1,5 +1,6 @@
 -- A place for a walk, which may have none.
-use Rattle.std.specs.Prelude.{◌≡◌, ◌==◌, Bool, true, false, if◌then◌else◌, [], ◌∷◌, Option, Some, None}
+use Rattle.std.specs.Prelude.{◌≡◌, ◌==◌, Bool, true, false, if◌then◌else◌, [], ◌∷◌}
+use Rattle.std.specs.Prelude.{Option, Some, None}
 use Rattle.std.proofs.Common.{refl, sym, ap}
 use Rattle.std.proofs.lemmas.Bool.{eqb-true}
 use Rattle.pg_entry.specs.declared.Level.TheVariants.{Four}
@@ -38,8 +39,10 @@ abbrev pub placed : Option Slot → Inside
 placed None = record { slot = no_walk }
 placed (Some s) = record { slot = s }
 
-placed_either : (a : Inside) (b : Bool) → (a.slot.shift == 0) ≡ b → IsPlace a → placed (if b then None else Some a.slot) ≡ a
-placed_either a true e h = ap (λ (s : Slot). record { slot = s }) (sym (h (eqb-true a.slot.shift 0 e)))
+placed_either : (a : Inside) (b : Bool) → (a.slot.shift == 0) ≡ b → IsPlace a →
+    placed (if b then None else Some a.slot) ≡ a
+placed_either a true e h =
+    ap (λ (s : Slot). record { slot = s }) (sym (h (eqb-true a.slot.shift 0 e)))
 placed_either a false e h = refl
 
 pub placed-walk_at : (a : Inside) → IsPlace a → placed (walk_at a) ≡ a

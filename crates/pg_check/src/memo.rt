@@ -27,8 +27,9 @@ use std::marker::Model;
 
 /// A walk that was made: which one, and what it came to. The page is told by its first address: no
 /// walk depends on the offset in it. The walk's parts stand side by side, so that a slot is short.
-/// A large block begins 16 bytes behind the start of a line of the cache, so that the first 48 bytes
-/// of each slot lie in one line: what a look reads first stands there.
+///
+/// A large block begins 16 bytes behind the start of a line of the cache, so the first 48 bytes of
+/// each slot lie in one line: what a look reads first stands there.
 #[derive(Clone, Copy)]
 pub struct Slot {
     pub page: u64,
@@ -40,8 +41,8 @@ pub struct Slot {
     pub moments: Moments,
     /// The binary logarithm of the size of the page that the leaf maps.
     pub shift: u8,
-    /// Whether it had to go at the last of these events, and at none before. So one number says
-    /// both.
+    /// Whether the translation had to go at the last event below `asked`, and at none before: so
+    /// one number says both.
     pub dropped: bool,
     pub global: bool,
     pub tables: bool,

@@ -4,8 +4,8 @@
 --     event                the event of a no, or at which the search gave up
 --     reason, reason_name  of a no: 15, no order
 --     all_orders           of a no: whether it is one since all orders were tried
---     cause                of a no: why no run comes to the event (`Causes`), or null where all were
---                          tried
+--     cause                of a no: why no run comes to the event (`Causes`), or null where all
+--                          were tried
 --     deduced              of a no with a cause: two events each, of which the first comes first in
 --                          each order in which a run comes to the second
 --     events, segments     how many

@@ -1,4 +1,4 @@
-use Rattle.std.proofs.Common.{◌≡◌, ℕ, List, length, Option, Result, Ok, Err, OnErr, sym, subst, ◌∙◌}
+use Rattle.std.proofs.Common.{◌≡◌, ℕ, List, Option, Result, Ok, Err, OnErr, sym, subst, ◌∙◌}
 use Rattle.pg_event.specs.Spelling.{Recorded}
 use Rattle.pg_check.specs.declared.memo.Slot.{Slot}
 use Rattle.pg_check.specs.Right.{AreRight}
