@@ -1,20 +1,21 @@
 //! A past whose answers are kept, as long as they stand.
 
-ghost use Rattle.std.specs.Prelude.{◌≡◌, ◌-◌, ◌<◌, ◌≤◌, ◌^◌, IfSome, not};
+ghost use Rattle.std.specs.Prelude.{◌≡◌, ◌-◌, ◌<◌, ◌≤◌, ◌^◌, ℕ, Bool, IfSome, IsTrue, not};
 ghost use Rattle.pg_event.specs.Values.{mem_at, control_at};
 ghost use Rattle.pg_event.specs.Invalidation.{must_drop_structure, must_drop_translation};
 ghost use Rattle.pg_event.specs.Witness.{survives};
 ghost use Rattle.pg_entry.specs.Kinds.{IsPageShift};
 ghost use Rattle.pg_inval.specs.Drops.{IsTableLevel};
-ghost use Rattle.pg_inval.specs.Lists.{IsFirstDrop};
+ghost use Rattle.pg_inval.specs.Lists.{IsFirstDrop, IsLeastBetween};
 ghost use Rattle.pg_chain.specs.Standing.{InEachRun, processor_count};
-ghost use Rattle.pg_chain.specs.Known.{IsWord, IsSpell};
+ghost use Rattle.pg_chain.specs.Known.{IsWord, IsSpell, IsStay};
+ghost use Rattle.pg_inval.specs.Spaces.{IsSpaceDrop, structure_space, translation_space};
 
 use crate::past::Past;
 use crate::places::place_among;
 use pg_entry::Cfg;
 use pg_event::{Control, StructureKey, TranslationKey, Window};
-use pg_inval::Tally;
+use pg_inval::{Space, Tally, structure_space, translation_space};
 use pg_timeline::{Probes, Span};
 use std::marker::Model;
 
@@ -33,13 +34,24 @@ pub struct Spell {
     pub span: Span<Control>,
 }
 
-/// A past, with words and control registers that were looked up in it. Walks read the same tables
-/// again and again, most of them at moments between which nothing was written there.
+/// The first event from a moment on at which a processor had to drop all entries of a space, if
+/// there is one.
+#[derive(Clone, Copy)]
+pub struct Stay {
+    pub space: Space,
+    pub from: u32,
+    pub first: Option<u32>,
+}
+
+/// A past, with words, control registers and drops of spaces that were looked up in it. Walks read
+/// the same tables again and again, most of them at moments between which nothing was written there;
+/// and of many entries of a PCID it is asked when they had to go, most of them all at once.
 #[derive(Drop)]
 pub struct Reader<'a> {
     past: &'a Past,
     words: Vec<Option<Word>>,
     spells: Vec<Option<Spell>>,
+    stays: Vec<Option<Stay>>,
     probes: Probes,
     /// How many entries of the log look-ups passed over.
     passed: Tally,
@@ -53,11 +65,14 @@ impl<'a> Model for Reader<'a> {
 
     ghost view = { λ r. r.past.now };
 
-    ghost invariant = { λ r. AreKnown r.past.now r.words.items r.spells.items };
+    ghost invariant = { λ r. AreKnown r.past.now r.words.items r.spells.items r.stays.items };
 }
 
 /// So many words are kept at most.
 const MOST_WORDS: usize = 2_048;
+
+/// Of so many spaces at most the next drop is kept.
+const MOST_STAYS: usize = 1_024;
 
 /// The value of a span at a moment that lies in it.
 fn value_in<V: Copy>(span: &Span<V>, moment: u32) -> Option<V>
@@ -68,6 +83,57 @@ fn value_in<V: Copy>(span: &Span<V>, moment: u32) -> Option<V>
         Some(span.value)
     } else {
         None
+    }
+}
+
+/// A number of a space: each has its own where PCIDs are below 4,096.
+fn number_of(space: Space) -> u64 {
+    match space {
+        Space::Structures { p, pcid } => (p as u64) << 16 | (pcid as u64) << 2,
+        Space::Locals { p, pcid } => (p as u64) << 16 | (pcid as u64) << 2 | 1,
+        Space::Globals { p } => (p as u64) << 16 | 2,
+    }
+}
+
+/// Whether two spaces are the same.
+#[inline(always)]
+fn is_same(one: Space, other: Space) -> bool
+    ensures { IsTrue result → one ≡ other }
+{
+    match (one, other) {
+        (Space::Structures { p, pcid }, Space::Structures { p: q, pcid: id }) => {
+            p == q && pcid == id
+        }
+        (Space::Locals { p, pcid }, Space::Locals { p: q, pcid: id }) => p == q && pcid == id,
+        (Space::Globals { p }, Space::Globals { p: q }) => p == q,
+        _ => false,
+    }
+}
+
+/// Whether what is kept of a space tells what it is from a moment on: it was asked from an earlier
+/// one on, and nothing happened between.
+#[inline(always)]
+fn lies_before(stay: &Stay, from: u32) -> bool
+    ensures { IsTrue result → (test : ℕ → Bool) (to : ℕ) →
+        IsLeastBetween test stay.now.from to stay.now.first →
+        IsLeastBetween test from to stay.now.first }
+{
+    stay.from <= from
+        && match stay.first {
+            Some(first) => from <= first,
+            None => true,
+        }
+}
+
+/// The first event, where it is below another.
+#[inline(always)]
+fn below(first: Option<u32>, to: u32) -> Option<u32>
+    ensures { (test : ℕ → Bool) (from : ℕ) → IsLeastBetween test from (2 ^ 32 - 1) first →
+        IsLeastBetween test from to result }
+{
+    match first {
+        Some(number) => if number < to { first } else { None },
+        None => None,
     }
 }
 
@@ -91,6 +157,10 @@ impl<'a> Reader<'a> {
                 Ok(spells) => spells,
                 Err(_) => Vec::new(past.alloc),
             },
+            stays: match Vec::from_elem(past.alloc, None, words.min(MOST_STAYS)) {
+                Ok(stays) => stays,
+                Err(_) => Vec::new(past.alloc),
+            },
             probes: Probes::new(),
             passed: Tally::NONE,
         }
@@ -105,6 +175,7 @@ impl<'a> Reader<'a> {
             past,
             words: Vec::new(past.alloc),
             spells: Vec::new(past.alloc),
+            stays: Vec::new(past.alloc),
             probes: Probes::new(),
             passed: Tally::NONE,
         }
@@ -253,6 +324,90 @@ impl<'a> Reader<'a> {
         }
     }
 
+    /// When all of a space had to go from a moment on, where a place has it.
+    #[inline(always)]
+    fn known_drop(&self, place: usize, space: Space, from: u32) -> Option<Option<u32>>
+        ensures { IfSome result
+            (λ first. IsSpaceDrop self.now.drops space from (2 ^ 32 - 1) first) }
+    {
+        match self.stays.get(place)? {
+            Some(stay) => if is_same(stay.space, space) && lies_before(stay, from) {
+                Some(stay.first)
+            } else {
+                None
+            },
+            None => None,
+        }
+    }
+
+    /// Keeps when all of a space had to go at a place, where there is one.
+    fn keep_stay(&mut self, place: usize, stay: Stay)
+        requires { IsStay self.old stay }
+        ensures { self.new ≡ self.old }
+    {
+        if place < self.stays.len() {
+            self.stays[place] = Some(stay);
+        }
+    }
+
+    /// The first event from a moment on at which a processor had to drop all of a space.
+    fn space_drop(&mut self, space: Space, from: u32) -> Option<u32>
+        ensures past { self.new ≡ self.old }
+        ensures drop { IsSpaceDrop self.old.drops space from (2 ^ 32 - 1) result }
+    {
+        let place = place_among(self.stays.len(), number_of(space));
+        match self.known_drop(place, space, from) {
+            Some(first) => first,
+            None => {
+                let window = Window { from, to: u32::MAX };
+                let drops = &self.past.drops;
+                let first = drops.first_drop_of_space(space, window, &mut self.probes);
+                self.keep_stay(place, Stay { space, from, first });
+                first
+            }
+        }
+    }
+
+    /// Whether a paging-structure-cache entry survives on a processor in a window: where there is
+    /// room for it, by what is kept of the entry's space.
+    fn survives_in(&mut self, p: u16, key: StructureKey, window: Window) -> bool
+        requires { IsTableLevel key.level }
+        ensures past { self.new ≡ self.old }
+        ensures run { InEachRun self.old (λ head events.
+            result ≡ survives head events p
+            (λ c e. must_drop_structure c e key) window.from window.to) }
+    {
+        if self.stays.is_empty() {
+            return self
+                .past
+                .structure_survives_counted(p, key, window, &mut self.probes);
+        }
+        let all = self.space_drop(structure_space(p, key), window.from);
+        let found = below(all, window.to);
+        let drops = &self.past.drops;
+        !drops.structure_dropped_beside(p, key, window, found, &mut self.probes)
+    }
+
+    /// The first event from this moment on at which a processor had to drop a translation: where
+    /// there is room for it, by what is kept of the translation's space.
+    fn first_drop_from(&mut self, p: u16, key: TranslationKey, from: u32) -> Option<u32>
+        requires { IsPageShift key.shift }
+        ensures past { self.new ≡ self.old }
+        ensures run { InEachRun self.old (λ head events. IsFirstDrop
+            (λ a b. not (survives head events p (λ c e. must_drop_translation c e key) a b))
+            from (2 ^ 32 - 1) result) }
+    {
+        if self.stays.is_empty() {
+            return self
+                .past
+                .first_drop_of_translation(p, key, from, &mut self.probes);
+        }
+        let found = self.space_drop(translation_space(p, key), from);
+        let window = Window { from, to: u32::MAX };
+        let drops = &self.past.drops;
+        drops.first_drop_of_translation_beside(p, key, window, found, &mut self.probes)
+    }
+
     /// Whether a paging-structure-cache entry survives on a processor in a window.
     pub(crate) fn structure_survives(&mut self, p: u16, key: StructureKey, window: Window) -> bool
         requires { IsTableLevel key.level }
@@ -262,8 +417,7 @@ impl<'a> Reader<'a> {
             (λ c e. must_drop_structure c e key) window.from window.to) }
     {
         let before = self.probes.entries();
-        let probes = &mut self.probes;
-        let survives = self.past.structure_survives_counted(p, key, window, probes);
+        let survives = self.survives_in(p, key, window);
         let passed = self.probes.entries().saturating_sub(before);
         self.passed.regions = self.passed.regions.saturating_add(passed);
         survives
@@ -283,8 +437,7 @@ impl<'a> Reader<'a> {
             from (2 ^ 32 - 1) result) }
     {
         let before = self.probes.entries();
-        let probes = &mut self.probes;
-        let first = self.past.first_drop_of_translation(p, key, from, probes);
+        let first = self.first_drop_from(p, key, from);
         let passed = self.probes.entries().saturating_sub(before);
         self.pass_for(key, passed);
         first

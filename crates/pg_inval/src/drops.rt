@@ -1,5 +1,5 @@
 ghost use Rattle.std.specs.Prelude.{◌≡◌, ◌+◌, ◌<◌, ◌≤◌, not, List, [], ◌∷◌, ◌++◌, length};
-ghost use Rattle.std.specs.Prelude.{IsOk, OnOk, OnErr, ℕ, IsTrue, false, true};
+ghost use Rattle.std.specs.Prelude.{IsOk, OnOk, OnErr, ℕ, Bool, IsTrue, false, true, ◌||◌};
 ghost use Rattle.pg_event.specs.declared.event.Event.{Event};
 ghost use Rattle.pg_event.specs.Form.{processor_of};
 ghost use Rattle.pg_event.specs.Heads.{Head};
@@ -11,13 +11,15 @@ ghost use Rattle.pg_entry.specs.Kinds.{IsPageShift};
 ghost use Rattle.pg_inval.specs.Drops.{Structure, Translation, IsTableLevel, DropsNothing};
 ghost use Rattle.pg_inval.specs.Drops.{next_moment, is_dropped, IsNoted, IsSame, IsCutAt};
 ghost use Rattle.pg_inval.specs.Drops.{StandsFor};
-ghost use Rattle.pg_inval.specs.Lists.{IsFirstDrop};
+ghost use Rattle.pg_inval.specs.Lists.{IsFirstDrop, IsLeastBetween, has_drop};
+ghost use Rattle.pg_inval.specs.Spaces.{IsSpaceDrop, structure_space, translation_space};
 
 use crate::key::{DropKey, global_at, local_at, structure_at, structure_keys, translation_keys};
 use crate::lasts::Lasts;
 use crate::listed::Listed;
 use crate::log::{LogEntry, forget_entries};
 use crate::packed::pack;
+use crate::space::{Space, own_key, space_keys};
 use crate::tally::Tally;
 use pg_entry::Level;
 use pg_event::{
@@ -405,5 +407,105 @@ impl Drops {
         let log = self.log.as_slice();
         self.listed
             .first_between(&self.lasts, log, keys.as_slice(), window, probes)
+    }
+
+    /// The least moment of a window at which all entries of a space had to go. It counts the moments
+    /// that were read.
+    pub fn first_drop_of_space(
+        &self,
+        space: Space,
+        window: Window,
+        probes: &mut Probes,
+    ) -> Option<u32>
+        ensures { IsSpaceDrop self.now space window.from window.to result }
+    {
+        let keys = space_keys(space);
+        let log = self.log.as_slice();
+        self.listed
+            .first_among(&self.lasts, log, keys.as_slice(), window, probes)
+    }
+
+    /// The least moment of a window at which a key was dropped, or else one at which something else
+    /// happened first, where that is known.
+    fn beside(
+        &self,
+        key: DropKey,
+        window: Window,
+        found: Option<u32>,
+        probes: &mut Probes,
+    ) -> Option<u32>
+        ensures { (test : ℕ → Bool) → IsLeastBetween test window.from window.to found →
+            IsLeastBetween (λ j. test j || has_drop self.now.entries key j)
+            window.from window.to result }
+    {
+        let left = Window {
+            to: found.unwrap_or(window.to),
+            ..window
+        };
+        let log = self.log.as_slice();
+        self.listed
+            .first_at(&self.lasts, log, key, left, probes)
+            .or(found)
+    }
+
+    /// Whether processor `p` had to drop a paging-structure-cache entry in a window, where it is
+    /// known when all of its space had to go.
+    pub fn structure_dropped_beside(
+        &self,
+        p: u16,
+        key: StructureKey,
+        window: Window,
+        found: Option<u32>,
+        probes: &mut Probes,
+    ) -> bool
+        requires level { IsTableLevel key.level }
+        requires found { IsSpaceDrop self.now (structure_space p key) window.from window.to found }
+        ensures value { result ≡ is_dropped self.now p (Structure key) window.from window.to }
+        ensures run { (head : Head) (events : List Event) → StandsFor self.now head events →
+            result ≡ not (survives head events p
+            (λ c e. must_drop_structure c e key) window.from window.to) }
+    {
+        self.first_drop_of_structure_beside(p, key, window, found, probes)
+            .is_some()
+    }
+
+    /// The least moment of a window at which processor `p` had to drop a paging-structure-cache
+    /// entry, where it is known when all of its space had to go.
+    fn first_drop_of_structure_beside(
+        &self,
+        p: u16,
+        key: StructureKey,
+        window: Window,
+        found: Option<u32>,
+        probes: &mut Probes,
+    ) -> Option<u32>
+        requires level { IsTableLevel key.level }
+        requires found { IsSpaceDrop self.now (structure_space p key) window.from window.to found }
+        ensures { IsFirstDrop
+            (is_dropped self.now p (Structure key)) window.from window.to result }
+    {
+        self.beside(structure_at(p, key), window, found, probes)
+    }
+
+    /// The same of a translation.
+    pub fn first_drop_of_translation_beside(
+        &self,
+        p: u16,
+        key: TranslationKey,
+        window: Window,
+        found: Option<u32>,
+        probes: &mut Probes,
+    ) -> Option<u32>
+        requires shift { IsPageShift key.shift }
+        requires found { IsSpaceDrop self.now
+            (translation_space p key) window.from window.to found }
+        ensures first { IsFirstDrop
+            (is_dropped self.now p (Translation key)) window.from window.to result }
+        ensures run { (head : Head) (events : List Event) → StandsFor self.now head events →
+            IsFirstDrop
+            (λ a b. not (survives head events p (λ c e. must_drop_translation c e key) a b))
+            window.from window.to result }
+    {
+        self.beside(own_key(p, key), window, found, probes)
     }
 }

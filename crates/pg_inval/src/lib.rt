@@ -10,7 +10,9 @@ mod listed;
 mod lists;
 mod log;
 mod packed;
+mod space;
 mod tally;
 
 pub use drops::Drops;
+pub use space::{Space, structure_space, translation_space};
 pub use tally::Tally;

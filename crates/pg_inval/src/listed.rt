@@ -104,7 +104,7 @@ impl Listed {
 
     /// The least moment of a key in a window. Where its last moment is before the window, neither
     /// its list nor the log is looked at.
-    fn first_at(
+    pub(crate) fn first_at(
         &self,
         lasts: &Lasts,
         log: &[LogEntry],
@@ -132,7 +132,7 @@ impl Listed {
 
     /// The least moment of some keys in a window. A moment that was found ends the search of the
     /// keys after it: only an earlier one is of use.
-    fn first_among(
+    pub(crate) fn first_among(
         &self,
         lasts: &Lasts,
         log: &[LogEntry],

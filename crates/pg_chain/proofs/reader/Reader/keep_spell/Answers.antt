@@ -11,4 +11,5 @@ invariant_of-self c =
       values = c.self.invariant.values;
       controls = all_set (IfKept (IsSpell r.past.now)) r.spells.items c.args.spell.p (Some c.args.spell) c.self.invariant.controls
           (subst (λ (x : Past). IsSpell x c.args.spell) (sym c.self.view_is) c.requires);
+      drops = c.self.invariant.drops;
     }

@@ -11,4 +11,5 @@ invariant_of-self c =
       values = all_set (IfKept (IsWord r.past.now)) r.words.items c.args.place (Some c.args.word) c.self.invariant.values
           (subst (λ (x : Past). IsWord x c.args.word) (sym c.self.view_is) c.requires);
       controls = c.self.invariant.controls;
+      drops = c.self.invariant.drops;
     }

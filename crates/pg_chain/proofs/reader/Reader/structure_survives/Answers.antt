@@ -1,8 +1,4 @@
-use Rattle.std.proofs.Common.{sym, subst}
-use Rattle.pg_chain.specs.declared.past.Past.{Past}
-use Rattle.pg_chain.specs.Standing.{IsPast}
 use Rattle.pg_chain.proofs.reader.Reader.structure_survives.Goals as goal
 
 pub returns-clause-run : goal.returns-clause-run
-returns-clause-run c = λ head events h.
-    c.structure_survives_counted-survives.ensures.run head events (subst (λ (x : Past). IsPast x head events) (sym c.self.view_is) h)
+returns-clause-run c = λ head events h. c.survives_in-survives.ensures.run head events h
