@@ -6,6 +6,7 @@ ghost use Rattle.pg_plan.specs.Making.{IsLine, IsLineOf, IsOption};
 ghost use Rattle.pg_plan.specs.Commands.{bare_line, plain_line, check_line, certify_line};
 ghost use Rattle.pg_plan.specs.Commands.{run_line, show_line, explain_line, command_line};
 ghost use Rattle.pg_plan.specs.Commands.{merge_line, error_rule, logs_rule};
+ghost use Rattle.pg_plan.specs.Commands.{judging_line, running_line, telling_line, filter_line};
 ghost use Rattle.pg_plan.specs.Commands.{file_rule, value_rule, switch_rule, checkers_rule};
 ghost use Rattle.pg_plan.specs.Commands.{number_rule, cpu_rule, most_rule, with_progress};
 
@@ -164,7 +165,8 @@ fn with_command<'a>(
     ensures { (app own : App) → IsLine app line.entry → IsLine own command.entry →
         IsLine (with_subcommand app own.top) result }
 {
-    line?.subcommand(command?)
+    let command = command?;
+    line?.subcommand(command)
 }
 
 /// A switch behind `--` and its name.
@@ -300,13 +302,20 @@ fn run_line<'a>(alloc: Global) -> Result<CommandLine<'a>, AllocError>
     with_progress(alloc, line, RECORDED_ABOUT)
 }
 
-fn show_line<'a>(alloc: Global) -> Result<CommandLine<'a>, AllocError>
-    ensures { IsLine show_line result }
+/// `show` with what is asked of the events themselves.
+fn filter_line<'a>(alloc: Global) -> Result<CommandLine<'a>, AllocError>
+    ensures { IsLine filter_line result }
 {
     let line = new_line(alloc, SHOW, SHOW_ABOUT);
     let line = with_option(line, cpu_option(alloc));
     let line = with_option(line, value_option(alloc, PAGE, "HEX", PAGE_ABOUT));
-    let line = with_option(line, value_option(alloc, WORD, "HEX", WORD_ABOUT));
+    with_option(line, value_option(alloc, WORD, "HEX", WORD_ABOUT))
+}
+
+fn show_line<'a>(alloc: Global) -> Result<CommandLine<'a>, AllocError>
+    ensures { IsLine show_line result }
+{
+    let line = filter_line(alloc);
     let line = with_option(line, number_option(alloc, FROM, "A", FROM_ABOUT));
     let line = with_option(line, number_option(alloc, TO, "B", TO_ABOUT));
     let line = with_option(line, switch(alloc, JSON, JSON_LINES_ABOUT));
@@ -332,17 +341,37 @@ fn merge_line<'a>(alloc: Global) -> Result<CommandLine<'a>, AllocError>
     with_option(line, logs_option(alloc))
 }
 
+/// The commands that judge a record.
+fn judging_line<'a>(alloc: Global) -> Result<CommandLine<'a>, AllocError>
+    ensures { IsLine judging_line result }
+{
+    let line = with_command(Ok(bare_line(alloc)), check_line(alloc));
+    with_command(line, certify_line(alloc))
+}
+
+/// And those that have to do with runs.
+fn running_line<'a>(alloc: Global) -> Result<CommandLine<'a>, AllocError>
+    ensures { IsLine running_line result }
+{
+    let line = with_command(judging_line(alloc), run_line(alloc));
+    with_command(line, plain_line(alloc, RUN_OF, RUN_OF_ABOUT))
+}
+
+/// And those that say more of a record.
+fn telling_line<'a>(alloc: Global) -> Result<CommandLine<'a>, AllocError>
+    ensures { IsLine telling_line result }
+{
+    let line = with_command(running_line(alloc), explain_line(alloc));
+    with_command(line, show_line(alloc))
+}
+
 /// The whole command line.
 pub(crate) fn command_line<'a>(alloc: Global) -> Result<CommandLine<'a>, AllocError>
     ensures { IsLine command_line result }
 {
-    let line = Ok(bare_line(alloc));
-    let line = with_command(line, check_line(alloc));
-    let line = with_command(line, certify_line(alloc));
-    let line = with_command(line, run_line(alloc));
-    let line = with_command(line, plain_line(alloc, RUN_OF, RUN_OF_ABOUT));
-    let line = with_command(line, explain_line(alloc));
-    let line = with_command(line, show_line(alloc));
-    let line = with_command(line, plain_line(alloc, UPGRADE, UPGRADE_ABOUT));
+    let line = with_command(
+        telling_line(alloc),
+        plain_line(alloc, UPGRADE, UPGRADE_ABOUT),
+    );
     with_command(line, merge_line(alloc))
 }

@@ -1,6 +1,6 @@
 //! What the words of a command line ask for.
 
-ghost use Rattle.std.specs.Prelude.{◌≡◌, ◌⊎◌, ℕ, List, Option, IfOk, IfErr};
+ghost use Rattle.std.specs.Prelude.{◌≡◌, ◌⊎◌, ℕ, List, Option, Some, IfOk, IfErr};
 ghost use Rattle.std.specs.Prelude.{option_map, map};
 ghost use Rattle.clap.specs.Values.{kind_of};
 ghost use Rattle.clap.specs.Simple.{subcommand_of, subcommand_rows_of};
@@ -281,6 +281,52 @@ fn fault(alloc: Global, text: &str) -> Usage
     }
 }
 
+/// The matches of words that `clap` takes.
+fn matches_of<'a>(alloc: Global, words: &'a [&'a str]) -> Result<ArgMatches<'a>, Usage>
+    ensures taken { IfOk result (λ _. AreTaken (texts words.now)) }
+    ensures rows { IfOk result (λ matches. subcommand_rows_of matches
+        ≡ subcommand_of command_line (texts words.now)) }
+    ensures memory { IfErr result (λ why. AreTaken (texts words.now) → why ≡ Usage.Memory) }
+    ensures help { IfErr result (λ why. AsksHelp (texts words.now) → ¬ IsFault why) }
+    ensures help_named { IfErr result (λ why. IsHelp why → NamesHelp (texts words.now)) }
+    ensures version { IfErr result (λ why. AsksVersion (texts words.now) → ¬ IsFault why) }
+    ensures version_named { IfErr result (λ why. IsVersion why → NamesVersion (texts words.now)) }
+    ensures version_text { IfErr result HasVersionText }
+{
+    let Ok(line) = command_line(alloc) else {
+        return Err(Usage::Memory);
+    };
+    match line.try_get_matches_from(words) {
+        Ok(matches) => Ok(matches),
+        Err(error) => Err(usage_of(alloc, error)),
+    }
+}
+
+/// What the matches ask for, of which files.
+fn asked_by<'a>(alloc: Global, matches: &ArgMatches<'a>) -> Result<Invocation<'a>, Usage>
+    ensures plan { IfOk result (λ asked.
+        Reads (Some asked.plan) (IsPlanOf (subcommand_rows_of matches.now))) }
+    ensures file { IfOk result (λ asked. option_map (λ s. s.now) asked.file
+        ≡ file_in (subcommand_rows_of matches.now)) }
+    ensures logs { IfOk result (λ asked. map (λ s. s.now) asked.logs.items
+        ≡ logs_in (subcommand_rows_of matches.now)) }
+    ensures memory { IfErr result (λ why. (plan : Planned) →
+        IsPlanOf (subcommand_rows_of matches.now) plan → why ≡ Usage.Memory) }
+    ensures wrong { IfErr result (TellsWrong (subcommand_rows_of matches.now)) }
+{
+    let Some(plan) = plan_of(matches) else {
+        return Err(fault(alloc, wrong_with(matches)));
+    };
+    match logs_of(alloc, matches) {
+        Ok(logs) => Ok(Invocation {
+            plan,
+            file: file_of(matches),
+            logs,
+        }),
+        Err(_) => Err(Usage::Memory),
+    }
+}
+
 /// Reads the words after the program's name.
 pub fn plan<'a>(alloc: Global, words: &'a [&'a str]) -> Result<Invocation<'a>, Usage>
     ensures asked { IfOk result (λ asked. AsksOnly (texts words.now) asked.plan
@@ -297,22 +343,6 @@ pub fn plan<'a>(alloc: Global, words: &'a [&'a str]) -> Result<Invocation<'a>, U
     ensures wrong { IfErr result (λ why. AreTaken (texts words.now) →
         TellsWrong (subcommand_of command_line (texts words.now)) why) }
 {
-    let line = match command_line(alloc) {
-        Ok(line) => line,
-        Err(_) => return Err(Usage::Memory),
-    };
-    match line.try_get_matches_from(words) {
-        Ok(matches) => match plan_of(&matches) {
-            Some(plan) => match logs_of(alloc, &matches) {
-                Ok(logs) => Ok(Invocation {
-                    plan,
-                    file: file_of(&matches),
-                    logs,
-                }),
-                Err(_) => Err(Usage::Memory),
-            },
-            None => Err(fault(alloc, wrong_with(&matches))),
-        },
-        Err(error) => Err(usage_of(alloc, error)),
-    }
+    let matches = matches_of(alloc, words)?;
+    asked_by(alloc, &matches)
 }

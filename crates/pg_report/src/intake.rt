@@ -1,6 +1,7 @@
 //! Whole records, from any source.
 
-ghost use Rattle.std.specs.Prelude.{◌≡◌, ◌≢◌, ℕ, List, Option, Ok, Err, IfSome, IfOk, IfErr, OnOk};
+ghost use Rattle.std.specs.Prelude.{◌≡◌, ◌≢◌, [], ℕ, List, Option, Ok, Err, IfSome, IfOk, IfErr};
+ghost use Rattle.std.specs.Prelude.{OnOk};
 ghost use Rattle.pg_event.specs.Spelling.{IsHead};
 ghost use Rattle.pg_codec.specs.declared.stage.Stage.TheVariants.{Start};
 ghost use Rattle.pg_codec.specs.Reads.{Pulls};
@@ -86,6 +87,51 @@ fn read_rest<R: Source>(
     unreachable!()
 }
 
+/// Reads what is left of a record behind its header.
+fn read_behind<R: Source>(
+    alloc: Global,
+    reader: &mut RecordReader,
+    source: &mut R,
+    header: Header,
+) -> Result<History, AuditError>
+    requires head { IsHead header }
+    requires going { (newest : Version) × (start : Option (List ℕ)) × (f : ℕ)
+        × IsGoing R.Source newest start f
+        (reader.old.unread, source.old) reader.old.stage (record { head = header; events = [] }) 0 }
+    ensures reads { (newest : Version) (start : Option (List ℕ)) (f : ℕ) →
+        IsGoing R.Source newest start f (reader.old.unread, source.old) reader.old.stage
+        (record { head = header; events = [] }) 0 →
+        IfSome start (λ bytes. ReadsRecord newest bytes result) }
+    ensures device { (newest : Version) (start : Option (List ℕ)) (f : ℕ) →
+        IsGoing R.Source newest start f (reader.old.unread, source.old) reader.old.stage
+        (record { head = header; events = [] }) 0 →
+        FailsWithDevice is_device f (R.failed source.new) result }
+{
+    let mut history = History::new(alloc, header)?;
+    match read_rest(alloc, reader, source, &mut history) {
+        Ok(()) => Ok(history),
+        Err(error) => Err(error),
+    }
+}
+
+/// Reads the record of a version up to this that a source has left, all of it, by a reader that has
+/// read nothing.
+fn read_by<R: Source>(
+    alloc: Global,
+    reader: &mut RecordReader,
+    source: &mut R,
+    newest: Version,
+) -> Result<History, AuditError>
+    requires { reader.old ≡ record { unread = []; stage = Start } }
+    ensures reads { IfSome (R.left source.old) (λ bytes. ReadsRecord newest bytes result) }
+    ensures device { TellsDevice (drawn R.Source source.old source.new) result }
+{
+    match read_header_up_to(alloc, reader, source, newest) {
+        Ok(header) => read_behind(alloc, reader, source, header),
+        Err(error) => Err(audit_error(error)),
+    }
+}
+
 /// Reads the record of a version up to this that a source has left, all of it.
 fn read_up_to<R: Source>(
     alloc: Global,
@@ -96,15 +142,7 @@ fn read_up_to<R: Source>(
     ensures device { TellsDevice (drawn R.Source source.old source.new) result }
 {
     let mut reader = RecordReader::new(alloc)?;
-    let header = match read_header_up_to(alloc, &mut reader, source, newest) {
-        Ok(header) => header,
-        Err(error) => return Err(audit_error(error)),
-    };
-    let mut history = History::new(alloc, header)?;
-    if let Err(error) = read_rest(alloc, &mut reader, source, &mut history) {
-        return Err(error);
-    }
-    Ok(history)
+    read_by(alloc, &mut reader, source, newest)
 }
 
 /// Reads the record that a source has left, all of it.

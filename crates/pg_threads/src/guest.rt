@@ -3,7 +3,7 @@
 ghost use Rattle.std.specs.Prelude.{◌≡◌, ◌⊎◌, ◌↔◌, IfOk, IfErr, Err};
 ghost use Rattle.pg_event.specs.Spelling.{IsRecord};
 ghost use Rattle.pg_pool.specs.Rounds.{AreCheckers};
-ghost use Rattle.pg_progress.specs.Seats.{counts};
+ghost use Rattle.pg_progress.specs.Seats.{counts, is_at};
 ghost use Rattle.pg_runner.specs.Runs.{record_of};
 ghost use Rattle.pg_threads.specs.Guests.{IsGuestRun};
 ghost use Rattle.pg_threads.specs.Live.{IsWant};
@@ -14,7 +14,7 @@ use crate::live_judging::LiveJudging;
 use crate::lookout::Lookout;
 use crate::processor_threads::run_processors;
 use pg_pool::{Gate, OpenGate};
-use pg_progress::{Nobody, Onlooker, Progress};
+use pg_progress::{Nobody, Onlooker, Progress, Publisher, ReadSeat};
 use pg_report::Crew;
 use pg_runner::{RunError, RunResult};
 use pg_script::Script;
@@ -25,6 +25,18 @@ use std::thread::Threads;
 /// What is judged before anything is recorded.
 fn nothing_judged(alloc: Global, script: &Script) -> Result<LiveJudging, AllocError> {
     LiveJudging::new(alloc, script.header().clone()?)
+}
+
+/// The word that tells how far a run has come, with its publisher and its one reader.
+fn told_by_one_word(alloc: Global) -> Result<(Progress, Publisher, ReadSeat), AllocError>
+    ensures publisher { IfOk result (λ r. r.1 ≡ is_at r.0 (counts 0 0)) }
+    ensures reader { IfOk result (λ r. r.2 ≡ is_at r.0 (counts 0 0)) }
+{
+    let (progress, publisher, mut seats) = Progress::open(alloc, 1)?;
+    let Some(seat) = seats.pop() else {
+        unreachable!()
+    };
+    Ok((progress, publisher, seat))
 }
 
 /// The run on a board that was opened for it.
@@ -45,6 +57,25 @@ fn run_on<R: Threads + Wait + Sync, G: Gate, H: Gate, O: Onlooker>(
         Ok(()) => ended(crew, script, shared.into_inner(), judging),
         Err(e) => Err(e),
     }
+}
+
+/// The run that an onlooker sees, before which nothing was judged.
+fn run_judged<R: Threads + Wait + Sync, G: Gate, H: Gate, O: Onlooker + Drop>(
+    crew: &Crew<'_, R, H>,
+    script: &Script,
+    gate: &G,
+    onlooker: O,
+    judging: &mut LiveJudging,
+) -> Result<RunResult, RunError>
+    requires { O.told onlooker ≡ counts 0 0 }
+    ensures ok { IfOk result (λ run. IsGuestRun script.now run) }
+    ensures formed { IfOk result (λ run. IsRecord (record_of run.trace)) }
+    ensures err { IfErr result IsWant }
+{
+    let (progress, publisher, seat) = told_by_one_word(crew.alloc)?;
+    let mut lookout = Lookout::new(&progress, seat, onlooker);
+    let board = Board::new(crew.alloc, script, publisher, &progress)?;
+    run_on(crew, script, gate, board, &mut lookout, judging)
 }
 
 /// Runs a script, each processor in a thread of its own, and has its segments judged by a crew
@@ -69,13 +100,7 @@ pub fn run_guest_followed<R: Threads + Wait + Sync, G: Gate, H: Gate, O: Onlooke
     ensures err { IfErr result IsWant }
 {
     let mut judging = nothing_judged(crew.alloc, script)?;
-    let (progress, publisher, mut seats) = Progress::open(crew.alloc, 1)?;
-    let Some(seat) = seats.pop() else {
-        unreachable!()
-    };
-    let mut lookout = Lookout::new(&progress, seat, onlooker);
-    let board = Board::new(crew.alloc, script, publisher, &progress)?;
-    run_on(crew, script, gate, board, &mut lookout, &mut judging)
+    run_judged(crew, script, gate, onlooker, &mut judging)
 }
 
 /// The same with no onlooker, by a crew of so many checkers, whose work goes through a gate.

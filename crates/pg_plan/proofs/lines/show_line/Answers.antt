@@ -2,10 +2,7 @@ use Rattle.pg_plan.proofs.lines.show_line.Goals as goal
 
 pub returns : goal.returns
 returns c =
-    let cpu = c.with_option-line.ensures _ _ c.new_line-line.ensures c.cpu_option.ensures in
-    let page = c.with_option-line-2.ensures _ _ cpu c.value_option.ensures in
-    let word = c.with_option-line-3.ensures _ _ page c.value_option-2.ensures in
-    let from = c.with_option-line-4.ensures _ _ word c.number_option.ensures in
-    let to = c.with_option-line-5.ensures _ _ from c.number_option-2.ensures in
-    let json = c.with_option-line-6.ensures _ _ to c.switch.ensures in
+    let from = c.with_option-line.ensures _ _ c.filter_line-line.ensures c.number_option.ensures in
+    let to = c.with_option-line-2.ensures _ _ from c.number_option-2.ensures in
+    let json = c.with_option-line-3.ensures _ _ to c.switch.ensures in
     c.with_option.ensures _ _ json c.file_option.ensures
