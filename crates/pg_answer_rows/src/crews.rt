@@ -100,8 +100,8 @@ fn comes(flag: &AtomicU64) -> bool {
 }
 
 impl Held {
-    /// Both came in time, ten segments came, and the first two to different workers, whichever these
-    /// are: who begins late finds that the other took segment 0 from its deque.
+    /// Both came in time, ten segments came, and the first two to different workers, whichever of
+    /// these: who begins late finds that the other took segment 0 from its deque.
     fn is_met(&self) -> bool {
         let first = self.workers[0].load(Ordering::SeqCst);
         let second = self.workers[1].load(Ordering::SeqCst);
