@@ -1,4 +1,5 @@
-//! Worked rows by the whole program, over memory.
+//! Worked rows by the whole program, over memory; and tests of what its arguments ask for, and of
+//! what it tells meanwhile.
 #![tactic(auto)]
 
 #[cfg(test)]
@@ -15,6 +16,10 @@ mod long_run;
 mod namings;
 #[cfg(test)]
 mod new_headers;
+#[cfg(test)]
+mod plans;
+#[cfg(test)]
+mod progress_lines;
 #[cfg(test)]
 mod rights;
 #[cfg(test)]
