@@ -22,7 +22,7 @@ pub record IsSpell (past : Past) (spell : Spell) : Type 0 where
   pub same : InEachRun past (λ head events. (w : ℕ) → spell.span.from ≤ w → w ≤ spell.span.to →
       control_at head events spell.p w ≡ spell.span.value)
 
--- a space is dropped first when it is said to be
+-- a stay has the first drop of its space from its moment on
 abbrev pub IsStay : Past → Stay → Type 0
 IsStay past stay = IsSpaceDrop past.drops stay.space stay.from (2 ^ 32 - 1) stay.first
 

@@ -44,8 +44,8 @@ pub struct Stay {
 }
 
 /// A past, with words, control registers and drops of spaces that were looked up in it. Walks read
-/// the same tables again and again, most of them at moments between which nothing was written there;
-/// and of many entries of a PCID it is asked when they had to go, most of them all at once.
+/// the same tables again and again, mostly at moments between which nothing was written there. Most
+/// entries of a PCID have to be dropped at one event, and a reader is asked about many of them.
 #[derive(Drop)]
 pub struct Reader<'a> {
     past: &'a Past,
@@ -71,7 +71,7 @@ impl<'a> Model for Reader<'a> {
 /// So many words are kept at most.
 const MOST_WORDS: usize = 2_048;
 
-/// Of so many spaces at most the next drop is kept.
+/// The drops of so many spaces are kept at most.
 const MOST_STAYS: usize = 1_024;
 
 /// The value of a span at a moment that lies in it.
@@ -110,8 +110,8 @@ fn is_same(one: Space, other: Space) -> bool
     }
 }
 
-/// Whether what is kept of a space tells what it is from a moment on: it was asked from an earlier
-/// one on, and nothing happened between.
+/// Whether a stay also holds from a moment on: it begins no later, and its first drop, if there is
+/// one, is not before that moment.
 #[inline(always)]
 fn lies_before(stay: &Stay, from: u32) -> bool
     ensures { IsTrue result → (test : ℕ → Bool) (to : ℕ) →
@@ -138,8 +138,8 @@ fn below(first: Option<u32>, to: u32) -> Option<u32>
 }
 
 impl<'a> Reader<'a> {
-    /// Nothing was looked up. There is room for so many words, up to a limit; where memory is
-    /// refused, each is looked up anew.
+    /// Nothing was looked up. There is room for so many words, and for the drops of as many spaces,
+    /// up to a limit each; what memory is refused for is looked up anew each time.
     pub fn new(past: &'a Past, words: usize) -> Reader<'a>
         ensures { result ≡ past.now }
     {
@@ -166,7 +166,7 @@ impl<'a> Reader<'a> {
         }
     }
 
-    /// Each word is looked up anew.
+    /// Nothing is kept: each question is looked up anew.
     #[inline(always)]
     fn without_room(past: &'a Past) -> Reader<'a>
         ensures { result ≡ past.now }
@@ -324,7 +324,8 @@ impl<'a> Reader<'a> {
         }
     }
 
-    /// When all of a space had to go from a moment on, where a place has it.
+    /// The first drop of a space from a moment on, where a place has it: `Some(None)` where there is
+    /// none.
     #[inline(always)]
     fn known_drop(&self, place: usize, space: Space, from: u32) -> Option<Option<u32>>
         ensures { IfSome result
@@ -340,7 +341,7 @@ impl<'a> Reader<'a> {
         }
     }
 
-    /// Keeps when all of a space had to go at a place, where there is one.
+    /// Keeps a stay at a place, where there is one.
     fn keep_stay(&mut self, place: usize, stay: Stay)
         requires { IsStay self.old stay }
         ensures { self.new ≡ self.old }
@@ -350,7 +351,7 @@ impl<'a> Reader<'a> {
         }
     }
 
-    /// The first event from a moment on at which a processor had to drop all of a space.
+    /// The first event from a moment on at which a processor had to drop all entries of a space.
     fn space_drop(&mut self, space: Space, from: u32) -> Option<u32>
         ensures past { self.new ≡ self.old }
         ensures drop { IsSpaceDrop self.old.drops space from (2 ^ 32 - 1) result }
@@ -368,8 +369,8 @@ impl<'a> Reader<'a> {
         }
     }
 
-    /// Whether a paging-structure-cache entry survives on a processor in a window: where there is
-    /// room for it, by what is kept of the entry's space.
+    /// Whether a paging-structure-cache entry survives on a processor in a window. A reader with
+    /// room looks up the entry's own key alone, beside the drop of its space.
     fn survives_in(&mut self, p: u16, key: StructureKey, window: Window) -> bool
         requires { IsTableLevel key.level }
         ensures past { self.new ≡ self.old }
@@ -388,8 +389,8 @@ impl<'a> Reader<'a> {
         !drops.structure_dropped_beside(p, key, window, found, &mut self.probes)
     }
 
-    /// The first event from this moment on at which a processor had to drop a translation: where
-    /// there is room for it, by what is kept of the translation's space.
+    /// The first event from this moment on at which a processor had to drop a translation. A reader
+    /// with room looks up the translation's own key alone, beside the drop of its space.
     fn first_drop_from(&mut self, p: u16, key: TranslationKey, from: u32) -> Option<u32>
         requires { IsPageShift key.shift }
         ensures past { self.new ≡ self.old }

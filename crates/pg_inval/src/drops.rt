@@ -409,15 +409,16 @@ impl Drops {
             .first_between(&self.lasts, log, keys.as_slice(), window, probes)
     }
 
-    /// The least moment of a window at which all entries of a space had to go. It counts the moments
-    /// that were read.
+    /// The least moment of a window at which all entries of a space had to be dropped. It counts the
+    /// moments that were read.
     pub fn first_drop_of_space(
         &self,
         space: Space,
         window: Window,
         probes: &mut Probes,
     ) -> Option<u32>
-        ensures { IsSpaceDrop self.now space window.from window.to result }
+        ensures first { IsSpaceDrop self.now space window.from window.to result }
+        ensures probes { (probes.old ≤ probes.new) × (probes.new ≤ probes.old + 68) }
     {
         let keys = space_keys(space);
         let log = self.log.as_slice();
@@ -425,8 +426,8 @@ impl Drops {
             .first_among(&self.lasts, log, keys.as_slice(), window, probes)
     }
 
-    /// The least moment of a window at which a key was dropped, or else one at which something else
-    /// happened first, where that is known.
+    /// The least moment of a window at which a key was dropped or something else happened, where it
+    /// is known when that happened first.
     fn beside(
         &self,
         key: DropKey,
@@ -434,9 +435,10 @@ impl Drops {
         found: Option<u32>,
         probes: &mut Probes,
     ) -> Option<u32>
-        ensures { (test : ℕ → Bool) → IsLeastBetween test window.from window.to found →
+        ensures least { (test : ℕ → Bool) → IsLeastBetween test window.from window.to found →
             IsLeastBetween (λ j. test j || has_drop self.now.entries key j)
             window.from window.to result }
+        ensures probes { (probes.old ≤ probes.new) × (probes.new ≤ probes.old + 34) }
     {
         let left = Window {
             to: found.unwrap_or(window.to),
@@ -448,8 +450,29 @@ impl Drops {
             .or(found)
     }
 
-    /// Whether processor `p` had to drop a paging-structure-cache entry in a window, where it is
-    /// known when all of its space had to go.
+    /// The least moment of a window at which processor `p` had to drop a paging-structure-cache
+    /// entry. The caller knows when all of its space had to be dropped first (`found`), so only its
+    /// own key is looked up.
+    fn first_drop_of_structure_beside(
+        &self,
+        p: u16,
+        key: StructureKey,
+        window: Window,
+        found: Option<u32>,
+        probes: &mut Probes,
+    ) -> Option<u32>
+        requires level { IsTableLevel key.level }
+        requires found { IsSpaceDrop self.now (structure_space p key) window.from window.to found }
+        ensures first { IsFirstDrop
+            (is_dropped self.now p (Structure key)) window.from window.to result }
+        ensures probes { (probes.old ≤ probes.new) × (probes.new ≤ probes.old + 34) }
+    {
+        self.beside(structure_at(p, key), window, found, probes)
+    }
+
+    /// Whether processor `p` had to drop a paging-structure-cache entry in a window. The caller
+    /// knows when all of its space had to be dropped first (`found`), so only its own key is looked
+    /// up. It counts the moments that were read.
     pub fn structure_dropped_beside(
         &self,
         p: u16,
@@ -464,30 +487,15 @@ impl Drops {
         ensures run { (head : Head) (events : List Event) → StandsFor self.now head events →
             result ≡ not (survives head events p
             (λ c e. must_drop_structure c e key) window.from window.to) }
+        ensures probes { (probes.old ≤ probes.new) × (probes.new ≤ probes.old + 34) }
     {
         self.first_drop_of_structure_beside(p, key, window, found, probes)
             .is_some()
     }
 
-    /// The least moment of a window at which processor `p` had to drop a paging-structure-cache
-    /// entry, where it is known when all of its space had to go.
-    fn first_drop_of_structure_beside(
-        &self,
-        p: u16,
-        key: StructureKey,
-        window: Window,
-        found: Option<u32>,
-        probes: &mut Probes,
-    ) -> Option<u32>
-        requires level { IsTableLevel key.level }
-        requires found { IsSpaceDrop self.now (structure_space p key) window.from window.to found }
-        ensures { IsFirstDrop
-            (is_dropped self.now p (Structure key)) window.from window.to result }
-    {
-        self.beside(structure_at(p, key), window, found, probes)
-    }
-
-    /// The same of a translation.
+    /// The least moment of a window at which processor `p` had to drop a translation. The caller
+    /// knows when all of its space had to be dropped first (`found`), so only its own key is looked
+    /// up. It counts the moments that were read.
     pub fn first_drop_of_translation_beside(
         &self,
         p: u16,
@@ -505,6 +513,7 @@ impl Drops {
             IsFirstDrop
             (λ a b. not (survives head events p (λ c e. must_drop_translation c e key) a b))
             window.from window.to result }
+        ensures probes { (probes.old ≤ probes.new) × (probes.new ≤ probes.old + 34) }
     {
         self.beside(own_key(p, key), window, found, probes)
     }

@@ -302,7 +302,7 @@ fn run_line<'a>(alloc: Global) -> Result<CommandLine<'a>, AllocError>
     with_progress(alloc, line, RECORDED_ABOUT)
 }
 
-/// `show` with what is asked of the events themselves.
+/// The line of `show` with `--cpu`, `--page` and `--word` alone.
 fn filter_line<'a>(alloc: Global) -> Result<CommandLine<'a>, AllocError>
     ensures { IsLine filter_line result }
 {
@@ -349,7 +349,7 @@ fn judging_line<'a>(alloc: Global) -> Result<CommandLine<'a>, AllocError>
     with_command(line, certify_line(alloc))
 }
 
-/// And those that have to do with runs.
+/// The same with `run` and `run-of`.
 fn running_line<'a>(alloc: Global) -> Result<CommandLine<'a>, AllocError>
     ensures { IsLine running_line result }
 {
@@ -357,7 +357,7 @@ fn running_line<'a>(alloc: Global) -> Result<CommandLine<'a>, AllocError>
     with_command(line, plain_line(alloc, RUN_OF, RUN_OF_ABOUT))
 }
 
-/// And those that say more of a record.
+/// The same with `explain` and `show`.
 fn telling_line<'a>(alloc: Global) -> Result<CommandLine<'a>, AllocError>
     ensures { IsLine telling_line result }
 {

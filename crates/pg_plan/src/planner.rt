@@ -302,7 +302,7 @@ fn matches_of<'a>(alloc: Global, words: &'a [&'a str]) -> Result<ArgMatches<'a>,
     }
 }
 
-/// What the matches ask for, of which files.
+/// What the matches ask for, with its file and its logs.
 fn asked_by<'a>(alloc: Global, matches: &ArgMatches<'a>) -> Result<Invocation<'a>, Usage>
     ensures plan { IfOk result (λ asked.
         Reads (Some asked.plan) (IsPlanOf (subcommand_rows_of matches.now))) }

@@ -87,7 +87,7 @@ fn read_rest<R: Source>(
     unreachable!()
 }
 
-/// Reads what is left of a record behind its header.
+/// The history of a record whose header was read: reads what is left of the record.
 fn read_behind<R: Source>(
     alloc: Global,
     reader: &mut RecordReader,

@@ -27,7 +27,7 @@ fn nothing_judged(alloc: Global, script: &Script) -> Result<LiveJudging, AllocEr
     LiveJudging::new(alloc, script.header().clone()?)
 }
 
-/// The word that tells how far a run has come, with its publisher and its one reader.
+/// The counts of a run at its start, with their publisher and their one reader.
 fn told_by_one_word(alloc: Global) -> Result<(Progress, Publisher, ReadSeat), AllocError>
     ensures publisher { IfOk result (λ r. r.1 ≡ is_at r.0 (counts 0 0)) }
     ensures reader { IfOk result (λ r. r.2 ≡ is_at r.0 (counts 0 0)) }
@@ -59,7 +59,7 @@ fn run_on<R: Threads + Wait + Sync, G: Gate, H: Gate, O: Onlooker>(
     }
 }
 
-/// The run that an onlooker sees, before which nothing was judged.
+/// The run that an onlooker sees, judged by what is passed in.
 fn run_judged<R: Threads + Wait + Sync, G: Gate, H: Gate, O: Onlooker + Drop>(
     crew: &Crew<'_, R, H>,
     script: &Script,

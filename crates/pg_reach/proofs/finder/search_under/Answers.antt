@@ -1,4 +1,4 @@
-use Rattle.std.proofs.Common.{ℕ, ◌+◌, min, max, List, Option, subst}
+use Rattle.std.proofs.Common.{ℕ, ◌+◌, min, max, List, Option, subst, sym}
 use Rattle.std.specs.List.{All}
 use Rattle.pg_entry.specs.declared.Level.{Level}
 use Rattle.pg_entry.specs.declared.Level.TheVariants.{Four, Three, Two, One}
@@ -61,3 +61,15 @@ returns-clause-all c =
       within = c.requires.within;
     } in
     all_under r v e since c.args.bounds lists found c.requires.well c.requires.asks whole
+
+pub end_among-one-requires-clause-each : goal.end_among-one-requires-clause-each
+end_among-one-requires-clause-each c = subst (All (IsReach c.args.view.now.run c.args.view.now.walker One)) (sym c.as_slice-4.ensures) c.in_ok-ones.ensures.each
+
+pub end_among-two-requires-clause-each : goal.end_among-two-requires-clause-each
+end_among-two-requires-clause-each c = subst (All (IsReach c.args.view.now.run c.args.view.now.walker Two)) (sym c.as_slice-5.ensures) c.in_ok-twos.ensures.each
+
+pub end_among-three-requires-clause-each : goal.end_among-three-requires-clause-each
+end_among-three-requires-clause-each c = subst (All (IsReach c.args.view.now.run c.args.view.now.walker Three)) (sym c.as_slice-6.ensures) c.in_ok-threes.ensures.each
+
+pub end_among-four-requires-clause-each : goal.end_among-four-requires-clause-each
+end_among-four-requires-clause-each c = subst (All (IsReach c.args.view.now.run c.args.view.now.walker Four)) (sym c.as_slice-7.ensures) c.in_ok-fours.ensures.each

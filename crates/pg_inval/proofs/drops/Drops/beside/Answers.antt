@@ -5,8 +5,8 @@ use Rattle.pg_inval.specs.Lists.{Log, IsLeastBetween, has_drop}
 use Rattle.pg_inval.proofs.AnyFrom.{IsLeastBetween-both}
 use Rattle.pg_inval.proofs.drops.Drops.beside.Goals as goal
 
-pub returns : goal.returns
-returns c = λ test found.
+pub returns-clause-least : goal.returns-clause-least
+returns-clause-least c = λ test found.
     let a = c.args in
     let same : c.as_slice-log.result.now ≡ a.self.now.entries = c.as_slice-log.ensures.value ∙ ap (λ (d : Log). d.entries) c.self.view_is in
     rw c.or.ensures

@@ -16,7 +16,7 @@ returns-clause-first c =
     IsFirstDrop-least (has_among log (translation_keys a.p a.key)) a.window.from a.window.to c.beside.result
     (IsLeastBetween-same _ (has_among log (translation_keys a.p a.key)) a.window.from a.window.to c.beside.result (λ j low. translation-beside log a.p a.key j)
     (subst (λ (k : DropKey). IsLeastBetween (λ j. has_among log (space_keys (translation_space a.p a.key)) j || has_drop log k j) a.window.from a.window.to c.beside.result)
-    c.own_key.ensures (c.beside.ensures (has_among log (space_keys (translation_space a.p a.key))) c.requires.found)))
+    c.own_key.ensures (c.beside.ensures.least (has_among log (space_keys (translation_space a.p a.key))) c.requires.found)))
 
 pub returns-clause-run : goal.returns-clause-run
 returns-clause-run c = λ head events stands.

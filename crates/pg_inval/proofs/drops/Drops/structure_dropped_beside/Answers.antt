@@ -8,7 +8,7 @@ pub returns-clause-value : goal.returns-clause-value
 returns-clause-value c =
     let x = Structure c.args.key in
     c.is_some.ensures
-    ∙ is_some-dropped (has_among c.args.self.now.entries (keys_of c.args.p x)) c.args.window.from c.args.window.to c.first_drop_of_structure_beside.result c.first_drop_of_structure_beside.ensures
+    ∙ is_some-dropped (has_among c.args.self.now.entries (keys_of c.args.p x)) c.args.window.from c.args.window.to c.first_drop_of_structure_beside.result c.first_drop_of_structure_beside.ensures.first
 
 pub returns-clause-run : goal.returns-clause-run
 returns-clause-run c = λ head events stands.
