@@ -14,6 +14,7 @@ ghost use Rattle.pg_check.specs.Judging.{Awaits, IsFound, IsJudged, MayFollow};
 ghost use Rattle.pg_check.specs.Remembered.{HaveWalks};
 ghost use Rattle.pg_check.specs.Stretches.{IsStretch};
 
+use crate::ahead::{AHEAD, look_ahead};
 use crate::places::Kept;
 use crate::stretch::Stretch;
 use crate::tip::failing_next;
@@ -139,13 +140,25 @@ impl Judged {
     {
         let count = self.count as u32;
         let bad = self.first_bad;
-        for event in events {
+        for (i, event) in events.iter().enumerate() {
+            self.look_ahead(events, i);
             if let Err(refused) = self.judge_next(event) {
                 self.go_back(count, bad);
                 return Err(refused);
             }
         }
         Ok(())
+    }
+
+    /// Before every so many events, reads what these will ask for. `i` is the index of the next.
+    #[inline(always)]
+    fn look_ahead(&mut self, events: &[Event], i: usize)
+        ensures { self.new ≡ self.old }
+    {
+        if i % AHEAD == 0 && i < events.len() {
+            let end = i.saturating_add(AHEAD).min(events.len());
+            look_ahead(&self.past, &mut self.kept, &events[i..end]);
+        }
     }
 
     /// Judges the event that comes next, unless one before it is bad, and notes it. Fails where

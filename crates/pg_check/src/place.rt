@@ -79,4 +79,11 @@ impl Place {
             Some(&self.slot)
         }
     }
+
+    /// What both ends of its slot have, as one number, also where it has no walk: whoever asks has
+    /// read both lines of the cache that the slot stands in.
+    #[inline(always)]
+    pub(crate) fn ends(&self) -> u64 {
+        self.slot.page ^ self.slot.address
+    }
 }

@@ -21,6 +21,9 @@ pub struct Kept {
     pub stems: Vec<Option<Stem>>,
     /// How many entries of the log look-ups passed over since lists of their kind were made.
     pub passed: Tally,
+    /// What was read ahead, as one number. Nothing asks for it; but a reading that nothing uses is
+    /// left out by the compiler.
+    pub seen: u64,
 }
 
 impl Kept {
@@ -34,6 +37,7 @@ impl Kept {
             made: 0,
             stems: Vec::new(alloc),
             passed: Tally::NONE,
+            seen: 0,
         }
     }
 
@@ -46,6 +50,7 @@ impl Kept {
             made: 0,
             stems: Vec::new(alloc),
             passed: Tally::NONE,
+            seen: 0,
         }
     }
 
@@ -174,7 +179,7 @@ const MOST_FIRST_SLOTS: usize = 32_768;
 const MOST_FOR_EACH: usize = 4_096;
 
 /// There may be so many in the end, however few processors there are.
-const MOST_KEPT_SLOTS: usize = 65_536;
+pub(crate) const MOST_KEPT_SLOTS: usize = 65_536;
 
 /// There are never more, however many processors there are.
 const MOST_OF_ALL: usize = 131_072;

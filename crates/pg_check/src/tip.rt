@@ -166,6 +166,7 @@ fn failing_by_past(past: &Past, kept: &mut Kept, number: u32, event: &Event) -> 
         made: kept.made,
         stems: Vec::new(past.alloc),
         passed: Tally::NONE,
+        seen: 0,
     };
     let mut memo = Memo::at_tip(past, own, number);
     let found = failing(&mut memo, number, event);
