@@ -324,8 +324,8 @@ impl<'a> Reader<'a> {
         }
     }
 
-    /// The first drop of a space from a moment on, where a place has it: `Some(None)` where there is
-    /// none.
+    /// The first drop of a space from a moment on, where a place has it: `Some(None)` where there
+    /// is none.
     #[inline(always)]
     fn known_drop(&self, place: usize, space: Space, from: u32) -> Option<Option<u32>>
         ensures { IfSome result

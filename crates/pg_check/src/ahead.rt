@@ -3,12 +3,15 @@
 ghost use Rattle.std.specs.Prelude.{◌≡◌};
 
 use crate::place::Place;
-use crate::places::{Kept, MOST_KEPT_SLOTS, page_of, place_of};
+use crate::places::{Kept, page_of, place_of};
 use pg_chain::Past;
 use pg_event::{Event, MemoryChange, Moments, Request, processor_of};
 
 /// It is read for so many events at once.
 pub(crate) const AHEAD: usize = 32;
+
+/// It is read where there are more slots than this: fewer stay in caches near enough.
+const NEAR_SLOTS: usize = 65_536;
 
 /// The PCID of a processor after all events that were noted, if there is such a processor.
 #[inline(always)]
@@ -63,7 +66,7 @@ pub(crate) fn look_ahead(past: &Past, kept: &mut Kept, events: &[Event])
     ensures slots { kept.new.slots ≡ kept.old.slots }
     ensures stems { kept.new.stems ≡ kept.old.stems }
 {
-    if kept.slots.len() > MOST_KEPT_SLOTS {
+    if kept.slots.len() > NEAR_SLOTS {
         kept.seen ^= read_for(past, kept.slots.as_slice(), events);
     }
 }

@@ -179,7 +179,7 @@ const MOST_FIRST_SLOTS: usize = 32_768;
 const MOST_FOR_EACH: usize = 4_096;
 
 /// There may be so many in the end, however few processors there are.
-pub(crate) const MOST_KEPT_SLOTS: usize = 65_536;
+const MOST_KEPT_SLOTS: usize = 65_536;
 
 /// There are never more, however many processors there are.
 const MOST_OF_ALL: usize = 131_072;

@@ -409,8 +409,8 @@ impl Drops {
             .first_between(&self.lasts, log, keys.as_slice(), window, probes)
     }
 
-    /// The least moment of a window at which all entries of a space had to be dropped. It counts the
-    /// moments that were read.
+    /// The least moment of a window at which all entries of a space had to be dropped. It counts
+    /// the moments that were read.
     pub fn first_drop_of_space(
         &self,
         space: Space,

@@ -20,4 +20,6 @@ mod scans;
 #[cfg(test)]
 mod spanned;
 #[cfg(test)]
+mod words;
+#[cfg(test)]
 mod written;

@@ -4,10 +4,14 @@ use Rattle.std.specs.Prelude.{List, [], ◌∷◌, ◌++◌, map, length, Some, 
 use Rattle.std.specs.Map.{lookup}
 use Rattle.std.specs.Option.{unwrap_or}
 use Rattle.pg_timeline.specs.declared.timeline.Stamp.{Stamp}
-use Rattle.pg_timeline.specs.Timelines.{cut_at}
-use Rattle.pg_timeline.specs.Keyed.{AreBelow}
-use Rattle.pg_moment.specs.declared.word.Last.{Last}
-use Rattle.pg_moment.specs.declared.word.Last.TheVariants.{Forgotten, At}
+use Rattle.pg_moment.specs.declared.log.Older.{Older}
+use Rattle.pg_moment.specs.declared.word.Others.{Others}
+use Rattle.pg_moment.specs.declared.word.Word.{Word}
+use Rattle.pg_moment.specs.Stamps.{Lists, cut_word, IsWord, Keeps, stamps_of, unwritten}
+
+-- the words of lines, by the number of the line
+abbrev pub Lines : Type 0
+Lines = List (ℕ × List Word)
 
 -- the number of the line that a word stands in
 abbrev pub line_of : ℕ → ℕ
@@ -22,49 +26,52 @@ abbrev pub addr_of : ℕ → ℕ → ℕ
 addr_of line place = line / 8 * 64 + place * 8 + line % 8
 
 -- the stamps of the words at the first so many places of a line, by address
-abbrev pub words_below : ℕ → ℕ → List (List (Stamp ℕ)) → List (ℕ × List (Stamp ℕ))
-words_below line zero words = []
-words_below line (suc n) words =
-    (addr_of line n, slice_index_or words n []) ∷ words_below line n words
+abbrev pub words_below : List Older → Lists → ℕ → ℕ → List Word → List (ℕ × List (Stamp ℕ))
+words_below log lists line zero words = []
+words_below log lists line (suc n) words =
+    (addr_of line n, stamps_of log lists (addr_of line n) (slice_index_or words n unwritten))
+    ∷ words_below log lists line n words
 
 -- the stamps of the words of all lines, by address
-abbrev pub words_of : List (ℕ × List (List (Stamp ℕ))) → List (ℕ × List (Stamp ℕ))
-words_of [] = []
-words_of (e ∷ es) = words_below e.0 8 e.1 ++ words_of es
+abbrev pub words_of : List Older → Lists → Lines → List (ℕ × List (Stamp ℕ))
+words_of log lists [] = []
+words_of log lists (e ∷ es) = words_below log lists e.0 8 e.1 ++ words_of log lists es
 
--- a line whose words have no stamps
-abbrev pub no_stamps : List (List (Stamp ℕ))
-no_stamps = [] ∷ [] ∷ [] ∷ [] ∷ [] ∷ [] ∷ [] ∷ [] ∷ []
+-- a line whose words were never written
+abbrev pub no_words : List Word
+no_words = unwritten ∷ unwritten ∷ unwritten ∷ unwritten
+    ∷ unwritten ∷ unwritten ∷ unwritten ∷ unwritten ∷ []
 
 -- the line with a number
-abbrev pub line_at : List (ℕ × List (List (Stamp ℕ))) → ℕ → List (List (Stamp ℕ))
-line_at lines k = unwrap_or (lookup (nat_eq k) lines) no_stamps
+abbrev pub line_at : Lines → ℕ → List Word
+line_at lines k = unwrap_or (lookup (nat_eq k) lines) no_words
 
--- every line has eight words
-pub record AreWhole (lines : List (ℕ × List (List (Stamp ℕ)))) : Type 0 where
+-- the word at an address
+abbrev pub word_at : Lines → ℕ → Word
+word_at lines addr = slice_index_or (line_at lines (line_of addr)) (place_of addr) unwritten
+
+-- every line has eight words, and the others of each are where it says
+pub record AreWhole (log : List Older) (lists : Lists) (lines : Lines) : Type 0 where
   pub at : (k : ℕ) → length (line_at lines k) ≡ 8
+  pub words : (addr : ℕ) → IsWord log lists addr (word_at lines addr)
 
--- a line where the word at a place has one more stamp
-abbrev pub more_at : List (List (Stamp ℕ)) → ℕ → Stamp ℕ → List (List (Stamp ℕ))
-more_at words place stamp = slice_set words place (slice_index_or words place [] ++ stamp ∷ [])
+-- a line where a word has another value
+pub record IsWritten (log : List Older) (lists : Lists) (log' : List Older) (lists' : Lists)
+    (addr : ℕ) (stamp : Stamp ℕ) (old new : List Word) : Type 0 where
+  pub others : Others
+  pub kept : Keeps log lists log' lists' addr
+      (slice_index_or old (place_of addr) unwritten) others
+  pub line : new ≡ slice_set old (place_of addr)
+      (record { value = stamp.value; moment = stamp.moment; others = others })
 
--- the word at a place of a line has one more stamp
-pub record IsAdded (old new : List (ℕ × List (List (Stamp ℕ)))) (line place : ℕ)
-    (stamp : Stamp ℕ) : Type 0 where
+-- the word at an address has one more stamp
+pub record IsAdded (log : List Older) (lists : Lists) (log' : List Older) (lists' : Lists)
+    (addr : ℕ) (stamp : Stamp ℕ) (old new : Lines) : Type 0 where
+  pub words : List Word
+  pub written : IsWritten log lists log' lists' addr stamp (line_at old (line_of addr)) words
   pub at : (k : ℕ) → lookup (nat_eq k) new
-      ≡ (if nat_eq line k then Some (more_at (line_at old line) place stamp)
-      else lookup (nat_eq k) old)
+      ≡ (if nat_eq (line_of addr) k then Some words else lookup (nat_eq k) old)
 
--- each word's stamps below a moment
-abbrev pub cut_each : ℕ → List (ℕ × List (List (Stamp ℕ))) → List (ℕ × List (List (Stamp ℕ)))
-cut_each moment lines = map (λ e. (e.0, map (cut_at moment) e.1)) lines
-
--- the last stamp of a word as a list, if it stands by itself
-abbrev pub last_of : Last → List (Stamp ℕ)
-last_of Forgotten = []
-last_of (At moment value) = record { moment = moment; value = value } ∷ []
-
--- the other stamps of a word are earlier than the last, if that stands by itself
-abbrev pub AreEarlier : List (Stamp ℕ) → Last → Type 0
-AreEarlier stamps Forgotten = Unit {0}
-AreEarlier stamps (At moment value) = AreBelow moment stamps
+-- each word without its values from a moment on
+abbrev pub cut_each : List Older → ℕ → Lines → Lines
+cut_each log moment lines = map (λ e. (e.0, map (cut_word log moment) e.1)) lines

@@ -1,132 +1,52 @@
-//! The values of one word.
+//! The last value of a word, and where the others are.
 
-ghost use Rattle.std.specs.Prelude.{◌≡◌, ◌+◌, ◌≤◌, [], ◌∷◌, ◌++◌, OnOk, OnErr};
-ghost use Rattle.std.specs.Option.{unwrap_or};
-ghost use Rattle.pg_timeline.specs.Timelines.{last_before, cut_at, IsSpan};
-ghost use Rattle.pg_timeline.specs.Keyed.{AreBelow};
+ghost use Rattle.std.specs.Prelude.{◌≡◌};
+ghost use Rattle.pg_moment.specs.Stamps.{has_last};
 
-use pg_timeline::{Probes, Span, Timeline};
-use std::alloc::{AllocError, Global};
-use std::marker::Model;
+use std::mem::size_of;
 
-/// The values of a word, by the moments of the events that left them there. The last stands by
-/// itself: most look-ups ask of a moment behind it, and then the others are not read.
-#[derive(Drop)]
-pub(crate) struct Word {
-    last: Last,
-    /// The others; all of them, where the last was forgotten.
-    earlier: Timeline<u64>,
-}
-
-/// The last value of a word, unless there is none or it was forgotten. A line holds eight, and this
-/// takes 16 bytes where an `Option<Stamp<u64>>` takes 24.
+/// Where the values of a word but its last are.
 #[derive(Clone, Copy)]
-enum Last {
-    Forgotten,
-    At { moment: u32, value: u64 },
+pub(crate) enum Others {
+    /// The word has no value.
+    Unwritten,
+    /// `count` values are in the log, the last of them at `place`.
+    Logged { place: u32, count: u32 },
+    /// The word has a list of them.
+    Listed,
+    /// The word has a list of all its values: the last one was forgotten, so `value` and `moment`
+    /// say nothing.
+    LastForgotten,
 }
 
-impl Model for Word {
-    ghost use Rattle.std.specs.Prelude.{ℕ, List};
-    ghost use Rattle.pg_timeline.specs.declared.timeline.Stamp.{Stamp};
-
-    ghost Value = { List (Stamp ℕ) };
-
-    ghost use Rattle.std.specs.Prelude.{◌++◌};
-    ghost use Rattle.pg_moment.specs.Words.{last_of, AreEarlier};
-
-    ghost view = { λ w. w.earlier ++ last_of w.last };
-
-    ghost invariant = { λ w. AreEarlier w.earlier w.last };
+/// The last value of a word, the number of the event that left it there, and where the others are.
+/// Most look-ups ask of a moment after that event, and do not read the others.
+#[derive(Clone, Copy)]
+pub(crate) struct Word {
+    pub value: u64,
+    pub moment: u32,
+    pub others: Others,
 }
 
-impl Word {
-    /// No value.
-    pub(crate) fn new(alloc: Global) -> Word
-        ensures { result ≡ [] }
-    {
-        Word {
-            last: Last::Forgotten,
-            earlier: Timeline::new(alloc),
-        }
-    }
+/// A line has eight words, so a word must stay small.
+const _: () = prove!(size_of::<Word>() == 24);
 
-    /// Adds a value from a moment on. Fails where memory is refused, and then nothing is added.
-    pub(crate) fn push(&mut self, moment: u32, value: u64) -> Result<(), AllocError>
-        requires { AreBelow moment self.old }
-        ensures ok { OnOk result
-            (self.new ≡ self.old ++ record { moment = moment; value = value } ∷ []) }
-        ensures err { OnErr result (self.new ≡ self.old) }
-    {
-        match self.last {
-            Last::Forgotten => self.last = Last::At { moment, value },
-            Last::At {
-                moment: last,
-                value: kept,
-            } => {
-                self.earlier.push(last, kept)?;
-                self.last = Last::At { moment, value };
-            }
-        }
-        Ok(())
-    }
+/// A word that was never written.
+pub(crate) const UNWRITTEN: Word = Word {
+    value: 0,
+    moment: 0,
+    others: Others::Unwritten,
+};
 
-    /// The value of the last stamp below a moment.
+impl Others {
+    /// Whether the word has a last value.
     #[inline(always)]
-    pub(crate) fn last_before(&self, moment: u32, probes: &mut Probes) -> Option<u64>
-        ensures value { result ≡ last_before moment self.now }
-        ensures probes { (probes.old ≤ probes.new) × (probes.new ≤ probes.old + 34) }
+    pub(crate) fn have_last(self) -> bool
+        ensures { result ≡ has_last self }
     {
-        match self.last {
-            Last::At {
-                moment: last,
-                value,
-            } if last < moment => {
-                probes.tick();
-                Some(value)
-            }
-            Last::At { .. } | Last::Forgotten => self.earlier.last_before(moment, probes),
-        }
-    }
-
-    /// The value of the last stamp below a moment, or another where there is none, and the moments
-    /// around it at which it is the same.
-    pub(crate) fn span_at(&self, moment: u32, start: u64, probes: &mut Probes) -> Span<u64>
-        ensures span { IsSpan (λ w. unwrap_or (last_before w self.now) start) moment result }
-        ensures probes { (probes.old ≤ probes.new) × (probes.new ≤ probes.old + 35) }
-    {
-        let Last::At {
-            moment: last,
-            value,
-        } = self.last
-        else {
-            return self.earlier.span_at(moment, start, probes);
-        };
-        if last < moment {
-            probes.tick();
-            return Span {
-                value,
-                from: last + 1,
-                to: u32::MAX,
-            };
-        }
-        let span = self.earlier.span_at(moment, start, probes);
-        Span {
-            value: span.value,
-            from: span.from,
-            to: span.to.min(last),
-        }
-    }
-
-    /// Forgets the values from a moment on.
-    pub(crate) fn forget_from(&mut self, moment: u32)
-        ensures { self.new ≡ cut_at moment self.old }
-    {
-        self.earlier.forget_from(moment);
-        if let Last::At { moment: last, .. } = self.last {
-            if moment <= last {
-                self.last = Last::Forgotten;
-            }
+        match self {
+            Others::Logged { .. } | Others::Listed => true,
+            Others::Unwritten | Others::LastForgotten => false,
         }
     }
 }

@@ -1,14 +1,18 @@
 //! The values of words, by address.
 
-ghost use Rattle.std.specs.Prelude.{◌≡◌, ◌+◌, ◌≤◌, ◌<◌, nat_eq, [], OnOk, OnErr, slice_index_or};
-ghost use Rattle.std.specs.HashMap.{IsUnchanged};
+ghost use Rattle.std.specs.Prelude.{◌≡◌, ◌+◌, ◌≤◌, ◌<◌, nat_eq, List, [], None, OnOk, OnErr};
 ghost use Rattle.std.specs.Map.{lookup};
 ghost use Rattle.std.specs.Option.{unwrap_or};
 ghost use Rattle.pg_timeline.specs.Timelines.{last_before, IsSpan};
 ghost use Rattle.pg_timeline.specs.Keyed.{stamps_in, IsPushed, AreCut, AreBelow};
-ghost use Rattle.pg_moment.specs.Words.{line_of, place_of, line_at, cut_each, IsAdded};
+ghost use Rattle.pg_moment.specs.declared.log.Older.{Older};
+ghost use Rattle.pg_moment.specs.Stamps.{IsWord, Lists};
+ghost use Rattle.pg_moment.specs.Words.{AreWhole, cut_each, IsAdded, line_of, word_at};
 
-use crate::line::Line;
+use crate::line::{Line, place_of};
+use crate::lists::cut_lists;
+use crate::superseded::{Superseded, same_at_all};
+use crate::word::{Others, Word};
 use pg_timeline::{Probes, Span};
 use std::alloc::{AllocError, Global};
 use std::collections::HashMap;
@@ -19,6 +23,7 @@ use std::marker::Model;
 #[derive(Drop)]
 pub(crate) struct Words {
     lines: HashMap<u64, Line>,
+    others: Superseded,
 }
 
 impl Model for Words {
@@ -28,9 +33,10 @@ impl Model for Words {
 
     ghost Value = { List (ℕ × List (Stamp ℕ)) };
 
-    ghost view = { λ w. words_of w.lines.entries };
+    ghost view = { λ w. words_of w.others.log.items w.others.lists.entries w.lines.entries };
 
-    ghost invariant = { λ w. AreWhole w.lines.entries };
+    ghost invariant = { λ w.
+        AreWhole w.others.log.items w.others.lists.entries w.lines.entries };
 }
 
 /// The number of the line that a word stands in. Addresses that differ modulo 8 have different
@@ -42,65 +48,60 @@ fn line_of(addr: u64) -> u64
     addr / 64 * 8 + addr % 8
 }
 
-/// The place of a word in its line.
-#[inline(always)]
-fn place_of(addr: u64) -> usize
-    ensures place { result ≡ place_of addr }
-    ensures within { result < 8 }
-{
-    (addr / 8 % 8) as usize
-}
-
-/// Adds a line, whose one value is that of the word at a place. It stands by itself, since a
+/// Adds a line, whose one value is that of the word at an address. It stands by itself, since a
 /// function with a line of its own clears the room for one at each call.
 #[inline(never)]
 fn begin_at(
     lines: &mut HashMap<u64, Line>,
-    alloc: Global,
-    line: u64,
-    place: usize,
+    addr: u64,
     moment: u32,
     value: u64,
 ) -> Result<(), AllocError>
-    requires place { place < 8 }
-    requires absent { lookup (nat_eq line) lines.old.entries ≡ None }
-    ensures ok { OnOk result (IsAdded lines.old.entries lines.new.entries line place
-        (record { moment = moment; value = value })) }
-    ensures err { OnErr result (IsUnchanged lines.old lines.new) }
+    requires absent { lookup (nat_eq (line_of addr)) lines.old.entries ≡ None }
+    ensures ok { (log : List Older) (lists : Lists) →
+        OnOk result (IsAdded log lists log lists addr
+        (record { moment = moment; value = value }) lines.old.entries lines.new.entries) }
+    ensures err { OnErr result (lines.new.entries ≡ lines.old.entries) }
 {
-    let mut words = Line::new(alloc);
-    words.push(place, moment, value)?;
-    lines.insert(line, words)?;
+    let word = Word {
+        value,
+        moment,
+        others: Others::Logged { place: 0, count: 0 },
+    };
+    lines.insert(line_of(addr), Line::with_word(place_of(addr), word))?;
     Ok(())
 }
 
-/// Adds a value of the word at a place of a line, which may be its first.
+/// Gives the word at an address another value, which may be its first.
 fn push_at(
     lines: &mut HashMap<u64, Line>,
+    others: &mut Superseded,
     alloc: Global,
-    line: u64,
-    place: usize,
+    addr: u64,
     moment: u32,
     value: u64,
 ) -> Result<(), AllocError>
-    requires place { place < 8 }
-    requires below { AreBelow moment (slice_index_or (line_at lines.old.entries line) place []) }
-    ensures ok { OnOk result (IsAdded lines.old.entries lines.new.entries line place
-        (record { moment = moment; value = value })) }
-    ensures err { OnErr result (IsUnchanged lines.old lines.new) }
+    requires word { IsWord others.old.log.items others.old.lists.entries addr
+        (word_at lines.old.entries addr) }
+    ensures ok { OnOk result (IsAdded others.old.log.items others.old.lists.entries
+        others.new.log.items others.new.lists.entries addr
+        (record { moment = moment; value = value }) lines.old.entries lines.new.entries) }
+    ensures err { OnErr result ((lines.new.entries ≡ lines.old.entries)
+        × (others.new.log.items ≡ others.old.log.items)
+        × (others.new.lists.entries ≡ others.old.lists.entries)) }
 {
-    match lines.get_mut(&line) {
-        Some(words) => words.push(place, moment, value),
-        None => begin_at(lines, alloc, line, place, moment, value),
+    match lines.get_mut(&line_of(addr)) {
+        Some(line) => line.push(others, alloc, addr, moment, value),
+        None => begin_at(lines, addr, moment, value),
     }
 }
 
 /// Forgets the values of every word from a moment on.
-fn cut_all(lines: &mut HashMap<u64, Line>, moment: u32)
-    ensures { lines.new.entries ≡ cut_each moment lines.old.entries }
+fn cut_all(lines: &mut HashMap<u64, Line>, others: &Superseded, moment: u32)
+    ensures { lines.new.entries ≡ cut_each others.now.log.items moment lines.old.entries }
 {
-    lines.retain(|_, words| {
-        words.forget_from(moment);
+    lines.retain(|_, line| {
+        line.forget_from(others, moment);
         true
     });
 }
@@ -112,6 +113,7 @@ impl Words {
     {
         Words {
             lines: HashMap::new(alloc),
+            others: Superseded::new(alloc),
         }
     }
 
@@ -122,7 +124,10 @@ impl Words {
         ensures probes { (probes.old ≤ probes.new) × (probes.new ≤ probes.old + 34) }
     {
         match self.lines.get(&line_of(addr)) {
-            Some(line) => line.last_before(place_of(addr), moment, probes),
+            Some(line) => {
+                let word = line.word(place_of(addr));
+                self.others.value_before(addr, word, moment, probes)
+            }
             None => None,
         }
     }
@@ -141,12 +146,11 @@ impl Words {
         ensures probes { (probes.old ≤ probes.new) × (probes.new ≤ probes.old + 35) }
     {
         match self.lines.get(&line_of(addr)) {
-            Some(line) => line.span_at(place_of(addr), moment, start, probes),
-            None => Span {
-                value: start,
-                from: 0,
-                to: u32::MAX,
-            },
+            Some(line) => {
+                let word = line.word(place_of(addr));
+                self.others.span_at(addr, word, moment, start, probes)
+            }
+            None => same_at_all(start),
         }
     }
 
@@ -164,14 +168,21 @@ impl Words {
             (record { moment = moment; value = value })) }
         ensures err { OnErr result (self.new ≡ self.old) }
     {
-        let line = line_of(addr);
-        push_at(&mut self.lines, alloc, line, place_of(addr), moment, value)
+        push_at(
+            &mut self.lines,
+            &mut self.others,
+            alloc,
+            addr,
+            moment,
+            value,
+        )
     }
 
     /// Forgets the values of every address from a moment on.
     pub(crate) fn forget_from(&mut self, moment: u32)
         ensures { AreCut nat_eq self.old self.new moment }
     {
-        cut_all(&mut self.lines, moment);
+        cut_all(&mut self.lines, &self.others, moment);
+        cut_lists(&mut self.others.lists, moment);
     }
 }

@@ -17,8 +17,8 @@ more_text = codes "\n\nFor more information, try '--help'.\n"
 -- a number, an address or a page is none
 abbrev pub number_text : Text
 number_text =
-    codes "error: a number is given by digits alone, an address by 0x and 1 to 16 hexadecimal digits,"
-    ++ (codes "\n  and a page by an address that is canonical" ++ more_text)
+    codes "error: a number is given by digits alone, an address by 0x and 1 to 16 hexadecimal"
+    ++ (codes " digits,\n  and a page by an address that is canonical" ++ more_text)
 
 -- options ask to be told of bad events in two ways, or of so many without all
 abbrev pub telling_text : Text
