@@ -54,6 +54,12 @@ def quit_at_signals():
         signal.signal(number, lambda it, _: sys.exit(128 + it))
 
 
+def stolen():
+    """How many clock ticks other guests of the host took from the processors of this machine, all in all; 0
+    where the system does not tell."""
+    return number_in("/proc/stat", r"cpu +(?:\d+ +){7}(\d+)") or 0
+
+
 def number_in(file, pattern):
     """The number that a file of the system tells so, None where it does not."""
     try:
