@@ -19,7 +19,7 @@ use pg_report::{AuditError, MOST_CHUNKS, audit_error};
 use std::alloc::{AllocError, Global};
 
 /// Events are judged once so many wait, and then let go; the last segment may bring more.
-const WINDOW: usize = 1 << 16;
+const WINDOW: usize = 1 << 12;
 
 /// Puts a segment into a window, and judges the window and lets it go once its events are many.
 /// After an error the account is not to be used.

@@ -1,19 +1,22 @@
 -- A run that is certified as it is read: more events say nothing of those before, and an event is witnessed where it is by what is kept of them.
-use Rattle.std.proofs.Common.{◌≡◌, ℕ, zero, suc, ◌+◌, ◌-◌, ◌^◌, ◌<◌, ◌≤◌, List, [], ◌∷◌, ◌++◌, length, refl, ap, sym, ◌∙◌, subst, arith, inl, inr, Option, Some, None, take, take_all, map, true}
+use Rattle.std.proofs.Common.{◌≡◌, ℕ, zero, suc, ◌+◌, ◌-◌, ◌^◌, ◌<◌, ◌≤◌, List, [], ◌∷◌, ◌++◌, length, refl, ap, sym, ◌∙◌, subst, arith, inl, inr, Option, Some, None, drop, take, take_all, map, true}
 use Rattle.std.specs.Prelude.{slice_get, IfSome, IfNone}
+use Rattle.std.proofs.Math.Seq.{take-append_seam}
 use Rattle.std.proofs.lemmas.Bool.{cases_lt}
-use Rattle.std.proofs.lemmas.List.{length-append, length-map, length-take, map-append, take-append-le}
+use Rattle.std.proofs.lemmas.List.{append_assoc, length-append, length-map, length-take, map-append, take-append-drop, take-append-le}
 use Rattle.pg_event.specs.declared.event.Event.{Event}
 use Rattle.pg_event.specs.Heads.{Head}
 use Rattle.pg_event.specs.Spelling.{Recorded}
+use Rattle.pg_event.specs.Witness.{failing_event}
 use Rattle.pg_event.proofs.Alike.{same_judged}
 use Rattle.pg_check.specs.Kept.{AreWellFormed}
 use Rattle.pg_check.proofs.Known.{AreWellFormed-append}
 use Rattle.pg_search.specs.Law.{names_moments, with_moments, AreWitness, CanBeWitnessed}
 use Rattle.pg_search.specs.Changes.{kept_of, AreKeptOf, WitnessedAmongKept}
+use Rattle.pg_search.proofs.Stepping.{take_next}
 use Rattle.pg_certify.specs.Certified.{IsFoundFor, IsUnwitnessed, IsDenied, CanBeCertified}
 use Rattle.pg_certify.specs.Shares.{end_of}
-use Rattle.pg_certify.specs.Windows.{Findings, IsCertifying, MayCome, CanBeAmong, IsDeniedAmong, IsFirstDenied, IsJudgedWindow, with_window, after_window}
+use Rattle.pg_certify.specs.Windows.{Findings, IsCertifying, MayCome, CanBeAmong, IsDeniedAmong, IsFirstDenied, IsJudgedWindow, BeginsWith, with_window, after_window}
 use Rattle.pg_certify.proofs.Founds.{named, found_witness}
 use Rattle.pg_certify.proofs.Gathered.{there_within}
 use Rattle.pg_certify.proofs.Meaning.{certified_where_each_can}
@@ -85,6 +88,83 @@ kept_more kept before more is = ap (λ xs. xs ++ map kept_of more) is ∙ sym (m
 kept_still : (kept before more : List Event) → AreKeptOf kept before → AreKeptOf kept (before ++ more)
 kept_still kept before more is = is ∙ ap (map kept_of) (sym (take-append-le (length kept) before more (kept_low kept before is)))
 
+-- events that come one by one
+
+-- what is kept of a window, in two parts
+split_window : (xs window : List Event) (i : ℕ) → xs ++ map kept_of window ≡ (xs ++ map kept_of (take i window)) ++ map kept_of (drop i window)
+split_window xs window i =
+    ap (λ w. xs ++ map kept_of w) (sym (take-append-drop i window))
+    ∙ ap (λ ys. xs ++ ys) (map-append kept_of (take i window) (drop i window))
+    ∙ sym (append_assoc xs (map kept_of (take i window)) (map kept_of (drop i window)))
+
+-- an event that comes next is judged by those before it alone
+judged_coming : (head : Head) (xs window : List Event) (i : ℕ) (e : Event) → i ≤ length window →
+    failing_event head (xs ++ map kept_of window) (length xs + i) e ≡ failing_event head (xs ++ map kept_of (take i window)) (length xs + i) e
+judged_coming head xs window i e le =
+    let whole : List Event = xs ++ map kept_of window in
+    let first : List Event = xs ++ map kept_of (take i window) in
+    let count : length (map kept_of (take i window)) ≡ length (take i window) = length-map (take i window) kept_of in
+    let taken : length (take i window) ≡ i = omega (arith, le, length-take i window) in
+    let low : length xs + i ≤ length first = omega (arith, count, taken, length-append xs (map kept_of (take i window))) in
+    same_judged head whole first (length xs + i) e
+    (ap (take (length xs + i)) (split_window xs window i) ∙ take-append-le (length xs + i) first (map kept_of (drop i window)) low)
+
+pub found_coming : (h s : Recorded) (window : List Event) (i n : ℕ) (e : Event) (r : Option Event) (x : Event) → s ≡ with_window h (take i window) → i ≤ length window → slice_get window i ≡ Some e → n ≡ length h.events + i → r ≡ Some x →
+    IfSome r (IsFoundFor s.head s.events n e) → CanBeAmong h.head (h.events ++ map kept_of window) (length h.events) window i
+found_coming h s window i n e None x same le at number is found = absurd (cc)
+found_coming h s window i n e (Some y) x same le at number is found =
+    let first : List Event = h.events ++ map kept_of (take i window) in
+    let f : IsFoundFor h.head first n e y = subst (λ (q : Recorded). IsFoundFor q.head q.events n e y) same found in
+    let w : AreWitness h.head first n e (named y) = found_witness h.head first n e y f in
+    let v : AreWitness h.head first (length h.events + i) e (named y) = subst (λ k. AreWitness h.head first k e (named y)) number w in
+    record {
+      event = e;
+      there = at;
+      moments = named y;
+      witness = record { some = v.some; few = v.few; good = judged_coming h.head h.events window i (with_moments (named y) e) le ∙ v.good };
+    }
+
+pub denied_coming : (h s : Recorded) (window : List Event) (i n : ℕ) (e : Event) (r : Option Event) → s ≡ with_window h (take i window) → i ≤ length window → slice_get window i ≡ Some e → n ≡ length h.events + i → r ≡ None → IfNone r (names_moments e ≡ true) →
+    IfNone r (IsUnwitnessed s.head s.events n e) → ((k : ℕ) → k < i → CanBeAmong h.head (h.events ++ map kept_of window) (length h.events) window k) →
+    IsDeniedAmong h.head (h.events ++ map kept_of window) (length h.events) window i
+denied_coming h s window i n e (Some x) same le at number is names denied before = absurd (cc)
+denied_coming h s window i n e None same le at number is names denied before =
+    let first : List Event = h.events ++ map kept_of (take i window) in
+    let none : IsUnwitnessed h.head first (length h.events + i) e = subst (λ k. IsUnwitnessed h.head first k e) number (subst (λ (q : Recorded). IsUnwitnessed q.head q.events n e) same denied) in
+    record {
+      event = e;
+      there = at;
+      names = names;
+      denied = λ ws w. none ws (record { some = w.some; few = w.few; good = sym (judged_coming h.head h.events window i (with_moments ws e) le) ∙ w.good });
+      before = before;
+    }
+
+-- what is kept of one event more
+pub one_coming : (h s q : Recorded) (window : List Event) (i : ℕ) (e : Event) → s ≡ with_window h (take i window) → slice_get window i ≡ Some e → q ≡ record { head = s.head; events = s.events ++ kept_of e ∷ [] } → q ≡ with_window h (take (i + 1) window)
+one_coming h s q window i e same at is =
+    let next : i + 1 ≡ suc i = omega arith in
+    is ∙ ap (λ (r : Recorded). record { head = r.head; events = r.events ++ kept_of e ∷ [] }) same
+    ∙ ap (λ es. record { head = h.head; events = es })
+    (append_assoc h.events (map kept_of (take i window)) (kept_of e ∷ [])
+    ∙ ap (λ ys. h.events ++ ys) (sym (map-append kept_of (take i window) (e ∷ [])))
+    ∙ ap (λ ys. h.events ++ map kept_of ys) (sym (ap (λ n. take n window) next ∙ take_next window i e at)))
+
+-- what is kept of the events behind
+pub rest_coming : (h s q : Recorded) (window rest : List Event) (i : ℕ) → s ≡ with_window h (take i window) → rest ≡ drop i window → q ≡ record { head = s.head; events = s.events ++ map kept_of rest } → q ≡ with_window h window
+rest_coming h s q window rest i same left is =
+    is ∙ ap (λ (r : Recorded). record { head = r.head; events = r.events ++ map kept_of rest }) same
+    ∙ ap (λ es. record { head = h.head; events = es })
+    (ap (λ ys. (h.events ++ map kept_of (take i window)) ++ map kept_of ys) left ∙ sym (split_window h.events window i))
+
+-- a run begins with what was kept before a window
+pub begins_with : (h s : Recorded) (more : List Event) → s ≡ with_window h more → BeginsWith h s
+begins_with h s more same =
+    subst (λ (q : Recorded). BeginsWith h q) (sym same) (record {
+      settings = refl;
+      within = omega (arith, length-append h.events (map kept_of more));
+      events = take-append_seam h.events (map kept_of more);
+    })
+
 -- of two lists, one behind the other
 
 pub there_past : (xs more : List Event) (k : ℕ) → slice_get (xs ++ more) (length xs + k) ≡ slice_get more k
@@ -92,27 +172,6 @@ there_past [] more k = let n : 0 + k ≡ k = omega arith in ap (slice_get more) 
 there_past (x ∷ xs) more k =
     let n : length (x ∷ xs) + k ≡ suc (length xs + k) = omega arith in
     ap (slice_get (x ∷ xs ++ more)) n ∙ there_past xs more k
-
--- an event of a window
-
-pub found_among : (h s : Recorded) (first : ℕ) (window : List Event) (i n : ℕ) (e : Event) (r : Option Event) (x : Event) → s ≡ h → slice_get window i ≡ Some e → n ≡ first + i → r ≡ Some x →
-    IfSome r (IsFoundFor s.head s.events n e) → CanBeAmong h.head h.events first window i
-found_among h s first window i n e None x same at number is found = absurd (cc)
-found_among h s first window i n e (Some y) x same at number is found =
-    let f : IsFoundFor h.head h.events n e y = subst (λ (q : Recorded). IsFoundFor q.head q.events n e y) same found in
-    let w : AreWitness h.head h.events n e (named y) = found_witness h.head h.events n e y f in
-    record { event = e; there = at; moments = named y; witness = subst (λ k. AreWitness h.head h.events k e (named y)) number w }
-
-pub denied_among : (h s : Recorded) (first : ℕ) (window : List Event) (i n : ℕ) (e : Event) (r : Option Event) → s ≡ h → slice_get window i ≡ Some e → n ≡ first + i → r ≡ None → IfNone r (names_moments e ≡ true) →
-    IfNone r (IsUnwitnessed s.head s.events n e) → ((k : ℕ) → k < i → CanBeAmong h.head h.events first window k) → IsDeniedAmong h.head h.events first window i
-denied_among h s first window i n e (Some x) same at number is names denied before = absurd (cc)
-denied_among h s first window i n e None same at number is names denied before = record {
-  event = e;
-  there = at;
-  names = names;
-  denied = subst (λ k. IsUnwitnessed h.head h.events k e) number (subst (λ (q : Recorded). IsUnwitnessed q.head q.events n e) same denied);
-  before = before;
-}
 
 -- an event of either of two lists
 either : (P : ℕ → Type 0) (n m : ℕ) → ((k : ℕ) → k < n → P k) → ((k : ℕ) → k < m → P (n + k)) → (k : ℕ) → k < n + m → P k
@@ -237,9 +296,9 @@ window_passed f new head before more n may some is c =
 pub findings_low : (f : Findings) (head : Head) (before : List Event) → IsCertifying f head before → length f.kept.events ≤ f.count
 findings_low f head before c = omega (arith, kept_low f.kept.events before c.kept, c.count)
 
-pub denied_within : (head : Head) (kept : List Event) (first : ℕ) (window : List Event) (r : Option ℕ) → IsFirstDenied head kept first window r → IfSome r (λ k. k < length window)
-denied_within head kept first window None h = tt
-denied_within head kept first window (Some k) h = there_within window k h.event h.there
+pub denied_within : (head : Head) (xs : List Event) (first : ℕ) (window : List Event) (r : Option ℕ) → IsFirstDenied head xs first window r → IfSome r (λ k. k < length window)
+denied_within head xs first window None h = tt
+denied_within head xs first window (Some k) h = there_within window k h.event h.there
 
 pub kept_with : (kept new : Recorded) (window : List Event) → new ≡ with_window kept window → length new.events ≡ length kept.events + length window
 kept_with kept new window is =

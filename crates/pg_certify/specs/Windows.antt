@@ -1,6 +1,6 @@
 -- What is known of a run that is certified as it is read, where of the events that were read those
 -- alone are kept that change something.
-use Rattle.std.specs.Prelude.{◌≡◌, ℕ, ◌+◌, ◌^◌, ◌<◌, ◌≤◌, true, List, ◌++◌, length, map}
+use Rattle.std.specs.Prelude.{◌≡◌, ℕ, ◌+◌, ◌^◌, ◌<◌, ◌≤◌, true, List, ◌++◌, length, map, take}
 use Rattle.std.specs.Prelude.{Option, Some, None, IfSome, IfNone, slice_get}
 use Rattle.pg_event.specs.declared.event.Event.{Event}
 use Rattle.pg_event.specs.Heads.{Head}
@@ -64,6 +64,12 @@ IsFirstDenied head kept first window (Some k) = IsDeniedAmong head kept first wi
 abbrev pub with_window : Recorded → List Event → Recorded
 with_window kept window =
     record { head = kept.head; events = kept.events ++ map kept_of window }
+
+-- a run whose first events are those that were kept before
+pub record BeginsWith (old new : Recorded) : Type 0 where
+  pub settings : new.head ≡ old.head
+  pub within : length old.events ≤ length new.events
+  pub events : take (length old.events) new.events ≡ old.events
 
 -- what judging so many events leaves
 abbrev pub after_window : Findings → Option ℕ → ℕ → Findings

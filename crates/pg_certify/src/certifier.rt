@@ -3,23 +3,19 @@
 ghost use Rattle.std.specs.Prelude.{◌≡◌, ◌<◌, ◌≤◌, true, length, None};
 ghost use Rattle.std.specs.Prelude.{IfOk, IfSome, IfNone};
 ghost use Rattle.pg_event.specs.Form.{broken_rule, processor_of};
-ghost use Rattle.pg_check.specs.Right.{AreRight};
 ghost use Rattle.pg_search.specs.Law.{names_moments, AreWitness};
 ghost use Rattle.pg_certify.specs.Certified.{IsFoundFor, IsUnwitnessed};
 
-use crate::back::{MOST_CHANGES, MOST_LOADS, Under, reach_of};
 use crate::case::{Asks, Case, case_of, may_serve, page_of};
 use crate::guesses::{Guesses, Part, Scope, key_of};
+use crate::judging::Judging;
 use crate::lately::Lately;
-use crate::mapped::Events;
 use crate::walk::{
     Walk, address_by, first_moments, is_global, last_of, moments_fit, tables_up_to, walk_by,
 };
-use pg_check::{KeptWalks, Memo, failing};
 use pg_entry::has_bit;
 use pg_event::{Event, Moments, Reason};
-use pg_reach::any_moments;
-use pg_search::{KeptRun, Seen, names_moments, with_moments};
+use pg_search::{names_moments, with_moments};
 use std::alloc::{AllocError, Global};
 use std::marker::Model;
 
@@ -32,81 +28,43 @@ pub enum Certified {
     No(u64),
 }
 
-/// A run, what was looked up of it, and moments that were found for its events.
-#[derive(Drop)]
-pub(crate) struct Certifier<'a> {
-    alloc: Global,
-    seen: Seen<'a>,
-    events: Events<'a>,
-    memo: Memo<'a>,
-    guesses: Guesses,
-    lately: Lately,
+/// How far it is asked whether moments witness an event.
+#[derive(Clone, Copy)]
+enum Speed {
+    /// As far as it is told quickly.
+    Quick,
+    /// As far as the past tells it.
+    Whole,
 }
 
-impl<'a> Model for Certifier<'a> {
+/// A run, what was looked up of it, and moments that were found for its events.
+#[derive(Drop)]
+pub(crate) struct Certifier<J: Judging + Drop> {
+    pub alloc: Global,
+    pub judging: J,
+    pub guesses: Guesses,
+    pub lately: Lately,
+}
+
+impl<J: Judging + Drop> Model for Certifier<J> {
     ghost use Rattle.pg_event.specs.Spelling.{Recorded};
-    ghost use Rattle.pg_chain.specs.Standing.{IsPast};
 
     ghost Value = { Recorded };
 
-    ghost view = { λ c. c.seen };
-
-    ghost invariant = { λ c. IsPast c.memo c.seen.head c.seen.events };
+    ghost view = { λ c. J.run c.judging };
 }
 
-impl<'a> Certifier<'a> {
-    /// One that is to find moments for so many events, by what was found before.
-    pub(crate) fn new(
-        alloc: Global,
-        seen: Seen<'a>,
-        events: Events<'a>,
-        guesses: Guesses,
-        count: usize,
-    ) -> Certifier<'a>
-        ensures { result ≡ seen.entry }
+impl<J: Judging + Drop> Certifier<J> {
+    /// One that is to find moments for events of a run.
+    pub(crate) fn new(alloc: Global, judging: J) -> Certifier<J>
+        ensures { result ≡ J.run judging }
     {
-        let memo = seen.memo(count);
         Certifier {
             alloc,
-            seen,
-            events,
-            memo,
-            guesses,
+            judging,
+            guesses: Guesses::new(alloc),
             lately: Lately::new(alloc),
         }
-    }
-
-    /// The same for events of one window, with the walks that those before it left too, which rest
-    /// on the events up to the window's end.
-    pub(crate) fn going_on(
-        alloc: Global,
-        kept: &'a KeptRun,
-        guesses: Guesses,
-        walks: KeptWalks,
-        count: usize,
-    ) -> Certifier<'a>
-        requires { AreRight kept.now.head kept.now.events (length kept.now.events) walks }
-        ensures { result ≡ kept.now }
-    {
-        let seen = Seen::among(kept);
-        let memo = seen.memo_keeping(walks, kept.len() as u32, count);
-        Certifier {
-            alloc,
-            seen,
-            events: Events::Kept(kept),
-            memo,
-            guesses,
-            lately: Lately::new(alloc),
-        }
-    }
-
-    /// What was found, and the walks that rest on the first so many events, for those that come
-    /// after.
-    pub(crate) fn into_found(self, limit: u32) -> (Guesses, KeptWalks)
-        ensures { AreRight self.entry.head self.entry.events limit result.1 }
-    {
-        let Certifier { guesses, memo, .. } = self;
-        (guesses, memo.into_walks(limit))
     }
 
     /// The least reason by which these moments do not witness an event, or `None` where they do.
@@ -120,7 +78,7 @@ impl<'a> Certifier<'a> {
     {
         moments_fit(moments);
         let guessed = with_moments(event, moments);
-        failing(&mut self.memo, i, &guessed)
+        self.judging.failing(i, &guessed)
     }
 
     /// These moments, if they witness an event.
@@ -136,10 +94,50 @@ impl<'a> Certifier<'a> {
         }
     }
 
-    /// The moments that were found for a page, if they witness the event. Those whose translation
-    /// was dropped are forgotten.
+    /// The same, where it is told quickly: `None` says nothing.
     #[inline(always)]
-    fn judge_kept(&mut self, event: &Event, case: Case, scope: Scope, part: Part) -> Option<Moments>
+    fn judge_quickly(&mut self, event: &Event, i: u32, moments: Moments) -> Option<Option<Reason>>
+        requires { broken_rule self.old.head event.now ≡ None }
+        ensures same { self.new ≡ self.old }
+        ensures found { IfSome result (λ reason. IfNone reason
+            (AreWitness self.old.head self.old.events i event.now moments)) }
+    {
+        moments_fit(moments);
+        let guessed = with_moments(event, moments);
+        self.judging.failing_quickly(i, &guessed)
+    }
+
+    /// The same, as far as `speed` asks.
+    #[inline(always)]
+    fn judge_at(
+        &mut self,
+        event: &Event,
+        i: u32,
+        moments: Moments,
+        speed: Speed,
+    ) -> Option<Option<Reason>>
+        requires { broken_rule self.old.head event.now ≡ None }
+        ensures same { self.new ≡ self.old }
+        ensures found { IfSome result (λ reason. IfNone reason
+            (AreWitness self.old.head self.old.events i event.now moments)) }
+    {
+        match speed {
+            Speed::Quick => self.judge_quickly(event, i, moments),
+            Speed::Whole => Some(self.judge(event, i, moments)),
+        }
+    }
+
+    /// The moments that were found for a page, if they witness the event, as far as `speed` asks.
+    /// Those whose translation was dropped are forgotten.
+    #[inline(always)]
+    fn judge_kept(
+        &mut self,
+        event: &Event,
+        case: Case,
+        scope: Scope,
+        part: Part,
+        speed: Speed,
+    ) -> Option<Moments>
         requires { broken_rule self.old.head event.now ≡ None }
         ensures same { self.new ≡ self.old }
         ensures found { IfSome result
@@ -150,7 +148,7 @@ impl<'a> Certifier<'a> {
         if last_of(&moments) < self.guesses.since(case.p, scope) {
             return None;
         }
-        match self.judge(event, case.i, moments) {
+        match self.judge_at(event, case.i, moments, speed)? {
             None => Some(moments),
             Some(reason) => {
                 self.guesses.note_failed(key, reason);
@@ -160,43 +158,75 @@ impl<'a> Certifier<'a> {
     }
 
     /// The moments that were found for a large or a global page, if there is any of its kind and
-    /// they witness the access.
-    #[inline(always)]
-    fn judge_rare(&mut self, event: &Event, case: Case, scope: Scope, part: Part) -> Option<Moments>
+    /// they witness the access, as far as `speed` asks.
+    fn judge_rare(
+        &mut self,
+        event: &Event,
+        case: Case,
+        scope: Scope,
+        part: Part,
+        speed: Speed,
+    ) -> Option<Moments>
         requires { broken_rule self.old.head event.now ≡ None }
         ensures same { self.new ≡ self.old }
         ensures found { IfSome result
             (AreWitness self.old.head self.old.events case.i event.now) }
     {
-        if self.guesses.has_any(scope, part) {
-            self.judge_kept(event, case, scope, part)
-        } else {
-            None
+        if !self.guesses.has_any(scope, part) {
+            return None;
         }
+        self.judge_kept(event, case, scope, part, speed)
     }
 
-    /// The moments that were found for the large or global page of an access, if they witness it.
+    /// The moments that were found for the large or global page of an access, if they witness it,
+    /// as far as `speed` asks.
     #[inline(never)]
-    fn guess_rare(&mut self, event: &Event, case: Case) -> Option<Moments>
+    fn guess_rare(&mut self, event: &Event, case: Case, speed: Speed) -> Option<Moments>
         requires { broken_rule self.old.head event.now ≡ None }
         ensures same { self.new ≡ self.old }
         ensures found { IfSome result
             (AreWitness self.old.head self.old.events case.i event.now) }
     {
+        if !matches!(case.asks, Asks::Page) || !self.guesses.has_rare() {
+            return None;
+        }
         let own = Scope::Page(case.pcid);
-        if let Some(found) = self.judge_rare(event, case, own, Part::Of2M) {
+        if let Some(found) = self.judge_rare(event, case, own, Part::Of2M, speed) {
             return Some(found);
         }
-        if let Some(found) = self.judge_rare(event, case, own, Part::Of1G) {
+        if let Some(found) = self.judge_rare(event, case, own, Part::Of1G, speed) {
             return Some(found);
         }
-        if let Some(found) = self.judge_rare(event, case, Scope::GlobalPage, Part::Of4K) {
+        if let Some(found) = self.judge_rare(event, case, Scope::GlobalPage, Part::Of4K, speed) {
             return Some(found);
         }
-        if let Some(found) = self.judge_rare(event, case, Scope::GlobalPage, Part::Of2M) {
+        if let Some(found) = self.judge_rare(event, case, Scope::GlobalPage, Part::Of2M, speed) {
             return Some(found);
         }
-        self.judge_rare(event, case, Scope::GlobalPage, Part::Of1G)
+        self.judge_rare(event, case, Scope::GlobalPage, Part::Of1G, speed)
+    }
+
+    /// The moments that were found for the page of an access, if they witness it: that is asked
+    /// where it was not told quickly.
+    fn guess_known(&mut self, event: &Event, case: Case) -> Option<Moments>
+        requires { broken_rule self.old.head event.now ≡ None }
+        ensures same { self.new ≡ self.old }
+        ensures found { IfSome result
+            (AreWitness self.old.head self.old.events case.i event.now) }
+    {
+        if !matches!(case.asks, Asks::Page) {
+            return None;
+        }
+        match self.judge_kept(
+            event,
+            case,
+            Scope::Page(case.pcid),
+            Part::Of4K,
+            Speed::Whole,
+        ) {
+            Some(found) => Some(found),
+            None => self.guess_rare(event, case, Speed::Whole),
+        }
     }
 
     /// The moments of a walk as far as it reads a word, if they witness the assist.
@@ -225,14 +255,14 @@ impl<'a> Certifier<'a> {
         self.guesses
             .note_tables(case.p, case.pcid, case.la, &walk.moments);
         if matches!(case.asks, Asks::Page) {
-            let global = is_global(&self.seen, case.p, walk);
+            let global = is_global(&self.judging.seen(), case.p, walk);
             self.guesses
                 .note_page(case.p, case.pcid, case.la, &walk.moments, global);
         }
     }
 
     /// The moments of a walk, or those up to the word of an assist, if they witness the event.
-    fn judge_walk(&mut self, event: &Event, case: Case, walk: &Walk) -> Option<Moments>
+    pub(crate) fn judge_walk(&mut self, event: &Event, case: Case, walk: &Walk) -> Option<Moments>
         requires well { broken_rule self.old.head event.now ≡ None }
         requires processor { case.p < length self.old.head.processors }
         ensures same { self.new ≡ self.old }
@@ -251,16 +281,16 @@ impl<'a> Certifier<'a> {
 
     /// Whether a walk may witness an event: its page gives the answer, or its last entry is read at
     /// the event.
-    fn is_likely(&self, event: &Event, case: Case, walk: &Walk) -> bool {
+    pub(crate) fn is_likely(&self, event: &Event, case: Case, walk: &Walk) -> bool {
         match case.asks {
-            Asks::Page => may_serve(event, address_by(&self.seen, walk, case.la)),
+            Asks::Page => may_serve(event, address_by(&self.judging.seen(), walk, case.la)),
             Asks::Entry | Asks::Word(_) => last_of(&walk.moments) == case.i,
         }
     }
 
     /// The moments of a walk that reads its first entries at these moments, and what comes below at
     /// one moment, if they witness the event.
-    fn guess_walk(
+    pub(crate) fn guess_walk(
         &mut self,
         event: &Event,
         case: Case,
@@ -273,7 +303,14 @@ impl<'a> Certifier<'a> {
         ensures found { IfSome result
             (AreWitness self.old.head self.old.events case.i event.now) }
     {
-        let walk = walk_by(&self.seen, &mut self.lately, case.p, case.la, front, moment);
+        let walk = walk_by(
+            &self.judging.seen(),
+            &mut self.lately,
+            case.p,
+            case.la,
+            front,
+            moment,
+        );
         if self.is_likely(event, case, &walk) {
             self.judge_walk(event, case, &walk)
         } else {
@@ -289,7 +326,14 @@ impl<'a> Certifier<'a> {
         ensures found { IfSome result
             (AreWitness self.old.head self.old.events case.i event.now) }
     {
-        let walk = walk_by(&self.seen, &mut self.lately, case.p, case.la, &[], case.i);
+        let walk = walk_by(
+            &self.judging.seen(),
+            &mut self.lately,
+            case.p,
+            case.la,
+            &[],
+            case.i,
+        );
         self.judge_walk(event, case, &walk)
     }
 
@@ -310,215 +354,6 @@ impl<'a> Certifier<'a> {
             }
         }
         None
-    }
-
-    /// The latest moment up to one at which the processor had the PCID, if it lies among the last
-    /// few changes of its control registers.
-    fn latest_under(&self, case: Case, moment: u32) -> Option<u32>
-        requires { case.p < length self.now.head.processors }
-    {
-        let mut latest = moment;
-        for _ in 0..MOST_LOADS {
-            let span = self.seen.control_span(case.p, latest);
-            if span.value.pcid == case.pcid {
-                return Some(latest);
-            }
-            latest = span.from.checked_sub(1)?;
-        }
-        None
-    }
-
-    /// The latest moment up to one that is looked at.
-    fn latest(&self, case: Case, moment: u32, under: Under) -> Option<u32>
-        requires { case.p < length self.now.head.processors }
-    {
-        match under {
-            Under::Own => self.latest_under(case, moment),
-            Under::Any => Some(moment),
-        }
-    }
-
-    /// The latest moment before a walk was read as it is at one moment.
-    fn before(&self, case: Case, walk: &Walk, moment: u32, under: Under) -> Option<u32>
-        requires { case.p < length self.now.head.processors }
-    {
-        let control = self.seen.control_span(case.p, moment);
-        let before = walk.since.max(control.from).checked_sub(1)?;
-        self.latest(case, before, under)
-    }
-
-    /// Moments by the tables of an earlier moment, and what lies below as it is read now.
-    fn guess_stale(&mut self, event: &Event, case: Case, moment: u32) -> Option<Moments>
-        requires well { broken_rule self.old.head event.now ≡ None }
-        requires processor { case.p < length self.old.head.processors }
-        ensures same { self.new ≡ self.old }
-        ensures found { IfSome result
-            (AreWitness self.old.head self.old.events case.i event.now) }
-    {
-        let tables = [moment; 3];
-        for count in 1..4 {
-            if let Some(found) = self.guess_walk(event, case, &tables[..count], case.i) {
-                return Some(found);
-            }
-        }
-        None
-    }
-
-    /// Moments by a walk at an earlier moment: of the own PCID, or of a global page.
-    fn judge_earlier(
-        &mut self,
-        event: &Event,
-        case: Case,
-        walk: &Walk,
-        under: Under,
-    ) -> Option<Moments>
-        requires well { broken_rule self.old.head event.now ≡ None }
-        requires processor { case.p < length self.old.head.processors }
-        ensures same { self.new ≡ self.old }
-        ensures found { IfSome result
-            (AreWitness self.old.head self.old.events case.i event.now) }
-    {
-        let may_be = match under {
-            Under::Own => true,
-            Under::Any => is_global(&self.seen, case.p, walk),
-        };
-        if may_be && self.is_likely(event, case, walk) {
-            self.judge_walk(event, case, walk)
-        } else {
-            None
-        }
-    }
-
-    /// Moments by walks before the last changes of a word, the newest first.
-    fn guess_changes(
-        &mut self,
-        event: &Event,
-        case: Case,
-        word: u64,
-        under: Under,
-        since: u32,
-    ) -> Option<Moments>
-        requires well { broken_rule self.old.head event.now ≡ None }
-        requires processor { case.p < length self.old.head.processors }
-        ensures same { self.new ≡ self.old }
-        ensures found { IfSome result
-            (AreWitness self.old.head self.old.events case.i event.now) }
-    {
-        let mut change = case.i;
-        for _ in 0..MOST_CHANGES {
-            change = self.seen.value_span(change, word).from.checked_sub(1)?;
-            let moment = self.latest(case, change, under)?;
-            if moment < since {
-                return None;
-            }
-            let walk = walk_by(&self.seen, &mut self.lately, case.p, case.la, &[], moment);
-            if let Some(found) = self.judge_earlier(event, case, &walk, under) {
-                return Some(found);
-            }
-        }
-        None
-    }
-
-    /// Moments by walks before the last changes of what is read now, from the last entry up.
-    fn guess_changed(
-        &mut self,
-        event: &Event,
-        case: Case,
-        under: Under,
-        since: u32,
-    ) -> Option<Moments>
-        requires well { broken_rule self.old.head event.now ≡ None }
-        requires processor { case.p < length self.old.head.processors }
-        ensures same { self.new ≡ self.old }
-        ensures found { IfSome result
-            (AreWitness self.old.head self.old.events case.i event.now) }
-    {
-        let walk = walk_by(&self.seen, &mut self.lately, case.p, case.la, &[], case.i);
-        let depth = walk.moments.len();
-        for place in 1..depth + 1 {
-            let word = walk.words[depth - place];
-            if let Some(found) = self.guess_changes(event, case, word, under, since) {
-                return Some(found);
-            }
-        }
-        None
-    }
-
-    /// Moments by walks at one earlier moment each, the newest first. Each step goes back to what
-    /// was read before anything that the walk of the step before reads was changed.
-    fn guess_earlier(
-        &mut self,
-        event: &Event,
-        case: Case,
-        under: Under,
-        since: u32,
-    ) -> Option<Moments>
-        requires well { broken_rule self.old.head event.now ≡ None }
-        requires processor { case.p < length self.old.head.processors }
-        ensures same { self.new ≡ self.old }
-        ensures found { IfSome result
-            (AreWitness self.old.head self.old.events case.i event.now) }
-    {
-        let reach = reach_of(case.asks);
-        let mut moment = case.i;
-        let mut walk = walk_by(&self.seen, &mut self.lately, case.p, case.la, &[], moment);
-        for step in 0..reach.walks {
-            moment = self.before(case, &walk, moment, under)?;
-            if moment < since {
-                return None;
-            }
-            walk = walk_by(&self.seen, &mut self.lately, case.p, case.la, &[], moment);
-            if let Some(found) = self.judge_earlier(event, case, &walk, under) {
-                return Some(found);
-            }
-            if under == Under::Own && step < reach.tables {
-                if let Some(found) = self.guess_stale(event, case, moment) {
-                    return Some(found);
-                }
-            }
-        }
-        None
-    }
-
-    /// Moments by walks at earlier moments.
-    fn guess_under(
-        &mut self,
-        event: &Event,
-        case: Case,
-        under: Under,
-        since: u32,
-    ) -> Option<Moments>
-        requires well { broken_rule self.old.head event.now ≡ None }
-        requires processor { case.p < length self.old.head.processors }
-        ensures same { self.new ≡ self.old }
-        ensures found { IfSome result
-            (AreWitness self.old.head self.old.events case.i event.now) }
-    {
-        match self.guess_changed(event, case, under, since) {
-            Some(found) => Some(found),
-            None => self.guess_earlier(event, case, under, since),
-        }
-    }
-
-    /// Moments by walks at earlier moments, under its PCID or, as a global page may serve it,
-    /// under any.
-    fn guess_back(&mut self, event: &Event, case: Case) -> Option<Moments>
-        requires well { broken_rule self.old.head event.now ≡ None }
-        requires processor { case.p < length self.old.head.processors }
-        ensures same { self.new ≡ self.old }
-        ensures found { IfSome result
-            (AreWitness self.old.head self.old.events case.i event.now) }
-    {
-        let since = self.guesses.since(case.p, Scope::Page(case.pcid));
-        if let Some(found) = self.guess_under(event, case, Under::Own, since) {
-            return Some(found);
-        }
-        if self.guesses.has_global() && matches!(case.asks, Asks::Page) {
-            let since = self.guesses.since(case.p, Scope::GlobalPage);
-            self.guess_under(event, case, Under::Any, since)
-        } else {
-            None
-        }
     }
 
     /// Moments for the access to a page by walks that read the entry from when on the page was
@@ -546,7 +381,7 @@ impl<'a> Certifier<'a> {
         ensures found { IfSome result
             (AreWitness self.old.head self.old.events case.i event.now) }
     {
-        let moments = self.guesses.mapped(self.events, case.i, page)?;
+        let moments = self.guesses.mapped(self.judging.events(), case.i, page)?;
         for moment in moments {
             if moment > 0 {
                 if let Some(found) = self.guess_mapped_at(event, case, moment) {
@@ -599,6 +434,9 @@ impl<'a> Certifier<'a> {
         if let Some(found) = self.guess_now(event, case) {
             return Some(found);
         }
+        if let Some(found) = self.guess_known(event, case) {
+            return Some(found);
+        }
         if let Some(found) = self.guess_near(event, case) {
             return Some(found);
         }
@@ -614,7 +452,7 @@ impl<'a> Certifier<'a> {
         ensures { self.new ≡ self.old }
     {
         let walk = walk_by(
-            &self.seen,
+            &self.judging.seen(),
             &mut self.lately,
             case.p,
             case.la,
@@ -640,7 +478,7 @@ impl<'a> Certifier<'a> {
         ensures none { IfOk result
             (λ r. IfNone r (IsUnwitnessed self.old.head self.old.events case.i event.now)) }
     {
-        let found = any_moments(self.alloc, &self.seen, &mut self.memo, case.i, event)?;
+        let found = self.judging.search(self.alloc, case.i, event)?;
         let Some(moments) = found else {
             return Ok(None);
         };
@@ -662,13 +500,11 @@ impl<'a> Certifier<'a> {
         ensures none { IfOk result
             (λ r. IfNone r (IsUnwitnessed self.old.head self.old.events i event.now)) }
     {
-        let Some(case) = case_of(&self.seen, &mut self.lately, i, event) else {
+        let Some(case) = case_of(&self.judging.seen(), &mut self.lately, i, event) else {
             unreachable!()
         };
-        if matches!(case.asks, Asks::Page) && self.guesses.has_rare() {
-            if let Some(found) = self.guess_rare(event, case) {
-                return Ok(Some(found));
-            }
+        if let Some(found) = self.guess_rare(event, case, Speed::Quick) {
+            return Ok(Some(found));
         }
         match self.guess_new(event, case) {
             Some(found) => Ok(Some(found)),
@@ -685,9 +521,15 @@ impl<'a> Certifier<'a> {
         ensures found { IfSome result
             (AreWitness self.old.head self.old.events i event.now) }
     {
-        let case = case_of(&self.seen, &mut self.lately, i, event)?;
+        let case = case_of(&self.judging.seen(), &mut self.lately, i, event)?;
         if matches!(case.asks, Asks::Page) {
-            self.judge_kept(event, case, Scope::Page(case.pcid), Part::Of4K)
+            self.judge_kept(
+                event,
+                case,
+                Scope::Page(case.pcid),
+                Part::Of4K,
+                Speed::Quick,
+            )
         } else {
             None
         }
@@ -731,7 +573,7 @@ impl<'a> Certifier<'a> {
                 _ => self.guesses.flush_all(i, p),
             },
             Event::MovCr4Pge { p, on } => {
-                if self.seen.control_at(p, i).pge != on {
+                if self.judging.seen().control_at(p, i).pge != on {
                     self.guesses.flush_with_globals(i, p);
                 }
             }

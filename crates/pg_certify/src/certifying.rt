@@ -9,9 +9,8 @@ ghost use Rattle.pg_check.specs.Kept.{AreWellFormed};
 ghost use Rattle.pg_certify.specs.Certified.{IsDenied, CanBeCertified};
 ghost use Rattle.pg_certify.specs.Windows.{IsCertifying, MayCome, IsJudgedWindow, after_window};
 
-use crate::guesses::Guesses;
-use crate::window::first_denied_among;
-use pg_check::KeptWalks;
+use crate::certifier::Certifier;
+use crate::window::first_denied_in;
 use pg_event::{Event, Header};
 use pg_search::{KeptRun, witnessed_among_kept};
 use std::alloc::{AllocError, Global};
@@ -22,11 +21,7 @@ use std::marker::Model;
 /// of a window that comes once one is denied.
 #[derive(Drop)]
 pub struct Certifying {
-    alloc: Global,
-    kept: KeptRun,
-    guesses: Guesses,
-    /// Walks that were made by the events that were judged.
-    walks: KeptWalks,
+    certifier: Certifier<KeptRun>,
     count: u64,
     denied: Option<u64>,
 }
@@ -36,13 +31,7 @@ impl Model for Certifying {
 
     ghost Value = { Findings };
 
-    ghost use Rattle.std.specs.Prelude.{length};
-    ghost use Rattle.pg_check.specs.Right.{AreRight};
-
-    ghost view = { λ c. record { kept = c.kept; count = c.count; denied = c.denied } };
-
-    ghost invariant = { λ c.
-        AreRight c.kept.head c.kept.events (length c.kept.events) c.walks };
+    ghost view = { λ c. record { kept = c.certifier; count = c.count; denied = c.denied } };
 }
 
 impl Certifying {
@@ -53,10 +42,7 @@ impl Certifying {
     {
         let kept = KeptRun::new(alloc, header)?;
         Ok(Certifying {
-            alloc,
-            kept,
-            guesses: Guesses::new(alloc),
-            walks: KeptWalks::new(alloc),
+            certifier: Certifier::new(alloc, kept),
             count: 0,
             denied: None,
         })
@@ -67,14 +53,14 @@ impl Certifying {
         ensures header { result.now ≡ self.now.kept.head }
         ensures head { IsHead self.now.kept.head }
     {
-        self.kept.header()
+        self.certifier.kept().header()
     }
 
     /// The events that are kept.
     pub fn kept(&self) -> &KeptRun
         ensures { result.now ≡ self.now.kept }
     {
-        &self.kept
+        self.certifier.kept()
     }
 
     /// Takes what judging so many events came to.
@@ -97,22 +83,14 @@ impl Certifying {
         ensures ok { OnOk result (IsJudgedWindow self.old window.now self.new) }
         ensures err { OnErr result (self.new ≡ self.old) }
     {
-        let first = self.kept.len() as u32;
-        self.kept.extend(window)?;
-        match first_denied_among(
-            self.alloc,
-            &self.kept,
-            &mut self.guesses,
-            &mut self.walks,
-            first,
-            window,
-        ) {
+        let first = self.certifier.len() as u32;
+        match first_denied_in(&mut self.certifier, window) {
             Ok(found) => {
                 self.take(found, window.len());
                 Ok(())
             }
             Err(refused) => {
-                self.kept.forget_from(first);
+                self.certifier.forget_from(first);
                 Err(refused)
             }
         }
@@ -149,7 +127,8 @@ impl Certifying {
         ensures { (head : Head) (events : List Event) → IsCertifying self.now head events →
             result ≡ segment_count (record { head = head; events = events }) }
     {
-        self.count.div_ceil(self.kept.header().segment as u64)
+        self.count
+            .div_ceil(self.certifier.kept().header().segment as u64)
     }
 
     /// The least event that no moments witness, or `None` where some moments make the run's events

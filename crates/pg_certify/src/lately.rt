@@ -3,6 +3,7 @@
 
 ghost use Rattle.std.specs.Prelude.{◌<◌, ◌^◌, length};
 
+use pg_event::Event;
 use pg_search::Seen;
 use std::alloc::Global;
 
@@ -123,6 +124,31 @@ impl Lately {
             }
         }
         self.look_up(seen, p, moment).root
+    }
+
+    /// Forgets what an event changes, which comes next.
+    #[inline(always)]
+    pub(crate) fn forget(&mut self, event: &Event) {
+        match event {
+            Event::Write { addr, .. } => self.forget_word(*addr),
+            Event::Assist { word, .. } => self.forget_word(*word),
+            Event::MovCr3 { p, .. } | Event::MovCr4Pge { p, .. } => self.forget_stay(*p),
+            Event::Access { .. } | Event::Invlpg { .. } | Event::Invpcid { .. } => {}
+        }
+    }
+
+    fn forget_word(&mut self, address: u64) {
+        if let Some(word) = self.words.get_mut(place_of(address)) {
+            if word.address == address {
+                *word = NO_WORD;
+            }
+        }
+    }
+
+    fn forget_stay(&mut self, p: u16) {
+        if let Some(stay) = self.stays.get_mut(p as usize) {
+            *stay = NO_STAY;
+        }
     }
 
     #[inline(never)]

@@ -7,7 +7,7 @@ ghost use Rattle.pg_certify.specs.Certified.{IsDenied, Certifies, CanBeCertified
 ghost use Rattle.pg_certify.specs.Shares.{IsDealt, IsLeastDenied};
 
 use crate::certifier::{Certified, Certifier};
-use crate::guesses::Guesses;
+use crate::judging::Whole;
 use crate::mapped::Events;
 use crate::share::Share;
 use pg_check::History;
@@ -37,13 +37,7 @@ pub(crate) fn first_denied_of(
 {
     let count = share.size_of(history.len());
     let events = Events::Whole(history.events());
-    let mut certifier = Certifier::new(
-        alloc,
-        Seen::of(history),
-        events,
-        Guesses::new(alloc),
-        count,
-    );
+    let mut certifier = Certifier::new(alloc, Whole::new(Seen::of(history), events, count));
     for i in 0..history.len() {
         let asked = event_at(history, i);
         if share.has(asked) {
@@ -79,13 +73,7 @@ pub fn certify(alloc: Global, history: &History) -> Result<Certified, AllocError
 {
     let count = history.len() as usize;
     let events = Events::Whole(history.events());
-    let mut certifier = Certifier::new(
-        alloc,
-        Seen::of(history),
-        events,
-        Guesses::new(alloc),
-        count,
-    );
+    let mut certifier = Certifier::new(alloc, Whole::new(Seen::of(history), events, count));
     let mut found = Vec::new(alloc);
     for i in 0..history.len() {
         let asked = event_at(history, i);

@@ -12,9 +12,7 @@ ghost use Rattle.pg_chain.specs.Walked.{chain_of};
 ghost use Rattle.pg_entry.specs.Kinds.{IsPageShift};
 ghost use Rattle.pg_check.specs.Lasting.{IsAsked, IsLasting, IsWalk};
 ghost use Rattle.pg_check.specs.Remembered.{HasWalk, HaveWalks, IsWithin, frame_in, walk_in};
-ghost use Rattle.pg_check.specs.Right.{AreRight};
 
-use crate::kept::KeptWalks;
 use crate::lasting::{Asking, Lasting, asked_up_to, is_asked, lasting_walk};
 use crate::place::Place;
 use crate::places::{Kept, first_slots, most_slots, page_of, place_of};
@@ -168,10 +166,6 @@ impl<'a> Model for Memo<'a> {
 /// processor that judges.
 const MOST_SLOTS: usize = 16_384;
 
-/// So many are kept at most from one window to the next. With half of them a million mixed events
-/// make half as many walks again.
-const MOST_KEPT: usize = 32_768;
-
 /// Whether a walk is worth a slot: one to a leaf. One that ends otherwise is used at its own event
 /// alone.
 fn may_be_kept(want: Want) -> bool
@@ -245,23 +239,6 @@ impl<'a> Memo<'a> {
         }
     }
 
-    /// The walks that slots have, which rest on the first so many events, and those that are made
-    /// now. There is room for so many, up to a limit, where there was none.
-    pub(crate) fn with_slots(past: &'a Past, kept: Kept, limit: u32, walks: usize) -> Memo<'a>
-        requires { HaveWalks past.now limit kept.slots.items }
-        ensures { result ≡ past.now }
-    {
-        let most = walks.min(MOST_KEPT);
-        let mut own = kept;
-        own.make_first_room(past, most);
-        Memo {
-            reader: Reader::new(past, walks),
-            kept: own,
-            limit,
-            most,
-        }
-    }
-
     /// The walks that slots have, at the event that comes next, whose number this is: nothing that
     /// is looked up is kept beside them, since it would not outlast the event.
     pub(crate) fn at_tip(past: &'a Past, kept: Kept, number: u32) -> Memo<'a>
@@ -295,15 +272,6 @@ impl<'a> Memo<'a> {
             most: _,
         } = self;
         if own <= limit { kept } else { Kept::new(alloc) }
-    }
-
-    /// Its walks, for a memo over more events of the run, where they rest on the first so many
-    /// events; else none.
-    pub fn into_walks(self, limit: u32) -> KeptWalks
-        ensures { (head : Head) (events : List Event) → IsPast self.entry head events →
-            AreRight head events limit result }
-    {
-        KeptWalks::of(self.into_slots(limit))
     }
 
     /// What the run did.

@@ -69,16 +69,6 @@ impl Kept {
         }
     }
 
-    /// Makes room for so many walks where there is none, up to a limit.
-    pub(crate) fn make_first_room(&mut self, past: &Past, walks: usize)
-        ensures { (past : Past) (limit : ℕ) → HaveWalks past limit self.old.slots.items →
-            HaveWalks past limit self.new.slots.items }
-    {
-        if self.slots.is_empty() {
-            self.slots = empty_slots(past.alloc, first_slots(past, walks));
-        }
-    }
-
     /// Makes room at the first of two places: what it has goes to the other.
     fn make_way(&mut self, first: usize)
         ensures walks { (past : Past) (limit : ℕ) → HaveWalks past limit self.old.slots.items →

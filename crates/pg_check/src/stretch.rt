@@ -5,12 +5,10 @@ ghost use Rattle.pg_event.specs.declared.event.Event.{Event};
 ghost use Rattle.pg_event.specs.Heads.{Head};
 ghost use Rattle.pg_event.specs.Spelling.{Recorded};
 ghost use Rattle.pg_chain.specs.Standing.{IsPast};
-ghost use Rattle.pg_check.specs.Right.{AreRight};
 ghost use Rattle.pg_check.specs.Segments.{segment_verdict};
 ghost use Rattle.pg_check.specs.Stretches.{IsStretch, HasSegment};
 
 use crate::judge::first_bad_of;
-use crate::kept::KeptWalks;
 use crate::memo::Memo;
 use pg_chain::Past;
 use pg_event::{Event, Reason};
@@ -43,16 +41,6 @@ impl<'a> Stretch<'a> {
         ensures { result ≡ self.now.past.now }
     {
         Memo::new(self.past, walks)
-    }
-
-    /// The same, with walks that were kept, which rest on the first so many events of the run, and
-    /// limits those that it keeps to such.
-    pub fn memo_keeping(&self, kept: KeptWalks, limit: u32, walks: usize) -> Memo<'a>
-        requires { (head : Head) × (events : List Event) × IsPast self.now.past.now head events
-            × AreRight head events limit kept }
-        ensures { result ≡ self.now.past.now }
-    {
-        Memo::with_slots(self.past, kept.into_slots(), limit, walks)
     }
 
     /// Checks the events of one segment, in their order, up to the first that is not witnessed.

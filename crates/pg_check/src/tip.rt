@@ -489,15 +489,52 @@ fn failing_made(
     }
 }
 
+/// What is known of the event that comes next, with this number, by a walk that was kept and stands:
+/// the least reason that fails, if there is one. None says nothing.
+#[inline(always)]
+pub fn failing_where_kept(
+    past: &Past,
+    kept: &Kept,
+    number: u32,
+    event: &Event,
+) -> Option<Option<Reason>>
+    requires next { IsNext past.now number }
+    requires processor { processor_of event.now < processor_count past.now }
+    requires walks { HaveWalks past.now number kept.now.slots.items }
+    ensures { InEachRun past.now (λ head events. IfSome result
+        (λ found. found ≡ failing_event head events number event.now)) }
+{
+    let p = processor_of(event);
+    match event.request() {
+        Request::Nothing | Request::Update { .. } => None,
+        Request::Access {
+            kind,
+            la,
+            outcome,
+            moments,
+        } => {
+            if !is_leaf(want_of(outcome)) {
+                return None;
+            }
+            let claim = Claim {
+                number,
+                p,
+                kind,
+                la,
+                outcome,
+            };
+            match failing_standing(past, kept, &claim, &moments) {
+                Some(found) => Some(found),
+                None => None,
+            }
+        }
+    }
+}
+
 /// The least reason that fails for the event that comes next, with this number, where `kept` are
 /// walks of the events before it. What is kept then is right still.
 #[inline(always)]
-pub(crate) fn failing_next(
-    past: &mut Past,
-    kept: &mut Kept,
-    number: u32,
-    event: &Event,
-) -> Option<Reason>
+pub fn failing_next(past: &mut Past, kept: &mut Kept, number: u32, event: &Event) -> Option<Reason>
     requires next { IsNext past.old number }
     requires processor { processor_of event.now < processor_count past.old }
     requires walks { HaveWalks past.old number kept.old.slots.items }

@@ -11,13 +11,15 @@ ghost use Rattle.pg_search.specs.Changes.{changes_something, idle, kept_of};
 ghost use Rattle.pg_search.specs.Writers.{writes, IsWriter};
 ghost use Rattle.pg_search.specs.Briefs.{event_by, event_of, pair_at};
 ghost use Rattle.pg_moment.specs.Versions.{value_at};
+ghost use Rattle.pg_event.specs.Witness.{failing_event};
 
 use crate::brief::{
     Brief, Pair, Sort, brief_of, changes_something, event_by, idle, with_placeholder, writes,
 };
 use crate::places::{Places, place_of};
 use pg_chain::Past;
-use pg_event::{Event, Header};
+use pg_check::{Kept, failing_next, failing_where_kept};
+use pg_event::{Event, Header, Reason};
 use std::alloc::{AllocError, Global};
 use std::marker::Model;
 
@@ -33,6 +35,8 @@ pub struct KeptRun {
     pairs: Vec<Pair>,
     places: Places,
     count: u32,
+    /// Walks by which the event that comes next is judged.
+    walks: Kept,
 }
 
 impl Model for KeptRun {
@@ -46,7 +50,12 @@ impl Model for KeptRun {
       events = events_from k.past.versions k.pairs.items k.briefs.items 0 k.count;
     } };
 
-    ghost invariant = { λ k. IsKept k.header k.past k.pairs.items k.briefs.items k.count };
+    ghost use Rattle.pg_check.specs.Remembered.{HaveWalks};
+    ghost use Rattle.pg_check.specs.Stems.{HaveStems};
+
+    ghost invariant = { λ k. IsKept k.header k.past k.pairs.items k.briefs.items k.count
+        × HaveWalks k.past k.count k.walks.slots.items
+        × HaveStems k.past k.count k.walks.stems.items };
 }
 
 /// The pair that stands at a place.
@@ -96,6 +105,7 @@ impl KeptRun {
             pairs: Vec::new(alloc),
             places: Places::new(alloc),
             count: 0,
+            walks: Kept::new(alloc),
         })
     }
 
@@ -171,7 +181,7 @@ impl KeptRun {
         let bared = with_placeholder(event);
         let (mut brief, pair) = brief_of(event, self.count);
         brief.place = place_of(&mut self.pairs, &mut self.places, pair)?;
-        self.past.note(self.count, &bared)?;
+        self.past.note_later(self.count, &bared)?;
         self.briefs.push_reserved(brief);
         self.count += 1;
         Ok(())
@@ -189,7 +199,8 @@ impl KeptRun {
     }
 
     /// Keeps one event more. Fails where memory is refused, and then nothing is kept.
-    fn keep(&mut self, event: &Event) -> Result<(), AllocError>
+    #[inline(always)]
+    pub fn keep(&mut self, event: &Event) -> Result<(), AllocError>
         requires well { broken_rule self.old.head event.now ≡ None }
         requires room { length self.old.events + 1 < 2 ^ 32 }
         ensures ok { OnOk result (self.new ≡ record {
@@ -204,6 +215,36 @@ impl KeptRun {
             self.pass();
             Ok(())
         }
+    }
+
+    /// The least reason that fails for an event, as the one that comes next.
+    pub fn failing_next(&mut self, event: &Event) -> Option<Reason>
+        requires { broken_rule self.old.head event.now ≡ None }
+        ensures same { self.new ≡ self.old }
+        ensures failing { result ≡ failing_event self.old.head self.old.events
+            (length self.old.events) event.now }
+    {
+        failing_next(&mut self.past, &mut self.walks, self.count, event)
+    }
+
+    /// The same, where a walk that was kept tells it: None says nothing.
+    #[inline(always)]
+    pub fn failing_where_kept(&self, event: &Event) -> Option<Option<Reason>>
+        requires { broken_rule self.now.head event.now ≡ None }
+        ensures { IfSome result (λ found. found ≡ failing_event self.now.head self.now.events
+            (length self.now.events) event.now) }
+    {
+        failing_where_kept(&self.past, &self.walks, self.count, event)
+    }
+
+    /// Makes all lists of what was dropped, which look-ups ask where they are made and else go
+    /// through the log.
+    pub fn make_lists(&mut self)
+        ensures { self.new ≡ self.old }
+    {
+        self.past.catch_up_pages();
+        self.past.catch_up_regions();
+        self.past.catch_up_wide();
     }
 
     /// Keeps the events that come next. Fails where memory is refused, and then nothing is kept.
@@ -234,6 +275,7 @@ impl KeptRun {
     {
         self.past.forget_from(number);
         self.briefs.retain(|brief| brief.number < number);
+        self.walks = Kept::new(self.past.alloc);
         self.count = number;
     }
 }

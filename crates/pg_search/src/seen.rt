@@ -10,7 +10,6 @@ ghost use Rattle.pg_event.specs.Witness.{survives};
 ghost use Rattle.pg_timeline.specs.Timelines.{IsSpan};
 ghost use Rattle.pg_inval.specs.Drops.{IsTableLevel};
 ghost use Rattle.pg_chain.specs.Standing.{IsPast};
-ghost use Rattle.pg_check.specs.Right.{AreRight};
 ghost use Rattle.pg_search.specs.Lasts.{IsEnd};
 ghost use Rattle.pg_search.specs.Writers.{IsWriter};
 
@@ -18,7 +17,7 @@ use crate::brief::writes;
 use crate::kept_run::KeptRun;
 use crate::lookup::Lookup;
 use pg_chain::Past;
-use pg_check::{History, KeptWalks, Memo, Stretch};
+use pg_check::{History, Memo, Stretch};
 use pg_entry::Level;
 use pg_event::{Control, Event, Header, Window, structure_key, translation_key};
 use pg_timeline::{Probes, Span};
@@ -88,8 +87,19 @@ impl<'a> Seen<'a> {
         }
     }
 
+    /// The same run.
+    pub fn again(&self) -> Seen<'a>
+        ensures { result ≡ self.now }
+    {
+        Seen {
+            header: self.header,
+            past: self.past,
+            events: self.events,
+        }
+    }
+
     /// The settings of the run.
-    pub fn header(&self) -> &Header
+    pub fn header(&self) -> &'a Header
         ensures header { result.now ≡ self.now.head }
         ensures head { IsHead self.now.head }
     {
@@ -229,14 +239,5 @@ impl<'a> Seen<'a> {
         ensures { IsPast result self.now.head self.now.events }
     {
         self.stretch().memo(walks)
-    }
-
-    /// The same, with walks that were kept, which rest on the first so many events, and limits
-    /// those that it keeps to such.
-    pub fn memo_keeping(&self, kept: KeptWalks, limit: u32, walks: usize) -> Memo<'a>
-        requires { AreRight self.now.head self.now.events limit kept }
-        ensures { IsPast result self.now.head self.now.events }
-    {
-        self.stretch().memo_keeping(kept, limit, walks)
     }
 }

@@ -12,5 +12,5 @@ event_of-event-requires c =
     let xs : List Brief = c.deref.result.now in
     let read = c.in_ok-brief.ensures.lookup in
     let at : slice_get s.briefs.items c.args.place ≡ Some b = ap (λ (bs : List Brief). slice_get bs c.args.place) (sym c.deref.ensures.value) ∙ slice_get_read xs (length xs) c.args.place b refl read.3.0 read.1 in
-    let it = among (length s.pairs.items) 0 s.count s.briefs.items c.args.place b c.self.invariant.placed at in
-    omega (arith, it.high, c.self.invariant.seen.count, events_count s.past.versions s.pairs.items s.briefs.items 0 s.count)
+    let it = among (length s.pairs.items) 0 s.count s.briefs.items c.args.place b c.self.invariant.0.placed at in
+    omega (arith, it.high, c.self.invariant.0.seen.count, events_count s.past.versions s.pairs.items s.briefs.items 0 s.count)

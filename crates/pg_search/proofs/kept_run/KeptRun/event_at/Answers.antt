@@ -12,8 +12,8 @@ event_of-requires c =
     let s = c.self.inside in
     let b : Brief = get_or c.deref-brief-items.result.now c.loop-brief.brief-index no_brief in
     let at : slice_get s.briefs.items c.loop-brief.brief-index ≡ Some b = item_there s.briefs.items c.deref-brief-items.result.now c.loop-brief.brief-index no_brief c.deref-brief-items.ensures.value c.loop-brief-test.true in
-    let it = among (length s.pairs.items) 0 s.count s.briefs.items c.loop-brief.brief-index b c.self.invariant.placed at in
-    omega (arith, it.high, c.self.invariant.seen.count, events_count s.past.versions s.pairs.items s.briefs.items 0 s.count)
+    let it = among (length s.pairs.items) 0 s.count s.briefs.items c.loop-brief.brief-index b c.self.invariant.0.placed at in
+    omega (arith, it.high, c.self.invariant.0.seen.count, events_count s.past.versions s.pairs.items s.briefs.items 0 s.count)
 
 pub returns-then-brief-number : goal.returns-then-brief-number
 returns-then-brief-number c =

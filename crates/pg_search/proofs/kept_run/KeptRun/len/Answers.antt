@@ -11,4 +11,4 @@ returns-clause-length c =
 pub returns-clause-within : goal.returns-clause-within
 returns-clause-within c =
     let s = c.self.inside in
-    omega (arith, events_count s.past.versions s.pairs.items s.briefs.items 0 s.count, c.self.invariant.seen.count)
+    omega (arith, events_count s.past.versions s.pairs.items s.briefs.items 0 s.count, c.self.invariant.0.seen.count)

@@ -15,8 +15,8 @@ loop-brief-preserved c =
     let k = c.loop-brief.brief-index in
     let b : Brief = get_or c.deref-brief-items.result.now k no_brief in
     let at = item_there bs c.deref-brief-items.result.now k no_brief c.deref-brief-items.ensures.value c.loop-brief-test.true in
-    let next = writer_next s.past.versions s.pairs.items bs s.count c.args.address c.args.moment k c.loop-brief.last c.if-brief-moment.last b c.self.invariant.placed at in
-    let passed = writer_passed s.past.versions s.pairs.items bs s.count c.args.address c.args.moment k c.loop-brief.last c.if-brief-moment.last b c.self.invariant.placed at in
+    let next = writer_next s.past.versions s.pairs.items bs s.count c.args.address c.args.moment k c.loop-brief.last c.if-brief-moment.last b c.self.invariant.0.placed at in
+    let passed = writer_passed s.past.versions s.pairs.items bs s.count c.args.address c.args.moment k c.loop-brief.last c.if-brief-moment.last b c.self.invariant.0.placed at in
     elim c.if-brief-moment.branch [
       | then-brief-moment+then-brief_writes w ↦
           next w.last-is w.if-brief-moment.true
