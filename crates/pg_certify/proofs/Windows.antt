@@ -1,7 +1,6 @@
 -- A run that is certified as it is read: more events say nothing of those before, and an event is witnessed where it is by what is kept of them.
 use Rattle.std.proofs.Common.{◌≡◌, ℕ, zero, suc, ◌+◌, ◌-◌, ◌^◌, ◌<◌, ◌≤◌, List, [], ◌∷◌, ◌++◌, length, refl, ap, sym, ◌∙◌, subst, arith, inl, inr, Option, Some, None, drop, take, take_all, map, true}
 use Rattle.std.specs.Prelude.{slice_get, IfSome, IfNone}
-use Rattle.std.proofs.Math.Seq.{take-append_seam}
 use Rattle.std.proofs.lemmas.Bool.{cases_lt}
 use Rattle.std.proofs.lemmas.List.{append_assoc, length-append, length-map, length-take, map-append, take-append-drop, take-append-le}
 use Rattle.pg_event.specs.declared.event.Event.{Event}
@@ -16,7 +15,7 @@ use Rattle.pg_search.specs.Changes.{kept_of, AreKeptOf, WitnessedAmongKept}
 use Rattle.pg_search.proofs.Stepping.{take_next}
 use Rattle.pg_certify.specs.Certified.{IsFoundFor, IsUnwitnessed, IsDenied, CanBeCertified}
 use Rattle.pg_certify.specs.Shares.{end_of}
-use Rattle.pg_certify.specs.Windows.{Findings, IsCertifying, MayCome, CanBeAmong, IsDeniedAmong, IsFirstDenied, IsJudgedWindow, BeginsWith, with_window, after_window}
+use Rattle.pg_certify.specs.Windows.{Findings, IsCertifying, MayCome, CanBeAmong, IsDeniedAmong, IsFirstDenied, IsJudgedWindow, with_window, after_window}
 use Rattle.pg_certify.proofs.Founds.{named, found_witness}
 use Rattle.pg_certify.proofs.Gathered.{there_within}
 use Rattle.pg_certify.proofs.Meaning.{certified_where_each_can}
@@ -155,15 +154,6 @@ rest_coming h s q window rest i same left is =
     is ∙ ap (λ (r : Recorded). record { head = r.head; events = r.events ++ map kept_of rest }) same
     ∙ ap (λ es. record { head = h.head; events = es })
     (ap (λ ys. (h.events ++ map kept_of (take i window)) ++ map kept_of ys) left ∙ sym (split_window h.events window i))
-
--- a run begins with what was kept before a window
-pub begins_with : (h s : Recorded) (more : List Event) → s ≡ with_window h more → BeginsWith h s
-begins_with h s more same =
-    subst (λ (q : Recorded). BeginsWith h q) (sym same) (record {
-      settings = refl;
-      within = omega (arith, length-append h.events (map kept_of more));
-      events = take-append_seam h.events (map kept_of more);
-    })
 
 -- of two lists, one behind the other
 

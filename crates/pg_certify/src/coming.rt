@@ -1,7 +1,7 @@
 //! A run whose events come one by one, each judged and then kept.
 
-ghost use Rattle.std.specs.Prelude.{◌≡◌, ◌+◌, ◌<◌, ◌≤◌, ◌^◌, ◌++◌, ◌∷◌, [], length, map, take, None};
-ghost use Rattle.std.specs.Prelude.{OnOk, OnErr};
+ghost use Rattle.std.specs.Prelude.{◌≡◌, ◌+◌, ◌<◌, ◌≤◌, ◌^◌, ◌++◌, ◌∷◌, []};
+ghost use Rattle.std.specs.Prelude.{length, map, take, None, OnOk, OnErr};
 ghost use Rattle.pg_event.specs.Form.{broken_rule};
 ghost use Rattle.pg_check.specs.Kept.{AreWellFormed};
 ghost use Rattle.pg_search.specs.Changes.{kept_of};
@@ -45,7 +45,7 @@ impl Certifier<KeptRun> {
         self.judging.keep(event)
     }
 
-    /// Keeps the event that is denied and those that come next, of which none is judged. Fails where
+    /// Keeps the event that is denied and those that come next, which nobody judges. Fails where
     /// memory is refused, and then nothing is kept.
     pub(crate) fn keep_rest(&mut self, events: &[Event]) -> Result<(), AllocError>
         requires well { AreWellFormed self.old.head events.now }

@@ -489,8 +489,8 @@ fn failing_made(
     }
 }
 
-/// What is known of the event that comes next, with this number, by a walk that was kept and stands:
-/// the least reason that fails, if there is one. None says nothing.
+/// What is known of the event that comes next, with this number, by a walk that was kept and
+/// stands: the least reason that fails, if there is one. None says nothing.
 #[inline(always)]
 pub fn failing_where_kept(
     past: &Past,

@@ -19,8 +19,8 @@ pub(crate) struct Older {
     pub before: u32,
 }
 
-/// The value of the last stamp below a moment, of a word with `count` values in the log, the last of
-/// them at `place`.
+/// The value of the last stamp below a moment, of a word with `count` values in the log, the last
+/// of them at `place`.
 pub(crate) fn last_logged(
     log: &[Older],
     place: u32,
