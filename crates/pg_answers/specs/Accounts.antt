@@ -1,11 +1,9 @@
 -- A record that is certified as it is read: what was read of it, and what is known of that.
-use Rattle.std.specs.Prelude.{◌≡◌, ℕ, true, List, ◌++◌, Option, Some, Result, Ok, Err}
+use Rattle.std.specs.Prelude.{◌≡◌, ℕ, true, List, Option, Some, Result, Ok, Err}
 use Rattle.std.specs.Prelude.{IfSome, slice_get}
 use Rattle.pg_event.specs.declared.event.Event.{Event}
 use Rattle.pg_event.specs.declared.version.Version.TheVariants.{Two}
-use Rattle.pg_event.specs.Heads.{Head}
 use Rattle.pg_event.specs.Spelling.{Recorded}
-use Rattle.pg_check.specs.Kept.{AreWellFormed}
 use Rattle.pg_codec.specs.declared.stage.Stage.{Stage}
 use Rattle.pg_codec.specs.declared.stream.Source.{Ghosts}
 use Rattle.pg_certify.specs.Accounts.{Account, IsAccount}
@@ -16,22 +14,13 @@ use Rattle.pg_report.specs.declared.error.AuditError.{AuditError}
 use Rattle.pg_report.specs.Going.{IsGoing}
 use Rattle.pg_report.specs.Intake.{ReadsRecord}
 
--- the account is that of what was read, but for a window
+-- the account is that of what was read
 pub record IsAccounting {R : Type 0} (g : Ghosts R) (start : Option (List ℕ)) (f : ℕ)
-    (at : List ℕ × R) (stage : Stage) (a : Account) (window : List Event)
-    (segments : ℕ) : Type 0 where
-  pub before : List Event
-  pub known : IsAccount a a.findings.kept.head before
-  pub well : AreWellFormed a.findings.kept.head window
+    (at : List ℕ × R) (stage : Stage) (a : Account) (segments : ℕ) : Type 0 where
+  pub events : List Event
+  pub known : IsAccount a a.findings.kept.head events
   pub going : IsGoing g Two start f at stage
-      (record { head = a.findings.kept.head; events = before ++ window }) segments
-
--- of these events the account has the first, and the others wait
-pub record IsAccountedTo (a : Account) (head : Head) (events waiting : List Event) : Type 0 where
-  pub before : List Event
-  pub known : IsAccount a head before
-  pub all : events ≡ before ++ waiting
-  pub well : AreWellFormed head waiting
+      (record { head = a.findings.kept.head; events = events }) segments
 
 -- it is the account of the record that was left, all of it
 abbrev pub IsAccountOfAll : Option (List ℕ) → Account → Type 0

@@ -1,80 +1,46 @@
 //! Records that are certified as they are read.
 
-ghost use Rattle.std.specs.Prelude.{◌≡◌, ◌++◌, [], ℕ, List, Option, Err, OnOk, IfErr, IfSome};
-ghost use Rattle.pg_event.specs.declared.event.Event.{Event};
-ghost use Rattle.pg_event.specs.Heads.{Head};
-ghost use Rattle.pg_check.specs.Kept.{AreWellFormed};
+ghost use Rattle.std.specs.Prelude.{◌≡◌, [], ℕ, List, Option, Err, OnOk, IfErr, IfSome};
 ghost use Rattle.pg_codec.specs.declared.stage.Stage.TheVariants.{Start};
 ghost use Rattle.pg_codec.specs.Streams.{FailsWithDevice};
-ghost use Rattle.pg_certify.specs.Accounts.{IsAccount, MayComeNext};
 ghost use Rattle.pg_report.specs.Changes.{drawn};
 ghost use Rattle.pg_report.specs.Intake.{ReadsRecord, TellsDevice, is_device};
-ghost use Rattle.pg_answers.specs.Accounts.{IsAccounting, IsAccountedTo, IsAccountOfAll};
-ghost use Rattle.pg_answers.specs.Accounts.{ReadsAccount};
+ghost use Rattle.pg_answers.specs.Accounts.{IsAccounting, IsAccountOfAll, ReadsAccount};
 
 use pg_certify::StreamingCertifier;
 use pg_codec::{RecordReader, Source};
-use pg_event::{Event, Version};
+use pg_event::Version;
 use pg_report::{AuditError, MOST_CHUNKS, audit_error};
-use std::alloc::{AllocError, Global};
-
-/// Events are judged once so many wait, and then let go; the last segment may bring more.
-const WINDOW: usize = 1 << 12;
-
-/// Puts a segment into a window, and judges the window and lets it go once its events are many.
-/// After an error the account is not to be used.
-fn take_in(
-    account: &mut StreamingCertifier,
-    window: &mut Vec<Event>,
-    segment: &[Event],
-) -> Result<(), AllocError>
-    requires { MayComeNext account.old (window.old.items ++ segment.now) }
-    ensures { (head : Head) (before : List Event) → IsAccount account.old head before →
-        AreWellFormed head (window.old.items ++ segment.now) → OnOk result
-        (IsAccountedTo account.new head (before ++ (window.old.items ++ segment.now))
-        window.new.items) }
-{
-    window.extend_from_slice(segment)?;
-    if window.len() >= WINDOW {
-        account.window(window.as_slice())?;
-        window.clear();
-    }
-    Ok(())
-}
+use std::alloc::Global;
 
 /// Reads what is left of a record behind its header, and certifies it as it is read: no more events
-/// are kept than wait to be judged, those of the segment that was read last, and those that change
-/// something.
+/// are kept than those of a segment, and those that change something.
 fn account_rest<R: Source>(
     alloc: Global,
     reader: &mut RecordReader,
     source: &mut R,
     account: &mut StreamingCertifier,
-    window: &mut Vec<Event>,
 ) -> Result<(), AuditError>
     requires going { (start : Option (List ℕ)) × (f : ℕ) × IsAccounting R.Source start f
-        (reader.old.unread, source.old) reader.old.stage account.old window.old.items 0 }
+        (reader.old.unread, source.old) reader.old.stage account.old 0 }
     ensures whole { (start : Option (List ℕ)) (f : ℕ) → IsAccounting R.Source start f
-        (reader.old.unread, source.old) reader.old.stage account.old window.old.items 0 →
+        (reader.old.unread, source.old) reader.old.stage account.old 0 →
         OnOk result (IsAccountOfAll start account.new) }
     ensures refused { (start : Option (List ℕ)) (f : ℕ) → IsAccounting R.Source start f
-        (reader.old.unread, source.old) reader.old.stage account.old window.old.items 0 →
+        (reader.old.unread, source.old) reader.old.stage account.old 0 →
         IfErr result (λ e. IfSome start (λ bytes. ReadsRecord Version.Two bytes (Err e))) }
     ensures device { (start : Option (List ℕ)) (f : ℕ) → IsAccounting R.Source start f
-        (reader.old.unread, source.old) reader.old.stage account.old window.old.items 0 →
+        (reader.old.unread, source.old) reader.old.stage account.old 0 →
         FailsWithDevice is_device f (R.failed source.new) result }
 {
     let mut room = Vec::new(alloc);
     for _ in 0..MOST_CHUNKS {
         match reader.read_segment_in(room, source) {
             Ok(Some(events)) => {
-                take_in(account, window, &events)?;
+                account.window(&events)?;
                 room = events;
             }
-            Ok(None) => {
-                account.window(window)?;
-                return Ok(());
-            }
+            Ok(None) => return Ok(()),
             Err(error) => return Err(audit_error(error)),
         }
     }
@@ -97,8 +63,7 @@ fn account_by<R: Source>(
         Err(error) => return Err(audit_error(error)),
     };
     let mut account = StreamingCertifier::new(alloc, header)?;
-    let mut window = Vec::new(alloc);
-    match account_rest(alloc, reader, source, &mut account, &mut window) {
+    match account_rest(alloc, reader, source, &mut account) {
         Ok(()) => Ok(account),
         Err(error) => Err(error),
     }

@@ -20,9 +20,8 @@ account_rest-requires g c =
       going = (
         g.R.Source.left c.args.source.now,
         g.R.Source.failed c.args.source.now,
-        rw c.new-window.ensures.items
-            (accounting_at_start g.R.Source _ _ _ _ c.in_ok-account.account c.in-Ok.header c.in_ok-account.ensures
-            (going_from_fresh g.R.Source Two c.args.reader.now _ _ c.requires c.in-Ok.header _ pulls read.stage r refl)),
+        accounting_at_start g.R.Source _ _ _ _ c.in_ok-account.account c.in-Ok.header c.in_ok-account.ensures
+            (going_from_fresh g.R.Source Two c.args.reader.now _ _ c.requires c.in-Ok.header _ pulls read.stage r refl),
       );
     }
 
@@ -31,33 +30,29 @@ returns-in-Err-account_rest-clause-reads g c =
     let read = c.in-Ok.ensures in
     let r : Recorded = record { head = c.in-Ok.header; events = [] } in
     let pulls = pulled_at_start g.R.Source c.args.reader.now.stage _ _ _ (ap (λ (x : Reader). x.stage) c.requires) read.pulls in
-    c.in-Err-account_rest.ensures.refused (g.R.Source.left c.args.source.now) (g.R.Source.failed c.args.source.now) (rw c.new-window.ensures.items
-    (accounting_at_start g.R.Source _ _ _ _ c.in_ok-account.account c.in-Ok.header c.in_ok-account.ensures
-    (going_from_fresh g.R.Source Two c.args.reader.now _ _ c.requires c.in-Ok.header _ pulls read.stage r refl)))
+    c.in-Err-account_rest.ensures.refused (g.R.Source.left c.args.source.now) (g.R.Source.failed c.args.source.now) (accounting_at_start g.R.Source _ _ _ _ c.in_ok-account.account c.in-Ok.header c.in_ok-account.ensures
+    (going_from_fresh g.R.Source Two c.args.reader.now _ _ c.requires c.in-Ok.header _ pulls read.stage r refl))
 
 pub returns-in-Err-account_rest-clause-device : goal.returns-in-Err-account_rest-clause-device
 returns-in-Err-account_rest-clause-device g c =
     let read = c.in-Ok.ensures in
     let r : Recorded = record { head = c.in-Ok.header; events = [] } in
     let pulls = pulled_at_start g.R.Source c.args.reader.now.stage _ _ _ (ap (λ (x : Reader). x.stage) c.requires) read.pulls in
-    c.in-Err-account_rest.ensures.device (g.R.Source.left c.args.source.now) (g.R.Source.failed c.args.source.now) (rw c.new-window.ensures.items
-    (accounting_at_start g.R.Source _ _ _ _ c.in_ok-account.account c.in-Ok.header c.in_ok-account.ensures
-    (going_from_fresh g.R.Source Two c.args.reader.now _ _ c.requires c.in-Ok.header _ pulls read.stage r refl)))
+    c.in-Err-account_rest.ensures.device (g.R.Source.left c.args.source.now) (g.R.Source.failed c.args.source.now) (accounting_at_start g.R.Source _ _ _ _ c.in_ok-account.account c.in-Ok.header c.in_ok-account.ensures
+    (going_from_fresh g.R.Source Two c.args.reader.now _ _ c.requires c.in-Ok.header _ pulls read.stage r refl))
 
 pub returns-in-Ok-account_rest-clause-reads : goal.returns-in-Ok-account_rest-clause-reads
 returns-in-Ok-account_rest-clause-reads g c =
     let read = c.in-Ok.ensures in
     let r : Recorded = record { head = c.in-Ok.header; events = [] } in
     let pulls = pulled_at_start g.R.Source c.args.reader.now.stage _ _ _ (ap (λ (x : Reader). x.stage) c.requires) read.pulls in
-    c.in-Ok-account_rest.ensures.whole (g.R.Source.left c.args.source.now) (g.R.Source.failed c.args.source.now) (rw c.new-window.ensures.items
-    (accounting_at_start g.R.Source _ _ _ _ c.in_ok-account.account c.in-Ok.header c.in_ok-account.ensures
-    (going_from_fresh g.R.Source Two c.args.reader.now _ _ c.requires c.in-Ok.header _ pulls read.stage r refl)))
+    c.in-Ok-account_rest.ensures.whole (g.R.Source.left c.args.source.now) (g.R.Source.failed c.args.source.now) (accounting_at_start g.R.Source _ _ _ _ c.in_ok-account.account c.in-Ok.header c.in_ok-account.ensures
+    (going_from_fresh g.R.Source Two c.args.reader.now _ _ c.requires c.in-Ok.header _ pulls read.stage r refl))
 
 pub returns-in-Ok-account_rest-clause-device : goal.returns-in-Ok-account_rest-clause-device
 returns-in-Ok-account_rest-clause-device g c =
     let read = c.in-Ok.ensures in
     let r : Recorded = record { head = c.in-Ok.header; events = [] } in
     let pulls = pulled_at_start g.R.Source c.args.reader.now.stage _ _ _ (ap (λ (x : Reader). x.stage) c.requires) read.pulls in
-    c.in-Ok-account_rest.ensures.device (g.R.Source.left c.args.source.now) (g.R.Source.failed c.args.source.now) (rw c.new-window.ensures.items
-    (accounting_at_start g.R.Source _ _ _ _ c.in_ok-account.account c.in-Ok.header c.in_ok-account.ensures
-    (going_from_fresh g.R.Source Two c.args.reader.now _ _ c.requires c.in-Ok.header _ pulls read.stage r refl)))
+    c.in-Ok-account_rest.ensures.device (g.R.Source.left c.args.source.now) (g.R.Source.failed c.args.source.now) (accounting_at_start g.R.Source _ _ _ _ c.in_ok-account.account c.in-Ok.header c.in_ok-account.ensures
+    (going_from_fresh g.R.Source Two c.args.reader.now _ _ c.requires c.in-Ok.header _ pulls read.stage r refl))

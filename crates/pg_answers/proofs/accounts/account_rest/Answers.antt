@@ -5,48 +5,33 @@ use Rattle.pg_event.specs.Spelling.{Recorded}
 use Rattle.pg_certify.specs.Accounts.{IsAccount}
 use Rattle.pg_report.proofs.Continuing.{going_ends, going_fails, end_counts, failure_counts, memory_reads}
 use Rattle.pg_answers.specs.Accounts.{IsAccounting}
-use Rattle.pg_answers.proofs.Accounted.{may_come, longer, moved_on}
+use Rattle.pg_answers.proofs.Accounted.{may_come, going_further, accounted}
 use Rattle.pg_answers.proofs.accounts.account_rest.Goals as goal
 
-pub take_in-requires : goal.take_in-requires
-take_in-requires g c =
-    let read = c.in-Ok-Some.ensures in
-    let on = longer g.R.Source _ _ _ c.loop.reader.stage c.loop.account c.loop.window.items c.loop.counter c.loop.invariant.0.2 _ c.in-Ok-Some.events.items _
-    (rw c.in-Ok-Some.field-0-is at read.pulls) (rw c.in-Ok-Some.field-0-is at read.next) (rw c.in-Ok-Some.field-0-is at read.stage) in
-    rw c.deref.ensures.value (may_come g.R.Source _ _ _ _ c.loop.account _ _ on)
-
 pub window-requires : goal.window-requires
-window-requires g c = rw c.deref-in-Ok-None.ensures.value (may_come g.R.Source _ _ _ _ c.loop.account _ _ c.loop.invariant.0.2)
+window-requires g c =
+    let read = c.in-Ok-Some.ensures in
+    rw c.deref.ensures.value (may_come g.R.Source _ _ _ _ c.loop.reader.stage _ c.loop.account c.loop.counter c.loop.invariant.0.2 c.in-Ok-Some.events.items
+    (rw c.in-Ok-Some.field-0-is at read.pulls) (rw c.in-Ok-Some.field-0-is at read.next) (rw c.in-Ok-Some.field-0-is at read.stage))
 
-pub returns-in_err-take_in-in-Ok-Some-clause-refused : goal.returns-in_err-take_in-in-Ok-Some-clause-refused
-returns-in_err-take_in-in-Ok-Some-clause-refused g c = λ start f h.
+pub returns-in_err-window-in-Ok-Some-clause-refused : goal.returns-in_err-window-in-Ok-Some-clause-refused
+returns-in_err-window-in-Ok-Some-clause-refused g c = λ start f h.
     let p = err_from_is_err_and c.from_residual.result c.from_residual.ensures.1 in
     rw (p.1, p.2) (memory_reads Two start)
 
-pub returns-in_err-take_in-in-Ok-Some-clause-device : goal.returns-in_err-take_in-in-Ok-Some-clause-device
-returns-in_err-take_in-in-Ok-Some-clause-device g c = λ start f h.
+pub returns-in_err-window-in-Ok-Some-clause-device : goal.returns-in_err-window-in-Ok-Some-clause-device
+returns-in_err-window-in-Ok-Some-clause-device g c = λ start f h.
     let read = c.in-Ok-Some.ensures in
-    let on = longer g.R.Source start f _ c.loop.reader.stage c.loop.account c.loop.window.items c.loop.counter (c.loop.invariant.1 start f h) _ c.in-Ok-Some.events.items _
+    let on = going_further g.R.Source start f _ _ c.loop.reader.stage _ c.loop.account c.loop.counter (c.loop.invariant.1 start f h) c.in-Ok-Some.events.items
     (rw c.in-Ok-Some.field-0-is at read.pulls) (rw c.in-Ok-Some.field-0-is at read.next) (rw c.in-Ok-Some.field-0-is at read.stage) in
     let p = err_from_is_err_and c.from_residual.result c.from_residual.ensures.1 in
-    rw (p.1, p.2) on.going.failed
-
-pub returns-in_err-window-in-Ok-None-clause-refused : goal.returns-in_err-window-in-Ok-None-clause-refused
-returns-in_err-window-in-Ok-None-clause-refused g c = λ start f h.
-    let p = err_from_is_err_and c.from_residual-in_err-window-in-Ok-None.result c.from_residual-in_err-window-in-Ok-None.ensures.1 in
-    rw (p.1, p.2) (memory_reads Two start)
-
-pub returns-in_err-window-in-Ok-None-clause-device : goal.returns-in_err-window-in-Ok-None-clause-device
-returns-in_err-window-in-Ok-None-clause-device g c = λ start f h.
-    let p = err_from_is_err_and c.from_residual-in_err-window-in-Ok-None.result c.from_residual-in_err-window-in-Ok-None.ensures.1 in
-    rw (p.1, p.2) (end_counts g.R.Source Two _ _ _ _ _ _ _ (c.loop.invariant.1 start f h).going (rw c.in-Ok-None.field-0-is at c.in-Ok-None.ensures.pulls))
+    rw (p.1, p.2) on.failed
 
 pub returns-in-Ok-None-clause-whole : goal.returns-in-Ok-None-clause-whole
 returns-in-Ok-None-clause-whole g c = λ start f h.
     let was = c.loop.invariant.1 start f h in
-    let r : Recorded = record { head = c.loop.account.findings.kept.head; events = was.before ++ c.loop.window.items } in
-    let known : IsAccount c.window.new.self r.head r.events = rw (← c.deref-in-Ok-None.ensures.value) (c.in_ok-window-in-Ok-None.ensures r.head was.before was.known) in
-    (r, known, going_ends g.R.Source Two _ _ _ _ c.loop.reader.stage r c.loop.counter was.going (rw c.in-Ok-None.field-0-is at c.in-Ok-None.ensures.pulls))
+    let r : Recorded = record { head = c.loop.account.findings.kept.head; events = was.events } in
+    (r, was.known, going_ends g.R.Source Two _ _ _ _ c.loop.reader.stage r c.loop.counter was.going (rw c.in-Ok-None.field-0-is at c.in-Ok-None.ensures.pulls))
 
 pub returns-in-Ok-None-clause-device : goal.returns-in-Ok-None-clause-device
 returns-in-Ok-None-clause-device g c = λ start f h.
@@ -55,25 +40,23 @@ returns-in-Ok-None-clause-device g c = λ start f h.
 pub returns-in-Err-clause-refused : goal.returns-in-Err-clause-refused
 returns-in-Err-clause-refused g c = λ start f h.
     let was = c.loop.invariant.1 start f h in
-    let r : Recorded = record { head = c.loop.account.findings.kept.head; events = was.before ++ c.loop.window.items } in
+    let r : Recorded = record { head = c.loop.account.findings.kept.head; events = was.events } in
     going_fails g.R.Source Two _ _ _ _ c.loop.reader.stage r c.loop.counter was.going c.in-Err.error c.audit_error.result c.audit_error.ensures c.in-Err.ensures.pulls
 
 pub returns-in-Err-clause-device : goal.returns-in-Err-clause-device
 returns-in-Err-clause-device g c = λ start f h.
     let was = c.loop.invariant.1 start f h in
-    let r : Recorded = record { head = c.loop.account.findings.kept.head; events = was.before ++ c.loop.window.items } in
+    let r : Recorded = record { head = c.loop.account.findings.kept.head; events = was.events } in
     failure_counts g.R.Source Two _ _ _ _ c.loop.reader.stage r c.loop.counter was.going c.in-Err.error c.audit_error.result c.audit_error.ensures c.in-Err.ensures.pulls
 
 pub loop-preserved : goal.loop-preserved
 loop-preserved g c =
     let read = c.in-Ok-Some.ensures in
-    let step : (start : Option (List ℕ)) (f : ℕ) → IsAccounting g.R.Source start f (c.loop.reader.unread, c.loop.source) c.loop.reader.stage c.loop.account c.loop.window.items c.loop.counter
-    → IsAccounting g.R.Source start f (c.read_segment_in.new.self.unread, c.read_segment_in.new.source) c.read_segment_in.new.self.stage c.take_in.new.account c.take_in.new.window.items (c.loop.counter + 1) =
+    let step : (start : Option (List ℕ)) (f : ℕ) → IsAccounting g.R.Source start f (c.loop.reader.unread, c.loop.source) c.loop.reader.stage c.loop.account c.loop.counter
+    → IsAccounting g.R.Source start f (c.read_segment_in.new.self.unread, c.read_segment_in.new.source) c.read_segment_in.new.self.stage c.window.new.self (c.loop.counter + 1) =
     (λ start f was.
-    let on = longer g.R.Source start f _ c.loop.reader.stage c.loop.account c.loop.window.items c.loop.counter was _ c.in-Ok-Some.events.items _
-    (rw c.in-Ok-Some.field-0-is at read.pulls) (rw c.in-Ok-Some.field-0-is at read.next) (rw c.in-Ok-Some.field-0-is at read.stage) in
-    let segment : IsAccounting g.R.Source start f (c.read_segment_in.new.self.unread, c.read_segment_in.new.source) c.read_segment_in.new.self.stage c.loop.account (c.loop.window.items ++ c.deref.result.now) (c.loop.counter + 1) = rw c.deref.ensures.value on in
-    moved_on g.R.Source start f _ _ c.loop.account (c.loop.window.items ++ c.deref.result.now) _ segment c.take_in.new.account c.take_in.new.window.items
-    (c.in_ok-take_in-in-Ok-Some.ensures c.loop.account.findings.kept.head segment.before segment.known segment.well)) in
+    let certified : IsAccount c.window.new.self c.loop.account.findings.kept.head (was.events ++ c.in-Ok-Some.events.items) = rw (← c.deref.ensures.value) (c.in_ok-window-in-Ok-Some.ensures c.loop.account.findings.kept.head was.events was.known) in
+    accounted g.R.Source start f _ _ c.loop.reader.stage _ c.loop.account c.loop.counter was c.in-Ok-Some.events.items
+    (rw c.in-Ok-Some.field-0-is at read.pulls) (rw c.in-Ok-Some.field-0-is at read.next) (rw c.in-Ok-Some.field-0-is at read.stage) c.window.new.self certified) in
     let was = c.loop.invariant in
     ((was.0.0, was.0.1, step was.0.0 was.0.1 was.0.2), λ start f h. step start f (was.1 start f h))

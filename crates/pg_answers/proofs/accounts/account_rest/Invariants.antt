@@ -4,6 +4,6 @@ use Rattle.pg_answers.proofs.accounts.account_rest.Given as goal
 
 abbrev pub invariant-loop : goal.invariant-loop
 invariant-loop g l =
-    ((start : Option (List ℕ)) × (f : ℕ) × IsAccounting g.R.Source start f (l.reader.unread, l.source) l.reader.stage l.account l.window.items l.counter)
-    × ((start : Option (List ℕ)) (f : ℕ) → IsAccounting g.R.Source start f (l.fn.reader.unread, l.fn.source) l.fn.reader.stage l.fn.account l.fn.window.items 0
-    → IsAccounting g.R.Source start f (l.reader.unread, l.source) l.reader.stage l.account l.window.items l.counter)
+    ((start : Option (List ℕ)) × (f : ℕ) × IsAccounting g.R.Source start f (l.reader.unread, l.source) l.reader.stage l.account l.counter)
+    × ((start : Option (List ℕ)) (f : ℕ) → IsAccounting g.R.Source start f (l.fn.reader.unread, l.fn.source) l.fn.reader.stage l.fn.account 0
+    → IsAccounting g.R.Source start f (l.reader.unread, l.source) l.reader.stage l.account l.counter)
