@@ -247,11 +247,12 @@ impl<'a> Memo<'a> {
     {
         let mut own = kept;
         own.make_room(past, number);
+        let most = own.most(past);
         Memo {
             reader: Reader::new(past, 0),
             kept: own,
             limit: number,
-            most: most_slots(past),
+            most,
         }
     }
 

@@ -165,6 +165,7 @@ fn failing_by_past(past: &Past, kept: &mut Kept, number: u32, event: &Event) -> 
         slots: mem::replace(&mut kept.slots, Vec::new(past.alloc)),
         made: kept.made,
         stems: Vec::new(past.alloc),
+        shares: kept.shares,
         passed: Tally::NONE,
         seen: 0,
     };
@@ -404,7 +405,7 @@ fn keep_walk(past: &Past, kept: &mut Kept, current: u16, number: u32, slot: Slot
     let place = kept.room_for(first, slot.p, slot.page, slot.pcid);
     kept.put(place, slot);
     if kept.count_walk() {
-        kept.grow(past.alloc, most_slots(past));
+        kept.grow(past.alloc, kept.most(past));
     }
 }
 

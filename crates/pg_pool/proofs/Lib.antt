@@ -4,3 +4,4 @@ pub mod Placed
 pub mod Rules
 pub mod Seats
 pub mod Times
+pub mod Further

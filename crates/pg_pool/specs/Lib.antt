@@ -5,3 +5,4 @@ pub mod Shares
 pub mod Verdicts
 pub mod Ways
 pub mod Work
+pub mod Workers

@@ -2,7 +2,6 @@
 #![tactic(auto)]
 
 mod auditor;
-mod beside;
 mod checker;
 mod checkers;
 mod close;
@@ -18,12 +17,13 @@ mod rule;
 mod seat;
 mod steps;
 mod thief;
+mod workers;
 
-pub use auditor::{Asked, audit_round, audit_round_beside};
-pub use beside::{Beside, NoWork};
+pub use auditor::audit_round;
 pub use close::close_round;
 pub use deal::open_round;
 pub use error::PoolError;
 pub use gate::{Gate, OpenGate};
 pub use round::Round;
 pub use seat::Seat;
+pub use workers::{Window, Worker, judge_window};

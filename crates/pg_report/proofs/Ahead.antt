@@ -25,13 +25,6 @@ use Rattle.pg_report.proofs.Windows.{error_judges, stopped_judges, stopped_count
 abbrev pub HasRead : {R : Type 0} → Ghosts R → Option (List ℕ) → ℕ → Recorded → ℕ → List ℕ × R → Stage → List Event → Type 0
 HasRead g start f r segments at stage window = IsWindow r window × IsGoing g Two start f at stage (with_more r window) segments
 
--- a window that was read behind a run that was judged begins a segment
-pub begins : (judged : Findings) (head : Head) (events window : List Event) → IsJudged judged head events → IsWindow (record { head = head; events = events }) window → BeginsSegment judged window
-begins judged head events window is w =
-    let whole : length events % head.segment ≡ 0 → judged.count % judged.head.segment ≡ 0 = (λ h.
-    ap (λ (n : ℕ). n % judged.head.segment) is.count ∙ ap (λ (k : Head). length events % k.segment) is.settings ∙ h) in
-    ⊎_elim (λ (none : window ≡ []). inl none) (λ (here : length events % head.segment ≡ 0). inr (whole here)) w.whole
-
 -- what holds of so many segments holds of fewer
 fewer : {R : Type 0} (g : Ghosts R) (start : Option (List ℕ)) (f : ℕ) (at : List ℕ × R) (stage : Stage) (r : Recorded) (segments : ℕ) → IsGoing g Two start f at stage r segments → (less : ℕ) → less ≤ segments
     → IsGoing g Two start f at stage r less
@@ -52,7 +45,7 @@ module _ {R : Type 0} (g : Ghosts R) (start : Option (List ℕ)) (f : ℕ) (r : 
   pub read_nothing : IsGoing g Two start f at stage r segments → HasRead g start f r segments at stage []
   read_nothing h =
       let few : length r.events < 2 ^ 32 = h.few in (
-        record { well = tt; whole = inl refl; few = omega (arith, few) },
+        record { well = tt; few = omega (arith, few) },
         subst (λ (es : List Event). IsGoing g Two start f at stage (record { head = r.head; events = es }) segments) (sym (append-nil r.events)) h,
       )
 
@@ -63,14 +56,9 @@ module _ {R : Type 0} (g : Ghosts R) (start : Option (List ℕ)) (f : ℕ) (r : 
     read_on after items later pulls next e =
         let fits = next_fits g Two start f at stage (with_more r window) segments h.1 items next in
         let on = going_on g Two start f at after stage (with_more r window) segments h.1 items later pulls next e in
-        let all : length (r.events ++ window) % r.head.segment ≡ 0 = next_begins g Two start f at stage (with_more r window) segments h.1 items next in
-        let begin : length r.events % r.head.segment ≡ 0 = ⊎_elim
-        (λ (none : window ≡ []). ap (λ (n : ℕ). n % r.head.segment) (sym (ap length (ap (λ (es : List Event). r.events ++ es) none ∙ append-nil r.events))) ∙ all)
-        (λ (here : length r.events % r.head.segment ≡ 0). here) h.0.whole in
         let few : length ((r.events ++ window) ++ items) < 2 ^ 32 = on.few in (
           record {
             well = AreWellFormed-append r.head window items h.0.well fits.well;
-            whole = inr begin;
             few = omega (arith, few, length-append (r.events ++ window) items, length-append r.events window, length-append window items);
           },
           subst (λ (es : List Event). IsGoing g Two start f after later (record { head = r.head; events = es }) (segments + 1)) (append_assoc r.events window items) on,
@@ -117,43 +105,26 @@ module _ {R : Type 0} (g : Ghosts R) (start : Option (List ℕ)) (f : ℕ) (r : 
 
 module _ {R : Type 0} (g : Ghosts R) (start : Option (List ℕ)) (f : ℕ) (at : List ℕ × R) (stage : Stage) (windows : ℕ) where
   -- the window was judged and the next was read
-  pub goes_on : (head : Head) (events next : List Event) (judged : Findings) → IsJudged judged head events → (more : Bool)
-      → ReadsWindow g start f (record { head = head; events = events }) windows at stage next (Ok more) → GoesOn g start f at stage judged next (windows + 1) (Ok more)
-  goes_on head events next judged is true reads =
-      let judges : IsJudged judged judged.head events = subst (λ (k : Head). IsJudged judged k events) (sym is.settings) is in
-      record {
-        waits = record {
-          before = events;
-          judges = judges;
-          well = subst (λ (k : Head). AreWellFormed k next) (sym is.settings) reads.fits.well;
-          whole = begins judged head events next is reads.fits;
-          going = subst (λ (k : Head). IsGoing g Two start f at stage (record { head = k; events = events ++ next }) (windows + 1)) (sym is.settings) reads.goes;
-        };
-        fails = tt;
-        device = reads.device;
-      }
-  goes_on head events next judged is false reads =
-      let judges : IsJudged judged judged.head events = subst (λ (k : Head). IsJudged judged k events) (sym is.settings) is in
-      record {
-        waits = record {
-          before = events;
-          judges = judges;
-          fits = subst (λ (k : Head). IsWindow (record { head = k; events = events }) next) (sym is.settings) reads.fits;
-          all = subst (λ (k : Head). IsAll start (record { head = k; events = events ++ next })) (sym is.settings) reads.goes;
-        };
-        fails = tt;
-        device = reads.device;
-      }
+  pub goes_on : (head : Head) (events next : List Event) (Knows : List Event → Type 0) → Knows events → (more : Bool)
+      → ReadsWindow g start f (record { head = head; events = events }) windows at stage next (Ok more) → GoesOn g start f at stage head Knows next (windows + 1) (Ok more)
+  goes_on head events next Knows known true reads = record {
+    waits = record { before = events; known = known; well = reads.fits.well; going = reads.goes };
+    fails = tt;
+    device = reads.device;
+  }
+  goes_on head events next Knows known false reads = record {
+    waits = record { before = events; known = known; fits = reads.fits; all = reads.goes };
+    fails = tt;
+    device = reads.device;
+  }
 
   -- judging stopped, and the next window was read
-  pub stops : (r : Recorded) (next : List Event) (judged : Findings) (more : Bool) → ReadsWindow g start f r windows at stage next (Ok more) → (e : AuditError) → StopsJudging e
-      → GoesOn g start f at stage judged next (windows + 1) (Err e)
-  stops r next judged more reads e stop = record { waits = tt; fails = stopped_judges start e stop; device = stopped_counts e f (g.failed at.1) stop reads.device }
+  pub stops : (r : Recorded) (head : Head) (next : List Event) (Knows : List Event → Type 0) (more : Bool) → ReadsWindow g start f r windows at stage next (Ok more) → (e : AuditError) → e ≡ errors.Memory
+      → GoesOn g start f at stage head Knows next (windows + 1) (Err e)
+  stops r head next Knows more reads e is =
+      let want : GoesOn g start f at stage head Knows next (windows + 1) (Err errors.Memory) = record { waits = tt; fails = tt; device = reads.device } in
+      subst (λ (x : AuditError). GoesOn g start f at stage head Knows next (windows + 1) (Err x)) (sym is) want
 
   -- the next window was refused
-  pub next_fails : (r : Recorded) (next : List Event) (judged : Findings) (e : AuditError) → ReadsWindow g start f r windows at stage next (Err e) → GoesOn g start f at stage judged next (windows + 1) (Err e)
-  next_fails r next judged e reads = record { waits = tt; fails = reads.fails; device = reads.device }
-
--- the last window may be judged
-pub last_follows : (start : Option (List ℕ)) (judged : Findings) (window : List Event) → IsLast start judged window → MayFollow judged window
-last_follows start judged window h = record { before = h.before; judged = h.judges; well = h.fits.well; limit = h.fits.few }
+  pub next_fails : (r : Recorded) (head : Head) (next : List Event) (Knows : List Event → Type 0) (e : AuditError) → ReadsWindow g start f r windows at stage next (Err e) → GoesOn g start f at stage head Knows next (windows + 1) (Err e)
+  next_fails r head next Knows e reads = record { waits = tt; fails = reads.fails; device = reads.device }

@@ -7,4 +7,5 @@ pub mod Judging
 pub mod Merging
 pub mod Going
 pub mod Windows
+pub mod Team
 pub mod Rounds

@@ -1,6 +1,8 @@
 //! Whole records, judged by checkers as they are read.
 
-ghost use Rattle.std.specs.Prelude.{◌≡◌, ℕ, ◌+◌, ◌<◌, [], List, Option};
+ghost use Rattle.std.specs.Prelude.{◌≡◌, ℕ, ◌+◌, ◌++◌, ◌<◌, [], List, Option, IfErr, OnOk};
+ghost use Rattle.pg_event.specs.declared.event.Event.{Event};
+ghost use Rattle.pg_event.specs.Heads.{Head};
 ghost use Rattle.pg_event.specs.Spelling.{Recorded};
 ghost use Rattle.pg_event.specs.declared.version.Version.TheVariants.{Two};
 ghost use Rattle.pg_report.specs.Changes.{drawn};
@@ -8,21 +10,20 @@ ghost use Rattle.pg_codec.specs.Streams.{FailsWithDevice};
 ghost use Rattle.pg_report.specs.Going.{IsGoing, IsJudging};
 ghost use Rattle.pg_report.specs.Intake.{TellsDevice, is_device};
 ghost use Rattle.pg_report.specs.Judging.{JudgesRecord};
+ghost use Rattle.pg_report.specs.Team.{IsTeam, MayTake};
 ghost use Rattle.pg_report.specs.Windows.{GoesOn, IsLast, ReadsWindow};
 
 use crate::crew::Crew;
 use crate::error::AuditError;
 use crate::intake::{MOST_CHUNKS, audit_error, read_header_up_to};
 use crate::report::Report;
-use crate::whole_record::report_of_judged;
-use pg_check::Judged;
+use crate::team::Team;
 use pg_codec::{RecordReader, Source};
 use pg_event::{Event, Version};
-use pg_pool::{Beside, Gate};
+use pg_pool::Gate;
 use std::alloc::Global;
 use std::mem;
-use std::sync::Wait;
-use std::thread::Threads;
+use std::thread::{Threads, join_mut};
 
 /// The first window is full once it has so many events; the last segment of a window may bring
 /// more. Nothing is judged while the first is read, so it is short.
@@ -76,101 +77,48 @@ fn read_window<R: Source>(
     Ok(true)
 }
 
-/// The window that comes next, to be read while another is judged.
-#[derive(Drop)]
-struct Next<'a, 'b, 'c, R> {
-    alloc: Global,
-    reader: &'a mut RecordReader,
-    source: &'b mut R,
-    window: &'c mut Vec<Event>,
-    /// It is full once it has so many events.
-    size: usize,
-}
-
-impl<'a, 'b, 'c, R: Source> Beside for Next<'a, 'b, 'c, R> {
-    ghost use Rattle.std.specs.Prelude.{◌≡◌, ◌<◌, ℕ, List, Option};
-    ghost use Rattle.pg_event.specs.Spelling.{Recorded};
-    ghost use Rattle.pg_event.specs.declared.version.Version.TheVariants.{Two};
-    ghost use Rattle.pg_report.specs.Going.{IsGoing};
-    ghost use Rattle.pg_report.specs.Windows.{ReadsWindow};
-
-    type Output = (Next<'a, 'b, 'c, R>, Result<bool, AuditError>);
-
-    ghost can_run = { λ n. (0 < n.size)
-        × (start : Option (List ℕ)) × (f : ℕ) × (r : Recorded) × (windows : ℕ)
-        × IsGoing R.Source Two start f (n.reader.now.unread, n.source.now) n.reader.now.stage
-        r windows };
-
-    ghost gives = { λ n out. (out.0.reader.ghost_name ≡ n.reader.ghost_name)
-        × (out.0.source.ghost_name ≡ n.source.ghost_name)
-        × (out.0.window.ghost_name ≡ n.window.ghost_name)
-        × ((start : Option (List ℕ)) (f : ℕ) (r : Recorded) (windows : ℕ) →
-        IsGoing R.Source Two start f (n.reader.now.unread, n.source.now) n.reader.now.stage
-        r windows → ReadsWindow R.Source start f r windows
-        (out.0.reader.now.unread, out.0.source.now) out.0.reader.now.stage
-        out.0.window.now.items out.1) };
-
-    fn run(self) -> (Next<'a, 'b, 'c, R>, Result<bool, AuditError>) {
-        let Next {
-            alloc,
-            reader,
-            source,
-            window,
-            size,
-        } = self;
-        let more = read_window(alloc, reader, source, window, size);
-        let next = Next {
-            alloc,
-            reader,
-            source,
-            window,
-            size,
-        };
-        (next, more)
-    }
-}
-
-/// Does nothing, but this use of a reference that came back ties it to the parameter that was lent.
-fn take_back<T>(lent: &mut T)
-    ensures { lent.new ≡ lent.old }
-{}
-
-/// Judges the window that waits, and reads the next beside.
-fn judge_and_read<T: Threads + Wait + Sync, G: Gate, R: Source>(
+/// Judges the window that waits, and reads the next meanwhile.
+fn judge_and_read<T: Threads + Sync, G: Gate, R: Source>(
     crew: &Crew<'_, T, G>,
     reader: &mut RecordReader,
     source: &mut R,
-    judged: &mut Judged,
+    team: &mut Team,
     window: &[Event],
     next: &mut Vec<Event>,
 ) -> Result<bool, AuditError>
-    requires waits { (start : Option (List ℕ)) × (f : ℕ) × (windows : ℕ)
+    requires waits { (start : Option (List ℕ)) × (f : ℕ) × (head : Head) × (windows : ℕ)
         × IsJudging R.Source start f (reader.old.unread, source.old) reader.old.stage
-        judged.old window.now windows }
-    ensures { (start : Option (List ℕ)) (f : ℕ) (windows : ℕ) →
+        head (IsTeam team.old head) window.now windows }
+    ensures { (start : Option (List ℕ)) (f : ℕ) (head : Head) (windows : ℕ) →
         IsJudging R.Source start f (reader.old.unread, source.old) reader.old.stage
-        judged.old window.now windows →
+        head (IsTeam team.old head) window.now windows →
         GoesOn R.Source start f (reader.new.unread, source.new) reader.new.stage
-        judged.new next.new.items (windows + 1) result }
+        head (IsTeam team.new head) next.new.items (windows + 1) result }
 {
-    let work = Next {
-        alloc: crew.alloc,
-        reader,
-        source,
-        window: next,
-        size: next_size(window.len()),
-    };
-    let (judging, (done, reading)) = crew.judge_beside(judged, window, work);
-    let Next {
-        alloc: _,
-        reader,
-        source,
-        window,
-        size: _,
-    } = done;
-    take_back(reader);
-    take_back(source);
-    take_back(window);
+    let rt = crew.rt;
+    let gate = crew.gate;
+    let alloc = crew.alloc;
+    let size = next_size(window.len());
+    let (judging, reading) = join_mut(
+        rt,
+        &mut || -> Result<(), AuditError>
+            requires { MayTake team.now window.now }
+            ensures ok { (head : Head) (before : List Event) → IsTeam team.entry.now head before →
+                OnOk result (IsTeam team.exit.now head (before ++ window.entry.now)) }
+            ensures err { IfErr result (λ e. e ≡ AuditError.Memory) }
+        { team.judge(rt, gate, window) },
+        &mut || -> Result<bool, AuditError>
+            requires some { 0 < size }
+            requires going { (start : Option (List ℕ)) × (f : ℕ) × (r : Recorded) × (windows : ℕ)
+                × IsGoing R.Source Two start f (reader.now.unread, source.now) reader.now.stage
+                r windows }
+            ensures { (start : Option (List ℕ)) (f : ℕ) (r : Recorded) (windows : ℕ) →
+                IsGoing R.Source Two start f (reader.entry.now.unread, source.entry.now)
+                reader.entry.now.stage r windows → ReadsWindow R.Source start f r windows
+                (reader.exit.now.unread, source.exit.now) reader.exit.now.stage
+                next.exit.now.items result }
+        { read_window(alloc, reader, source, next, size) },
+    );
     match reading {
         Ok(more) => match judging {
             Ok(()) => Ok(more),
@@ -181,47 +129,49 @@ fn judge_and_read<T: Threads + Wait + Sync, G: Gate, R: Source>(
 }
 
 /// Judges the last window, and gives the report.
-fn judge_last<T: Threads + Wait + Sync, G: Gate>(
+fn judge_last<T: Threads + Sync, G: Gate>(
     crew: &Crew<'_, T, G>,
-    judged: &mut Judged,
+    team: &mut Team,
     window: &[Event],
 ) -> Result<Report, AuditError>
-    requires last { (start : Option (List ℕ)) × IsLast start judged.old window.now }
-    ensures judges { (start : Option (List ℕ)) → IsLast start judged.old window.now →
-        JudgesRecord start result }
+    requires last { (start : Option (List ℕ)) × (head : Head)
+        × IsLast start head (IsTeam team.old head) window.now }
+    ensures judges { (start : Option (List ℕ)) (head : Head) →
+        IsLast start head (IsTeam team.old head) window.now → JudgesRecord start result }
     ensures device { (f : ℕ) → FailsWithDevice is_device f f result }
 {
-    if let Err(error) = crew.judge(judged, window) {
-        return Err(error);
+    match team.judge(crew.rt, crew.gate, window) {
+        Ok(()) => Ok(team.report()),
+        Err(error) => Err(error),
     }
-    Ok(report_of_judged(judged))
 }
 
 /// Reads what is left of a record behind its header, and has it judged by checkers as it is read:
 /// each window is read while the one before it is judged. No more events are kept than those of the
 /// two, and those of the segment that was read last.
-fn judge_rest<T: Threads + Wait + Sync, G: Gate, R: Source>(
+fn judge_rest<T: Threads + Sync, G: Gate, R: Source>(
     crew: &Crew<'_, T, G>,
     reader: &mut RecordReader,
     source: &mut R,
-    judged: &mut Judged,
+    team: &mut Team,
 ) -> Result<Report, AuditError>
-    requires going { (start : Option (List ℕ)) × (f : ℕ) × IsJudging R.Source start f
-        (reader.old.unread, source.old) reader.old.stage judged.old [] 0 }
-    ensures judges { (start : Option (List ℕ)) (f : ℕ) → IsJudging R.Source start f
-        (reader.old.unread, source.old) reader.old.stage judged.old [] 0 →
+    requires going { (start : Option (List ℕ)) × (f : ℕ) × (head : Head)
+        × IsJudging R.Source start f (reader.old.unread, source.old) reader.old.stage
+        head (IsTeam team.old head) [] 0 }
+    ensures judges { (start : Option (List ℕ)) (f : ℕ) (head : Head) → IsJudging R.Source start f
+        (reader.old.unread, source.old) reader.old.stage head (IsTeam team.old head) [] 0 →
         JudgesRecord start result }
-    ensures device { (start : Option (List ℕ)) (f : ℕ) → IsJudging R.Source start f
-        (reader.old.unread, source.old) reader.old.stage judged.old [] 0 →
+    ensures device { (start : Option (List ℕ)) (f : ℕ) (head : Head) → IsJudging R.Source start f
+        (reader.old.unread, source.old) reader.old.stage head (IsTeam team.old head) [] 0 →
         FailsWithDevice is_device f (R.failed source.new) result }
 {
     let mut window = Vec::new(crew.alloc);
     let mut next = Vec::new(crew.alloc);
     for _ in 0..MOST_CHUNKS {
-        match judge_and_read(crew, reader, source, judged, window.as_slice(), &mut next) {
+        match judge_and_read(crew, reader, source, team, window.as_slice(), &mut next) {
             Ok(more) => {
                 if !more {
-                    return judge_last(crew, judged, next.as_slice());
+                    return judge_last(crew, team, next.as_slice());
                 }
             }
             Err(error) => return Err(error),
@@ -232,7 +182,7 @@ fn judge_rest<T: Threads + Wait + Sync, G: Gate, R: Source>(
 }
 
 /// Reads the record that a source has left, all of it, and judges it by checkers as it is read.
-pub fn judge_record_by<T: Threads + Wait + Sync, G: Gate, R: Source>(
+pub fn judge_record_by<T: Threads + Sync, G: Gate, R: Source>(
     crew: &Crew<'_, T, G>,
     source: &mut R,
 ) -> Result<Report, AuditError>
@@ -245,6 +195,6 @@ pub fn judge_record_by<T: Threads + Wait + Sync, G: Gate, R: Source>(
         Ok(header) => header,
         Err(error) => return Err(audit_error(error)),
     };
-    let mut judged = Judged::new(alloc, header)?;
-    judge_rest(crew, &mut reader, source, &mut judged)
+    let mut team = Team::new(alloc, &header, crew.checkers)?;
+    judge_rest(crew, &mut reader, source, &mut team)
 }

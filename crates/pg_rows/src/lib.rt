@@ -25,6 +25,8 @@ mod rights;
 #[cfg(test)]
 mod scripts;
 #[cfg(test)]
+mod several;
+#[cfg(test)]
 mod spliced;
 #[cfg(test)]
 mod tests;
