@@ -1,5 +1,6 @@
 //! Records that end early, and of which one byte is bent, each byte to each other value: one
-//! checker and two say the same of each.
+//! checker and two say the same of each that ends early and of each with one bit bent. Two start
+//! threads, which takes so long on some machines that they are not asked of every value.
 
 use pg_cases::{versions, walks};
 use pg_codec::Watched;
@@ -48,6 +49,18 @@ fn audited_by<T: AllocGlobal + Abort + Threads + Wait + Sync>(
     }
 }
 
+/// What the bytes come to by one checker.
+fn audited_alone<T: AllocGlobal + Abort + Threads + Wait + Sync>(
+    rt: &T,
+    bytes: &[u8],
+    at: usize,
+) -> Result<Verdict, AuditError> {
+    let mut output = Watched::new(Vec::new(rt.alloc()));
+    let alone = audited_by(rt, bytes, 1, &mut output);
+    assert!(rt; alone.is_err() == output.inner.is_empty(), "{at}");
+    alone
+}
+
 /// What the bytes come to, which one checker and two have to say and write alike.
 fn audited<T: AllocGlobal + Abort + Threads + Wait + Sync>(
     rt: &T,
@@ -74,7 +87,12 @@ fn bend_each<T: AllocGlobal + Abort + Threads + Wait + Sync>(
         for value in 0..=255u8 {
             if value != *byte {
                 let bytes = bent(rt.alloc(), record, at, value)?;
-                let place = place_of(audited(rt, &bytes, at));
+                let one_bit = (value ^ *byte).is_power_of_two();
+                let place = place_of(if one_bit {
+                    audited(rt, &bytes, at)
+                } else {
+                    audited_alone(rt, &bytes, at)
+                });
                 if let Some(count) = tally.get_mut(place) {
                     *count = count.wrapping_add(1);
                 }

@@ -27,10 +27,10 @@ use std::thread::{Threads, join_mut};
 
 /// The first window is full once it has so many events; the last segment of a window may bring
 /// more. Nothing is judged while the first is read, so it is short.
-const FIRST_WINDOW: usize = 1 << 13;
+const FIRST_WINDOW: usize = 1 << 15;
 
 /// No window asks for more events. To start threads takes time, so rounds are few and long.
-const MOST_WINDOW: usize = 1 << 17;
+const MOST_WINDOW: usize = 1 << 18;
 
 /// How many events the next window asks for: twice as many as the one that is judged meanwhile has.
 fn next_size(judged: usize) -> usize
