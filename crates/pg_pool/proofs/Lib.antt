@@ -1,7 +1,9 @@
 pub mod Deals
+pub mod Further
 pub mod Judged
+pub mod Going
+pub mod Messages
 pub mod Placed
 pub mod Rules
 pub mod Seats
 pub mod Times
-pub mod Further

@@ -1,4 +1,6 @@
 pub mod Errors
+pub mod Lanes
+pub mod Messages
 pub mod Rounds
 pub mod Seats
 pub mod Shares

@@ -1,17 +1,14 @@
-//! Checkers, each with a share of a run.
+//! A checker with its share of a run.
 
-ghost use Rattle.std.specs.Prelude.{◌≡◌, ◌<◌, ◌++◌, ℕ, false, All, List, length, slice_index_or};
+ghost use Rattle.std.specs.Prelude.{◌≡◌, ◌<◌, ◌++◌, false, List};
 ghost use Rattle.pg_event.specs.declared.event.Event.{Event};
 ghost use Rattle.pg_event.specs.Heads.{Head};
 ghost use Rattle.pg_check.specs.Shares.{HasSame};
-ghost use Rattle.pg_pool.specs.declared.workers.Worker.{Worker};
 ghost use Rattle.pg_pool.specs.Workers.{IsAtWork, MayWork};
 
 use crate::gate::Gate;
 use pg_check::Share;
 use pg_event::Event;
-use std::thread;
-use std::thread::Threads;
 
 /// A checker with its share of a run, and whether it was refused memory. Then it judges no further.
 #[derive(Drop)]
@@ -22,12 +19,12 @@ pub struct Worker {
 
 /// Segments of a run that follow each other. All but the last are full.
 #[derive(Clone, Copy)]
-pub struct Window<'a> {
+pub(crate) struct Window<'a> {
     /// The number of the first segment.
-    pub first: u64,
+    pub(crate) first: u64,
     /// How many events a full segment has.
-    pub size: u32,
-    pub events: &'a [Event],
+    pub(crate) size: u32,
+    pub(crate) events: &'a [Event],
 }
 
 impl Worker {
@@ -83,38 +80,4 @@ impl Worker {
             segment = segment.wrapping_add(1);
         }
     }
-}
-
-/// Has each worker judge its share of a window, in a thread of its own where one can be made.
-pub fn judge_window<R: Threads + Sync, G: Gate>(
-    rt: &R,
-    workers: &mut [Worker],
-    window: Window<'_>,
-    gate: &G,
-)
-    requires may { All (λ w. MayWork w window.events.now) workers.old }
-    requires size { 0 < window.size }
-    ensures work { (head : Head) (before : List Event) →
-        All (λ w. IsAtWork w head before) workers.old →
-        All (λ w. IsAtWork w head (before ++ window.entry.events.now)) workers.new }
-    ensures own { (i : ℕ) (d : Worker) → i < length workers.old →
-        HasSame (slice_index_or workers.old i d).share (slice_index_or workers.new i d).share }
-{
-    let count = workers.len();
-    if count == 0 {
-        return;
-    }
-    thread::for_each_mut(
-        rt,
-        workers,
-        count,
-        &|_, worker|
-            requires may { MayWork worker.now window.events.now }
-            requires size { 0 < window.size }
-            ensures work { (head : Head) (before : List Event) →
-                IsAtWork worker.entry.now head before →
-                IsAtWork worker.exit.now head (before ++ window.entry.events.now) }
-            ensures own { HasSame worker.entry.now.share worker.exit.now.share }
-        { worker.work(window, gate) },
-    );
 }

@@ -1,5 +1,5 @@
 -- A record on the way that is read window by window.
-use Rattle.std.proofs.Common.{◌≡◌, ◌∙◌, inl, inr, ⊎_elim, append-nil, ℕ, ◌+◌, ◌%◌, ◌^◌, ◌<◌, ◌≤◌, Bool, true, false, List, [], ◌++◌, length, length-append, Option, Some, None, Ok, Err, refl, sym, ap, subst, arith}
+use Rattle.std.proofs.Common.{◌≡◌, ◌∙◌, append-nil, ℕ, ◌+◌, ◌^◌, ◌<◌, ◌≤◌, Bool, true, false, List, [], ◌++◌, length, length-append, Option, Some, None, Ok, Err, sym, ap, subst, arith}
 use Rattle.std.proofs.lemmas.List.{append_assoc}
 use Rattle.pg_event.specs.declared.event.Event.{Event}
 use Rattle.pg_event.specs.declared.version.Version.TheVariants.{Two}
@@ -9,17 +9,18 @@ use Rattle.pg_codec.specs.declared.stream.Source.{Ghosts}
 use Rattle.pg_codec.specs.declared.stage.Stage.{Stage}
 use Rattle.pg_codec.specs.declared.error.ReadError.{ReadError}
 use Rattle.pg_codec.specs.Readers.{stage_after_chunk, PullsSegment, IsNext}
-use Rattle.pg_check.specs.Judging.{Findings, IsJudged, MayFollow}
-use Rattle.pg_check.specs.Kept.{AreWellFormed}
 use Rattle.pg_check.proofs.Known.{AreWellFormed-append}
 use Rattle.pg_report.specs.declared.error.AuditError.{AuditError}
 use Rattle.pg_report.specs.declared.error.AuditError.TheVariants as errors
 use Rattle.pg_report.specs.Intake.{IsErrorOf}
-use Rattle.pg_report.specs.Judging.{BeginsSegment, StopsJudging}
-use Rattle.pg_report.specs.Going.{IsGoing}
+use Rattle.std.specs.Prelude.{Result, IfOk, IfErr}
+use Rattle.pg_report.specs.declared.report.Report.{Report}
+use Rattle.pg_report.specs.Judging.{JudgesRecord}
+use Rattle.pg_report.specs.Text.{report_of}
+use Rattle.pg_report.specs.Going.{IsGoing, IsJudging}
 use Rattle.pg_report.specs.Windows.{GoesOn, IsAll, IsLast, IsWindow, ReadsWindow, with_more}
-use Rattle.pg_report.proofs.Continuing.{next_fits, next_begins, going_on, going_ends, going_fails, end_counts, failure_counts}
-use Rattle.pg_report.proofs.Windows.{error_judges, stopped_judges, stopped_counts}
+use Rattle.pg_report.proofs.Continuing.{next_fits, going_on, going_ends, going_fails, end_counts, failure_counts}
+use Rattle.pg_report.proofs.Windows.{error_judges}
 
 -- so much of a window was read, in so many segments all in all
 abbrev pub HasRead : {R : Type 0} → Ghosts R → Option (List ℕ) → ℕ → Recorded → ℕ → List ℕ × R → Stage → List Event → Type 0
@@ -103,28 +104,57 @@ module _ {R : Type 0} (g : Ghosts R) (start : Option (List ℕ)) (f : ℕ) (r : 
       device = failure_counts g Two start f at after stage (with_more r window) segments h.1 e x is pulls;
     }
 
-module _ {R : Type 0} (g : Ghosts R) (start : Option (List ℕ)) (f : ℕ) (at : List ℕ × R) (stage : Stage) (windows : ℕ) where
-  -- the window was judged and the next was read
-  pub goes_on : (head : Head) (events next : List Event) (Knows : List Event → Type 0) → Knows events → (more : Bool)
-      → ReadsWindow g start f (record { head = head; events = events }) windows at stage next (Ok more) → GoesOn g start f at stage head Knows next (windows + 1) (Ok more)
-  goes_on head events next Knows known true reads = record {
-    waits = record { before = events; known = known; well = reads.fits.well; going = reads.goes };
-    fails = tt;
-    device = reads.device;
-  }
-  goes_on head events next Knows known false reads = record {
-    waits = record { before = events; known = known; fits = reads.fits; all = reads.goes };
-    fails = tt;
-    device = reads.device;
-  }
+-- what was read is what was sent
+all_of : (before window : List Event) → (before ++ []) ++ window ≡ (before ++ window) ++ []
+all_of before window = ap (λ (es : List Event). es ++ window) (append-nil before) ∙ sym (append-nil (before ++ window))
 
-  -- judging stopped, and the next window was read
-  pub stops : (r : Recorded) (head : Head) (next : List Event) (Knows : List Event → Type 0) (more : Bool) → ReadsWindow g start f r windows at stage next (Ok more) → (e : AuditError) → e ≡ errors.Memory
-      → GoesOn g start f at stage head Knows next (windows + 1) (Err e)
-  stops r head next Knows more reads e is =
-      let want : GoesOn g start f at stage head Knows next (windows + 1) (Err errors.Memory) = record { waits = tt; fails = tt; device = reads.device } in
-      subst (λ (x : AuditError). GoesOn g start f at stage head Knows next (windows + 1) (Err x)) (sym is) want
+module _ {R : Type 0} (g : Ghosts R) (start : Option (List ℕ)) (f : ℕ) (at : List ℕ × R) (stage : Stage) (head : Head) where
+  -- a window was read and sent
+  pub fed_on : (before window : List Event) (Knows : List Event → Type 0) → Knows (before ++ window) → (more : Bool)
+      → ReadsWindow g start f (record { head = head; events = before ++ [] }) 0 at stage window (Ok more) → GoesOn g start f at stage head Knows [] 0 (Ok more)
+  fed_on before window Knows known true reads =
+      let going : IsGoing g Two start f at stage (record { head = head; events = (before ++ window) ++ [] }) 1 =
+      subst (λ (es : List Event). IsGoing g Two start f at stage (record { head = head; events = es }) 1) (all_of before window) reads.goes in
+      record {
+        waits = record { before = before ++ window; known = known; well = tt; going = fewer g start f at stage (record { head = head; events = (before ++ window) ++ [] }) 1 going 0 (omega arith) };
+        fails = tt;
+        device = reads.device;
+      }
+  fed_on before window Knows known false reads =
+      let few : length (before ++ []) + length window < 2 ^ 32 = reads.fits.few in
+      record {
+        waits = record {
+          before = before ++ window;
+          known = known;
+          fits = record { well = tt; few = omega (arith, few, length-append (before ++ []) window, length-append before window, length-append before []) };
+          all = subst (λ (es : List Event). IsAll start (record { head = head; events = es })) (all_of before window) reads.goes;
+        };
+        fails = tt;
+        device = reads.device;
+      }
+
+  -- a window was read, and not sent for want of memory
+  pub fed_refused : (r : Recorded) (window : List Event) (Knows : List Event → Type 0) (more : Bool) → ReadsWindow g start f r 0 at stage window (Ok more) → GoesOn g start f at stage head Knows [] 0 (Err errors.Memory)
+  fed_refused r window Knows more reads = record { waits = tt; fails = tt; device = reads.device }
 
   -- the next window was refused
-  pub next_fails : (r : Recorded) (head : Head) (next : List Event) (Knows : List Event → Type 0) (e : AuditError) → ReadsWindow g start f r windows at stage next (Err e) → GoesOn g start f at stage head Knows next (windows + 1) (Err e)
-  next_fails r head next Knows e reads = record { waits = tt; fails = reads.fails; device = reads.device }
+  pub fed_fails : (r : Recorded) (window : List Event) (Knows : List Event → Type 0) (e : AuditError) → ReadsWindow g start f r 0 at stage window (Err e) → GoesOn g start f at stage head Knows [] 0 (Err e)
+  fed_fails r window Knows e reads = record { waits = tt; fails = reads.fails; device = reads.device }
+
+  -- what is known of the events so far tells something else
+  pub judging_so : (Knows Known : List Event → Type 0) → ((events : List Event) → Knows events → Known events) → IsJudging g start f at stage head Knows [] 0 → IsJudging g start f at stage head Known [] 0
+  judging_so Knows Known so h = record { before = h.before; known = so h.before h.known; well = h.well; going = h.going }
+
+  -- nothing was read for now
+  pub fed_nothing : (Knows : List Event → Type 0) → IsJudging g start f at stage head Knows [] 0 → GoesOn g start f at stage head Knows [] 0 (Ok true)
+  fed_nothing Knows h = record { waits = h; fails = tt; device = h.going.failed }
+
+-- what is known of the events so far tells something else
+pub last_so : (start : Option (List ℕ)) (head : Head) (Knows Known : List Event → Type 0) → ((events : List Event) → Knows events → Known events) → IsLast start head Knows [] → IsLast start head Known []
+last_so start head Knows Known so h = record { before = h.before; known = so h.before h.known; fits = h.fits; all = h.all }
+
+-- a record that was read to its end was judged
+pub judged_all : (start : Option (List ℕ)) (head : Head) (before : List Event) (result : Result Report AuditError) → IfOk result (λ report. report ≡ report_of (record { head = head; events = before }))
+    → IfErr result (λ e. e ≡ errors.Memory) → IsAll start (record { head = head; events = before ++ [] }) → JudgesRecord start result
+judged_all start head before (Ok report) is e all = (record { head = head; events = before }, is, subst (λ (es : List Event). IsAll start (record { head = head; events = es })) (append-nil before) all)
+judged_all start head before (Err x) is e all = subst (λ (y : AuditError). JudgesRecord start (Err y)) (sym e) tt

@@ -1,5 +1,5 @@
 -- A record on the way that is judged window by window.
-use Rattle.std.proofs.Common.{◌≡◌, cond, inl, inr, ⊎_elim, append-nil, ℕ, ◌+◌, ◌%◌, ◌^◌, ◌<◌, List, [], ◌++◌, length, length-append, Option, Some, Ok, Err, refl, sym, ap, subst, ◌∙◌, arith}
+use Rattle.std.proofs.Common.{◌≡◌, cond, append-nil, ℕ, ◌+◌, ◌^◌, ◌<◌, List, [], ◌++◌, length, length-append, Option, Some, Ok, Err, sym, subst, arith}
 use Rattle.std.specs.Prelude.{IfSome}
 use Rattle.std.proofs.lemmas.List.{append_assoc}
 use Rattle.pg_event.specs.declared.event.Event.{Event}
@@ -20,7 +20,7 @@ use Rattle.pg_codec.specs.declared.error.ReadError.TheVariants as reads
 use Rattle.pg_report.specs.Intake.{IsErrorOf, ReadsRecord, is_device}
 use Rattle.pg_report.specs.Judging.{StopsJudging, JudgesRecord}
 use Rattle.pg_report.specs.Going.{IsGoing, IsJudging}
-use Rattle.pg_report.proofs.Continuing.{next_fits, next_begins, going_on}
+use Rattle.pg_report.proofs.Continuing.{next_fits, going_on}
 
 -- where judging stops nothing is said of the bytes, and no device failed
 pub stopped_judges : (left : Option (List ℕ)) (e : AuditError) → StopsJudging e → JudgesRecord left (Err e)

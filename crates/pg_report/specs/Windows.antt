@@ -1,5 +1,5 @@
 -- A record on the way that is read window by window, one window ahead of those that are judged.
-use Rattle.std.specs.Prelude.{◌≡◌, ℕ, ◌+◌, ◌^◌, ◌<◌, Bool, List, ◌++◌}
+use Rattle.std.specs.Prelude.{ℕ, ◌+◌, ◌^◌, ◌<◌, Bool, List, ◌++◌}
 use Rattle.std.specs.Prelude.{length, Option, Result, Ok, Err, IfSome, IfOk, IfErr, MatchBool}
 use Rattle.pg_event.specs.declared.event.Event.{Event}
 use Rattle.pg_event.specs.declared.version.Version.TheVariants.{Two}

@@ -4,6 +4,7 @@
 mod auditor;
 mod crew;
 mod error;
+mod feed;
 mod intake;
 mod judging_by;
 mod merger;
