@@ -24,14 +24,14 @@ use std::thread::Threads;
 use std::{hint, thread};
 
 /// So many windows may wait for a checker.
-const MOST_WAITING: usize = 8;
+const MOST_WAITING: usize = 16;
 
 /// So often a checker looks for the next window before it lets its thread go: a device may keep the
 /// reader waiting.
 const MOST_LOOKS: u32 = 1 << 19;
 
-/// Passes the time until the next look: so many looks are by turns a short pause, which leaves the
-/// processor's core to its other thread, and now and then the processor is left to other threads.
+/// Waits a moment after so many looks in vain: mostly for a pause of the core, which takes less of
+/// what its other hardware thread needs; after each 64th look other threads may run.
 pub fn pause(looks: u32) {
     if looks % 64 == 0 {
         thread::yield_now();

@@ -1,6 +1,6 @@
 //! Whole records, judged by checkers as they are read.
 
-ghost use Rattle.std.specs.Prelude.{ℕ, ◌<◌, [], All, List, Option};
+ghost use Rattle.std.specs.Prelude.{◌≡◌, ℕ, ◌<◌, [], true, All, List, Option};
 ghost use Rattle.pg_event.specs.Heads.{Head};
 ghost use Rattle.pg_event.specs.Spelling.{Recorded};
 ghost use Rattle.pg_event.specs.declared.version.Version.TheVariants.{Two};
@@ -27,13 +27,20 @@ use pg_pool::{Gate, pause};
 use std::alloc::Global;
 use std::thread::{Threads, join_mut};
 
-/// A window is full once it has so many events; its last segment may bring more. Some windows wait
-/// for each checker, so they are short.
+/// A window is full once it has so many events, or a first segment with an eighth of them; its last
+/// segment may bring more. Some windows wait for each checker, so they are short.
 const WINDOW: usize = 1 << 12;
 
 /// So often the reader looks for room before it lets the checkers' threads end: where no thread can
 /// be made, they judge in turn.
 const MOST_LOOKS: u32 = 1 << 19;
+
+/// Whether a segment is a window by itself, so that it is not copied: if it is the first, and long.
+fn is_long(window: &[Event], segment: &[Event], size: usize) -> bool
+    ensures { result ≡ true → window.now ≡ [] }
+{
+    window.is_empty() && segment.len() >= size / 8
+}
 
 /// Reads segments into a window, whose own events are let go, until it has so many or the record
 /// ends; and tells whether there is more to be read.
@@ -58,6 +65,10 @@ fn read_window<R: Source>(
     for _ in 0..size {
         match reader.read_segment_in(room, source) {
             Ok(Some(events)) => {
+                if is_long(window, &events, size) {
+                    *window = events;
+                    return Ok(true);
+                }
                 if let Err(_) = window.extend_from_slice(&events) {
                     return Err(AuditError::Memory);
                 }
