@@ -146,7 +146,7 @@ void pcid_read_entry(unsigned cpu, int leaf, Bit64u address, Bit64u value)
 // An access that Bochs makes for the processor at CPL 3 is implicit, and has no AC.
 static unsigned flags_of(unsigned cpu, bool user, unsigned rw)
 {
-  const BX_CPU_C *processor = BX_CPU(cpu);
+  BX_CPU_C *processor = BX_CPU(cpu);
   const bool is_explicit = processor->sregs[BX_SEG_REG_CS].selector.rpl != 3;
   const unsigned operation = rw == BX_EXECUTE ? PCID_RECORD_FETCH
                              : rw & 1 ? PCID_RECORD_WRITE : PCID_RECORD_READ;
