@@ -102,6 +102,7 @@ class Outcome:
     def __init__(self, report, verdict, emulator, is_late, is_written):
         self.report, self.verdict, self.emulator = report, verdict, emulator
         self.is_late, self.is_written = is_late, is_written
+        self.is_judged = verdict in (0, 1, 2, 3, image.UNDECIDED)
 
 
 def wait(process, limit):
@@ -164,6 +165,21 @@ def run_recorded(words, folder, variables, limit, is_terminal, auditor, keep):
     report = chain.output()
     is_written = tee is None or tee.returncode == 0
     return Outcome(report, judge.returncode, emulator.returncode, is_late, is_written), told
+
+
+def status_of(outcome, told):
+    """The status that tells most of a run."""
+    if not outcome.is_judged:
+        return AUDITOR_DIED
+    if not outcome.is_written:
+        return FILE_NOT_WRITTEN
+    if outcome.is_late:
+        return LATE
+    if outcome.emulator != 0:
+        return EMULATOR_DIED
+    if any(told.counts.get(name, "0") != "0" for name in ("unseen stores", "refused")):
+        return RECORDER_WRONG
+    return outcome.verdict
 
 
 def culprit(told, report):
