@@ -26,7 +26,6 @@ class Told:
 
     def __init__(self, stream, is_terminal):
         self.forgotten, self.end, self.counts, self.others = [], None, {}, []
-        self.began = self.ended = None  # times of the clock
         self.guest_began = 0  # microseconds of the guest
         self.is_terminal, self.last = is_terminal, (0, 0.0)
         self.thread = threading.Thread(target=self.read, args=(stream,), daemon=True)
@@ -43,7 +42,7 @@ class Told:
 
     def take(self, text):
         if text.startswith("begin "):
-            self.began, self.guest_began = time.monotonic(), int(text.split()[1])
+            self.guest_began = int(text.split()[1])
         elif text.startswith("progress "):
             self.progress(*map(int, text.split()[1:]))
         elif found := FORGOT.fullmatch(text):
@@ -51,7 +50,7 @@ class Told:
             self.forgotten.append((int(number), name, int(cpu), int(kind), int(pcid, 16),
                                    int(linear, 16)))
         elif found := END.fullmatch(text):
-            self.ended, self.end = time.monotonic(), found[1]
+            self.end = found[1]
             self.counts = dict(part.rsplit(" ", 1) for part in found[2].split(", "))
         else:
             print(f"record: {text}", file=sys.stderr)
@@ -137,7 +136,6 @@ def run_alone(words, folder, variables, limit, is_terminal):
     finally:
         end(emulator)
     told.finish()
-    told.ended = time.monotonic()
     return Outcome(b"", 0, emulator.returncode, is_late, True), told
 
 

@@ -34,6 +34,7 @@ static int output = -1;
 static uint32_t version, region_bits, settings;
 static pcid_bug bug = PCID_NO_BUG, forgotten = PCID_NO_BUG;
 static uint64_t bug_period = 1, bug_count, forgotten_count, left_out, refused;
+static clock_t begun; // processor time when the guest's work began
 static volatile sig_atomic_t is_stopped;
 
 // ---- What is told on standard error, by lines that record/run reads ------------------------------
@@ -57,15 +58,21 @@ static void tell_progress(void)
   tell("progress %u %llu", record.events, (unsigned long long)bx_pc_system.time_usec());
 }
 
+static void tell_end(const char *why)
+{
+  tell("end %s: events %u, left out %llu, unseen stores %llu, refused %llu, forgotten %llu, "
+       "processor milliseconds %llu", why, record.events, (unsigned long long)left_out,
+       (unsigned long long)tables.unseen, (unsigned long long)refused,
+       (unsigned long long)forgotten_count,
+       (unsigned long long)(clock() - begun) / (CLOCKS_PER_SEC / 1000));
+}
+
 // Ends the record and Bochs.
 static void finish(const char *why, int status)
 {
   pcid_on = false;
   const unsigned ended = pcid_record_end(&record);
-  tell("end %s: events %u, left out %llu, unseen stores %llu, refused %llu, forgotten %llu, guest's "
-       "microseconds %llu", why, record.events, (unsigned long long)left_out,
-       (unsigned long long)tables.unseen, (unsigned long long)refused,
-       (unsigned long long)forgotten_count, (unsigned long long)bx_pc_system.time_usec());
+  tell_end(why);
   exit(ended == PCID_RECORD_TAKEN ? status : (int)NOT_TAKEN);
 }
 
@@ -357,9 +364,13 @@ void pcid_begin_or_end(Bit16u port, unsigned value)
 {
   if (port != 0xE9) return;
   if (value == 'S' && pcid_on) finish("by the guest", ENDED);
-  if (value == 'S') exit(ENDED); // a run without a record takes as long as one with it
+  if (value == 'S') { // of a run without a record, which is for comparing times
+    tell_end("by the guest");
+    exit(ENDED);
+  }
   if (value != 'R' || pcid_on) return;
   read_variables();
+  begun = clock();
   tell("begin %llu", (unsigned long long)bx_pc_system.time_usec());
   if (output < 0 || !may_begin()) return;
   signal(SIGTERM, stop);
