@@ -13,7 +13,7 @@ import parts
 from parts import image
 
 # Statuses beside those of `certify` and of the probe.
-EMULATOR_DIED, LATE = image.EARLY_END, image.HANG
+EMULATOR_DIED, STOPPED = image.EARLY_END, image.HANG
 FILE_NOT_WRITTEN, AUDITOR_DIED, RECORDER_WRONG = 12, 13, 14
 LEAVE_TO_END = 20  # seconds that an emulator has to close its record when it is told to
 FORGOT = re.compile(r"forgot (\d+) (\w+) (\d+) (\d+) (0x\w+) (0x\w+)")
@@ -79,8 +79,10 @@ class Chain:
         self.source, self.programs = source, []
 
     def add(self, *words, **more):
-        """The last program added is the one that `output` reads."""
-        program = subprocess.Popen(words, stdin=self.source, stdout=subprocess.PIPE, **more)
+        """The last program added is the one that `output` reads. An interrupt from the terminal
+        does not reach it, so that it takes what was recorded until then."""
+        program = subprocess.Popen(words, stdin=self.source, stdout=subprocess.PIPE,
+                                   start_new_session=True, **more)
         os.close(self.source) if isinstance(self.source, int) else self.source.close()
         self.source = program.stdout
         self.programs.append(program)
@@ -98,18 +100,19 @@ class Outcome:
     """The report and the status of `certify`, how the emulator ended, and whether the file that was
     asked for was written."""
 
-    def __init__(self, report, verdict, emulator, is_late, is_written):
+    def __init__(self, report, verdict, emulator, is_stopped, is_written):
         self.report, self.verdict, self.emulator = report, verdict, emulator
-        self.is_late, self.is_written = is_late, is_written
+        self.is_stopped, self.is_written = is_stopped, is_written
         self.is_judged = verdict in (0, 1, 2, 3, image.UNDECIDED)
 
 
 def wait(process, limit):
-    """Whether it had to be told to end: it has a while for that, and is then ended."""
+    """Whether it had to be told to end, by the limit or by an interrupt from the terminal: it has a
+    while for that, and is then ended."""
     try:
         process.wait(limit)
         return False
-    except subprocess.TimeoutExpired:
+    except (subprocess.TimeoutExpired, KeyboardInterrupt):
         process.terminate()
     with contextlib.suppress(subprocess.TimeoutExpired):
         process.wait(LEAVE_TO_END)
@@ -132,11 +135,11 @@ def run_alone(words, folder, variables, limit, is_terminal):
     emulator = start(words, folder, variables, None)
     told = Told(emulator.stderr, is_terminal)
     try:
-        is_late = wait(emulator, limit)
+        is_stopped = wait(emulator, limit)
     finally:
         end(emulator)
     told.finish()
-    return Outcome(b"", 0, emulator.returncode, is_late, True), told
+    return Outcome(b"", 0, emulator.returncode, is_stopped, True), told
 
 
 def end(emulator):
@@ -156,13 +159,13 @@ def run_recorded(words, folder, variables, limit, is_terminal, auditor, keep):
         tee = chain.add("tee", "--output-error=warn", keep)
     judge = chain.add(auditor, "certify")
     try:
-        is_late = wait(emulator, limit)
+        is_stopped = wait(emulator, limit)
     finally:
         end(emulator)
     told.finish()
     report = chain.output()
     is_written = tee is None or tee.returncode == 0
-    return Outcome(report, judge.returncode, emulator.returncode, is_late, is_written), told
+    return Outcome(report, judge.returncode, emulator.returncode, is_stopped, is_written), told
 
 
 def status_of(outcome, told):
@@ -171,8 +174,8 @@ def status_of(outcome, told):
         return AUDITOR_DIED
     if not outcome.is_written:
         return FILE_NOT_WRITTEN
-    if outcome.is_late:
-        return LATE
+    if outcome.is_stopped:
+        return STOPPED
     if outcome.emulator != 0:
         return EMULATOR_DIED
     if any(told.counts.get(name, "0") != "0" for name in ("unseen stores", "refused")):

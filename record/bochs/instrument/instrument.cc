@@ -35,6 +35,7 @@ static uint32_t version, region_bits, settings;
 static pcid_bug bug = PCID_NO_BUG, forgotten = PCID_NO_BUG;
 static uint64_t bug_period = 1, bug_count, forgotten_count, left_out, refused;
 static clock_t begun; // processor time when the guest's work began
+static bx_TLB_entry replaced, *replaced_at; // what the walk at hand replaces, until its outcome
 static volatile sig_atomic_t is_stopped;
 
 // ---- What is told on standard error, by lines that record/run reads ------------------------------
@@ -112,6 +113,12 @@ bool pcid_forgets(pcid_bug asked)
   return true;
 }
 
+void pcid_replace(bx_TLB_entry *entry)
+{
+  replaced = *entry;
+  replaced_at = entry;
+}
+
 // The event that was just recorded is the one that was forgotten, where one was.
 static void tell_forgotten(const char *name, unsigned cpu, Bit64u type, Bit64u pcid, Bit64u linear)
 {
@@ -165,8 +172,7 @@ static unsigned flags_of(unsigned cpu, bool user, unsigned rw)
 static void answer(unsigned cpu, unsigned flags, Bit64u linear, Bit64u physical)
 {
   if (is_stopped) finish("by a signal", EARLY);
-  // The walk that a forgotten fault was about gave an answer, which replaced the translation.
-  forgotten = PCID_NO_BUG;
+  replaced_at = NULL;
   if (pcid_seen_answer(&seen[cpu], flags, linear, physical)) {
     left_out++;
     return;
@@ -192,6 +198,8 @@ void pcid_fault(unsigned cpu, bool user, unsigned rw, Bit64u linear, unsigned co
   took(pcid_tables_settle(&tables, cpu));
   pcid_seen_fault(&seen[cpu], linear);
   took(pcid_record_fault_unnamed(&record, cpu, flags_of(cpu, user, rw), linear, code));
+  if (replaced_at != NULL && pcid_forgets(PCID_FAULT_BUG)) *replaced_at = replaced;
+  replaced_at = NULL;
   tell_forgotten("fault", cpu, 0, BX_CPU(cpu)->cr3 & 0xFFF, linear);
 }
 

@@ -26,6 +26,10 @@ extern bool pcid_marking; // PCID_RECORD_MARK
 // Whether the event at hand is to be forgotten. The caller asks once for each event.
 bool pcid_forgets(pcid_bug bug);
 
+// A walk is about to replace this translation, because it does not allow the access.
+struct bx_TLB_entry;
+void pcid_replace(bx_TLB_entry *entry);
+
 void pcid_begin_or_end(Bit16u port, unsigned value);
 void pcid_exit(void);
 void pcid_control(unsigned cpu, unsigned what, Bit64u value);
