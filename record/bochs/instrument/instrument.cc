@@ -68,13 +68,26 @@ static void tell_end(const char *why)
        (unsigned long long)(clock() - begun) / (CLOCKS_PER_SEC / 1000));
 }
 
-// Ends the record and Bochs.
-static void finish(const char *why, int status)
+// Ends the record, and tells whether it is whole.
+static bool end_record(const char *why)
 {
   pcid_on = false;
-  const unsigned ended = pcid_record_end(&record);
+  const unsigned status = pcid_record_end(&record);
   tell_end(why);
-  exit(ended == PCID_RECORD_TAKEN ? status : (int)NOT_TAKEN);
+  return status == PCID_RECORD_TAKEN;
+}
+
+// Ends Bochs in the middle of an instruction, and so without its destructors. What the guest wrote
+// to the serial line is still to be written.
+static void leave(int status)
+{
+  fflush(NULL);
+  _exit(status);
+}
+
+static void finish(const char *why, int status)
+{
+  leave(end_record(why) ? status : NOT_TAKEN);
 }
 
 // A call on the record answered this.
@@ -300,7 +313,8 @@ static pcid_bug bug_of(const char *name)
   for (unsigned k = 0; k < 5; k++)
     if (strcmp(name, names[k]) == 0) return (pcid_bug)k;
   tell("PCID_RECORD_BREAK has no kind %s", name);
-  exit(EARLY);
+  leave(EARLY);
+  return PCID_NO_BUG;
 }
 
 static void read_variables(void)
@@ -357,7 +371,7 @@ static void begin(void)
   if (frames == NULL || pcid_record_begin(&record, &header, buffer, sizeof buffer, put, NULL) !=
                             PCID_RECORD_TAKEN) {
     tell("no record: %s", strerror(errno));
-    exit(NOT_TAKEN);
+    leave(NOT_TAKEN);
   }
   source.word = memory_word;
   source.page = new_page;
@@ -374,7 +388,7 @@ void pcid_begin_or_end(Bit16u port, unsigned value)
   if (value == 'S' && pcid_on) finish("by the guest", ENDED);
   if (value == 'S') { // of a run without a record, which is for comparing times
     tell_end("by the guest");
-    exit(ENDED);
+    leave(ENDED);
   }
   if (value != 'R' || pcid_on) return;
   read_variables();
@@ -386,7 +400,8 @@ void pcid_begin_or_end(Bit16u port, unsigned value)
   begin();
 }
 
+// Bochs ends, by a status of its own.
 void pcid_exit(void)
 {
-  if (pcid_on) finish("by Bochs", EARLY);
+  if (pcid_on) end_record("by Bochs");
 }
