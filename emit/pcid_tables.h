@@ -269,8 +269,8 @@ static inline unsigned pcid_tables_read(struct pcid_tables *tables, uint32_t pro
     if (number < tables->frame_count) {
         struct pcid_tables_frame *frame = &tables->frames[number];
 
-        /* A frame that serves at two levels is adopted again at each change. */
-        if (frame->level != 0 && frame->level != level)
+        /* Of a frame that serves at several levels the highest counts: its words lead on. */
+        if (frame->level != 0 && frame->level < level)
             pcid_tables_forget_(tables, frame);
         if (frame->level == 0)
             status = pcid_tables_adopt_(tables, processor, number, level);

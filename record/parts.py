@@ -1,7 +1,6 @@
 # SPDX-License-Identifier: MIT OR Apache-2.0
-"""What a run is made of, each part fetched or built where it is missing and kept in CACHE: a kernel,
-the guest's files and their disc, the emulator and its firmware, and emit/close.c."""
-import glob
+"""What a run is made of, each part fetched or built where it is missing and kept in CACHE: a
+kernel, the guest's files and their disc, the emulator and its firmware, and emit/close.c."""
 import hashlib
 import os
 import shutil
@@ -23,8 +22,10 @@ import kernels  # noqa: E402
 import nesting  # noqa: E402
 
 GUEST = os.path.join(HERE, "linux")
-COMPILE = ["gcc", "-std=c99", "-Wall", "-Wextra", "-Werror", "-O1"]
-DISC_TOOLS = ("grub-mkrescue", "xorriso", "mformat", "/usr/lib/grub/i386-pc")
+COMPILE = ["gcc", "-std=c99", "-Wall", "-Wextra", "-Wpedantic", "-Werror", "-O1"]
+# What makes the guest's files and their disc, runs, and fetches the rest.
+TOOLS = ("gcc", "grub-mkrescue", "xorriso", "mformat", "/usr/lib/grub/i386-pc", "tee", "apt-get",
+         "dpkg-deb")
 # What holds for an emulator: its clock is not that of the machine, and it ends where the kernel
 # panics.
 WORDS = ("console=ttyS0,115200 panic=-1 quiet no_timer_check tsc=reliable lpj=1000000 "
@@ -60,7 +61,6 @@ def compiled(name, source, *words):
     made = key_of(source, words=words)
 
     def make(folder):
-        image.need("gcc")
         image.command(*COMPILE, *words, "-o", os.path.join(folder, name), source)
     return os.path.join(kept(f"{name}-{made}", make), name)
 
@@ -73,9 +73,11 @@ def close_program():
 def packages(*names):
     """The folder in which these packages of the machine's own release are unpacked."""
     def make(folder):
-        image.need("apt-get", "dpkg-deb")
+        archive = debian.Own()
+        for name in names:
+            archive.shown(name)  # which says what to do where apt knows no package
         with tempfile.TemporaryDirectory() as files:
-            for file in debian.Own().fetch(names, files):
+            for file in archive.fetch(names, files):
                 image.command("dpkg-deb", "-x", file, folder)
     return kept("-".join(names), make)
 
@@ -107,7 +109,6 @@ def kernel(asked):
 
 def make_disc(path, kernel_image, words):
     """Writes a disc that boots the kernel with the guest's files."""
-    image.need(*DISC_TOOLS)
     with tempfile.TemporaryDirectory() as tree:
         boot = os.path.join(tree, "boot")
         os.makedirs(os.path.join(boot, "grub"))
@@ -134,6 +135,6 @@ def firmware():
     found = [os.path.join(folder, name) for name in ("usr/share/bochs/BIOS-bochs-latest",
                                                      "usr/share/vgabios/vgabios.bin")]
     for path in found:
-        if not glob.glob(path):
+        if not os.path.exists(path):
             raise image.Stop(f"the packages bochsbios and vgabios have no {path}")
     return found

@@ -1,5 +1,6 @@
 # SPDX-License-Identifier: MIT OR Apache-2.0
-"""Runs an emulator, and passes its record through emit/close.c to `certify` while the guest runs."""
+"""Runs an emulator, and passes its record through emit/close.c to `certify` while the guest
+runs."""
 import contextlib
 import os
 import re
@@ -199,6 +200,7 @@ def culprit(told, report):
 
 def spelled(event):
     number, name, cpu, kind, pcid, linear = event
-    what = {"invlpg": f"INVLPG {linear:#x}", "cr3": "MOV to CR3", "fault": f"page fault {linear:#x}",
-            "invpcid": f"INVPCID type {kind} {linear:#x}"}[name]
+    what = {"invlpg": f"INVLPG {linear:#x}", "cr3": "MOV to CR3",
+            "invpcid": f"INVPCID type {kind} {linear:#x}",
+            "fault": f"page fault {linear:#x}"}[name]
     return f"event {number} cpu {cpu} {what}, PCID {pcid:#x}"

@@ -1,6 +1,6 @@
 // SPDX-License-Identifier: MIT OR Apache-2.0
-// Records the paging of the guest for pcid-audit: see instrument.h. Bochs runs all its processors on
-// one thread, so the calls come in the order of the effects and no lock is needed.
+// Records the paging of the guest for pcid-audit: see instrument.h. Bochs runs all its processors
+// on one thread, so the calls come in the order of the effects and no lock is needed.
 #include <errno.h>
 #include <signal.h>
 #include <stdarg.h>
@@ -38,7 +38,7 @@ static clock_t begun; // processor time when the guest's work began
 static bx_TLB_entry replaced, *replaced_at; // what the walk at hand replaces, until its outcome
 static volatile sig_atomic_t is_stopped;
 
-// ---- What is told on standard error, by lines that record/run reads ------------------------------
+// ---- What is told on standard error, by lines that record/run reads ----------------------------
 
 static void tell(const char *form, ...)
 {
@@ -117,7 +117,20 @@ static int put(void *, const uint8_t *bytes, size_t count)
   return 0;
 }
 
-// ---- Bugs made on purpose ------------------------------------------------------------------------
+// ---- CR3 ---------------------------------------------------------------------------------------
+
+// CR3, or an operand for it. Without PCIDs bits 11:0 are memory types, and bit 63 is none.
+static Bit64u cr3_value(Bit64u value)
+{
+  return settings & PCIDE ? value : value & BX_CONST64(0x000FFFFFFFFFF000);
+}
+
+static Bit64u pcid_of(unsigned cpu)
+{
+  return cr3_value(BX_CPU(cpu)->cr3) & 0xFFF;
+}
+
+// ---- Bugs made on purpose ----------------------------------------------------------------------
 
 bool pcid_forgets(pcid_bug asked)
 {
@@ -213,7 +226,7 @@ void pcid_fault(unsigned cpu, bool user, unsigned rw, Bit64u linear, unsigned co
   took(pcid_record_fault_unnamed(&record, cpu, flags_of(cpu, user, rw), linear, code));
   if (replaced_at != NULL && pcid_forgets(PCID_FAULT_BUG)) *replaced_at = replaced;
   replaced_at = NULL;
-  tell_forgotten("fault", cpu, 0, BX_CPU(cpu)->cr3 & 0xFFF, linear);
+  tell_forgotten("fault", cpu, 0, pcid_of(cpu), linear);
 }
 
 // Before the walk sets A in the entries that it used, and D in the last one of a write that is
@@ -231,12 +244,6 @@ void pcid_set_flags(unsigned cpu, bool user, unsigned rw, Bit64u linear, int top
 }
 
 // ---- Instructions ------------------------------------------------------------------------------
-
-// CR3, or an operand for it. Without PCIDs bits 11:0 are memory types, and bit 63 is none.
-static Bit64u cr3_value(Bit64u value)
-{
-  return settings & PCIDE ? value : value & BX_CONST64(0x000FFFFFFFFFF000);
-}
 
 void pcid_mov_cr3(unsigned cpu, Bit64u operand)
 {
@@ -286,7 +293,7 @@ void pcid_control(unsigned cpu, unsigned what, Bit64u value)
     took(pcid_tables_settle(&tables, cpu));
     pcid_seen_invlpg(&seen[cpu], value);
     took(pcid_record_invlpg(&record, cpu, value));
-    tell_forgotten("invlpg", cpu, 0, BX_CPU(cpu)->cr3 & 0xFFF, value);
+    tell_forgotten("invlpg", cpu, 0, pcid_of(cpu), value);
     break;
   case BX_INSTR_MOV_CR0:
   case BX_INSTR_MOV_CR4:
@@ -345,10 +352,10 @@ static bool may_begin(void)
 {
   settings = settings_of(0);
   for (int cpu = 0; cpu < BX_SMP_PROCESSORS; cpu++) {
-    const uint32_t others = settings_of(cpu);
-    if (others == settings && (others & (PAGING | LONG_MODE | LEVEL_5)) == (PAGING | LONG_MODE))
-      continue;
-    tell("processor %d has the settings 0x%x: no record", cpu, others);
+    const uint32_t found = settings_of(cpu);
+    const uint32_t paging = found & (PAGING | LONG_MODE | LEVEL_5);
+    if (found == settings && paging == (PAGING | LONG_MODE)) continue;
+    tell("processor %d has the settings 0x%x: no record", cpu, found);
     return false;
   }
   return BX_SMP_PROCESSORS <= (int)PROCESSORS;
