@@ -12,6 +12,7 @@ use pg_span_codec::Peeked;
 use std::alloc::AllocGlobal;
 use std::fs;
 use std::process::ExitCode;
+use std::sync::Wait;
 use std::thread::Threads;
 
 /// Of words that ask for what the whole program does.
@@ -61,7 +62,7 @@ fn tell_usage<E: Sink>(errors: &mut E, usage: Usage) -> u8 {
 
 /// Checks the record on a source. The events of one with spans have no one order, and it is
 /// refused.
-fn check_on<T: AllocGlobal + Threads + Sync, R: Source + Drop, O: Sink, E: Sink>(
+fn check_on<T: AllocGlobal + Threads + Wait + Sync, R: Source + Drop, O: Sink, E: Sink>(
     rt: &T,
     checkers: Checkers,
     source: R,
