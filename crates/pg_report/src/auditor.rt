@@ -1,6 +1,6 @@
 //! The audit of a record, from bytes to report.
 
-ghost use Rattle.std.specs.Prelude.{◌≡◌, ◌≢◌, ◌↔◌, Err, string_bytes};
+ghost use Rattle.std.specs.Prelude.{◌≡◌, ◌≢◌, ◌↔◌, Err, IfErr};
 ghost use Rattle.pg_pool.specs.Rounds.{AreCheckers};
 ghost use Rattle.pg_report.specs.Changes.{drawn, filled};
 ghost use Rattle.pg_report.specs.Text.{report_of, report_text};
@@ -33,6 +33,7 @@ pub fn report_of(history: &History) -> Report
 /// Writes a text. A beginning of it is written where the writer fails.
 pub fn write_text<W: Sink>(writer: &mut W, text: &str) -> Result<(), AuditError>
     ensures text { WritesText (filled W.Sink writer.old writer.new) text.now result }
+    ensures only { IfErr result (λ e. e ≡ AuditError.Device) }
     ensures device { TellsDevice (filled W.Sink writer.old writer.new) result }
 {
     match put_all(writer, text.as_bytes()) {
