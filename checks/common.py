@@ -1,3 +1,4 @@
+# SPDX-License-Identifier: MIT OR Apache-2.0
 """What scripts of checks/, bench/ and build/ share."""
 import ctypes
 import os

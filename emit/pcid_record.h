@@ -1,3 +1,4 @@
+/* SPDX-License-Identifier: MIT OR Apache-2.0 */
 /*
  * pcid_record.h: writes the record of a run, version 1 to 4, for pcid-audit.
  *
