@@ -1,8 +1,5 @@
-#!/usr/bin/env python3
 # SPDX-License-Identifier: MIT OR Apache-2.0
-"""Builds the program without proofs, as out/unproved/pcid_audit, if it is missing or older than its sources.
-
-usage: build/unproved
+"""The program without proofs, out/unproved/pcid_audit.
 
 `rt try` builds it: unoptimised, and with checks that end it at an overflow, an index out of bounds or a bad
 access. ./pcid-audit runs it until the proved program is there.
@@ -13,6 +10,7 @@ named pipe, which holds it until its executable has been copied.
 import errno
 import fcntl
 import os
+import shlex
 import shutil
 import subprocess
 import sys
@@ -20,10 +18,16 @@ import tempfile
 import time
 
 TOP = os.path.dirname(os.path.dirname(os.path.abspath(__file__)))
+sys.dont_write_bytecode = True
+sys.path.insert(0, os.path.join(TOP, "checks"))
+import common  # noqa: E402
+
 CRATE = os.path.join(TOP, "crates/pcid_audit")
 # (not in the crate's own out/, which `rt ci` sets aside)
 FOLDER = os.path.join(TOP, "out/unproved")
 PROGRAM = os.path.join(FOLDER, "pcid_audit")
+BINARY = os.path.join(FOLDER, "binary")
+NEW = ".new"
 # What the program answers for before it is kept.
 SAMPLE = os.path.join(TOP, "samples/fresh_walk.record")
 REPORT = os.path.join(TOP, "samples/fresh_walk.report")
@@ -64,29 +68,45 @@ def opened(pipe, child):
 
 
 def reader_of(pipe):
-    """The executable of the process that has the pipe open, as a path."""
+    """The command line of the process that has the pipe open."""
     for process in filter(str.isdigit, os.listdir("/proc")):
         if int(process) == os.getpid():
             continue
         try:
             held = os.listdir(f"/proc/{process}/fd")
             if any(os.readlink(f"/proc/{process}/fd/{it}") == pipe for it in held):
-                return f"/proc/{process}/exe"
+                with open(f"/proc/{process}/cmdline", encoding="utf-8") as file:
+                    return file.read().split("\0")
         except OSError:
             # (it has ended, or belongs to someone else)
             continue
     raise NotBuilt("the program that rt try runs was not found")
 
 
-def copied(pipe, end):
-    """Copies the executable of the program that waits at the pipe, and then lets it read the sample."""
-    made = f"{PROGRAM}.{os.getpid()}"
-    shutil.copyfile(reader_of(pipe), made)
-    os.chmod(made, 0o755)
-    os.set_blocking(end, True)
-    with open(SAMPLE, "rb") as sample, open(end, "wb") as given:
+def kept(words, room):
+    """Copies the program of this command line, which is a file of the room. What stands before it, the
+    toolchain's own loader, goes into a script that runs the copy in the same way."""
+    at = next((at for at, word in enumerate(words) if word.startswith(room + os.sep)), None)
+    if at is None:
+        raise NotBuilt(f"the program that rt try runs is not where it was told to be: {' '.join(words)}")
+    shutil.copyfile(words[at], BINARY + NEW)
+    os.chmod(BINARY + NEW, 0o755)
+    with open(PROGRAM + NEW, "w", encoding="utf-8") as script:
+        loader = "".join(f"{shlex.quote(it)} " for it in words[:at])
+        script.write(f'#!/bin/sh\nexec {loader}{shlex.quote(BINARY)} "$@"\n')
+    os.chmod(PROGRAM + NEW, 0o755)
+
+
+def answer_of(pipe, child, room):
+    """What the program of this rt answers for the sample, after it has been copied; None if it never ran."""
+    end = opened(pipe, child)
+    if end is None:
+        return None
+    with open(end, "wb") as given, open(SAMPLE, "rb") as sample:
+        kept(reader_of(pipe), room)
+        os.set_blocking(end, True)
         shutil.copyfileobj(sample, given)
-    return made
+    return child.communicate()[0]
 
 
 def build():
@@ -94,42 +114,36 @@ def build():
     if not shutil.which("rt"):
         raise NotBuilt('rt is missing: the toolchain that builds it (README.md, "Without the toolchain")')
     started = time.time()
-    with tempfile.TemporaryDirectory(prefix="pcid-audit-") as room:
+    with tempfile.TemporaryDirectory(prefix="pcid-audit-") as made:
+        room = os.path.realpath(made)
         pipe, log = os.path.join(room, "record"), os.path.join(room, "log")
         os.mkfifo(pipe)
         with open(log, "w+b") as said:
             # (rt makes its own folder in this one, and removes it when it is told to end)
             child = subprocess.Popen(["rt", "try", "--", "check", pipe], cwd=CRATE, stdin=subprocess.DEVNULL,
-                                     stdout=subprocess.PIPE, stderr=said, env={**os.environ, "TMPDIR": room})
+                                     stdout=subprocess.PIPE, stderr=said, env={**os.environ, "TMPDIR": room},
+                                     preexec_fn=common.end_with_parent)
             try:
-                end = opened(pipe, child)
-                made = copied(pipe, end) if end is not None else None
-                answer = child.communicate()[0]
+                answer = answer_of(pipe, child, room)
             finally:
                 if child.poll() is None:
                     child.terminate()
                     child.wait()
             with open(REPORT, "rb") as report:
-                if made is None or child.returncode or answer != report.read():
+                if child.returncode or answer != report.read():
                     said.seek(0)
                     raise NotBuilt("rt try did not build it:\n" + said.read().decode(errors="replace"))
+    for it in (BINARY, PROGRAM):
         # Whoever edits a source while this runs gets a new build.
-        os.utime(made, (started, started))
-        os.rename(made, PROGRAM)
+        os.utime(it + NEW, (started, started))
+        os.rename(it + NEW, it)
 
 
-def main():
-    try:
-        os.makedirs(FOLDER, exist_ok=True)
-        with open(os.path.join(FOLDER, "lock"), "w", encoding="ascii") as lock:
-            fcntl.flock(lock, fcntl.LOCK_EX)
-            if not is_current():
-                build()
-    except (NotBuilt, OSError) as error:
-        print(f"pcid-audit: not built: {error}", file=sys.stderr)
-        return 70
-    return 0
-
-
-if __name__ == "__main__":
-    sys.exit(main())
+def build_once():
+    """Builds the program, unless another call has built it meanwhile."""
+    common.quit_at_signals()
+    os.makedirs(FOLDER, exist_ok=True)
+    with open(os.path.join(FOLDER, "lock"), "w", encoding="ascii") as lock:
+        fcntl.flock(lock, fcntl.LOCK_EX)
+        if not is_current():
+            build()
