@@ -3,9 +3,9 @@
  * What an event costs its recorder: nanoseconds and bytes of emit/, for each kind of event, with `put`
  * into a buffer in memory that is used again and again.
  *
- * usage: cost [EVENTS] [THREADS]    (by default 100,000 and 4)
+ * usage: cost [RUNS]    (60 if left out)
  *
- * Each row is the least of RUNS runs: of one thread that owns its record; of threads that share a record
+ * Each row is the least of so many runs: of one thread that owns its record; of threads that share a record
  * under a mutex ("lock"); of a log for each thread, with two stamps of one atomic counter an event ("logs"),
  * or of the time-stamp counter ("logs, tsc"). The last three have a third each of writes, INVLPG and
  * accesses without moments. Processor time is that of an event; the clock is that of an event of a thread.
@@ -20,7 +20,7 @@
 
 #include "../../emit/pcid_log.h"
 
-enum { RUNS = 60, MOST_THREADS = 64, SEGMENT = 1024, SPACE = 1 << 16 };
+enum { EVENTS = 100000, THREADS = 4, SEGMENT = 1024, SPACE = 1 << 16 };
 
 /* Where bytes go: a space in memory, from its start again where it is full. */
 struct sink {
@@ -105,13 +105,13 @@ static inline void event(struct pcid_record *record, uint32_t cpu, enum kind kin
     }
 }
 
-static const struct pcid_record_start starts[MOST_THREADS] = {{0x1001, 1}};
-static struct sink sinks[MOST_THREADS];
+static const struct pcid_record_start starts[THREADS] = {{0x1001, 1}};
+static struct sink sinks[THREADS];
 static struct pcid_record shared;
-static struct pcid_log logs[MOST_THREADS];
+static struct pcid_log logs[THREADS];
 static pthread_mutex_t lock = PTHREAD_MUTEX_INITIALIZER;
 static atomic_uint_fast64_t counter;
-static uint64_t events = 100000;
+static int runs = 60;
 
 static void begin(uint32_t threads)
 {
@@ -127,7 +127,7 @@ static void *under_lock(void *number)
     const uint32_t cpu = (uint32_t)(size_t)number;
     uint64_t k;
 
-    for (k = 0; k < events; k++) {
+    for (k = 0; k < EVENTS; k++) {
         pthread_mutex_lock(&lock);
         event(&shared, cpu, (enum kind)(k % 3), k);
         pthread_mutex_unlock(&lock);
@@ -140,7 +140,7 @@ static void *into_log(void *number)
     const uint32_t cpu = (uint32_t)(size_t)number;
     uint64_t k;
 
-    for (k = 0; k < events; k++) {
+    for (k = 0; k < EVENTS; k++) {
         const uint64_t first = atomic_fetch_add(&counter, 1) + 1;
         const uint64_t last = atomic_fetch_add(&counter, 1) + 1;
 
@@ -155,7 +155,7 @@ static void *into_log_by_clock(void *number)
     const uint32_t cpu = (uint32_t)(size_t)number;
     uint64_t k;
 
-    for (k = 0; k < events; k++) {
+    for (k = 0; k < EVENTS; k++) {
         const uint64_t first = __rdtsc();
         const uint64_t last = __rdtsc() + 1;
 
@@ -168,7 +168,7 @@ static void *into_log_by_clock(void *number)
 /* Each of so many threads does its events. */
 static void together(uint32_t threads, void *(*work)(void *))
 {
-    pthread_t made[MOST_THREADS];
+    pthread_t made[THREADS];
     uint32_t k;
 
     for (k = 0; k < threads; k++)
@@ -180,10 +180,10 @@ static void together(uint32_t threads, void *(*work)(void *))
 
 static void tell(const char *what, uint32_t threads, struct times least, uint64_t bytes)
 {
-    const double all = (double)events * threads;
+    const double all = (double)EVENTS * threads;
 
     printf("%-34s %7u %12.1f %12.1f %8.1f\n", what, threads, least.processor / all,
-           least.clock / events, bytes / all);
+           least.clock / EVENTS, bytes / all);
 }
 
 static void one_record(enum kind kind)
@@ -192,12 +192,12 @@ static void one_record(enum kind kind)
     uint64_t k;
     int run;
 
-    for (run = 0; run < RUNS; run++) {
+    for (run = 0; run < runs; run++) {
         struct times start;
 
         begin(1);
         start = now();
-        for (k = 0; k < events; k++)
+        for (k = 0; k < EVENTS; k++)
             event(&shared, 0, kind, k);
         must(pcid_record_end(&shared));
         least = least_of(least, start);
@@ -212,7 +212,7 @@ static void many(const char *what, uint32_t threads, void *(*work)(void *), int 
     uint32_t k;
     int run;
 
-    for (run = 0; run < RUNS; run++) {
+    for (run = 0; run < runs; run++) {
         struct times start;
 
         if (is_shared)
@@ -234,23 +234,22 @@ static void many(const char *what, uint32_t threads, void *(*work)(void *), int 
 
 int main(int count, char **words)
 {
-    const uint32_t threads = count > 2 ? (uint32_t)atoi(words[2]) : 4;
     enum kind kind;
 
     if (count > 1)
-        events = strtoull(words[1], NULL, 10);
-    if (events < 1 || threads < 1 || threads > MOST_THREADS) {
-        fprintf(stderr, "usage: cost [EVENTS] [THREADS]\n");
+        runs = atoi(words[1]);
+    if (count > 2 || runs < 1) {
+        fprintf(stderr, "usage: cost [RUNS]\n");
         return 2;
     }
     printf("%-34s %7s %12s %12s %8s\n", "", "threads", "processor ns", "clock ns", "bytes");
     for (kind = WRITE; kind < KINDS; kind++)
         one_record(kind);
     many("lock", 1, under_lock, 1);
-    many("lock", threads, under_lock, 1);
+    many("lock", THREADS, under_lock, 1);
     many("logs", 1, into_log, 0);
-    many("logs", threads, into_log, 0);
+    many("logs", THREADS, into_log, 0);
     many("logs, tsc", 1, into_log_by_clock, 0);
-    many("logs, tsc", threads, into_log_by_clock, 0);
+    many("logs, tsc", THREADS, into_log_by_clock, 0);
     return 0;
 }
