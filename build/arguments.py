@@ -108,14 +108,14 @@ class Line:
         return " ".join([head, *options, tail])
 
 
-def unknown(line, name, used, left, is_last):
+def unknown(line, name, used, left):
     """The error for a long option that the command does not have."""
     near = alike(name, line.options)
     if near:
         used = used if near[-1] in used else [*used, near[-1]]
         tip = f"\n\n  tip: a similar argument exists: '--{near[-1]}'"
     elif line.name:
-        tip = "" if is_last else f"\n\n  tip: to pass '--{name}' as a value, use '-- --{name}'"
+        tip = f"\n\n  tip: to pass '--{name}' as a value, use '-- --{name}'"
     else:
         tip = tip_of_command(line, name, left)
     return fault(f"unexpected argument '--{name}' found{tip}", line.usage_of(used))
@@ -137,9 +137,6 @@ class Reader:
     def __init__(self, line, words):
         self.line, self.words = line, words
         self.given, self.files, self.pending = {}, [], None
-
-    def used(self):
-        return [*self.given]
 
     def settle(self):
         """Looks at the value of the option that was read last."""
@@ -197,12 +194,12 @@ class Reader:
         name, has_value, value = word.partition("=")
         if name not in self.line.options:
             self.give_up()
-            raise unknown(self.line, name, self.used(), left, False)
+            raise unknown(self.line, name, [*self.given], left)
         if has_value and not self.line.options[name].value:
             if self.pending is not None or any(it is not None for it in self.given.values()):
                 raise Unsure
             raise fault(f"unexpected value '{value}' for '--{name}' found; no more were expected",
-                        self.line.usage_of([*self.given, name] if name not in self.given else self.used()))
+                        self.line.usage_of([*self.given, *([] if name in self.given else [name])]))
         self.settle()
         if name == "help":
             raise Answer(DONE, self.line.text)
@@ -217,6 +214,8 @@ class Reader:
         if word[1] == "h":
             self.settle()
             raise Answer(DONE, self.line.text)
+        if any(it.letter == word[:2] for it in self.line.options.values()):
+            raise Unsure
         raise fault(f"unexpected argument '{word[:2]}' found\n\n  tip: to pass '{word[:2]}' as a value, "
                     f"use '-- {word[:2]}'", self.line.usage)
 
@@ -240,12 +239,10 @@ def is_canonical(address):
 
 def look_at_plan(name, given):
     """Refuses what the command line takes, and the program does not."""
-    numbers = [value for option, value in given.items() if option in NUMBERS and value is not None]
-    if name == "explain" and (("most" in given and "all" not in given) or ("svg" in given and "all" in given)):
+    is_signed = {option for option in NUMBERS if (given.get(option) or "").startswith("+")}
+    if name == "explain" and ("most" in given and "all" not in given or {"svg", "all"} <= {*given} or is_signed):
         raise Answer(USAGE, errors=NO_TELLING)
-    if name == "explain" and given.get("most", "").startswith("+"):
-        raise Answer(USAGE, errors=NO_TELLING)
-    if any(it.startswith("+") for it in numbers):
+    if is_signed:
         raise Answer(USAGE, errors=NO_NUMBER)
     for option in ADDRESSES:
         value = given.get(option)
@@ -255,9 +252,9 @@ def look_at_plan(name, given):
             raise Answer(USAGE, errors=NO_NUMBER)
 
 
-def look_at_files(files):
-    """Refuses a file that can't be opened. Of several the first is opened first."""
-    if not files or files[0] == "-":
+def look_at_files(name, files):
+    """Refuses a file that can't be opened. Of several logs the first is opened first."""
+    if not files or files[0] == "-" or len(files) > 1 and name != "merge":
         return
     try:
         # (a pipe that is opened and closed would break for whoever writes to it)
@@ -290,7 +287,7 @@ def look_at_first(line, words):
     if word == "--" or word.startswith("--") and "=" in word:
         raise Unsure
     if word.startswith("--"):
-        raise unknown(line, word[2:], [], left, False)
+        raise unknown(line, word[2:], [], left)
     if word.startswith("-") and word != "-":
         raise fault(f"unexpected argument '{word[:2]}' found", line.usage)
     near = alike(word, [name for name, _ in line.help.commands])
@@ -314,9 +311,9 @@ def answer(words):
         reader.read()
         if not reader.files and reader.line.files[0].startswith("<"):
             raise fault(f"the following required arguments were not provided:\n  {reader.line.files[0]}",
-                        reader.line.usage_of([*reader.used(), reader.line.files[1]], False))
+                        reader.line.usage_of([*reader.given, reader.line.files[1]], False))
         look_at_plan(words[0], reader.given)
-        look_at_files(reader.files)
+        look_at_files(words[0], reader.files)
     except Answer as known:
         return known
     except (Unsure, UnicodeEncodeError):
