@@ -67,19 +67,22 @@ def opened(pipe, child):
     return None
 
 
-def reader_of(pipe):
-    """The command line of the process that has the pipe open."""
-    for process in filter(str.isdigit, os.listdir("/proc")):
-        if int(process) == os.getpid():
-            continue
-        try:
-            held = os.listdir(f"/proc/{process}/fd")
-            if any(os.readlink(f"/proc/{process}/fd/{it}") == pipe for it in held):
+def holds(process, file):
+    """Whether a process has the file open. (One that has ended, or is someone else's, does not tell.)"""
+    try:
+        return any(os.readlink(f"/proc/{process}/fd/{it}") == file for it in os.listdir(f"/proc/{process}/fd"))
+    except OSError:
+        return False
+
+
+def reader_of(pipe, child):
+    """The command line of the process that has the pipe open. (It may still be about to.)"""
+    while child.poll() is None:
+        for process in filter(str.isdigit, os.listdir("/proc")):
+            if int(process) != os.getpid() and holds(process, pipe):
                 with open(f"/proc/{process}/cmdline", encoding="utf-8") as file:
                     return file.read().split("\0")
-        except OSError:
-            # (it has ended, or belongs to someone else)
-            continue
+        time.sleep(PAUSE)
     raise NotBuilt("the program that rt try runs was not found")
 
 
@@ -103,7 +106,7 @@ def answer_of(pipe, child, room):
     if end is None:
         return None
     with open(end, "wb") as given, open(SAMPLE, "rb") as sample:
-        kept(reader_of(pipe), room)
+        kept(reader_of(pipe, child), room)
         os.set_blocking(end, True)
         shutil.copyfileobj(sample, given)
     return child.communicate()[0]
