@@ -1,3 +1,4 @@
+# SPDX-License-Identifier: MIT OR Apache-2.0
 """Records as bytes: found in an output, cut into events, and put together again."""
 import os
 import re
