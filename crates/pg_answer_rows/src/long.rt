@@ -190,7 +190,10 @@ fn each_segment_goes_through_the_gate_once(rt: HostRuntime) -> Result<(), Fail> 
         };
         let bytes = record_of(rt.alloc(), &long)?;
         for checkers in [1, 2, 5, 64] {
-            assert!(rt; goes_through_once(&rt, &long, &bytes, checkers)?, "{segment} {checkers}");
+            assert!(rt;
+                goes_through_once(&rt, &long, &bytes, checkers)?,
+                "{segment} {checkers}"
+            );
         }
     }
     Ok(())
