@@ -1,0 +1,1 @@
+"""Checks of what is not proved (checks/README.md)."""

@@ -6,7 +6,7 @@ import re
 import shutil
 import subprocess
 
-import image
+from probe import image
 
 MIRROR = os.environ.get("PROBE_DEBIAN", "http://deb.debian.org/debian")
 KEYS = "/usr/share/keyrings/debian-archive-keyring.gpg"

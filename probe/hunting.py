@@ -9,14 +9,8 @@ import re
 import shlex
 import types
 
-import image
-import kernels
-import logs
-import nesting
-import records
-import replay
-import shrinking
-import systems
+from probe import auditor, image, keeping, kernels, logs, nesting, replay, shrinking, systems
+from records.reading import read_record
 
 RESULT, SMALL, WHOLE, PLAN = "result.json", "small.record", "whole.record", "hunt.json"
 NESTED = "nested-"  # before the name of the emulator in which a KVM runs
@@ -200,10 +194,10 @@ class Outcome:
 def recorded(plan, done):
     """The records of an output, one a run, and what was said of those that were cut."""
     if not plan.at_once:
-        return records.split(done.output)
+        return keeping.split(done.output)
     runs = logs.split(done.output)
     cut = [logs.cut(run) for run in runs]
-    return [records.Kept(logs.record_of(run)) for run in runs], "; ".join(filter(None, cut))
+    return [keeping.Kept(logs.record_of(run)) for run in runs], "; ".join(filter(None, cut))
 
 
 def run_direct(plan, seed, is_control=False):
@@ -266,9 +260,9 @@ def ended(done, cut):
 
 def judge(plan, folder, seed, known, kept, result):
     """Certifies what was recorded. A new cause is cut down, by the first job that meets it."""
-    record, _ = records.read_record(kept.data)
+    record = read_record(kept.data)
     result["events"] = len(record.events)
-    status, _, said = records.certify(records.program(), kept.data)
+    status, _, said = auditor.certify(kept.data)
     if status not in (0, 1, image.UNDECIDED):
         raise image.Stop(f"certify ends with status {status}: {said.decode().strip()}")
     result["status"] = image.greatest(result["status"], status)
@@ -317,7 +311,7 @@ def first_no(plan, work, forms, path):
         verdicts = replayed(plan, paths)
         for name in paths:
             os.remove(name)
-            os.remove(name + records.NOTES)
+            os.remove(name + keeping.NOTES)
         if "no" in verdicts:
             return start + verdicts.index("no")
     return None
@@ -339,7 +333,7 @@ def replay_direct(plan, path, is_control):
                                  image.REPLAY | plan.ways(system))
     more = {"parameters": plan.parameters} if system == "xen" else {}
     done = systems.SYSTEMS[system](settings, plan.limit, data, **more)
-    found, cut = records.split(done.output)
+    found, cut = keeping.split(done.output)
     return Outcome(done, found[0] if found else None, cut)
 
 
@@ -351,7 +345,7 @@ def replayed_in_boot(plan, paths, is_control):
         return [f"not carried out: {str(why).splitlines()[0]}"] * len(paths)
     runs = [nesting.Replay(boot_plan, number, path) for number, path in enumerate(paths)]
     done = nesting.boot(boot_plan, kernels.Kernel(plan.kernel), runs, data)
-    found, cut = records.split(done.output)
+    found, cut = keeping.split(done.output)
     if len(found) != len(paths):
         return [ended(done, cut)] * len(paths)
     return [verdict(plan, lambda it=number: Outcome(nesting.part_of(done, it), found[it], ""))
@@ -366,5 +360,5 @@ def verdict(plan, outcome_of):
         return f"not carried out: {str(why).splitlines()[0]}"
     if outcome.status or not outcome.kept:
         return ended(outcome.done, outcome.cut)
-    status = records.certify(records.program(), outcome.kept.data)[0]
+    status = auditor.certify(outcome.kept.data)[0]
     return {0: "yes", 1: "no", image.UNDECIDED: UNDECIDED}.get(status, f"status {status}")

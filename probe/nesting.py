@@ -5,9 +5,7 @@ import re
 import shutil
 import tempfile
 
-import image
-import records
-import systems
+from probe import image, keeping, systems
 
 SHADOW = {"qemu": "npt=0", "bochs": "ept=0 vpid=0"}
 NESTED = {"qemu": "npt=1", "bochs": "ept=1 vpid=0"}  # the control: KVM keeps no shadow tables
@@ -76,8 +74,8 @@ class Replay:
 
     def __init__(self, plan, number, path):
         self.plan, self.number, self.path = plan, number, path
-        record = records.read_kept(path)[0]
-        self.processors, self.version = record.processors, record.version
+        header = keeping.read_kept(path)[0].header
+        self.processors, self.version = len(header.starts), header.version
         self.has_threads = plan.threads
 
     def settings(self):

@@ -6,10 +6,8 @@ import os
 import re
 import subprocess
 
-import hunting
-import image
-import records
-import spans
+from probe import auditor, hunting, image, keeping, spans
+from records.events import has_spans
 
 
 class Group:
@@ -40,10 +38,10 @@ def collected(folder, known):
 
 
 def show(path):
-    record, _ = records.read_kept(path)
-    if records.has_spans(record.version):
+    record, _ = keeping.read_kept(path)
+    if has_spans(record.header.version):
         return "\n".join(spans.listed(record))
-    done = subprocess.run([records.program(), "show", path], capture_output=True, text=True)
+    done = subprocess.run([auditor.program(), "show", path], capture_output=True, text=True)
     return re.sub(r" moments [0-9 ]*$", "", done.stdout, flags=re.M).rstrip()
 
 

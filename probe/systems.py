@@ -7,7 +7,7 @@ import sys
 import tempfile
 import time
 
-import image
+from probe import image
 
 MEMORY = 1152  # MB: the first 128 MB of two GBs
 BOCHS_BIOS = "/usr/share/bochs/BIOS-bochs-latest"
@@ -186,7 +186,7 @@ def kvm(settings, limit, replay=b""):
 
 
 def xen(settings, limit, replay=b"", parameters=None):
-    from xen import system  # which uses this module
+    from probe.xen import system  # which uses this module
     return system.run(settings, limit, replay, parameters)
 
 

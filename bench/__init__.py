@@ -1,0 +1,1 @@
+"""Measurements (docs/SPEED.md)."""

@@ -1,0 +1,1 @@
+"""What builds the program and its package."""

@@ -1,0 +1,1 @@
+"""The probe: a guest that records itself, and what runs it, judges its records and shrinks them (docs/PROBE.md)."""
