@@ -1,11 +1,10 @@
 #!/usr/bin/env python3
 """Draws what a bench measured against the number of events, as plain SVG, on logarithmic axes.
 
-usage: bench/plots.py TITLE UNIT <POINTS >PLOT.svg
-
-POINTS has a line for each point, three fields with a tab between them: what was measured, the number of
+Standard input has a line for each point, three fields with a tab between them: what was measured, the number of
 events, and the value in the unit. The points of one name are joined by a line. Benches call `draw`.
 """
+import argparse
 import math
 import sys
 from xml.sax.saxutils import escape
@@ -103,15 +102,18 @@ def draw(path, title, unit, lines):
 
 
 def main():
-    if len(sys.argv) != 3:
-        sys.exit("usage: bench/plots.py TITLE UNIT <POINTS >PLOT.svg")
+    parser = argparse.ArgumentParser(prog="bench/plots.py", description=__doc__,
+                                     formatter_class=argparse.RawDescriptionHelpFormatter)
+    parser.add_argument("title", metavar="TITLE")
+    parser.add_argument("unit", metavar="UNIT", help="of the values")
+    chosen = parser.parse_args()
     lines = {}
     for row in filter(str.strip, sys.stdin):
         name, events, value = row.rstrip("\n").split("\t")
         lines.setdefault(name, []).append((int(events), float(value)))
     if not lines:
         sys.exit("bench/plots.py: there are no points")
-    sys.stdout.write(plot(*sys.argv[1:], lines))
+    sys.stdout.write(plot(chosen.title, chosen.unit, lines))
 
 
 if __name__ == "__main__":

@@ -1,4 +1,5 @@
 """What scripts of checks/, bench/ and build/ share."""
+import argparse
 import ctypes
 import os
 import re
@@ -151,6 +152,19 @@ def records(target, *words):
     return compiled(target, "bench/judging/records.c", *words)
 
 
-def runs_asked(runs):
-    """How many runs the command line asks for, so many where it says nothing."""
-    return int(sys.argv[1]) if len(sys.argv) > 1 else runs
+def command_line(about):
+    """The parser of a script's words. Its help is the script's first comment."""
+    name = os.path.relpath(os.path.abspath(sys.argv[0]), TOP)
+    return argparse.ArgumentParser(prog=name, description=about, formatter_class=argparse.RawDescriptionHelpFormatter)
+
+
+def add_random(parser, records, seed=1):
+    """The options of checks by random records."""
+    parser.add_argument("--records", type=int, default=records, metavar="N", help=f"how many, {records} if left out")
+    parser.add_argument("--seed", type=int, default=seed, metavar="N", help=f"{seed} if left out")
+
+
+def add_runs(parser, runs):
+    """How many runs a bench makes."""
+    parser.add_argument("runs", type=int, nargs="?", default=runs, metavar="RUNS",
+                        help=f"of each, in turns; the least counts; {runs} if left out")
