@@ -12,7 +12,8 @@ from xml.sax.saxutils import escape
 WIDTH, HEIGHT = 720, 420
 LEFT, RIGHT, TOP, BOTTOM = 72, 190, 48, 56
 # Told apart by colour, by dashes and by marks.
-STYLES = [("#0b5cad", "", "circle"), ("#c2410c", "7 4", "square"), ("#15803d", "2 4", "diamond"), ("#6d28d9", "9 3 2 3", "circle")]
+STYLES = [("#0b5cad", "", "circle"), ("#c2410c", "7 4", "square"), ("#15803d", "2 4", "diamond"),
+          ("#6d28d9", "9 3 2 3", "circle")]
 FONT = "font-family='sans-serif' font-size='13'"
 
 
@@ -29,7 +30,8 @@ class Axis:
 
     def ticks(self):
         """1, 2 and 5 times each power of ten that the axis has."""
-        found = [step * 10.0 ** power for power in range(math.floor(self.low), math.ceil(self.high) + 1) for step in (1, 2, 5)]
+        powers = range(math.floor(self.low), math.ceil(self.high) + 1)
+        found = [step * 10.0 ** power for power in powers for step in (1, 2, 5)]
         return [it for it in found if self.low <= math.log10(it) <= self.high]
 
 
@@ -87,8 +89,9 @@ def plot(title, unit, lines):
     points = [it for found in lines.values() for it in found]
     across = Axis([events for events, _ in points], LEFT, WIDTH - RIGHT)
     up = Axis([value for _, value in points], HEIGHT - BOTTOM, TOP)
-    parts = [f"<svg xmlns='http://www.w3.org/2000/svg' width='{WIDTH}' height='{HEIGHT}' viewBox='0 0 {WIDTH} {HEIGHT}'>",
-             f"<rect width='{WIDTH}' height='{HEIGHT}' fill='white'/>",
+    size = f"width='{WIDTH}' height='{HEIGHT}'"
+    parts = [f"<svg xmlns='http://www.w3.org/2000/svg' {size} viewBox='0 0 {WIDTH} {HEIGHT}'>",
+             f"<rect {size} fill='white'/>",
              text(LEFT, 24, title, "font-weight='bold'"), text(LEFT, 40, unit), *grid(across, up),
              text((LEFT + WIDTH - RIGHT) / 2, HEIGHT - 14, "events", "text-anchor='middle'")]
     for found, style in zip(lines.values(), STYLES):

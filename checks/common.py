@@ -142,14 +142,15 @@ def compiled(target, source, *words):
     return target
 
 
+def compiled_rust(target, source, *words):
+    """Compiles a source in Rust, which stands at this path below the top, and gives the target's path."""
+    subprocess.run(["rustc", "--edition", "2021", "-O", *words, "-o", target, os.path.join(TOP, source)], check=True)
+    return target
+
+
 def preload(folder, source):
     """Compiles a library that is to be loaded before the program's own."""
     return compiled(os.path.join(folder, "preload.so"), source, "-shared", "-fPIC")
-
-
-def records(target, *words):
-    """Compiles the writer of long records that several benches read."""
-    return compiled(target, "bench/judging/records.c", *words)
 
 
 def command_line(about):
@@ -158,9 +159,9 @@ def command_line(about):
     return argparse.ArgumentParser(prog=name, description=about, formatter_class=argparse.RawDescriptionHelpFormatter)
 
 
-def add_random(parser, records, seed=1):
+def add_random(parser, count, seed=1):
     """The options of checks by random records."""
-    parser.add_argument("--records", type=int, default=records, metavar="N", help=f"how many, {records} if left out")
+    parser.add_argument("--records", type=int, default=count, metavar="N", help=f"how many; {count} if left out")
     parser.add_argument("--seed", type=int, default=seed, metavar="N", help=f"{seed} if left out")
 
 

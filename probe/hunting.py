@@ -36,7 +36,7 @@ class Plan(types.SimpleNamespace):
     @classmethod
     def read(cls, folder):
         try:
-            with open(os.path.join(folder, PLAN)) as file:
+            with open(os.path.join(folder, PLAN), encoding="utf-8") as file:
                 words = json.load(file)
         except (OSError, ValueError) as why:
             raise image.Stop(f"{folder} has no hunt: {why}") from None
@@ -63,7 +63,7 @@ class Plan(types.SimpleNamespace):
             if Plan.read(folder) != self:
                 raise image.Stop(f"{folder} is of a hunt with other words: see {path}")
             return
-        with open(path, "w") as file:
+        with open(path, "w", encoding="utf-8") as file:
             json.dump(self.__dict__, file, indent=1)
 
     def is_nested(self):
@@ -132,7 +132,7 @@ class Known:
         if path is None:
             return
         try:
-            with open(path) as file:
+            with open(path, encoding="utf-8") as file:
                 lines = [line.split("#")[0].split(None, 1) for line in file]
         except OSError as why:
             raise image.Stop(f"{path}: {why.strerror}") from None
@@ -154,7 +154,7 @@ def place_of(folder, seed):
 def result_of(folder, seed):
     """What a job left, None where it left nothing whole."""
     try:
-        with open(os.path.join(place_of(folder, seed), RESULT)) as file:
+        with open(os.path.join(place_of(folder, seed), RESULT), encoding="utf-8") as file:
             return json.load(file)
     except (OSError, ValueError):
         return None
@@ -162,7 +162,7 @@ def result_of(folder, seed):
 
 def keep_result(folder, seed, result):
     path = os.path.join(place_of(folder, seed), RESULT)
-    with open(path + ".part", "w") as file:
+    with open(path + ".part", "w", encoding="utf-8") as file:
         json.dump(result, file, indent=1)
     os.replace(path + ".part", path)
 
@@ -173,12 +173,12 @@ def is_first(folder, key, seed):
     place = os.path.join(folder, "causes", hashlib.sha256(key.encode()).hexdigest()[:16])
     os.makedirs(os.path.dirname(place), exist_ok=True)
     own = f"{place}.{seed}"
-    with open(own, "w") as file:
+    with open(own, "w", encoding="utf-8") as file:
         file.write(str(seed))
     with contextlib.suppress(FileExistsError):
         os.link(own, place)  # whole or not at all
     os.remove(own)
-    with open(place) as file:
+    with open(place, encoding="utf-8") as file:
         return file.read() == str(seed)
 
 
@@ -239,8 +239,9 @@ def carry_out(plan, folder, seeds, known):
         if outcome.status or not outcome.kept:
             result["key"] = ended(outcome.done, outcome.cut)
             result["status"] = outcome.status or image.EARLY_END
-            outcome.kept and outcome.kept.write(os.path.join(place_of(folder, seed), WHOLE))
         if outcome.kept:
+            if result["key"]:
+                outcome.kept.write(os.path.join(place_of(folder, seed), WHOLE))
             judge(plan, folder, seed, known, outcome.kept, result)
         result["known"] = result["key"] and known.name(result["key"])
         keep_result(folder, seed, result)
@@ -285,10 +286,10 @@ def judge(plan, folder, seed, known, kept, result):
 def cut_at_once(plan, seed, work, path, result):
     """What overlaps is not carried out again: the control is the same run on another system."""
     work.left(work.cut()).write(path)
-    result["control"] = verdict(plan, lambda: outcomes(plan, [seed], True)[0])
+    result["control"] = verdict(lambda: outcomes(plan, [seed], True)[0])
 
 
-def cut_down(plan, seed, work, path, result):
+def cut_down(plan, _seed, work, path, result):
     """Leaves of a record what is a no there again, where that can be had, and tries the control."""
     needed = work.cut()
     forms = [*work.with_answers(needed), needed]
@@ -321,7 +322,7 @@ def replayed(plan, paths, is_control=False):
     """The verdicts of records that are carried out again, or why there is none."""
     if plan.is_nested():
         return replayed_in_boot(plan, paths, is_control)
-    return [verdict(plan, lambda it=path: replay_direct(plan, it, is_control)) for path in paths]
+    return [verdict(lambda it=path: replay_direct(plan, it, is_control)) for path in paths]
 
 
 def replay_direct(plan, path, is_control):
@@ -348,11 +349,11 @@ def replayed_in_boot(plan, paths, is_control):
     found, cut = keeping.split(done.output)
     if len(found) != len(paths):
         return [ended(done, cut)] * len(paths)
-    return [verdict(plan, lambda it=number: Outcome(nesting.part_of(done, it), found[it], ""))
+    return [verdict(lambda it=number: Outcome(nesting.part_of(done, it), found[it], ""))
             for number in range(len(paths))]
 
 
-def verdict(plan, outcome_of):
+def verdict(outcome_of):
     """What certify says of a run, or how it ended."""
     try:
         outcome = outcome_of()

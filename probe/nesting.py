@@ -12,7 +12,7 @@ NESTED = {"qemu": "npt=1", "bochs": "ept=1 vpid=0"}  # the control: KVM keeps no
 MOST_RUNS = 28  # the kernel hands its first process 32 words at most
 BOOT = {"qemu": 1200, "bochs": 3600}  # seconds that the boot may take, with much work beside
 QUIET = "panic=-1 quiet mitigations=off no_timer_check"
-BOCHS_KERNEL = ("nosmp acpi=off noapic tsc=reliable lpj=1000000 clocksource=tsc")
+BOCHS_KERNEL = "nosmp acpi=off noapic tsc=reliable lpj=1000000 clocksource=tsc"
 
 
 def needs(system, kernel):
@@ -100,12 +100,12 @@ def boot_qemu(folder, words, limit, processors, threads="single"):
          "-debugcon", "file:output", "-device", "isa-debug-exit,iobase=0xf4"], limit, folder)
 
 
-def boot_bochs(folder, words, limit, processors, threads):
+def boot_bochs(folder, words, limit, _processors, _threads):
     tree = os.path.join(folder, "tree")
     os.makedirs(os.path.join(tree, "boot", "grub"))
     for name in ("vmlinuz", "initramfs"):
         shutil.copy(os.path.join(folder, name), os.path.join(tree, "boot", name))
-    with open(os.path.join(tree, "boot", "grub", "grub.cfg"), "w") as file:
+    with open(os.path.join(tree, "boot", "grub", "grub.cfg"), "w", encoding="utf-8") as file:
         file.write(f"set timeout=0\nmenuentry probe {{\n linux /boot/vmlinuz console=ttyS0,115200 "
                    f"{QUIET} {BOCHS_KERNEL} -- {words}\n initrd /boot/initramfs\n}}\n")
     image.command("grub-mkrescue", "-o", os.path.join(folder, "disc"), tree)

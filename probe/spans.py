@@ -35,6 +35,7 @@ class Overlapping:
 
     def __init__(self, record, notes):
         self.record, self.notes, self.reader = record, notes, causes.Reader(record)
+        self.all = []  # the numbers of events that are a no with the bad one
         self.ended_before = [number - event.back for number, event in enumerate(record.events)]
         data = keeping.bytes_of(record)
         report = causes.answer_of(data)

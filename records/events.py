@@ -113,10 +113,10 @@ class Record:
 class Form:
     """How events are spelled: what stands beside their own fields."""
 
-    def __init__(self, is_wide, has_backs, has_moments):
-        # (the versions in which a processor's number has two bytes are those with assists)
-        self.is_wide, self.has_backs, self.has_moments = is_wide, has_backs, has_moments
-        self.head = struct.Struct("<B" + ("H" if is_wide else "B") + ("I" if has_backs else ""))
+    def __init__(self, has_assists, has_backs, has_moments):
+        self.has_assists, self.has_backs, self.has_moments = has_assists, has_backs, has_moments
+        # (the versions with assists are those in which a processor's number has two bytes)
+        self.head = struct.Struct("<B" + ("H" if has_assists else "B") + ("I" if has_backs else ""))
 
 
 def is_wide(version):

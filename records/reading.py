@@ -55,7 +55,7 @@ def read_event(source, form):
         kind, fields = read_access(source)
     else:
         kind = KINDS.get(tag)
-        if kind is None or (kind is Assist and not form.is_wide):
+        if kind is None or (kind is Assist and not form.has_assists):
             raise Cut
         fields = source.take(BODIES[kind])
     if issubclass(kind, Walk):

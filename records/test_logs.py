@@ -59,8 +59,9 @@ class Logs(unittest.TestCase):
                 kept = len(left.events)
                 self.assertFalse(left.is_whole)
                 self.assertEqual(left.events, log.events[:kept])
-                shorter = logs.log_bytes(left)[:-logs.STAMPS.size]
-                self.assertEqual(data[:len(shorter)], shorter)
+                written = logs.log_bytes(left)
+                size = len(written) - logs.STAMPS.size
+                self.assertEqual(data[:size], written[:size])
                 # (the next event does not fit)
                 if kept < len(log.events):
                     left.events = log.events[:kept + 1]

@@ -44,8 +44,12 @@ LOCAL, FIRST_OF_LOCAL = 0x30, 7  # selectors: of the local table, and of its fir
 ZERO_FLAG = 1 << 6
 
 
+unicorn = x86 = None  # pylint: disable=invalid-name
+
+
 def load_library(folder):
     """Imports Unicorn, where a folder of probe/suite is named from there."""
+    # pylint: disable=global-statement,import-outside-toplevel,import-self,no-member,redefined-outer-name
     global unicorn, x86
     try:
         if folder:
@@ -70,7 +74,8 @@ class Machine:
         self.uc.ctl_set_cpu_model(x86.UC_CPU_X86_SKYLAKE_SERVER)
         for base in (0, GIGABYTE):
             self.uc.mem_map(base, LOW_MEMORY)
-        self.vector = None
+        # Of the last stub: its exception, the processor's state at that, and its address.
+        self.vector, self.left, self.fault_address = None, b"", 0
         self.uc.hook_add(unicorn.UC_HOOK_INTR, self.take_exception)
         self.lay_out()
         self.set_registers(rules)
@@ -219,7 +224,7 @@ class Run:
         self.machine.set_word(slot + 24, slot + 24)
 
     def page(self):
-        address = sum(self.dice.choice(INDICES[level]) << 3 + 9 * level for level in INDICES)
+        address = sum(self.dice.choice(indices) << 3 + 9 * level for level, indices in INDICES.items())
         return address | 0xFFFF << 48 if address >> 47 else address
 
     def likely_page(self):
