@@ -169,3 +169,10 @@ def add_runs(parser, runs):
     """How many runs a bench makes."""
     parser.add_argument("runs", type=int, nargs="?", default=runs, metavar="RUNS",
                         help=f"of each, in turns; the least counts; {runs} if left out")
+
+
+def runs_asked(about, runs):
+    """The runs that the command line of a bench asks for, which has no other words."""
+    parser = command_line(about)
+    add_runs(parser, runs)
+    return parser.parse_args().runs

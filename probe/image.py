@@ -281,5 +281,5 @@ def stop_on_failure(main):
     try:
         sys.exit(main())
     except Stop as why:
-        print(f"probe/{os.path.basename(sys.argv[0])}: {why}", file=sys.stderr)
+        print(f"{os.path.relpath(os.path.abspath(sys.argv[0]), TOP)}: {why}", file=sys.stderr)
         sys.exit(LACKING)
