@@ -281,5 +281,6 @@ def stop_on_failure(main):
     try:
         sys.exit(main())
     except Stop as why:
-        print(f"{os.path.relpath(os.path.abspath(sys.argv[0]), TOP)}: {why}", file=sys.stderr)
+        name = os.path.relpath(os.path.realpath(sys.argv[0]), TOP)
+        print(f"{name}: {why}", file=sys.stderr)
         sys.exit(LACKING)
