@@ -1,3 +1,4 @@
+# SPDX-License-Identifier: MIT OR Apache-2.0
 """What benches measure by: seconds, peak memory, and bars."""
 import os
 import subprocess

@@ -1,4 +1,5 @@
 #!/usr/bin/env python3
+# SPDX-License-Identifier: MIT OR Apache-2.0
 """Draws what a bench measured against the number of events, as plain SVG, on logarithmic axes.
 
 Standard input has a line for each point, three fields with a tab between them: what was measured, the number of

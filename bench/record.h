@@ -1,3 +1,4 @@
+/* SPDX-License-Identifier: MIT OR Apache-2.0 */
 /*
  * What the programs of benches that write a record share: the record, which goes to standard output, and
  * random numbers that are the same in each run.

@@ -1,3 +1,4 @@
+# SPDX-License-Identifier: MIT OR Apache-2.0
 """What scripts of checks/, bench/ and build/ share."""
 import argparse
 import ctypes
@@ -17,28 +18,13 @@ MEMORY_OF_A_PROOF = 3_000_000_000
 
 
 def program():
-    """The path of the program: what the environment variable PCID_AUDIT names, else the one that
-    ./pcid-audit builds, which has it built first where it is missing or older than its sources."""
+    """The path of the program: what the environment variable PCID_AUDIT names, else the proved one,
+    which is proved and built first where it is missing or older than its sources."""
     named = os.environ.get("PCID_AUDIT")
     if named:
         return os.path.abspath(named)
-    # (help and the version may be told without it, and a check made by the auditor alone)
-    with open(os.path.join(TOP, "samples/fresh_walk.record"), "rb") as record:
-        subprocess.run([os.path.join(TOP, "pcid-audit"), "show"], stdin=record, stdout=subprocess.DEVNULL, check=True)
+    subprocess.run([os.path.join(TOP, "pcid-audit"), "--prove"], stdout=subprocess.DEVNULL, check=True)
     return BUILT
-
-
-def auditor():
-    """The path of the auditor alone: what the environment variable PCID_CHECK names, else that of
-    crates/pcid_check/out, which is built first."""
-    named = os.environ.get("PCID_CHECK")
-    if named:
-        return os.path.abspath(named)
-    folder = os.path.join(TOP, "crates/pcid_check")
-    subprocess.run([os.path.join(TOP, "build/libraries"), "pcid_check"], check=True)
-    subprocess.run(["rt", "run", "--", "check", os.path.join(TOP, "samples/fresh_walk.record")], cwd=folder,
-                   stdin=subprocess.DEVNULL, stdout=subprocess.DEVNULL, check=True)
-    return os.path.join(folder, "out/pcid_check")
 
 
 def end_with_parent():

@@ -1,3 +1,4 @@
+# SPDX-License-Identifier: MIT OR Apache-2.0
 """Random records: runs of a small simulator of the manual's machine, at times of a faulty one, then at
 times changed in their events or in their bytes."""
 from dataclasses import replace

@@ -1,3 +1,4 @@
+# SPDX-License-Identifier: MIT OR Apache-2.0
 """The auditor that judges the probe's records."""
 import os
 import subprocess

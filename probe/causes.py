@@ -1,3 +1,4 @@
+# SPDX-License-Identifier: MIT OR Apache-2.0
 """Why a record is a no: what `pcid-audit certify` says of it, in the form that shrinking has to
 keep and by which a hunt tells one no from another."""
 import re

@@ -1,3 +1,4 @@
+# SPDX-License-Identifier: MIT OR Apache-2.0
 """Debian's packages: of the machine's own release, or of another by lists of apt that stand in
 probe/out, so that nothing of the machine's apt changes."""
 import glob

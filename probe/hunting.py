@@ -1,3 +1,4 @@
+# SPDX-License-Identifier: MIT OR Apache-2.0
 """A hunt: seeds, each run by a job of its own, or in one boot with others. All that is known of a
 seed is kept in a folder of its own, so that a hunt can be continued, and jobs can run anywhere."""
 import contextlib

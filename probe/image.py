@@ -1,3 +1,4 @@
+# SPDX-License-Identifier: MIT OR Apache-2.0
 """Builds the guest, and makes images of it with their settings filled in."""
 import argparse
 import contextlib

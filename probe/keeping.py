@@ -1,3 +1,4 @@
+# SPDX-License-Identifier: MIT OR Apache-2.0
 """Records of the probe: found in the output of a run, and kept with their notes."""
 import os
 import re

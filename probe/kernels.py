@@ -1,3 +1,4 @@
+# SPDX-License-Identifier: MIT OR Apache-2.0
 """Kernels of Debian, unpacked: where their image is, and KVM's modules as an initramfs has them."""
 import glob
 import lzma

@@ -1,3 +1,4 @@
+# SPDX-License-Identifier: MIT OR Apache-2.0
 """Logs of single processors (docs/FORMAT.md): found in an output, cut where a run hung, kept."""
 import os
 import subprocess

@@ -1,3 +1,4 @@
+# SPDX-License-Identifier: MIT OR Apache-2.0
 """Boots Debian's kernel in an emulator, and has the probe's loader run its guest on that kernel's
 KVM: for a machine that has no KVM of its own."""
 import os

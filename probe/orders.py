@@ -1,3 +1,4 @@
+# SPDX-License-Identifier: MIT OR Apache-2.0
 """The orders that the events of a small record with spans may have had, each judged by itself: for
 records that `pcid-audit certify` does not decide."""
 from dataclasses import replace

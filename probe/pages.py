@@ -1,3 +1,4 @@
+# SPDX-License-Identifier: MIT OR Apache-2.0
 """The page of what a hunt found: its causes, each with the record that is left of it, the commands
 that repeat it, and what its control gave."""
 import glob

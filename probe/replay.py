@@ -1,3 +1,4 @@
+# SPDX-License-Identifier: MIT OR Apache-2.0
 """Lays out a record's events for the guest to carry them out again (guest/replay.c): where each
 table and each frame goes, and one step an event. A record of the guest's own stays where it was; of
 another the tables and frames are moved to where the guest has place for them."""

@@ -1,3 +1,4 @@
+# SPDX-License-Identifier: MIT OR Apache-2.0
 """Leaves out events of a record while it stays a no for the same cause."""
 from probe import causes, image, keeping, spans
 from probe.spans import without_parts

@@ -1,3 +1,4 @@
+# SPDX-License-Identifier: MIT OR Apache-2.0
 """Records whose events overlap (versions 3 and 4): why one is a no, and what is left of it when
 events are left out. An event stands behind those that had ended when it began; which these were
 stays true of what is left, so that `back` is counted anew."""

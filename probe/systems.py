@@ -1,3 +1,4 @@
+# SPDX-License-Identifier: MIT OR Apache-2.0
 """Runs the guest on a system: what it wrote, what it said, and how the run ended."""
 import os
 import re

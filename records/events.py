@@ -1,3 +1,4 @@
+# SPDX-License-Identifier: MIT OR Apache-2.0
 """Events and headers of records, and how each version spells an event."""
 import struct
 from dataclasses import dataclass, field

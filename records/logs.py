@@ -1,3 +1,4 @@
+# SPDX-License-Identifier: MIT OR Apache-2.0
 """Logs of single processors: their bytes, and what stands whole of one that is cut."""
 import struct
 from dataclasses import dataclass

@@ -1,3 +1,4 @@
+# SPDX-License-Identifier: MIT OR Apache-2.0
 """Records of their bytes. Whether an event keeps the rules of a well-formed one is not looked at."""
 import struct
 

@@ -1,3 +1,4 @@
+# SPDX-License-Identifier: MIT OR Apache-2.0
 """The bytes of records. Nothing is looked over: checks write events and headers that no reader takes."""
 import dataclasses
 import struct

@@ -1,3 +1,4 @@
+/* SPDX-License-Identifier: MIT OR Apache-2.0 */
 /*
  * cases KIND EVENTS: writes a record of one processor to standard output that names no moments, and
  * for which guesses are of little use. Some run of the machine has its events, but for `one-frame`.

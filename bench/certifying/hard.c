@@ -1,3 +1,4 @@
+/* SPDX-License-Identifier: MIT OR Apache-2.0 */
 /*
  * hard EVENTS: writes a record to standard output that names no moments. Some run of the machine has
  * its events, but half of the accesses need moments that no guess finds: each table on their way is

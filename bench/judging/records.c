@@ -1,3 +1,4 @@
+/* SPDX-License-Identifier: MIT OR Apache-2.0 */
 /*
  * records KIND EVENTS: writes an accepted record of PROCESSORS processors to standard output, made by
  * a small machine that caches translations as a hypervisor would.

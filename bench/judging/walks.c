@@ -1,3 +1,4 @@
+/* SPDX-License-Identifier: MIT OR Apache-2.0 */
 /*
  * walks EVENTS PROCESSORS VERSION: writes an accepted record to standard output, of processors that
  * switch between 16 address spaces, each with a PCID of its own. Most accesses are to pages that the

@@ -1,3 +1,4 @@
+/* SPDX-License-Identifier: MIT OR Apache-2.0 */
 /*
  * record: writes a record of a million events to standard output. Most are reads of users with four
  * moments, in an order that a branch predictor can't learn. No machine answers so: it is to be read, and

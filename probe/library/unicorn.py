@@ -1,4 +1,5 @@
 #!/usr/bin/env python3
+# SPDX-License-Identifier: MIT OR Apache-2.0
 """Drives Unicorn, an emulator that is a library, with random paging operations, and has `pcid-audit
 certify` judge the record: an example for emulators that boot no guest. One processor without PCIDs
 executes writes of table entries (all levels and page sizes, rights, reserved bits, A and D, global

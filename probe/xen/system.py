@@ -1,3 +1,4 @@
+# SPDX-License-Identifier: MIT OR Apache-2.0
 """Runs the guest as the first domain of Xen, in QEMU: Xen keeps shadow tables of it."""
 import os
 import shutil

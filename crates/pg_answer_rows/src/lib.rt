@@ -1,3 +1,4 @@
+// SPDX-License-Identifier: MIT OR Apache-2.0
 //! Worked rows of what commands answer, as text, as pictures and as JSON, by the whole program over
 //! memory; and rows over streams, from files, by several checkers, and with changed bytes.
 #![tactic(auto)]

@@ -1,3 +1,4 @@
+// SPDX-License-Identifier: MIT OR Apache-2.0
 //! Checkers that share a round of numbers, and steal from one another what is left.
 #![tactic(auto)]
 

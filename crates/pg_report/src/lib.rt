@@ -1,3 +1,4 @@
+// SPDX-License-Identifier: MIT OR Apache-2.0
 //! Reports of records: the audit, its verdict and its text.
 #![tactic(auto)]
 
