@@ -9,7 +9,7 @@ import os
 import re
 import stat
 
-import help_texts
+from build import help_texts
 
 HERE = os.path.dirname(os.path.abspath(__file__))
 DONE, USAGE, UNOPENED = 0, 64, 66
