@@ -9,7 +9,7 @@ import os
 import re
 import stat
 
-import help_texts
+from build import help_texts
 
 HERE = os.path.dirname(os.path.abspath(__file__))
 DONE, USAGE, UNOPENED = 0, 64, 66
@@ -21,7 +21,8 @@ NO_NUMBER = ("error: a number is given by digits alone, an address by 0x and 1 t
 NO_TELLING = "error: --most goes with --all alone, by digits alone, and --svg goes without --all" + MORE
 # Options whose value is a number, with the least and the greatest.
 EVENTS = (0, 4294967295)
-NUMBERS = {"checkers": (1, 64), "cpu": (0, 65535), "most": (1, 1_000_000), "from": EVENTS, "to": EVENTS, "error": EVENTS}
+NUMBERS = {"checkers": (1, 64), "cpu": (0, 65535), "most": (1, 1_000_000), "from": EVENTS, "to": EVENTS,
+           "error": EVENTS}
 ADDRESSES = ("page", "word")
 
 
@@ -280,7 +281,8 @@ def look_at_first(line, words):
     """Answers where the first word is no command."""
     if not words:
         names = ", ".join(name for name, _ in line.help.commands)
-        raise fault(f"'pcid-audit' requires a subcommand but one was not provided\n  [subcommands: {names}]", line.usage)
+        raise fault("'pcid-audit' requires a subcommand but one was not provided\n"
+                    f"  [subcommands: {names}]", line.usage)
     word, left = words[0], words[1:]
     if word in ("--help", "--version") or word[:2] in ("-h", "-V"):
         raise Answer(DONE, line.text if word[1:2] == "h" or word == "--help" else version())

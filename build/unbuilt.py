@@ -11,8 +11,8 @@ import os
 import sys
 
 sys.dont_write_bytecode = True
-import arguments  # noqa: E402
-import unproved  # noqa: E402
+sys.path[0] = os.path.abspath(os.path.join(os.path.dirname(__file__), ".."))
+from build import arguments, unproved
 
 NOT_PROVED = ("pcid-audit: this answer comes from sources that are not proved here; to prove them: rt ci, or "
               "./pcid-audit --prove")

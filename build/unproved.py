@@ -13,15 +13,12 @@ import os
 import shlex
 import shutil
 import subprocess
-import sys
 import tempfile
 import time
 
-TOP = os.path.dirname(os.path.dirname(os.path.abspath(__file__)))
-sys.dont_write_bytecode = True
-sys.path.insert(0, os.path.join(TOP, "checks"))
-import common  # noqa: E402
+from checks import common
 
+TOP = common.TOP
 CRATE = os.path.join(TOP, "crates/pcid_audit")
 # (not in the crate's own out/, which `rt ci` sets aside)
 FOLDER = os.path.join(TOP, "out/unproved")

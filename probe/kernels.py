@@ -8,8 +8,7 @@ import shutil
 import subprocess
 import tempfile
 
-import debian
-import image
+from probe import debian, image
 
 FOLDER = os.path.join(image.OUT, "kernels")
 MODULE = {"qemu": "kvm-amd", "bochs": "kvm-intel"}  # by the emulator whose processor it is for

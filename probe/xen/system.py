@@ -4,8 +4,7 @@ import os
 import shutil
 import tempfile
 
-import image
-import systems
+from probe import image, systems
 
 HERE = os.path.dirname(os.path.abspath(__file__))
 SHADOW = "dom0=pvh,shadow"
