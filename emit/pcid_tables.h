@@ -140,7 +140,7 @@ static inline unsigned pcid_tables_change_(struct pcid_tables *tables, uint32_t 
     *word = value;
     if (after != NULL)
         after->uses++;
-    if (before != NULL && --before->uses == 0 && before->level != 0 && before->level < level &&
+    if (before != NULL && --before->uses == 0 && before->level != 0 &&
         !pcid_tables_is_root_(tables, (uint64_t)(before - tables->frames)))
         pcid_tables_forget_(tables, before);
     if (((old ^ value) & pcid_tables_mask_(tables)) == 0)
@@ -231,9 +231,12 @@ static inline unsigned pcid_tables_settle(struct pcid_tables *tables, uint32_t p
 }
 
 /*
- * A store of 1 to 64 bytes at this physical address, within one page, by a processor or a device.
- * Called before or after it reaches memory. It must have reached memory before the next call of
- * this header for any processor.
+ * A store of 1 to 64 bytes at this physical address, by a processor or a device. What is beyond the
+ * page of its first byte is not looked at: a store over two pages is two stores. Called before or
+ * after it reaches memory. It must have reached memory before the next call of this header for any
+ * processor.
+ *
+ * Also PCID_RECORD_FIELD, for a store that is too long.
  */
 static inline unsigned pcid_tables_store(struct pcid_tables *tables, uint32_t processor,
                                          uint64_t address, uint32_t bytes)
@@ -247,9 +250,13 @@ static inline unsigned pcid_tables_store(struct pcid_tables *tables, uint32_t pr
     /* Not between two words of one store, which may not have reached memory. */
     if (tables->count + 9 > PCID_TABLES_QUEUE)
         status = pcid_tables_settle(tables, processor);
-    for (word = first; word < address + bytes; word += 8)
-        if (tables->count == 0 || tables->queue[tables->count - 1] != word)
-            tables->queue[tables->count++] = word;
+    for (word = first; word < address + bytes && word >> 12 == address >> 12; word += 8) {
+        if (tables->count > 0 && tables->queue[tables->count - 1] == word)
+            continue;
+        if (tables->count == PCID_TABLES_QUEUE)
+            return PCID_RECORD_FIELD;
+        tables->queue[tables->count++] = word;
+    }
     return status;
 }
 

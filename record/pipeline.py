@@ -170,18 +170,16 @@ def run_recorded(words, folder, variables, limit, is_terminal, auditor, keep):
 
 
 def status_of(outcome, told):
-    """The status that tells most of a run."""
+    """The status that tells most of a run: the greatest of those that apply."""
+    if any(told.counts.get(name, "0") != "0" for name in ("unseen stores", "refused")):
+        return RECORDER_WRONG
     if not outcome.is_judged:
         return AUDITOR_DIED
     if not outcome.is_written:
         return FILE_NOT_WRITTEN
     if outcome.is_stopped:
         return STOPPED
-    if outcome.emulator != 0:
-        return EMULATOR_DIED
-    if any(told.counts.get(name, "0") != "0" for name in ("unseen stores", "refused")):
-        return RECORDER_WRONG
-    return outcome.verdict
+    return EMULATOR_DIED if outcome.emulator != 0 else outcome.verdict
 
 
 def culprit(told, report):

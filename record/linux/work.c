@@ -111,7 +111,7 @@ static void change_areas(unsigned seed)
     }
 }
 
-/* Large pages, which a fork shares and a change of rights splits. */
+/* An area that Linux may back by large pages, which a fork shares and a change of rights splits. */
 static void use_large_pages(void)
 {
     char *const area = mapping(LARGE, MAP_PRIVATE | MAP_ANONYMOUS, -1);
