@@ -7,7 +7,6 @@ from probe import image, keeping
 from records.events import (ACCESS_TAG, DIRTY, NO_FLUSH, TAGS, Answer, Assist, Fault, InvalidatePage, InvalidatePcid,
                             LoadRoot, SetGlobalPages, Write, has_spans)
 
-ADDRESS = 0x700000
 MOST_BYTES = 0x100000
 MAGIC = b"GPREPLAY"
 MOST_PROCESSORS, MOST_TABLES, MOST_FRAMES = 8, 96, 256

@@ -3,8 +3,8 @@ import struct
 from dataclasses import dataclass, field
 
 VERSIONS = (1, 2, 3, 4)
-READ, WRITE, FETCH = 0, 1, 2  # of a walk's flags, bits 1:0
-OPERATION, USER, ALIGNMENT_CHECK, DIRTY = 3, 4, 8, 16  # of a walk's flags
+# Of the flags of a walk. (An operation is 0 for a read, 1 for a write, 2 for a fetch.)
+OPERATION, USER, ALIGNMENT_CHECK, DIRTY = 3, 4, 8, 16
 NO_FLUSH = 1 << 63  # of a MOV to CR3's operand
 
 
