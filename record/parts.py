@@ -5,7 +5,6 @@ import hashlib
 import os
 import shutil
 import subprocess
-import sys
 import tempfile
 
 HERE = os.path.dirname(os.path.abspath(__file__))
@@ -113,7 +112,7 @@ def make_disc(path, kernel_image, words):
         shutil.copy(kernel_image, os.path.join(boot, "vmlinuz"))
         with open(os.path.join(boot, "initramfs"), "wb") as file:
             file.write(initramfs())
-        with open(os.path.join(boot, "grub", "grub.cfg"), "w") as file:
+        with open(os.path.join(boot, "grub", "grub.cfg"), "w", encoding="utf-8") as file:
             file.write(f"set timeout=0\nmenuentry guest {{\n linux /boot/vmlinuz {WORDS} {words}\n"
                        " initrd /boot/initramfs\n}\n")
         image.command("grub-mkrescue", "-o", path, tree)
@@ -121,7 +120,7 @@ def make_disc(path, kernel_image, words):
 
 def bochs():
     """The path of the emulator, which record/bochs/build builds where it is missing."""
-    done = subprocess.run([os.path.join(HERE, "bochs", "build")], stdout=subprocess.PIPE, text=True)
+    done = subprocess.run([os.path.join(HERE, "bochs", "build")], stdout=subprocess.PIPE, text=True, check=False)
     if done.returncode != 0:
         raise image.Stop("record/bochs/build failed")
     return done.stdout.strip()

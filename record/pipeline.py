@@ -84,7 +84,10 @@ class Chain:
         does not reach it, so that it takes what was recorded until then."""
         program = subprocess.Popen(words, stdin=self.source, stdout=subprocess.PIPE,
                                    start_new_session=True, **more)
-        os.close(self.source) if isinstance(self.source, int) else self.source.close()
+        if isinstance(self.source, int):
+            os.close(self.source)
+        else:
+            self.source.close()
         self.source = program.stdout
         self.programs.append(program)
         return program
