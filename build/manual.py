@@ -13,6 +13,9 @@ FILES = [
     (f"{DOCUMENTS}/docs", "The pages that this one names by words in capitals: FORMAT, RECORDING, MODEL and others."),
     (f"{DOCUMENTS}/samples", "Records to try."),
     ("/usr/include/pcid_record.h", "The C header that writes records."),
+    ("/usr/include/pcid_log.h", "The C header that writes logs of single processors."),
+    ("/usr/include/pcid_tables.h", "The C header that records paging tables on demand."),
+    ("/usr/include/pcid_seen.h", "The C header that says which accesses need no event."),
 ]
 
 

@@ -1,0 +1,1 @@
+"""The recorder that boots a Linux in an emulator (docs/LINUX.md)."""
