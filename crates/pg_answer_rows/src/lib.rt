@@ -22,6 +22,8 @@ mod json_spans;
 #[cfg(test)]
 mod lines;
 #[cfg(test)]
+mod long;
+#[cfg(test)]
 mod many_lines;
 #[cfg(test)]
 mod pictures;

@@ -5,12 +5,10 @@
 mod auditor;
 mod crew;
 mod error;
-mod feed;
 mod intake;
 mod judging_by;
 mod merger;
 mod report;
-mod team;
 mod whole_record;
 
 pub use auditor::{audit, audit_one, audit_watched, report_of, write_report, write_text};
