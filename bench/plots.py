@@ -1,11 +1,11 @@
 #!/usr/bin/env python3
+# SPDX-License-Identifier: MIT OR Apache-2.0
 """Draws what a bench measured against the number of events, as plain SVG, on logarithmic axes.
 
-usage: bench/plots.py TITLE UNIT <POINTS >PLOT.svg
-
-POINTS has a line for each point, three fields with a tab between them: what was measured, the number of
+Standard input has a line for each point, three fields with a tab between them: what was measured, the number of
 events, and the value in the unit. The points of one name are joined by a line. Benches call `draw`.
 """
+import argparse
 import math
 import sys
 from xml.sax.saxutils import escape
@@ -13,7 +13,8 @@ from xml.sax.saxutils import escape
 WIDTH, HEIGHT = 720, 420
 LEFT, RIGHT, TOP, BOTTOM = 72, 190, 48, 56
 # Told apart by colour, by dashes and by marks.
-STYLES = [("#0b5cad", "", "circle"), ("#c2410c", "7 4", "square"), ("#15803d", "2 4", "diamond"), ("#6d28d9", "9 3 2 3", "circle")]
+STYLES = [("#0b5cad", "", "circle"), ("#c2410c", "7 4", "square"), ("#15803d", "2 4", "diamond"),
+          ("#6d28d9", "9 3 2 3", "circle")]
 FONT = "font-family='sans-serif' font-size='13'"
 
 
@@ -30,7 +31,8 @@ class Axis:
 
     def ticks(self):
         """1, 2 and 5 times each power of ten that the axis has."""
-        found = [step * 10.0 ** power for power in range(math.floor(self.low), math.ceil(self.high) + 1) for step in (1, 2, 5)]
+        powers = range(math.floor(self.low), math.ceil(self.high) + 1)
+        found = [step * 10.0 ** power for power in powers for step in (1, 2, 5)]
         return [it for it in found if self.low <= math.log10(it) <= self.high]
 
 
@@ -88,8 +90,9 @@ def plot(title, unit, lines):
     points = [it for found in lines.values() for it in found]
     across = Axis([events for events, _ in points], LEFT, WIDTH - RIGHT)
     up = Axis([value for _, value in points], HEIGHT - BOTTOM, TOP)
-    parts = [f"<svg xmlns='http://www.w3.org/2000/svg' width='{WIDTH}' height='{HEIGHT}' viewBox='0 0 {WIDTH} {HEIGHT}'>",
-             f"<rect width='{WIDTH}' height='{HEIGHT}' fill='white'/>",
+    size = f"width='{WIDTH}' height='{HEIGHT}'"
+    parts = [f"<svg xmlns='http://www.w3.org/2000/svg' {size} viewBox='0 0 {WIDTH} {HEIGHT}'>",
+             f"<rect {size} fill='white'/>",
              text(LEFT, 24, title, "font-weight='bold'"), text(LEFT, 40, unit), *grid(across, up),
              text((LEFT + WIDTH - RIGHT) / 2, HEIGHT - 14, "events", "text-anchor='middle'")]
     for found, style in zip(lines.values(), STYLES):
@@ -103,15 +106,18 @@ def draw(path, title, unit, lines):
 
 
 def main():
-    if len(sys.argv) != 3:
-        sys.exit("usage: bench/plots.py TITLE UNIT <POINTS >PLOT.svg")
+    parser = argparse.ArgumentParser(prog="bench/plots.py", description=__doc__,
+                                     formatter_class=argparse.RawDescriptionHelpFormatter)
+    parser.add_argument("title", metavar="TITLE")
+    parser.add_argument("unit", metavar="UNIT", help="of the values")
+    chosen = parser.parse_args()
     lines = {}
     for row in filter(str.strip, sys.stdin):
         name, events, value = row.rstrip("\n").split("\t")
         lines.setdefault(name, []).append((int(events), float(value)))
     if not lines:
         sys.exit("bench/plots.py: there are no points")
-    sys.stdout.write(plot(*sys.argv[1:], lines))
+    sys.stdout.write(plot(chosen.title, chosen.unit, lines))
 
 
 if __name__ == "__main__":

@@ -1,3 +1,4 @@
+# SPDX-License-Identifier: MIT OR Apache-2.0
 """Completions for bash and zsh, made from the program's own table of options."""
 
 BASH = """# Completion of pcid-audit for bash, made by build/package from the program's help texts.

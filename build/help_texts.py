@@ -1,3 +1,4 @@
+# SPDX-License-Identifier: MIT OR Apache-2.0
 """The program's own table of commands and options, read from its help texts."""
 import re
 import subprocess

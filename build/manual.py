@@ -1,3 +1,4 @@
+# SPDX-License-Identifier: MIT OR Apache-2.0
 """The man page of pcid-audit, made from docs/COMMANDS.md.
 
 The page stays the source. What it says of the script ./pcid-audit and of this repository is left out, since

@@ -1,4 +1,6 @@
+# SPDX-License-Identifier: MIT OR Apache-2.0
 """What scripts of checks/, bench/ and build/ share."""
+import argparse
 import ctypes
 import os
 import re
@@ -16,28 +18,13 @@ MEMORY_OF_A_PROOF = 3_000_000_000
 
 
 def program():
-    """The path of the program: what the environment variable PCID_AUDIT names, else the one that
-    ./pcid-audit builds, which has it built first where it is missing or older than its sources."""
+    """The path of the program: what the environment variable PCID_AUDIT names, else the proved one,
+    which is proved and built first where it is missing or older than its sources."""
     named = os.environ.get("PCID_AUDIT")
     if named:
         return os.path.abspath(named)
-    # (help and the version may be told without it, and a check made by the auditor alone)
-    with open(os.path.join(TOP, "samples/fresh_walk.record"), "rb") as record:
-        subprocess.run([os.path.join(TOP, "pcid-audit"), "show"], stdin=record, stdout=subprocess.DEVNULL, check=True)
+    subprocess.run([os.path.join(TOP, "pcid-audit"), "--prove"], stdout=subprocess.DEVNULL, check=True)
     return BUILT
-
-
-def auditor():
-    """The path of the auditor alone: what the environment variable PCID_CHECK names, else that of
-    crates/pcid_check/out, which is built first."""
-    named = os.environ.get("PCID_CHECK")
-    if named:
-        return os.path.abspath(named)
-    folder = os.path.join(TOP, "crates/pcid_check")
-    subprocess.run([os.path.join(TOP, "build/libraries"), "pcid_check"], check=True)
-    subprocess.run(["rt", "run", "--", "check", os.path.join(TOP, "samples/fresh_walk.record")], cwd=folder,
-                   stdin=subprocess.DEVNULL, stdout=subprocess.DEVNULL, check=True)
-    return os.path.join(folder, "out/pcid_check")
 
 
 def end_with_parent():
@@ -141,16 +128,37 @@ def compiled(target, source, *words):
     return target
 
 
+def compiled_rust(target, source, *words):
+    """Compiles a source in Rust, which stands at this path below the top, and gives the target's path."""
+    subprocess.run(["rustc", "--edition", "2021", "-O", *words, "-o", target, os.path.join(TOP, source)], check=True)
+    return target
+
+
 def preload(folder, source):
     """Compiles a library that is to be loaded before the program's own."""
     return compiled(os.path.join(folder, "preload.so"), source, "-shared", "-fPIC")
 
 
-def records(target, *words):
-    """Compiles the writer of long records that several benches read."""
-    return compiled(target, "bench/judging/records.c", *words)
+def command_line(about):
+    """The parser of a script's words. Its help is the script's first comment."""
+    name = os.path.relpath(os.path.abspath(sys.argv[0]), TOP)
+    return argparse.ArgumentParser(prog=name, description=about, formatter_class=argparse.RawDescriptionHelpFormatter)
 
 
-def runs_asked(runs):
-    """How many runs the command line asks for, so many where it says nothing."""
-    return int(sys.argv[1]) if len(sys.argv) > 1 else runs
+def add_random(parser, count, seed=1):
+    """The options of checks by random records."""
+    parser.add_argument("--records", type=int, default=count, metavar="N", help=f"how many; {count} if left out")
+    parser.add_argument("--seed", type=int, default=seed, metavar="N", help=f"{seed} if left out")
+
+
+def add_runs(parser, runs):
+    """How many runs a bench makes."""
+    parser.add_argument("runs", type=int, nargs="?", default=runs, metavar="RUNS",
+                        help=f"of each, in turns; the least counts; {runs} if left out")
+
+
+def runs_asked(about, runs):
+    """The runs that the command line of a bench asks for, which has no other words."""
+    parser = command_line(about)
+    add_runs(parser, runs)
+    return parser.parse_args().runs

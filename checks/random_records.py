@@ -1,48 +1,11 @@
+# SPDX-License-Identifier: MIT OR Apache-2.0
 """Random records: runs of a small simulator of the manual's machine, at times of a faulty one, then at
 times changed in their events or in their bytes."""
-import struct
+from dataclasses import replace
 
-HEADER = struct.Struct("<8sHBB")
-TAGS = {"write": 0x10, "access": 0x11, "mov_cr3": 0x12, "invlpg": 0x13, "invpcid": 0x14,
-        "mov_cr4": 0x15, "assist": 0x16}
-
-
-# ---- Bytes
-
-def event_bytes(version, event):
-    name, processor, *fields = event
-    head = struct.pack("<BB" if version == 1 else "<BH", TAGS[name], processor)
-    if name == "write":
-        return head + struct.pack("<QQ", *fields)
-    if name == "access":
-        flags, linear, is_fault, value, moments = fields
-        body = struct.pack("<BQBH" if is_fault else "<BQBQ", flags, linear, int(is_fault), value)
-        return head + body + moments_bytes(moments)
-    if name == "assist":
-        flags, linear, word, moments = fields
-        return head + struct.pack("<BQQ", flags, linear, word) + moments_bytes(moments)
-    if name == "invpcid":
-        return head + struct.pack("<BHQ", *fields)
-    return head + struct.pack("<B" if name == "mov_cr4" else "<Q", *fields)
-
-
-def moments_bytes(moments):
-    return struct.pack(f"<B{len(moments)}I", len(moments), *moments)
-
-
-def record_parts(header, events):
-    """The bytes of a record, in parts whose borders are those of its larger pieces."""
-    version, m, settings, segment, starts = header
-    parts = [HEADER.pack(b"PGRECORD", version, m, settings)
-             + struct.pack("<BI" if version == 1 else "<HI", len(starts), segment)]
-    parts += [struct.pack("<QB", cr3, pge) for cr3, pge in starts]
-    for number, at in enumerate(range(0, len(events), segment)):
-        cut = events[at:at + segment]
-        parts.append(struct.pack("<BII", 1, number, len(cut)))
-        parts += [event_bytes(version, event) for event in cut]
-    parts.append(struct.pack("<BI", 2, len(events)))
-    return parts
-
+from records.events import (Answer, Assist, Fault, Header, InvalidatePage, InvalidatePcid, LoadRoot, SetGlobalPages,
+                            Walk, Write)
+from records.writing import FIELDS, end_bytes, record_bytes, record_parts
 
 # ---- The machine
 
@@ -84,8 +47,8 @@ class Machine:
         return self.defect == defect and self.rng.random() < 0.4
 
     def header(self):
-        return [self.version, self.m, self.settings, self.rng.choice([1, 2, 5, 16, 1000, 65536]),
-                self.starts]
+        segment = self.rng.choice([1, 2, 5, 16, 1000, 65536])
+        return Header(self.version, self.m, self.settings, segment, tuple(self.starts))
 
     def cr3(self):
         return self.rng.choice(self.roots) | self.rng.choice(self.pcids)
@@ -100,7 +63,7 @@ class Machine:
     def linear(self):
         return self.rng.choice(self.linears) + self.rng.choice([0, 0x123, 0xfff])
 
-    def emit(self, *event):
+    def emit(self, event):
         self.events.append(event)
 
     def now(self):
@@ -175,11 +138,11 @@ class Machine:
             word ^= 1 << self.rng.choice([0, 1, 2, 5, 6, 8, 12, 63])
         else:
             word = self.fresh_word(last[0])
-        self.emit("write", self.rng.randrange(len(self.starts)), last[1], word)
+        self.emit(Write(self.rng.randrange(len(self.starts)), last[1], word))
         self.memory[last[1]] = word
 
     def assist(self, p, flags, linear, address, moments):
-        self.emit("assist", p, flags, linear, address, moments + [self.now()])
+        self.emit(Assist(p, flags, linear, address, (*moments, self.now())))
         self.memory[address] = self.memory.get(address, 0) | (0x60 if flags & 16 else 0x20)
 
     def look(self, p, linear, flags, moments, level, table, rights):
@@ -197,12 +160,12 @@ class Machine:
             elif not word >> 5 & 1:
                 self.assist(p, flags, linear, address, moments)
             word = self.memory.get(address, 0)
-        return kind, word, joined, moments + [self.now()]
+        return kind, word, joined, (*moments, self.now())
 
     def walk(self, p, linear, flags):
         """The entry that a walk ends with, from the root or from a structure entry."""
         root, pcid, pge = self.control[p]
-        at = (4, root, (1, 1, 0), [])
+        at = (4, root, (1, 1, 0), ())
         usable = [entry for entry in self.structures[p]
                   if (entry[0] == pcid or self.slips("context"))
                   and entry[2] == page_of(linear, shift_of(entry[1]))]
@@ -238,12 +201,11 @@ class Machine:
 
     def drop_address(self, p, linear, every_structure):
         pcid = self.control[p][1]
-        same = lambda e, shift: e == page_of(linear, shift)
-        self.drop(p, lambda e: e[0] == pcid and (every_structure or same(e[2], shift_of(e[1]))),
-                  lambda e: same(e[2], e[1]) and (e[0] == pcid or e[3]))
+        self.drop(p, lambda e: e[0] == pcid and (every_structure or e[2] == page_of(linear, shift_of(e[1]))),
+                  lambda e: e[2] == page_of(linear, e[1]) and (e[0] == pcid or e[3]))
 
     def fault(self, p, flags, linear, cause, moments):
-        self.emit("access", p, flags, linear, True, self.code(flags, cause), moments)
+        self.emit(Fault(p, flags, linear, self.code(flags, cause), moments))
         self.drop_address(p, linear, False)
 
     def access(self, p):
@@ -269,27 +231,27 @@ class Machine:
             self.fault(p, flags, linear, 1, moments)
         else:
             answer = entry[4] + linear % (1 << entry[1]) ^ (1 << 12 if self.slips("answer") else 0)
-            self.emit("access", p, flags, linear, False, answer, moments)
+            self.emit(Answer(p, flags, linear, answer, moments))
 
     def instruct(self, p):
         rng, pcid = self.rng, self.rng.choice(self.pcids)
         choice = rng.randrange(10)
         if choice < 4:
             operand = self.cr3() | (self.mixes or rng.randrange(2)) << 63
-            self.emit("mov_cr3", p, operand)
+            self.emit(LoadRoot(p, operand))
             if not operand >> 63:
                 pcid = operand & 0xfff
                 self.drop(p, lambda e: e[0] == pcid, lambda e: e[0] == pcid and not e[3])
             self.control[p][:2] = [operand & ((1 << self.m) - 0x1000), operand & 0xfff]
         elif choice < 6:
             linear = self.linear()
-            self.emit("invlpg", p, linear)
+            self.emit(InvalidatePage(p, linear))
             self.drop_address(p, linear, True)
         elif choice < 9:
             self.invpcid(p, pcid)
         else:
             pge = rng.randrange(2)
-            self.emit("mov_cr4", p, pge)
+            self.emit(SetGlobalPages(p, pge))
             if pge != self.control[p][2]:
                 self.drop(p, lambda e: True, lambda e: True)
             self.control[p][2] = pge
@@ -297,11 +259,10 @@ class Machine:
     def invpcid(self, p, pcid):
         kind = self.rng.randrange(4)
         linear = self.linear() if kind == 0 else 0
-        self.emit("invpcid", p, kind, pcid if kind < 2 else 0, linear)
-        same = lambda e, shift: e == page_of(linear, shift)
+        self.emit(InvalidatePcid(p, kind, pcid if kind < 2 else 0, linear))
         if kind == 0:
-            self.drop(p, lambda e: e[0] == pcid and same(e[2], shift_of(e[1])),
-                      lambda e: e[0] == pcid and same(e[2], e[1]) and not e[3])
+            self.drop(p, lambda e: e[0] == pcid and e[2] == page_of(linear, shift_of(e[1])),
+                      lambda e: e[0] == pcid and e[2] == page_of(linear, e[1]) and not e[3])
         elif kind == 1:
             self.drop(p, lambda e: e[0] == pcid, lambda e: e[0] == pcid and not e[3])
         else:
@@ -329,38 +290,62 @@ class Machine:
 
 def renumbered(event, at, by, rng):
     """The event after an insertion or a removal at a number."""
-    if event[0] not in ("access", "assist"):
+    if not isinstance(event, Walk):
         return event
-    shift = lambda w: w + by if w > at or (w == at and rng.random() < 0.5) else w
-    return (*event[:-1], [max(0, shift(w)) for w in event[-1]])
+
+    def shifted(moment):
+        return moment + by if moment > at or (moment == at and rng.random() < 0.5) else moment
+    return replace(event, moments=tuple(max(0, shifted(moment)) for moment in event.moments))
 
 
-def change_claim(rng, event, count):
-    """Another access or assist: another moment, address, outcome or flag."""
-    event, choice = list(event), rng.randrange(9)
-    moments = list(event[-1])
+def change_moments(rng, choice, moments, count):
+    """Other moments: one moved a little, all the same, or one fewer or more."""
+    moments = list(moments)
     if choice < 3:
         at = rng.randrange(len(moments))
         moments[at] = max(0, moments[at] + rng.choice([-3, -2, -1, 1, 2]))
     elif choice == 3:
         moments = [rng.randrange(count + 2)] * len(moments)
-    elif choice == 4:
-        moments = moments[:-1] or [0] if rng.random() < 0.5 else (moments + moments[-1:])[:4]
-    elif choice == 5:
-        event[2] ^= rng.choice([1, 2, 4, 8])
-    elif choice == 6:
-        event[3] ^= 1 << rng.choice([0, 3, 12, 13, 21, 30])
-    elif event[0] == "assist":
-        event[4] ^= 1 << rng.choice([3, 4, 12])
-        event[2] ^= rng.choice([0, 16])
+    elif rng.random() < 0.5:
+        moments = moments[:-1] or [0]
     else:
-        event[5] ^= 1 << rng.choice([0, 1, 2, 3, 4, 5])
-    event[-1] = moments
-    if event[2] & 3 == 3:
-        event[2] &= ~1
-    if event[0] == "assist" and event[2] & 16 and event[2] & 3 != 1:
-        event[2] &= ~16
-    return tuple(event)
+        moments = (moments + moments[-1:])[:4]
+    return tuple(moments)
+
+
+def change_claim(rng, event, count):
+    """Another access or assist: another moment, address, outcome or flag."""
+    choice = rng.randrange(9)
+    if choice < 5:
+        event = replace(event, moments=change_moments(rng, choice, event.moments, count))
+    elif choice == 5:
+        event = replace(event, flags=event.flags ^ rng.choice([1, 2, 4, 8]))
+    elif choice == 6:
+        event = replace(event, linear=event.linear ^ 1 << rng.choice([0, 3, 12, 13, 21, 30]))
+    elif isinstance(event, Assist):
+        address = event.address ^ 1 << rng.choice([3, 4, 12])
+        event = replace(event, address=address, flags=event.flags ^ rng.choice([0, 16]))
+    elif isinstance(event, Fault):
+        event = replace(event, code=event.code ^ 1 << rng.choice([0, 1, 2, 3, 4, 5]))
+    else:
+        event = replace(event, physical=event.physical ^ 1 << rng.choice([0, 1, 2, 3, 4, 5]))
+    flags = event.flags
+    if flags & 3 == 3:
+        flags &= ~1
+    if isinstance(event, Assist) and flags & 16 and flags & 3 != 1:
+        flags &= ~16
+    return replace(event, flags=flags)
+
+
+def another_instruction(rng, machine):
+    """An instruction that the machine might have carried out, without its caches or its memory."""
+    other = Machine.__new__(Machine)
+    other.__dict__.update(machine.__dict__, events=[], memory=dict(machine.memory))
+    other.structures = [[] for _ in machine.starts]
+    other.translations = [[] for _ in machine.starts]
+    other.control = [list(control) for control in machine.control]
+    other.instruct(rng.randrange(len(machine.starts)))
+    return other.events[0]
 
 
 def change_events(rng, machine, events):
@@ -369,29 +354,24 @@ def change_events(rng, machine, events):
         if not events:
             return events
         at, choice = rng.randrange(len(events)), rng.randrange(8)
-        claims = [n for n, event in enumerate(events) if event[0] in ("access", "assist")]
+        claims = [number for number, event in enumerate(events) if isinstance(event, Walk)]
         if choice < 3 and claims:
             at = rng.choice(claims)
             events[at] = change_claim(rng, events[at], len(events))
         elif choice < 5:
-            other = Machine.__new__(Machine)
-            other.__dict__.update(machine.__dict__, events=[], memory=dict(machine.memory))
-            other.structures = [[] for _ in machine.starts]
-            other.translations = [[] for _ in machine.starts]
-            other.control = [list(control) for control in machine.control]
-            other.instruct(rng.randrange(len(machine.starts)))
+            more = another_instruction(rng, machine)
             events = [renumbered(event, at, 1, rng) for event in events]
-            events.insert(at, other.events[0])
+            events.insert(at, more)
         elif choice == 5:
             del events[at]
             events = [renumbered(event, at, -1, rng) for event in events]
         elif choice == 6 and at + 1 < len(events):
             events[at], events[at + 1] = events[at + 1], events[at]
-        elif events[at][0] == "write":
-            name, p, address, value = events[at]
-            events[at] = (name, p, address, value ^ 1 << rng.choice([0, 1, 2, 5, 6, 7, 8, 12, 51]))
+        elif isinstance(events[at], Write):
+            value = events[at].value ^ 1 << rng.choice([0, 1, 2, 5, 6, 7, 8, 12, 51])
+            events[at] = replace(events[at], value=value)
         else:
-            events[at] = (events[at][0], rng.randrange(len(machine.starts)), *events[at][2:])
+            events[at] = replace(events[at], processor=rng.randrange(len(machine.starts)))
     return events
 
 
@@ -404,16 +384,20 @@ def random_events(rng, machine, length):
         if dice < 0.4:
             table = rng.choice(machine.frames)
             index = linear >> shift_of(rng.choice(LEVELS)) & 511
-            events.append(("write", p, table + 8 * index, machine.fresh_word(rng.choice(LEVELS))))
+            events.append(Write(p, table + 8 * index, machine.fresh_word(rng.choice(LEVELS))))
         elif dice < 0.9:
             count = rng.choice([1, 1, 2, 2, 3, 4, 4, 4])
-            moments = sorted(max(0, number - rng.choice([0, 0, 0, 1, 3])) for _ in range(count))
+            moments = tuple(sorted(max(0, number - rng.choice([0, 0, 0, 1, 3])) for _ in range(count)))
             flags, is_fault = rng.choice([0, 4, 5, 6]), rng.random() < 0.6
             value = rng.choice([4, 6, 0, 9, 5]) if is_fault else rng.choice(machine.frames)
-            events.append(("access", p, flags, linear, is_fault, value, moments))
+            events.append((Fault if is_fault else Answer)(p, flags, linear, value, moments))
         else:
-            events.append(("invlpg", p, linear))
+            events.append(InvalidatePage(p, linear))
     return events
+
+
+# The bits of those fields that have fewer than 64, of a processor's number as version 1 has it.
+FIELD_BITS = {"processor": 8, "flags": 8, "is_on": 8, "kind": 8, "pcid": 16}
 
 
 def change_field(rng, machine, events):
@@ -422,50 +406,59 @@ def change_field(rng, machine, events):
     if not events:
         return events
     at = rng.randrange(len(events))
-    event = list(events[at])
-    if event[0] in ("access", "assist"):
-        place = rng.choice([2, 3, 3, 1])
+    event = events[at]
+    if isinstance(event, Walk):
+        name = rng.choice(["flags", "linear", "linear", "processor"])
     else:
-        place = rng.randrange(1, len(event))
-    widths = {"mov_cr4": 8, "invpcid": {2: 8, 3: 16}.get(place, 64)}
-    width = 8 if place == 1 or event[0] in ("access", "assist") and place == 2 else \
-        widths.get(event[0], 64)
-    event[place] ^= 1 << rng.choice([rng.randrange(width), width - 1, width - 2, width // 2])
+        name = rng.choice(["processor", *FIELDS[type(event)]])
+    width = FIELD_BITS.get(name, 64)
+    bit = rng.choice([rng.randrange(width), width - 1, width - 2, width // 2])
+    events[at] = replace(event, **{name: getattr(event, name) ^ 1 << bit})
     if rng.random() < 0.3:
-        event = ["mov_cr3", 0, machine.cr3() | 1 << rng.choice([machine.m - 1, machine.m, 62, 63])]
-    events[at] = tuple(event)
+        events[at] = LoadRoot(0, machine.cr3() | 1 << rng.choice([machine.m - 1, machine.m, 62, 63]))
     return events
+
+
+def change_header(rng, header):
+    """Another value in one field, which is mostly out of range."""
+    name = rng.choice(["address_bits", "flags", "segment", "starts"])
+    if name == "starts":
+        value = rng.choice([(), header.starts * 40, ((1 << 52, 0),), ((0x1000, 2),)])[:1100]
+    else:
+        value = rng.choice([0, 35, 53, 16, 65537, 255, getattr(header, name)])
+        value &= 0xffffffff if name == "segment" else 0xff
+    changed = replace(header, **{name: value})
+    # (no events can be spelled in segments of none)
+    return replace(changed, segment=changed.segment or 1)
+
+
+def change_parts(rng, choice, parts, count):
+    """Changes one part of a record of so many events: one left out or twice, the head of a segment, the
+    end mark, or bytes behind it."""
+    if choice == 4:
+        at = rng.randrange(len(parts))
+        parts[at:at + 1] = [parts[at]] * rng.choice([0, 2])
+    elif choice == 5:
+        heads = [number for number, part in enumerate(parts) if part[:1] == b"\x01" and len(part) == 9]
+        at = rng.choice(heads) if heads else -1
+        part = bytearray(parts[at])
+        part[rng.randrange(len(part))] = rng.choice([0, 1, 2, 255])
+        parts[at] = bytes(part)
+    elif choice == 6:
+        parts[-1] = end_bytes(rng.choice([0, count + 1, 1 << 31]))
+    elif choice == 7:
+        parts.append(bytes(rng.choice([1, 2, 300])))
 
 
 def change_bytes(rng, machine, header, events):
     """Bytes that mostly spell no record."""
     choice = rng.randrange(10)
     if choice < 3:
-        return b"".join(record_parts(header, change_field(rng, machine, events)))
+        return record_bytes(header, change_field(rng, machine, events))
     if choice == 3:
-        header = list(header)
-        place = rng.choice([1, 2, 3, 4])
-        if place == 4:
-            header[4] = rng.choice([[], header[4] * 40, [(1 << 52, 0)], [(0x1000, 2)]])[:1100]
-        else:
-            header[place] = rng.choice([0, 35, 53, 16, 65537, 255, header[place]])
-            header[place] &= 0xff if place != 3 else 0xffffffff
-        header[3] = header[3] or 1
-        return b"".join(record_parts(header, events))
+        return record_bytes(change_header(rng, header), events)
     parts = record_parts(header, events)
-    if choice == 4:
-        at = rng.randrange(len(parts))
-        parts[at:at + 1] = [parts[at]] * rng.choice([0, 2])
-    elif choice == 5:
-        heads = [n for n, part in enumerate(parts) if part[:1] == b"\x01" and len(part) == 9]
-        at = rng.choice(heads) if heads else -1
-        part = bytearray(parts[at])
-        part[rng.randrange(len(part))] = rng.choice([0, 1, 2, 255])
-        parts[at] = bytes(part)
-    elif choice == 6:
-        parts[-1] = struct.pack("<BI", 2, rng.choice([0, len(events) + 1, 1 << 31]))
-    elif choice == 7:
-        parts.append(bytes(rng.choice([1, 2, 300])))
+    change_parts(rng, choice, parts, len(events))
     data = bytearray(b"".join(parts))
     if choice == 8:
         return bytes(data[:rng.randrange(len(data))])
@@ -476,6 +469,7 @@ def change_bytes(rng, machine, header, events):
 
 
 def record_of(rng, version, is_long):
+    """The bytes of a random record, and whether they are those of a true run, as it was."""
     machine = Machine(rng, version, rng.choice(DEFECTS + [None] * 6))
     length = rng.choice([1500, 3000, 6000]) if is_long else rng.choice([0, 3, 8, 20, 40, 80])
     dice = rng.random()
@@ -487,8 +481,8 @@ def record_of(rng, version, is_long):
     if dice > 0.55:
         events = change_events(rng, machine, events)
     elif dice > 0.1 and machine.defect is None:
-        return b"".join(record_parts(machine.header(), events)), True
+        return record_bytes(machine.header(), events), True
     header = machine.header()
     if dice > 0.85:
         return change_bytes(rng, machine, header, events), False
-    return b"".join(record_parts(header, events)), False
+    return record_bytes(header, events), False

@@ -1,3 +1,4 @@
+/* SPDX-License-Identifier: MIT OR Apache-2.0 */
 /*
  * Closes the record of a run that crashed: reads a record whose tail is cut from standard input,
  * and writes what stands whole before the cut, with the right end mark, to standard output.

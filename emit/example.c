@@ -1,3 +1,4 @@
+/* SPDX-License-Identifier: MIT OR Apache-2.0 */
 /*
  * A toy hypervisor of two virtual processors, which keeps a shadow for each: 64 shadow entries, and
  * with each the moments of the walk that made it. It writes the record of a random run to standard

@@ -1,3 +1,4 @@
+/* SPDX-License-Identifier: MIT OR Apache-2.0 */
 /*
  * pcid_log.h: writes the log of one processor, for `pcid-audit merge`, which makes a record of the
  * logs of all processors. docs/FORMAT.md ("Logs of single processors") says what the bytes are.

@@ -1,8 +1,10 @@
+/* SPDX-License-Identifier: MIT OR Apache-2.0 */
 /*
  * pcid_record.h: writes the record of a run, version 1 to 4, for pcid-audit.
  *
  * One header, for kernels too: C99 or C++, no allocation, no variable of its own, no library, and
- * no header but <stdint.h> and <stddef.h>. docs/FORMAT.md says what the bytes are, and
+ * no header but <stdint.h> and <stddef.h>, or <linux/types.h> in Linux and <xen/types.h> in Xen,
+ * which have none of these. docs/FORMAT.md says what the bytes are, and
  * docs/RECORDING.md what to record and which moments to name.
  *
  *     static uint8_t buffer[PCID_RECORD_BYTES(1, 1024)];
@@ -42,8 +44,14 @@
 #ifndef PCID_RECORD_H
 #define PCID_RECORD_H
 
+#if defined(__XEN__)
+#include <xen/types.h>
+#elif defined(__KERNEL__)
+#include <linux/types.h>
+#else
 #include <stddef.h>
 #include <stdint.h>
+#endif
 
 #ifdef __cplusplus
 extern "C" {

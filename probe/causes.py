@@ -1,12 +1,12 @@
+# SPDX-License-Identifier: MIT OR Apache-2.0
 """Why a record is a no: what `pcid-audit certify` says of it, in the form that shrinking has to
 keep and by which a hunt tells one no from another."""
 import re
-import struct
+from dataclasses import replace
 
-import image
-import records
+from probe import auditor, image, keeping
+from records.events import ALIGNMENT_CHECK, USER, Answer, LoadRoot, Walk, Write
 
-USER, AC = 4, 8  # of an access's flags
 PAGES = {1: "4 KB", 2: "2 MB", 3: "1 GB", 4: "512 GB"}
 EXPLICIT = "carried out as an explicit access"
 
@@ -22,16 +22,15 @@ class Cause:
         return other is not None and self.text == other.text
 
 
-def explicit(event, words, version):
+def explicit(event, words):
     """The event of an implicit access as if software had asked for it: with its ring and AC."""
-    place = records.place_of(version)
-    flags = event[place] | (USER if "user" in words else 0) | (AC if "ac" in words else 0)
-    return event[:place] + bytes([flags]) + event[place + 1:]
+    flags = event.flags | (USER if "user" in words else 0) | (ALIGNMENT_CHECK if "ac" in words else 0)
+    return replace(event, flags=flags)
 
 
 def answer_of(data):
     """The report of certify behind a no, None behind a yes, and where it did not decide."""
-    status, report, said = records.certify(records.program(), data)
+    status, report, said = auditor.certify(data)
     if status not in (0, 1, image.UNDECIDED):
         raise image.Stop(f"certify ends with status {status}: {said.decode().strip()}")
     return report.decode() if status == 1 else None
@@ -39,7 +38,7 @@ def answer_of(data):
 
 def undecided_event(data):
     """The number of the event at which certify gave a record up, None where it decides."""
-    status, report, _ = records.certify(records.program(), data)
+    status, report, _ = auditor.certify(data)
     return bad_event(report.decode()) if status == image.UNDECIDED else None
 
 
@@ -51,13 +50,13 @@ def bad_event(report):
 def is_yes_as_explicit(record, events, number, words):
     """Whether an implicit access, which denies a user page where SMAP=1 whatever AC is, is a no for
     that alone: carried out as an explicit one it would have been right."""
-    changed = [*events[:number], explicit(events[number], words, record.version)]
-    return "ac" in words and answer_of(record.bytes(changed)) is None
+    changed = [*events[:number], explicit(events[number], words)]
+    return "ac" in words and answer_of(keeping.bytes_of(record, changed)) is None
 
 
 def cause_of(record, events, notes):
     """The cause of these events' no, None where they are a yes. Notes are by events' numbers."""
-    report = answer_of(record.bytes(events))
+    report = answer_of(keeping.bytes_of(record, events))
     if report is None:
         return None
     number = bad_event(report)
@@ -105,51 +104,41 @@ def page_of(report):
     return PAGES[int(level)] if kind == "leaf" else f"{kind} at level {level}"
 
 
+FRAME = (1 << 52) - (1 << 12)  # of an entry or a root, the address of a table
+LARGE = 1 << 7  # of an entry of level 3 or 2: it maps a page
+
+
+def linear_page(event):
+    """The number of the page that an access or an assist is in, None of another event."""
+    return event.linear >> 12 if isinstance(event, Walk) else None
+
+
+def told(event):
+    """Of an answer its processor, page and frame; None of another event."""
+    return (event.processor, linear_page(event), event.physical >> 12) if isinstance(event, Answer) else None
+
+
 class Reader:
-    """What events of a record say, as its version spells them."""
+    """What walks of a record can have read."""
 
     def __init__(self, record):
-        self.record, self.place = record, records.place_of(record.version)
-
-    def processor(self, event):
-        return int.from_bytes(event[1:1 + records.width(self.record.version)], "little")
-
-    def words(self, event, skipped=0):
-        return struct.unpack_from("<Q", event, self.place + skipped)[0]
-
-    def flags(self, event):
-        return event[self.place]
-
-    def is_answer(self, event):
-        return event[0] == records.ACCESS and event[self.place + 9] == 0
+        self.record, self.values = record, {}
+        for event in record.events:
+            if isinstance(event, Write):
+                self.values.setdefault(event.address, set()).add(event.value)
 
     def roots(self, processor):
-        return {self.record.starts()[processor][0]} | {
-            self.words(event) for event in self.record.events
-            if event[0] == records.LOAD_ROOT and self.processor(event) == processor}
-
-    def is_access(self, event):
-        return event[0] in (records.ACCESS, records.ASSIST)
-
-    def page(self, event):
-        return self.words(event, 1) >> 12 if self.is_access(event) else None
-
-    def told(self, event):
-        """Of an answer its processor, page and frame."""
-        return self.is_answer(event) and (self.processor(event), self.page(event),
-                                          self.words(event, 10) >> 12)
+        return {self.record.header.starts[processor][0]} | {
+            event.operand for event in self.record.events
+            if isinstance(event, LoadRoot) and event.processor == processor}
 
     def walks(self, access):
         """Level by level from 4 on, the words that a walk of an access's address can ever have
         read there, and their values."""
-        linear, values = self.words(access, 1), {}
-        for event in self.record.events:
-            if event[0] == records.WRITE:
-                values.setdefault(self.words(event), set()).add(self.words(event, 8))
-        tables = {root & FRAME for root in self.roots(self.processor(access))}
+        tables = {root & FRAME for root in self.roots(access.processor)}
         for level in (4, 3, 2, 1):
-            words = {table + 8 * (linear >> 3 + 9 * level & 511) for table in tables}
-            entries = {value for word in words for value in values.get(word, ())}
+            words = {table + 8 * (access.linear >> 3 + 9 * level & 511) for table in tables}
+            entries = {value for word in words for value in self.values.get(word, ())}
             yield level, words, entries
             tables = {entry & FRAME for entry in entries}
 
@@ -159,16 +148,11 @@ class Reader:
 
     def sizes_of(self, answer):
         """The levels of the leaves by which an answer can ever have been given."""
-        linear, physical = self.words(answer, 1), self.words(answer, 10)
         found = set()
         for level, _, entries in self.walks(answer):
             size = 1 << 3 + 9 * level
-            base = (physical - linear % size) & FRAME
+            base = (answer.physical - answer.linear % size) & FRAME
             if level < 4 and any(entry & 1 and (level == 1 or entry & LARGE) and
                                  entry & FRAME & -size == base for entry in entries):
                 found.add(level)
         return found
-
-
-FRAME = (1 << 52) - (1 << 12)  # of an entry or a root, the address of a table
-LARGE = 1 << 7  # of an entry of level 3 or 2: it maps a page

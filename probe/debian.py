@@ -1,3 +1,4 @@
+# SPDX-License-Identifier: MIT OR Apache-2.0
 """Debian's packages: of the machine's own release, or of another by lists of apt that stand in
 probe/out, so that nothing of the machine's apt changes."""
 import glob
@@ -6,7 +7,7 @@ import re
 import shutil
 import subprocess
 
-import image
+from probe import image
 
 MIRROR = os.environ.get("PROBE_DEBIAN", "http://deb.debian.org/debian")
 KEYS = "/usr/share/keyrings/debian-archive-keyring.gpg"
@@ -16,7 +17,7 @@ def run(*words, folder=None):
     """What a program writes. image.Stop with its last lines where it fails."""
     if not shutil.which(words[0]):
         raise image.Stop(f"{words[0]} is missing: this needs Debian's package manager")
-    done = subprocess.run(words, cwd=folder, capture_output=True, text=True)
+    done = subprocess.run(words, cwd=folder, capture_output=True, text=True, check=False)
     if done.returncode != 0:
         raise image.Stop("\n".join([" ".join(words), *done.stderr.splitlines()[-4:]]))
     return done.stdout
@@ -52,10 +53,10 @@ class Archive(Own):
         self.folder = os.path.join(image.OUT, "apt", suite)
         for name in ("lists/partial", "cache/archives/partial"):
             os.makedirs(os.path.join(self.folder, name), exist_ok=True)
-        with open(os.path.join(self.folder, "sources.list"), "w") as file:
+        with open(os.path.join(self.folder, "sources.list"), "w", encoding="utf-8") as file:
             for kind in ("deb", "deb-src"):
                 file.write(f"{kind} [signed-by={KEYS}] {MIRROR} {suite} main\n")
-        with open(os.path.join(self.folder, "status"), "w"):
+        with open(os.path.join(self.folder, "status"), "w", encoding="utf-8"):
             pass  # nothing is installed
         values = {"Dir::Etc::SourceList": "sources.list", "Dir::State::Lists": "lists",
                   "Dir::Cache": "cache", "Dir::State::status": "status"}

@@ -1,3 +1,4 @@
+# SPDX-License-Identifier: MIT OR Apache-2.0
 """A hunt: seeds, each run by a job of its own, or in one boot with others. All that is known of a
 seed is kept in a folder of its own, so that a hunt can be continued, and jobs can run anywhere."""
 import contextlib
@@ -9,14 +10,8 @@ import re
 import shlex
 import types
 
-import image
-import kernels
-import logs
-import nesting
-import records
-import replay
-import shrinking
-import systems
+from probe import auditor, image, keeping, kernels, logs, nesting, replay, shrinking, systems
+from records.reading import read_record
 
 RESULT, SMALL, WHOLE, PLAN = "result.json", "small.record", "whole.record", "hunt.json"
 NESTED = "nested-"  # before the name of the emulator in which a KVM runs
@@ -42,7 +37,7 @@ class Plan(types.SimpleNamespace):
     @classmethod
     def read(cls, folder):
         try:
-            with open(os.path.join(folder, PLAN)) as file:
+            with open(os.path.join(folder, PLAN), encoding="utf-8") as file:
                 words = json.load(file)
         except (OSError, ValueError) as why:
             raise image.Stop(f"{folder} has no hunt: {why}") from None
@@ -69,7 +64,7 @@ class Plan(types.SimpleNamespace):
             if Plan.read(folder) != self:
                 raise image.Stop(f"{folder} is of a hunt with other words: see {path}")
             return
-        with open(path, "w") as file:
+        with open(path, "w", encoding="utf-8") as file:
             json.dump(self.__dict__, file, indent=1)
 
     def is_nested(self):
@@ -138,7 +133,7 @@ class Known:
         if path is None:
             return
         try:
-            with open(path) as file:
+            with open(path, encoding="utf-8") as file:
                 lines = [line.split("#")[0].split(None, 1) for line in file]
         except OSError as why:
             raise image.Stop(f"{path}: {why.strerror}") from None
@@ -160,7 +155,7 @@ def place_of(folder, seed):
 def result_of(folder, seed):
     """What a job left, None where it left nothing whole."""
     try:
-        with open(os.path.join(place_of(folder, seed), RESULT)) as file:
+        with open(os.path.join(place_of(folder, seed), RESULT), encoding="utf-8") as file:
             return json.load(file)
     except (OSError, ValueError):
         return None
@@ -168,7 +163,7 @@ def result_of(folder, seed):
 
 def keep_result(folder, seed, result):
     path = os.path.join(place_of(folder, seed), RESULT)
-    with open(path + ".part", "w") as file:
+    with open(path + ".part", "w", encoding="utf-8") as file:
         json.dump(result, file, indent=1)
     os.replace(path + ".part", path)
 
@@ -179,12 +174,12 @@ def is_first(folder, key, seed):
     place = os.path.join(folder, "causes", hashlib.sha256(key.encode()).hexdigest()[:16])
     os.makedirs(os.path.dirname(place), exist_ok=True)
     own = f"{place}.{seed}"
-    with open(own, "w") as file:
+    with open(own, "w", encoding="utf-8") as file:
         file.write(str(seed))
     with contextlib.suppress(FileExistsError):
         os.link(own, place)  # whole or not at all
     os.remove(own)
-    with open(place) as file:
+    with open(place, encoding="utf-8") as file:
         return file.read() == str(seed)
 
 
@@ -200,10 +195,10 @@ class Outcome:
 def recorded(plan, done):
     """The records of an output, one a run, and what was said of those that were cut."""
     if not plan.at_once:
-        return records.split(done.output)
+        return keeping.split(done.output)
     runs = logs.split(done.output)
     cut = [logs.cut(run) for run in runs]
-    return [records.Kept(logs.record_of(run)) for run in runs], "; ".join(filter(None, cut))
+    return [keeping.Kept(logs.record_of(run)) for run in runs], "; ".join(filter(None, cut))
 
 
 def run_direct(plan, seed, is_control=False):
@@ -245,8 +240,9 @@ def carry_out(plan, folder, seeds, known):
         if outcome.status or not outcome.kept:
             result["key"] = ended(outcome.done, outcome.cut)
             result["status"] = outcome.status or image.EARLY_END
-            outcome.kept and outcome.kept.write(os.path.join(place_of(folder, seed), WHOLE))
         if outcome.kept:
+            if result["key"]:
+                outcome.kept.write(os.path.join(place_of(folder, seed), WHOLE))
             judge(plan, folder, seed, known, outcome.kept, result)
         result["known"] = result["key"] and known.name(result["key"])
         keep_result(folder, seed, result)
@@ -266,9 +262,9 @@ def ended(done, cut):
 
 def judge(plan, folder, seed, known, kept, result):
     """Certifies what was recorded. A new cause is cut down, by the first job that meets it."""
-    record, _ = records.read_record(kept.data)
+    record = read_record(kept.data)
     result["events"] = len(record.events)
-    status, _, said = records.certify(records.program(), kept.data)
+    status, _, said = auditor.certify(kept.data)
     if status not in (0, 1, image.UNDECIDED):
         raise image.Stop(f"certify ends with status {status}: {said.decode().strip()}")
     result["status"] = image.greatest(result["status"], status)
@@ -291,10 +287,10 @@ def judge(plan, folder, seed, known, kept, result):
 def cut_at_once(plan, seed, work, path, result):
     """What overlaps is not carried out again: the control is the same run on another system."""
     work.left(work.cut()).write(path)
-    result["control"] = verdict(plan, lambda: outcomes(plan, [seed], True)[0])
+    result["control"] = verdict(lambda: outcomes(plan, [seed], True)[0])
 
 
-def cut_down(plan, seed, work, path, result):
+def cut_down(plan, _seed, work, path, result):
     """Leaves of a record what is a no there again, where that can be had, and tries the control."""
     needed = work.cut()
     forms = [*work.with_answers(needed), needed]
@@ -317,7 +313,7 @@ def first_no(plan, work, forms, path):
         verdicts = replayed(plan, paths)
         for name in paths:
             os.remove(name)
-            os.remove(name + records.NOTES)
+            os.remove(name + keeping.NOTES)
         if "no" in verdicts:
             return start + verdicts.index("no")
     return None
@@ -327,7 +323,7 @@ def replayed(plan, paths, is_control=False):
     """The verdicts of records that are carried out again, or why there is none."""
     if plan.is_nested():
         return replayed_in_boot(plan, paths, is_control)
-    return [verdict(plan, lambda it=path: replay_direct(plan, it, is_control)) for path in paths]
+    return [verdict(lambda it=path: replay_direct(plan, it, is_control)) for path in paths]
 
 
 def replay_direct(plan, path, is_control):
@@ -339,7 +335,7 @@ def replay_direct(plan, path, is_control):
                                  image.REPLAY | plan.ways(system))
     more = {"parameters": plan.parameters} if system == "xen" else {}
     done = systems.SYSTEMS[system](settings, plan.limit, data, **more)
-    found, cut = records.split(done.output)
+    found, cut = keeping.split(done.output)
     return Outcome(done, found[0] if found else None, cut)
 
 
@@ -351,14 +347,14 @@ def replayed_in_boot(plan, paths, is_control):
         return [f"not carried out: {str(why).splitlines()[0]}"] * len(paths)
     runs = [nesting.Replay(boot_plan, number, path) for number, path in enumerate(paths)]
     done = nesting.boot(boot_plan, kernels.Kernel(plan.kernel), runs, data)
-    found, cut = records.split(done.output)
+    found, cut = keeping.split(done.output)
     if len(found) != len(paths):
         return [ended(done, cut)] * len(paths)
-    return [verdict(plan, lambda it=number: Outcome(nesting.part_of(done, it), found[it], ""))
+    return [verdict(lambda it=number: Outcome(nesting.part_of(done, it), found[it], ""))
             for number in range(len(paths))]
 
 
-def verdict(plan, outcome_of):
+def verdict(outcome_of):
     """What certify says of a run, or how it ended."""
     try:
         outcome = outcome_of()
@@ -366,5 +362,5 @@ def verdict(plan, outcome_of):
         return f"not carried out: {str(why).splitlines()[0]}"
     if outcome.status or not outcome.kept:
         return ended(outcome.done, outcome.cut)
-    status = records.certify(records.program(), outcome.kept.data)[0]
+    status = auditor.certify(outcome.kept.data)[0]
     return {0: "yes", 1: "no", image.UNDECIDED: UNDECIDED}.get(status, f"status {status}")

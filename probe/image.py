@@ -1,3 +1,4 @@
+# SPDX-License-Identifier: MIT OR Apache-2.0
 """Builds the guest, and makes images of it with their settings filled in."""
 import argparse
 import contextlib
@@ -95,14 +96,14 @@ def last_lines(said):
 
 
 def command(*words):
-    done = subprocess.run(words, capture_output=True, text=True)
+    done = subprocess.run(words, capture_output=True, text=True, check=False)
     if done.returncode != 0:
         raise Stop(f"{' '.join(words)}\n{done.stdout}{done.stderr}")
 
 
-def is_newer(target, sources):
+def is_newer(target, made_of):
     return os.path.exists(target) and all(
-        os.path.getmtime(source) < os.path.getmtime(target) for source in sources)
+        os.path.getmtime(source) < os.path.getmtime(target) for source in made_of)
 
 
 def sources():
@@ -124,7 +125,7 @@ def builders():
 def alone():
     """One at a time builds what lacks."""
     os.makedirs(OUT, exist_ok=True)
-    with open(os.path.join(OUT, "lock"), "w") as lock:
+    with open(os.path.join(OUT, "lock"), "w", encoding="utf-8") as lock:
         fcntl.flock(lock, fcntl.LOCK_EX)
         yield
 
@@ -164,7 +165,7 @@ def settings_of(seed=1, seeds=1, events=2000, processors=1, version=1, without=(
     return seed, seeds, events, processors, version, left_out, ways, script, burst, focus
 
 
-def script(text):
+def script_number(text):
     """The number of a script, 0 for a random run."""
     number = int(text)
     if number not in range(SCRIPTS + 1):
@@ -172,18 +173,18 @@ def script(text):
     return number
 
 
-def scripts(text):
+def script_numbers(text):
     """The numbers of scripts, by commas."""
-    return [script(word) for word in text.split(",")]
+    return [script_number(word) for word in text.split(",")]
 
 
-def add_run_options(words, events=2000, script_type=script):
+def add_run_options(words, events=2000, script_type=script_number):
     """What each program says of a run."""
     words.add_argument("--seed", type=int, default=1, metavar="N")
     add_common_options(words, events)
     words.add_argument("--script", type=script_type, default="0", metavar="N",
                        help=f"a short sequence, 1 to {SCRIPTS}, instead of a random run" +
-                            ("; several, separated by commas" if script_type is scripts else ""))
+                            ("; several, separated by commas" if script_type is script_numbers else ""))
 
 
 def add_at_once(words):

@@ -1,3 +1,4 @@
+# SPDX-License-Identifier: MIT OR Apache-2.0
 """Kernels of Debian, unpacked: where their image is, and KVM's modules as an initramfs has them."""
 import glob
 import lzma
@@ -7,8 +8,7 @@ import shutil
 import subprocess
 import tempfile
 
-import debian
-import image
+from probe import debian, image
 
 FOLDER = os.path.join(image.OUT, "kernels")
 MODULE = {"qemu": "kvm-amd", "bochs": "kvm-intel"}  # by the emulator whose processor it is for

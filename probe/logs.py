@@ -1,73 +1,16 @@
+# SPDX-License-Identifier: MIT OR Apache-2.0
 """Logs of single processors (docs/FORMAT.md): found in an output, cut where a run hung, kept."""
 import os
-import struct
 import subprocess
 import sys
 import tempfile
 
-import image
-import records
+from probe import auditor, image
+from records.events import CHANGES
+from records.logs import MAGIC, log_bytes, read_log
+from records.reading import Cut
 
-MAGIC = b"PGCPULOG"
-HEAD = struct.Struct("<8sHBBHHQB")
-STAMPS = struct.Struct("<QQ")
-END = (1 << 64) - 1
 RECORD = "run.record"  # what the auditor made of the logs beside it
-
-
-class Log:
-    """A header and events, each with its stamps and bytes. It is whole where its end mark is."""
-
-    def __init__(self, head, events, is_whole):
-        self.head, self.events, self.is_whole = head, events, is_whole
-        _, self.version, self.m, self.rules, self.processors, self.number, _, _ = HEAD.unpack(head)
-
-    def bytes(self):
-        return b"".join([self.head, *(STAMPS.pack(begin, end) + event
-                                      for begin, end, event in self.events),
-                         STAMPS.pack(END, len(self.events))])
-
-
-def event_size(data, at, version):
-    """The bytes of the event there, without moments. Cut where it is not whole or none."""
-    if at >= len(data):
-        raise records.Cut
-    head = records.place_of(version)
-    tag, place = data[at], at + head
-    if tag == records.ACCESS:
-        if place + 9 >= len(data) or data[place + 9] > 1:
-            raise records.Cut
-        size = head + 10 + (2 if data[place + 9] else 8)
-    elif tag == records.ASSIST and version == 2:
-        size = head + 17
-    elif tag in records.SIZES:
-        size = head + records.SIZES[tag]
-    else:
-        raise records.Cut
-    if at + size > len(data):
-        raise records.Cut
-    return size
-
-
-def read_log(data):
-    """The log that begins there, as far as it is whole."""
-    head = data[:HEAD.size]
-    if len(head) < HEAD.size or head[:8] != MAGIC or head[8] not in (1, 2):
-        raise records.Cut
-    version, at, last, events = head[8], HEAD.size, 0, []
-    while at + STAMPS.size <= len(data):
-        begin, end = STAMPS.unpack_from(data, at)
-        if begin == END:
-            return Log(head, events, end == len(events))
-        try:
-            size = event_size(data, at + STAMPS.size, version)
-        except records.Cut:
-            break
-        if not last < begin < end:
-            break
-        at, last = at + STAMPS.size + size, end
-        events.append((begin, end, data[at - size:at]))
-    return Log(head, events, False)
 
 
 def split(output):
@@ -80,11 +23,11 @@ def split(output):
     for start, after in zip(starts, [*starts[1:], len(output)]):
         try:
             log = read_log(output[start:after])
-        except records.Cut:
+        except Cut:
             continue
-        if log.number == 0:
+        if log.processor == 0:
             runs.append([])
-        if runs and log.number == len(runs[-1]):
+        if runs and log.processor == len(runs[-1]):
             runs[-1].append(log)
     return [run for run in runs if len(run) == run[0].processors]
 
@@ -96,16 +39,16 @@ def cut_to_least(run):
     least = min(max([0, *(end for _, end, _ in log.events)]) for log in run)
     for log in run:
         log.events = [(begin, end, event) for begin, end, event in log.events
-                      if end <= least or (event[0] in records.CHANGES and begin < least)]
+                      if end <= least or (isinstance(event, CHANGES) and begin < least)]
 
 
 def keep(run, folder):
     """The logs in a folder, a file for each processor; their names."""
     os.makedirs(folder, exist_ok=True)
-    paths = [os.path.join(folder, f"{log.number}.log") for log in run]
+    paths = [os.path.join(folder, f"{log.processor}.log") for log in run]
     for path, log in zip(paths, run):
         with open(path, "wb") as file:
-            file.write(log.bytes())
+            file.write(log_bytes(log))
     return paths
 
 
@@ -120,8 +63,8 @@ def cut(run):
 
 def can_merge():
     """Whether the auditor makes records of logs."""
-    return subprocess.run([records.program(), "help", "merge"], stdin=subprocess.DEVNULL,
-                          capture_output=True).returncode == 0
+    return subprocess.run([auditor.program(), "help", "merge"], stdin=subprocess.DEVNULL,
+                          capture_output=True, check=False).returncode == 0
 
 
 def need_merge():
@@ -133,8 +76,8 @@ def need_merge():
 
 def merged(paths):
     """The record that the auditor makes of logs."""
-    done = subprocess.run([records.program(), "merge", *paths], stdin=subprocess.DEVNULL,
-                          capture_output=True)
+    done = subprocess.run([auditor.program(), "merge", *paths], stdin=subprocess.DEVNULL,
+                          capture_output=True, check=False)
     if done.returncode != 0:
         raise image.Stop(f"merge ends with status {done.returncode}: "
                          f"{done.stderr.decode(errors='replace').strip()}")
@@ -158,7 +101,7 @@ def judge(run, folder, record_only):
     if record_only:
         keep(run, folder)
         return 0
-    status, report, said = records.certify(records.program(), record_of(run, folder))
+    status, report, said = auditor.certify(record_of(run, folder))
     sys.stderr.buffer.write(said)
     sys.stdout.buffer.write(report)
     sys.stdout.buffer.flush()

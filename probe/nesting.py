@@ -1,3 +1,4 @@
+# SPDX-License-Identifier: MIT OR Apache-2.0
 """Boots Debian's kernel in an emulator, and has the probe's loader run its guest on that kernel's
 KVM: for a machine that has no KVM of its own."""
 import os
@@ -5,16 +6,14 @@ import re
 import shutil
 import tempfile
 
-import image
-import records
-import systems
+from probe import image, keeping, systems
 
 SHADOW = {"qemu": "npt=0", "bochs": "ept=0 vpid=0"}
 NESTED = {"qemu": "npt=1", "bochs": "ept=1 vpid=0"}  # the control: KVM keeps no shadow tables
 MOST_RUNS = 28  # the kernel hands its first process 32 words at most
 BOOT = {"qemu": 1200, "bochs": 3600}  # seconds that the boot may take, with much work beside
 QUIET = "panic=-1 quiet mitigations=off no_timer_check"
-BOCHS_KERNEL = ("nosmp acpi=off noapic tsc=reliable lpj=1000000 clocksource=tsc")
+BOCHS_KERNEL = "nosmp acpi=off noapic tsc=reliable lpj=1000000 clocksource=tsc"
 
 
 def needs(system, kernel):
@@ -76,8 +75,8 @@ class Replay:
 
     def __init__(self, plan, number, path):
         self.plan, self.number, self.path = plan, number, path
-        record = records.read_kept(path)[0]
-        self.processors, self.version = record.processors, record.version
+        header = keeping.read_kept(path)[0].header
+        self.processors, self.version = len(header.starts), header.version
         self.has_threads = plan.threads
 
     def settings(self):
@@ -102,12 +101,12 @@ def boot_qemu(folder, words, limit, processors, threads="single"):
          "-debugcon", "file:output", "-device", "isa-debug-exit,iobase=0xf4"], limit, folder)
 
 
-def boot_bochs(folder, words, limit, processors, threads):
+def boot_bochs(folder, words, limit, _processors, _threads):
     tree = os.path.join(folder, "tree")
     os.makedirs(os.path.join(tree, "boot", "grub"))
     for name in ("vmlinuz", "initramfs"):
         shutil.copy(os.path.join(folder, name), os.path.join(tree, "boot", name))
-    with open(os.path.join(tree, "boot", "grub", "grub.cfg"), "w") as file:
+    with open(os.path.join(tree, "boot", "grub", "grub.cfg"), "w", encoding="utf-8") as file:
         file.write(f"set timeout=0\nmenuentry probe {{\n linux /boot/vmlinuz console=ttyS0,115200 "
                    f"{QUIET} {BOCHS_KERNEL} -- {words}\n initrd /boot/initramfs\n}}\n")
     image.command("grub-mkrescue", "-o", os.path.join(folder, "disc"), tree)

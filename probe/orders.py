@@ -1,8 +1,10 @@
+# SPDX-License-Identifier: MIT OR Apache-2.0
 """The orders that the events of a small record with spans may have had, each judged by itself: for
 records that `pcid-audit certify` does not decide."""
-import struct
+from dataclasses import replace
 
-import records
+from probe import auditor, keeping
+from records.events import Record, Walk
 
 MOST_EVENTS, MOST_ORDERS = 60, 100
 
@@ -24,27 +26,21 @@ def orders(processors, ended_before):
 
 
 def in_order(record, order):
-    """The record of one order of the events, of version 1 or 2."""
-    width, version = records.width(record.version), record.version - 2
-    head = record.head[:8] + struct.pack("<H", version) + record.head[10:]
-    events = []
-    for number in order:
-        event = record.events[number]
-        moments = b"\1\0\0\0\0" if event[0] in (records.ACCESS, records.ASSIST) else b""
-        events.append(event[:1 + width] + event[5 + width:] + moments)
-    return records.Record(head, version, record.processors, events).bytes()
+    """The record of one order of the events, of version 1 or 2. Nobody named moments: each access
+    and each assist has one, 0."""
+    events = [replace(record.events[number], back=0) for number in order]
+    events = [replace(event, moments=(0,)) if isinstance(event, Walk) else event for event in events]
+    header = replace(record.header, version=record.header.version - 2)
+    return keeping.bytes_of(Record(header, events))
 
 
 def is_no_in_each(record):
     """Whether certify says no of each order of a record, as far as these are few."""
     if len(record.events) > MOST_EVENTS:
         return False
-    width = records.width(record.version)
-    processors = [event[1:1 + width] for event in record.events]
-    ended_before = [number - struct.unpack_from("<I", event, 1 + width)[0]
-                    for number, event in enumerate(record.events)]
+    processors = [event.processor for event in record.events]
+    ended_before = [number - event.back for number, event in enumerate(record.events)]
     for count, order in enumerate(orders(processors, ended_before)):
-        if count == MOST_ORDERS or records.certify(records.program(),
-                                                   in_order(record, order))[0] != 1:
+        if count == MOST_ORDERS or auditor.certify(in_order(record, order))[0] != 1:
             return False
     return True

@@ -1,3 +1,4 @@
+# SPDX-License-Identifier: MIT OR Apache-2.0
 """The page of what a hunt found: its causes, each with the record that is left of it, the commands
 that repeat it, and what its control gave."""
 import glob
@@ -6,10 +7,8 @@ import os
 import re
 import subprocess
 
-import hunting
-import image
-import records
-import spans
+from probe import auditor, hunting, image, keeping, spans
+from records.events import has_spans
 
 
 class Group:
@@ -40,10 +39,10 @@ def collected(folder, known):
 
 
 def show(path):
-    record, _ = records.read_kept(path)
-    if records.has_spans(record.version):
+    record, _ = keeping.read_kept(path)
+    if has_spans(record.header.version):
         return "\n".join(spans.listed(record))
-    done = subprocess.run([records.program(), "show", path], capture_output=True, text=True)
+    done = subprocess.run([auditor.program(), "show", path], capture_output=True, text=True, check=False)
     return re.sub(r" moments [0-9 ]*$", "", done.stdout, flags=re.M).rstrip()
 
 
@@ -122,7 +121,7 @@ def write_page(folder, plan, known):
     results, groups = collected(folder, known)
     pieces = list(page(folder, plan, results, groups))
     for name, text in (("page.md", markdown(pieces)), ("page.html", markup(pieces))):
-        with open(os.path.join(folder, name), "w") as file:
+        with open(os.path.join(folder, name), "w", encoding="utf-8") as file:
             file.write(text)
     new = [it["status"] for group in groups if group.known is None for it in group.results]
     return results, groups, image.greatest(0, *new)

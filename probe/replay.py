@@ -1,13 +1,13 @@
+# SPDX-License-Identifier: MIT OR Apache-2.0
 """Lays out a record's events for the guest to carry them out again (guest/replay.c): where each
 table and each frame goes, and one step an event. A record of the guest's own stays where it was; of
 another the tables and frames are moved to where the guest has place for them."""
 import struct
 
-import causes
-import image
-import records
+from probe import image, keeping
+from records.events import (ACCESS_TAG, DIRTY, NO_FLUSH, TAGS, Answer, Assist, Fault, InvalidatePage, InvalidatePcid,
+                            LoadRoot, SetGlobalPages, Write, has_spans)
 
-ADDRESS = 0x700000
 MOST_BYTES = 0x100000
 MAGIC = b"GPREPLAY"
 MOST_PROCESSORS, MOST_TABLES, MOST_FRAMES = 8, 96, 256
@@ -32,8 +32,12 @@ def stop(why):
     raise image.Stop(f"the record can't be placed: {why}")
 
 
+WRITE, LOAD_ROOT, INVALIDATE_PAGE, INVALIDATE_PCID, SET_GLOBAL_PAGES, ASSIST = (
+    TAGS[kind] for kind in (Write, LoadRoot, InvalidatePage, InvalidatePcid, SetGlobalPages, Assist))
+
+
 class Step:
-    """An event as it is carried out again."""
+    """An event as it is carried out again: `what` is its tag, or one of the guest's own words."""
 
     def __init__(self, what, processor=0, flags=0, kind=0, pcid=0, address=0, value=0):
         self.what, self.processor, self.flags, self.kind = what, processor, flags, kind
@@ -48,67 +52,67 @@ class Source:
     """What a record says: its settings, starts, events and the walks of its accesses."""
 
     def __init__(self, record, notes):
-        if records.has_spans(record.version):
-            stop(f"it has version {record.version}, and no one order: `certify --bytes` gives one")
-        if record.processors > MOST_PROCESSORS:
-            stop(f"it has {record.processors} processors, and the guest {MOST_PROCESSORS}")
-        self.record, self.notes, self.reader = record, notes, causes.Reader(record)
-        self.m, self.rules = record.head[10], record.head[11]
-        self.starts = record.starts()
+        header = record.header
+        if has_spans(header.version):
+            stop(f"it has version {header.version}, and no one order: `certify --bytes` gives one")
+        if len(header.starts) > MOST_PROCESSORS:
+            stop(f"it has {len(header.starts)} processors, and the guest {MOST_PROCESSORS}")
+        self.record, self.notes = record, notes
+        self.m, self.rules, self.starts = header.address_bits, header.flags, header.starts
         self.address_bits = (1 << self.m) - 4096
         self.steps, self.values, self.answers = [], {}, set()
         for number, event in enumerate(record.events):
             self.take(number, event)
         self.roots = {cr3 & self.address_bits for cr3, _ in self.starts} | {
-            step.address & self.address_bits for step in self.steps if step.what == 0x12}
-        self.pages = {step.address & ~4095 for step in self.steps if step.what == records.ACCESS}
+            step.address & self.address_bits for step in self.steps if step.what == LOAD_ROOT}
+        self.pages = {step.address & ~4095 for step in self.steps if step.what == ACCESS_TAG}
         self.levels, self.leaves, self.read = {}, {}, set()
         for root in self.roots:
             for page in self.pages or {0}:
                 self.walk(root, page, 4)
 
     def take(self, number, event):
-        reader, what = self.reader, event[0]
-        processor, place = reader.processor(event), reader.place
-        if what == records.WRITE:
-            address, value = reader.words(event), reader.words(event, 8)
-            self.values.setdefault(address, []).append(value)
-            self.steps.append(Step(what, processor, address=address, value=value))
-        elif what == records.ACCESS:
-            self.steps.append(Step(what, processor, *self.asked(number, event),
-                                   address=reader.words(event, 1)))
-            if reader.is_answer(event):
-                self.answers.add(reader.words(event, 10) & ~4095)
-        elif what in (0x12, 0x13):
-            self.steps.append(Step(what, processor, address=reader.words(event)))
-        elif what == 0x14:
-            kind, pcid, linear = struct.unpack_from("<BHQ", event, place)
-            self.steps.append(Step(what, processor, kind=kind, pcid=pcid, address=linear))
-        elif what == 0x15:
-            self.steps.append(Step(what, processor, value=event[place]))
-        elif what == records.ASSIST and not self.is_served(number):
-            flags = A | (D if event[place] & 16 else 0)
-            self.steps.append(Step(what, processor, address=reader.words(event, 9), value=flags))
+        """Adds the step of an event, and notes what walks can meet by it."""
+        processor = event.processor
+        match event:
+            case Write():
+                self.values.setdefault(event.address, []).append(event.value)
+                step = Step(WRITE, processor, address=event.address, value=event.value)
+            case Answer() | Fault():
+                step = Step(ACCESS_TAG, processor, self.asked(number, event), address=event.linear)
+                if isinstance(event, Answer):
+                    self.answers.add(event.physical & ~4095)
+            case LoadRoot():
+                step = Step(LOAD_ROOT, processor, address=event.operand)
+            case InvalidatePage():
+                step = Step(INVALIDATE_PAGE, processor, address=event.linear)
+            case InvalidatePcid():
+                step = Step(INVALIDATE_PCID, processor, kind=event.kind, pcid=event.pcid, address=event.linear)
+            case SetGlobalPages():
+                step = Step(SET_GLOBAL_PAGES, processor, value=event.is_on)
+            case Assist():
+                if self.is_served(number):
+                    return
+                flags = A | (D if event.flags & DIRTY else 0)
+                step = Step(ASSIST, processor, address=event.address, value=flags)
+        self.steps.append(step)
 
     def is_served(self, number):
         """Whether the access follows that an assist serves, whose processor sets the flags."""
-        events, reader = self.record.events, self.reader
-        own = [event for event in events[number:] if reader.is_access(event) and
-               reader.processor(event) == reader.processor(events[number])]
-        access = next((event for event in own if event[0] == records.ACCESS), None)
-        return access is not None and reader.words(access, 1) == reader.words(events[number], 1)
+        assist, *behind = self.record.events[number:]
+        access = next((event for event in behind if isinstance(event, (Answer, Fault)) and
+                       event.processor == assist.processor), None)
+        return access is not None and access.linear == assist.linear
 
     def asked(self, number, event):
         """The operation and what carries it out. Where no note tells, a read at the place of a
         slot's descriptor is an implicit access, which the guest made."""
-        flags = event[self.reader.place]
         words = self.notes.get(number)
-        if words is None and not self.notes and flags & 15 == 0 and self.reader.words(event, 1) \
-                % 32 == OFFSETS[IMPLICIT]:
+        if words is None and not self.notes and event.flags & 15 == 0 and event.linear % 32 == OFFSETS[IMPLICIT]:
             words = ("ac",)
         if words is None:
-            return (flags & 15,)
-        return (IMPLICIT | (4 if "user" in words else 0) | (8 if "ac" in words else 0),)
+            return event.flags & 15
+        return IMPLICIT | (4 if "user" in words else 0) | (8 if "ac" in words else 0)
 
     def kind(self, level, entry):
         """Whether an entry is a table, or a leaf; None where it is absent or has a reserved bit."""
@@ -191,7 +195,7 @@ class Place:
         """A slot's number: that of the record where the guest made it, else one that no word of a
         table which answers accesses has."""
         offsets = {(step.address & 4095) - OFFSETS[step.flags & 3] for step in self.source.steps
-                   if step.what == records.ACCESS}
+                   if step.what == ACCESS_TAG}
         own = [it // 32 for it in offsets if it >= 0 and it % 32 == 0] if len(offsets) == 1 else []
         used = {word & 4095 for word in {*self.source.values, *self.source.read}
                 if word & ~4095 in self.frames or word & ~4095 in self.source.answers}
@@ -199,6 +203,32 @@ class Place:
         if not own and not free:
             stop("words of tables that answer accesses stand where the guest's marks would")
         return (own or free)[0]
+
+
+def placed(step, source, place, slot):
+    """The step where the guest has its tables and frames; nothing of a write of the guest's own
+    words, which it makes itself."""
+    table = step.address & ~4095
+    if step.what == WRITE:
+        if table in source.roots and step.address >> 3 & 511 in OWN_SLOTS:
+            return None
+        if table in source.answers and (step.address & 4095) // 32 == slot:
+            return None
+        step.value, step.flags = place.entry(table, step.value)
+    if step.what in (WRITE, ASSIST):
+        step.address = place.frame(table) | step.address & 4095
+    elif step.what == LOAD_ROOT:
+        root = step.address & source.address_bits
+        step.address = step.address & ~source.address_bits | place.frame(root)
+    return step
+
+
+def needs_of(source, steps):
+    """What the machine has to have, in bits."""
+    has_pcids = any(cr3 & 4095 for cr3, _ in source.starts) or any(
+        step.what == INVALIDATE_PCID or (step.what == LOAD_ROOT and step.address & (4095 | NO_FLUSH))
+        for step in steps)
+    return (GIGABYTE_PAGES if source.leaves.get(3) else 0) | (PCIDS if has_pcids else 0)
 
 
 def laid_out(record, notes):
@@ -213,35 +243,16 @@ def laid_out(record, notes):
     steps = [Step(OWN_WORDS, address=place.frame(root)) for root in sorted(source.roots)]
     steps += [Step(SLOT_WORDS, address=place.frame(table))
               for table in sorted(place.tables & source.answers)]
-    for step in source.steps:
-        table = step.address & ~4095
-        if step.what == records.WRITE:
-            if table in source.roots and step.address >> 3 & 511 in OWN_SLOTS:
-                continue
-            if table in source.answers and (step.address & 4095) // 32 == slot:
-                continue
-            step.value, step.flags = place.entry(table, step.value)
-            step.address = place.frame(table) | step.address & 4095
-        elif step.what == records.ASSIST:
-            step.address = place.frame(table) | step.address & 4095
-        elif step.what == 0x12:
-            step.address = (step.address & ~source.address_bits |
-                            place.frame(step.address & source.address_bits))
-        steps.append(step)
-    needs = GIGABYTE_PAGES if source.leaves.get(3) else 0
-    has_pcids = any(cr3 & 4095 for cr3, _ in source.starts) or any(
-        step.what == 0x14 or (step.what == 0x12 and step.address & (4095 | 1 << 63))
-        for step in source.steps)
-    needs |= PCIDS if has_pcids else 0
-    starts = [(cr3 & 4095 | place.frame(cr3 & source.address_bits), pge)
-              for cr3, pge in source.starts] + [(0, 0)] * (MOST_PROCESSORS - record.processors)
+    steps += filter(None, (placed(step, source, place, slot) for step in source.steps))
+    starts = [(cr3 & 4095 | place.frame(cr3 & source.address_bits), pge) for cr3, pge in source.starts]
+    starts += [(0, 0)] * (MOST_PROCESSORS - len(starts))
     frames = sorted(map(place.frame, place.frames))
     tables = max((place.frame(it) - POOL) // 4096 + 1 for it in place.tables)
     body = b"".join([*(struct.pack("<QQ", *start) for start in starts),
                      *(struct.pack("<Q", frame) for frame in frames),
                      *(step.bytes() for step in steps)])
-    head = struct.pack("<8s9Q", MAGIC, 80 + len(body), record.processors, source.rules, source.m,
-                       needs, slot, tables, len(frames), len(steps))
+    head = struct.pack("<8s9Q", MAGIC, 80 + len(body), len(source.starts), source.rules, source.m,
+                       needs_of(source, steps), slot, tables, len(frames), len(steps))
     said = (f"{len(source.steps)} events, {len(place.tables)} tables, {len(frames)} frames, " +
             ("where they were" if place.stays else "moved"))
     return head + body, said
@@ -252,14 +263,14 @@ def of_files(paths):
     accepted record may have no event that is carried out again."""
     parts, processors, said = [], 1, []
     for path in paths:
-        record, notes = records.read_kept(path)
+        record, notes = keeping.read_kept(path)
         try:
             data, line = laid_out(record, notes)
         except image.Stop as why:
             raise image.Stop(f"{path}: {why}") from None
         parts.append(data)
         said.append(line)
-        processors = max(processors, record.processors)
+        processors = max(processors, len(record.header.starts))
     if sum(map(len, parts)) + 8 > MOST_BYTES:
         raise image.Stop(f"{sum(map(len, parts))} bytes to carry out: the guest takes {MOST_BYTES}")
     return b"".join(parts), processors, said

@@ -1,47 +1,43 @@
+# SPDX-License-Identifier: MIT OR Apache-2.0
 """Leaves out events of a record while it stays a no for the same cause."""
-import causes
-import image
-import records
-import spans
-from spans import without_parts
-
+from probe import causes, image, keeping, spans
+from probe.spans import without_parts
+from records.events import (ACCESSES, CHANGES, INVALIDATIONS, NO_FLUSH, Answer, InvalidatePage, LoadRoot, Walk,
+                            has_spans)
 
 MOST_TRIED = 20  # answers that are looked at
-MASK = (1 << 64) - 1
 
 
 def guesses(record, reader, number, taker):
     """Numbers of events before a bad one that may be enough, the fewest first: what its walk and
     that of the taker can have read, and then what the processor did."""
     ends = [record.events[at] for at in (number, taker)
-            if at is not None and reader.is_access(record.events[at])]
-    own, pages = reader.processor(ends[0]), {reader.page(end) for end in ends}
+            if at is not None and isinstance(record.events[at], Walk)]
+    own, pages = ends[0].processor, {causes.linear_page(end) for end in ends}
     walked = set().union(*(reader.walked(end) for end in ends))
-    words = {records.WRITE: 0, records.ASSIST: 9}
 
-    def kept(kinds):
+    def chosen(kinds):
         return [at for at, event in enumerate(record.events[:number]) if at == taker
-                or (event[0] in words and reader.words(event, words[event[0]]) in walked)
-                or (event[0] in kinds and reader.processor(event) == own
-                    and not reader.is_answer(event) and reader.page(event) in (None, *pages))]
+                or (isinstance(event, CHANGES) and event.address in walked)
+                or (isinstance(event, kinds) and event.processor == own
+                    and not isinstance(event, Answer) and causes.linear_page(event) in (None, *pages))]
 
-    yield kept(())
-    yield kept((records.LOAD_ROOT,))
-    yield kept(records.INVALIDATIONS)
-    yield kept((records.ACCESS, *records.INVALIDATIONS))
+    yield chosen(())
+    yield chosen((LoadRoot,))
+    yield chosen(INVALIDATIONS)
+    yield chosen((*ACCESSES, *INVALIDATIONS))
     # An answer takes nothing out of a cache, so mostly none of them is needed.
-    yield [at for at in range(number) if not reader.is_answer(record.events[at])]
+    yield [at for at in range(number) if not isinstance(record.events[at], Answer)]
 
 
 def of(record, notes):
     """What shrinks a record that is a no; nothing where there is no no. One that is not decided
     shrinks where what is left of it is a no in each order."""
-    has_spans = records.has_spans(record.version)
-    if causes.answer_of(record.bytes()) is None and not (
-            has_spans and causes.undecided_event(record.bytes()) is not None):
+    overlaps, data = has_spans(record.header.version), keeping.bytes_of(record)
+    if causes.answer_of(data) is None and not (overlaps and causes.undecided_event(data) is not None):
         return None
-    work = (spans.Overlapping if has_spans else Shrinking)(record, notes)
-    return work if not has_spans or work.is_decided or work.taker is not None else None
+    work = (spans.Overlapping if overlaps else Shrinking)(record, notes)
+    return work if not overlaps or work.is_decided or work.taker is not None else None
 
 
 class Shrinking:
@@ -59,7 +55,7 @@ class Shrinking:
         """The record of these events and the bad one, with its notes."""
         numbers = [*kept, self.number]
         events = [self.record.events[at] for at in numbers]
-        return records.Kept(self.record.bytes(events),
+        return keeping.Kept(keeping.bytes_of(self.record, events),
                             {new: self.notes[old] for new, old in enumerate(numbers)
                              if old in self.notes})
 
@@ -77,11 +73,11 @@ class Shrinking:
 
     def answers_before(self):
         """The answers of the bad event's page by its frame: those of its own kind, and all."""
-        reader, events = self.reader, self.record.events
+        events = self.record.events
         last = events[self.number]
         alike = [at for at in range(self.number)
-                 if reader.is_answer(events[at]) and reader.told(events[at]) == reader.told(last)]
-        return [at for at in alike if reader.flags(events[at]) == reader.flags(last)], alike
+                 if isinstance(events[at], Answer) and causes.told(events[at]) == causes.told(last)]
+        return [at for at in alike if events[at].flags == last.flags], alike
 
     def with_answers(self, kept):
         """What is left with an answer put back, of the bad event's page by its frame, which shows
@@ -103,14 +99,13 @@ class Shrinking:
         """Where a MOV to CR3 that keeps took the last moments away, the load of the same root and
         PCID before is put back, with those behind it, where they can stay: what is kept of a PCID
         is from when it was used."""
-        reader, events, taker = self.reader, self.record.events, self.cause.taker
-        if taker is None or events[taker][0] != records.LOAD_ROOT or \
-                not reader.words(events[taker]) >> 63:
+        events, taker = self.record.events, self.cause.taker
+        load = None if taker is None else events[taker]
+        if not isinstance(load, LoadRoot) or not load.operand & NO_FLUSH:
             return kept
-        own = [at for at in range(taker) if events[at][0] == records.LOAD_ROOT
-               and reader.processor(events[at]) == reader.processor(events[taker])]
-        before = [at for at in own
-                  if (reader.words(events[at]) ^ reader.words(events[taker])) << 1 & MASK == 0]
+        own = [at for at in range(taker) if isinstance(events[at], LoadRoot)
+               and events[at].processor == load.processor]
+        before = [at for at in own if events[at].operand | NO_FLUSH == load.operand]
         more = sorted({*kept, *(at for at in own if before and at >= before[-1])})
         return more if self.shows(more) else kept
 
@@ -123,10 +118,10 @@ class Shrinking:
     def is_fresh(self, kept, at):
         """Whether the tables as these events left them gave an answer, and no cache: behind an
         INVLPG it is right too."""
-        event, place = self.record.events[at], self.reader.place
-        drop = bytes([0x13]) + event[1:place] + event[place + 1:place + 9]
+        event = self.record.events[at]
+        drop = InvalidatePage(event.processor, event.linear)
         before = [self.record.events[it] for it in kept if it < at]
-        return causes.answer_of(self.record.bytes([*before, drop, event])) is None
+        return causes.answer_of(keeping.bytes_of(self.record, [*before, drop, event])) is None
 
     def cuts_around_answers(self):
         """What is left where such an answer stays from the start: the latest that the tables gave,

@@ -1,31 +1,31 @@
+# SPDX-License-Identifier: MIT OR Apache-2.0
 """Records whose events overlap (versions 3 and 4): why one is a no, and what is left of it when
 events are left out. An event stands behind those that had ended when it began; which these were
 stays true of what is left, so that `back` is counted anew."""
 import itertools
-import struct
 from bisect import bisect_left
+from dataclasses import replace
 
-import causes
-import image
-import orders
-import records
+from probe import auditor, causes, image, keeping, orders
+from records.events import (ACCESSES, ALIGNMENT_CHECK, CHANGES, DIRTY, INVALIDATIONS, NO_FLUSH, OPERATION, USER, Answer,
+                            Assist, Fault, InvalidatePage, InvalidatePcid, LoadRoot, SetGlobalPages, TAGS, Walk, Write)
+from records.reading import read_record
 
 NEVER, MANY = "never had moments", "taken by several events"
 MOST_TAKERS = 40  # events that are tried for the one that took the last moments away
 MOST_ACCESSES = 24  # that are tried where the event shows nothing at which certify gave up
-CONTEXT = (records.LOAD_ROOT, 0x15)  # loads of CR3 and CR4
-BACK = struct.Struct("<I")
+CONTEXT = (LoadRoot, SetGlobalPages)
+OPERATIONS = ("read", "write", "fetch")
 
 
 def without_others(record, numbers):
     """The record of the events with these numbers, which rise."""
-    place = 1 + records.width(record.version)
     events = []
     for new, old in enumerate(numbers):
         event = record.events[old]
-        had_ended = bisect_left(numbers, old - BACK.unpack_from(event, place)[0])
-        events.append(event[:place] + BACK.pack(new - had_ended) + event[place + 4:])
-    return record.bytes(events)
+        had_ended = bisect_left(numbers, old - event.back)
+        events.append(replace(event, back=new - had_ended))
+    return keeping.bytes_of(record, events)
 
 
 class Overlapping:
@@ -36,12 +36,11 @@ class Overlapping:
 
     def __init__(self, record, notes):
         self.record, self.notes, self.reader = record, notes, causes.Reader(record)
-        place = 1 + records.width(record.version)
-        self.ended_before = [number - BACK.unpack_from(event, place)[0]
-                             for number, event in enumerate(record.events)]
-        report = causes.answer_of(record.bytes())
-        number = causes.undecided_event(record.bytes()) if report is None else \
-            causes.bad_event(report)
+        self.all = []  # the numbers of events that are a no with the bad one
+        self.ended_before = [number - event.back for number, event in enumerate(record.events)]
+        data = keeping.bytes_of(record)
+        report = causes.answer_of(data)
+        number = causes.undecided_event(data) if report is None else causes.bad_event(report)
         if number is None:
             raise image.Stop("certify says yes: there is nothing to shrink")
         self.is_decided = report is not None
@@ -53,7 +52,7 @@ class Overlapping:
     def look_at(self, number):
         """Takes this event for the bad one."""
         self.number, self.bad, self.taker = number, self.record.events[number], None
-        self.walked = self.reader.walked(self.bad) if self.reader.is_access(self.bad) else set()
+        self.walked = self.reader.walked(self.bad) if isinstance(self.bad, Walk) else set()
         self.all = self.least_no([*self.beginnings()])
         self.taker = self.find_taker()
 
@@ -63,7 +62,7 @@ class Overlapping:
         be right by itself and wait for another processor's, or be a no by what others saw: the
         same fault then mostly shows again."""
         behind = range(number + 1, len(self.record.events))
-        accesses = (it for it in behind if self.record.events[it][0] == records.ACCESS)
+        accesses = (it for it in behind if isinstance(self.record.events[it], ACCESSES))
         for other in itertools.islice(accesses, MOST_ACCESSES):
             self.look_at(other)
             if self.taker is not None:
@@ -78,7 +77,7 @@ class Overlapping:
                   if number < self.number or (self.is_write(number) and
                                               self.ended_before[number] <= self.number)]
         own = [number for number in to_end if self.is_write(number) or self.is_own(number)]
-        yield [number for number in own if not self.reader.is_answer(self.record.events[number])]
+        yield [number for number in own if not isinstance(self.record.events[number], Answer)]
         yield own
         yield to_end
         yield [number for number in range(len(self.record.events)) if number != self.number]
@@ -89,16 +88,14 @@ class Overlapping:
             next((chosen for chosen in choices if not self.is_yes(chosen)), choices[-1])
 
     def is_write(self, number):
-        return self.record.events[number][0] in records.CHANGES
+        return isinstance(self.record.events[number], CHANGES)
 
     def is_own(self, number):
-        return self.reader.processor(self.record.events[number]) == self.reader.processor(self.bad)
+        return self.record.events[number].processor == self.bad.processor
 
     def is_drop(self, number):
         """Whether an event takes something out of its processor's caches: a fault does."""
-        event = self.record.events[number]
-        return event[0] in records.INVALIDATIONS or (
-            event[0] == records.ACCESS and not self.reader.is_answer(event))
+        return isinstance(self.record.events[number], (*INVALIDATIONS, Fault))
 
     def is_no(self, kept):
         """Whether these events and the bad one are a no at the bad one, or where certify does not
@@ -108,13 +105,12 @@ class Overlapping:
         report = causes.answer_of(data)
         if report is None:
             return causes.undecided_event(data) is not None and \
-                orders.is_no_in_each(records.read_record(data)[0])
+                orders.is_no_in_each(read_record(data))
         return causes.bad_event(report) == numbers.index(self.number)
 
     def is_yes(self, kept):
         numbers = sorted([*kept, self.number])
-        return records.certify(records.program(),
-                               without_others(self.record, numbers))[0] == 0
+        return auditor.certify(without_others(self.record, numbers))[0] == 0
 
     def shows(self, kept):
         """Whether they are a no for the same cause."""
@@ -150,7 +146,7 @@ class Overlapping:
     def loads(self):
         """The loads of CR3 by the bad one's processor."""
         return [number for number in self.all if self.is_own(number) and
-                self.record.events[number][0] == records.LOAD_ROOT]
+                isinstance(self.record.events[number], LoadRoot)]
 
     def needed(self, taker):
         """The writes that have to stay, so that the no says of them all what it says of the rest:
@@ -167,8 +163,7 @@ class Overlapping:
         return [number for number in writes if number >= gone.get(self.word(number), 0)]
 
     def word(self, number):
-        event = self.record.events[number]
-        return self.reader.words(event, 0 if event[0] == records.WRITE else 9)
+        return self.record.events[number].address
 
     def cut(self):
         """The numbers of the events that are needed beside the bad one."""
@@ -183,10 +178,10 @@ class Overlapping:
 
     def guesses(self, fixed):
         """Numbers of events that may be enough beside those, the fewest first."""
-        events, page = self.record.events, self.reader.page(self.bad)
+        events, page = self.record.events, causes.linear_page(self.bad)
         own = [number for number in self.all if self.is_own(number) and number not in fixed]
         near = [number for number in own if not self.is_write(number) and
-                self.reader.page(events[number]) in (None, page)]
+                causes.linear_page(events[number]) in (None, page)]
         walks = [number for number in self.all
                  if number not in fixed and self.is_write(number) and
                  self.word(number) in self.walked]
@@ -195,7 +190,7 @@ class Overlapping:
 
     def left(self, kept):
         """The record of these events and the bad one."""
-        return records.Kept(without_others(self.record, sorted([*kept, self.number])))
+        return keeping.Kept(without_others(self.record, sorted([*kept, self.number])))
 
     def with_answers(self, _):
         """What overlaps can't be carried out again one at a time, so no answer is put back."""
@@ -206,36 +201,32 @@ class Overlapping:
         if self.taker is None:
             return MANY
         event = self.record.events[self.taker]
-        if event[0] == records.ACCESS:
+        if isinstance(event, Fault):
             return "taken by a fault"
-        kind = {0x12: "cr3", 0x13: "invlpg", 0x14: "invpcid", 0x15: "pge"}[event[0]]
-        if event[0] == 0x14:
-            kind += f" {event[self.reader.place]}"
-        if event[0] == 0x12 and self.reader.words(event) >> 63:
-            kind += " with bit 63"
-        return f"taken by {kind}"
+        if isinstance(event, LoadRoot):
+            return "taken by cr3" + (" with bit 63" if event.operand & NO_FLUSH else "")
+        if isinstance(event, InvalidatePcid):
+            return f"taken by invpcid {event.kind}"
+        return "taken by " + ("invlpg" if isinstance(event, InvalidatePage) else "pge")
 
     def key(self):
         """One line for rejections alike, as `causes.key_of` has them."""
         taken = self.taken()
         context = [number for number in self.all
-                   if self.is_write(number) or self.record.events[number][0] in CONTEXT]
+                   if isinstance(self.record.events[number], (*CHANGES, *CONTEXT))]
         if self.taker is None and not self.is_yes(context):
             taken = NEVER
-        if not self.reader.is_access(self.bad):
-            return f"at once; {taken}; event {self.bad[0]:#x}"
-        if self.bad[0] == records.ASSIST:
+        if not isinstance(self.bad, Walk):
+            return f"at once; {taken}; event {TAGS[type(self.bad)]:#x}"
+        if isinstance(self.bad, Assist):
             return f"at once; {taken}; assist"
-        flags = self.reader.flags(self.bad)
-        kind = ("user " if flags & causes.USER else "super ") + \
-            ("read", "write", "fetch")[flags & 3]
-        return f"at once; {taken}; {kind} {self.outcome()}"
+        ring = "user" if self.bad.flags & USER else "super"
+        return f"at once; {taken}; {ring} {OPERATIONS[self.bad.flags & OPERATION]} {self.outcome()}"
 
     def outcome(self):
         """What the access got, and by which pages it can have got that."""
-        if not self.reader.is_answer(self.bad):
-            code, = struct.unpack_from("<H", self.bad, self.reader.place + 10)
-            return f"fault {code:#x}"
+        if isinstance(self.bad, Fault):
+            return f"fault {self.bad.code:#x}"
         sizes = self.reader.sizes_of(self.bad)
         return "answered; " + (" or ".join(causes.PAGES[level] for level in sorted(sizes)) or
                                "by no page")
@@ -244,34 +235,35 @@ class Overlapping:
 def listed(record):
     """The events of a record, a line each, as `pcid-audit show` has those of one order, and how
     many of the events before had not ended when each began."""
-    place = 1 + records.width(record.version)
-    reader = causes.Reader(record)
     for number, event in enumerate(record.events):
-        back, = BACK.unpack_from(event, place)
-        yield (f"{number} cpu {reader.processor(event)} {spelled(reader, event)}" +
-               (f" back {back}" if back else ""))
+        yield (f"{number} cpu {event.processor} {spelled(event)}" +
+               (f" back {event.back}" if event.back else ""))
 
 
-def spelled(reader, event):
+def asked(event):
+    """What an access, or that which an assist serves, asks for."""
+    mode = ("user" if event.flags & USER else "super") + ("-ac" if event.flags & ALIGNMENT_CHECK else "")
+    return f"{mode} {OPERATIONS[event.flags & OPERATION]} {event.linear:#x}"
+
+
+def spelled(event):
     """What an event is, but for its processor."""
-    tag, place = event[0], reader.place
-    if tag == records.WRITE:
-        return f"write [{reader.words(event):#x}] = {reader.words(event, 8):#x}"
-    if tag in (records.ACCESS, records.ASSIST):
-        flags, linear = reader.flags(event), reader.words(event, 1)
-        kind = ("user" if flags & causes.USER else "super") + ("-ac" if flags & causes.AC else "") \
-            + " " + ("read", "write", "fetch")[flags & 3] + f" {linear:#x}"
-        if tag == records.ASSIST:
-            return f"assist {kind} [{reader.words(event, 9):#x}]" + (" dirty" if flags & 16 else "")
-        code, = struct.unpack_from("<H", event, place + 10)
-        return f"{kind} -> " + (f"{reader.words(event, 10):#x}" if reader.is_answer(event) else
-                                f"fault {code:#x}")
-    if tag == 0x14:
-        kind, pcid, linear = struct.unpack_from("<BHQ", event, place)
-        return f"invpcid {kind} {pcid:#x} {linear:#x}"
-    if tag == 0x15:
-        return f"pge {event[place]}"
-    return f"{'cr3' if tag == records.LOAD_ROOT else 'invlpg'} {reader.words(event):#x}"
+    match event:
+        case Write():
+            return f"write [{event.address:#x}] = {event.value:#x}"
+        case Answer():
+            return f"{asked(event)} -> {event.physical:#x}"
+        case Fault():
+            return f"{asked(event)} -> fault {event.code:#x}"
+        case Assist():
+            return f"assist {asked(event)} [{event.address:#x}]" + (" dirty" if event.flags & DIRTY else "")
+        case InvalidatePcid():
+            return f"invpcid {event.kind} {event.pcid:#x} {event.linear:#x}"
+        case SetGlobalPages():
+            return f"pge {event.is_on}"
+        case LoadRoot():
+            return f"cr3 {event.operand:#x}"
+    return f"invlpg {event.linear:#x}"
 
 
 def without_parts(shows, events):

@@ -1,3 +1,4 @@
+# SPDX-License-Identifier: MIT OR Apache-2.0
 """Runs the guest on a system: what it wrote, what it said, and how the run ended."""
 import os
 import re
@@ -7,7 +8,7 @@ import sys
 import tempfile
 import time
 
-import image
+from probe import image
 
 MEMORY = 1152  # MB: the first 128 MB of two GBs
 BOCHS_BIOS = "/usr/share/bochs/BIOS-bochs-latest"
@@ -134,9 +135,9 @@ def qemu(settings, limit, replay=b""):
 
 
 def write_bochsrc(folder, **values):
-    with open(os.path.join(folder, "bochsrc"), "w") as file:
+    with open(os.path.join(folder, "bochsrc"), "w", encoding="utf-8") as file:
         file.write(BOCHSRC.format(bios=BOCHS_BIOS, vga_bios=BOCHS_VGA_BIOS, **values))
-    with open(os.path.join(folder, "commands"), "w") as file:
+    with open(os.path.join(folder, "commands"), "w", encoding="utf-8") as file:
         file.write("c\n")  # Debian's is built with its debugger, which waits for this
 
 
@@ -186,7 +187,8 @@ def kvm(settings, limit, replay=b""):
 
 
 def xen(settings, limit, replay=b"", parameters=None):
-    from xen import system  # which uses this module
+    # (which uses this module)
+    from probe.xen import system  # pylint: disable=import-outside-toplevel
     return system.run(settings, limit, replay, parameters)
 
 

@@ -5,21 +5,18 @@ import hashlib
 import os
 import shutil
 import subprocess
-import sys
 import tempfile
 
 HERE = os.path.dirname(os.path.abspath(__file__))
 TOP = os.path.dirname(HERE)
 CACHE = os.path.join(os.environ.get("XDG_CACHE_HOME") or os.path.expanduser("~/.cache"),
                      "pcid-audit")
-sys.path.insert(0, os.path.join(TOP, "probe"))
-import image  # noqa: E402
+from probe import image
 
 image.OUT = CACHE  # of all that the probe's modules fetch
 image.PACKAGES.update({"g++": "g++", "tar": "tar", "xz": "xz-utils", "tee": "coreutils"})
-import debian  # noqa: E402
-import kernels  # noqa: E402
-import nesting  # noqa: E402
+# (what these fetch goes there)
+from probe import debian, kernels, nesting
 
 GUEST = os.path.join(HERE, "linux")
 COMPILE = ["gcc", "-std=c99", "-Wall", "-Wextra", "-Wpedantic", "-Werror", "-O1"]
@@ -115,7 +112,7 @@ def make_disc(path, kernel_image, words):
         shutil.copy(kernel_image, os.path.join(boot, "vmlinuz"))
         with open(os.path.join(boot, "initramfs"), "wb") as file:
             file.write(initramfs())
-        with open(os.path.join(boot, "grub", "grub.cfg"), "w") as file:
+        with open(os.path.join(boot, "grub", "grub.cfg"), "w", encoding="utf-8") as file:
             file.write(f"set timeout=0\nmenuentry guest {{\n linux /boot/vmlinuz {WORDS} {words}\n"
                        " initrd /boot/initramfs\n}\n")
         image.command("grub-mkrescue", "-o", path, tree)
@@ -123,7 +120,7 @@ def make_disc(path, kernel_image, words):
 
 def bochs():
     """The path of the emulator, which record/bochs/build builds where it is missing."""
-    done = subprocess.run([os.path.join(HERE, "bochs", "build")], stdout=subprocess.PIPE, text=True)
+    done = subprocess.run([os.path.join(HERE, "bochs", "build")], stdout=subprocess.PIPE, text=True, check=False)
     if done.returncode != 0:
         raise image.Stop("record/bochs/build failed")
     return done.stdout.strip()

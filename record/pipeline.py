@@ -10,8 +10,8 @@ import sys
 import threading
 import time
 
-import parts
-from parts import image
+from record import parts
+from probe import image
 
 # Statuses beside those of `certify` and of the probe.
 EMULATOR_DIED, STOPPED = image.EARLY_END, image.HANG
@@ -84,7 +84,10 @@ class Chain:
         does not reach it, so that it takes what was recorded until then."""
         program = subprocess.Popen(words, stdin=self.source, stdout=subprocess.PIPE,
                                    start_new_session=True, **more)
-        os.close(self.source) if isinstance(self.source, int) else self.source.close()
+        if isinstance(self.source, int):
+            os.close(self.source)
+        else:
+            self.source.close()
         self.source = program.stdout
         self.programs.append(program)
         return program

@@ -1,3 +1,4 @@
+// SPDX-License-Identifier: MIT OR Apache-2.0
 //! Whether moments prove an access or an assist.
 use crate::record::{
     bits, check, has_bit, Claim, Flags, Header, Kind, Record, EXECUTE_DISABLE, FETCH_PREVENTION,

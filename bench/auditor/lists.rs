@@ -1,3 +1,4 @@
+// SPDX-License-Identifier: MIT OR Apache-2.0
 //! Lists under keys: noted item by item, then packed side by side.
 use std::collections::HashMap;
 use std::hash::{BuildHasherDefault, Hasher};

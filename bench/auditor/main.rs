@@ -1,3 +1,4 @@
+// SPDX-License-Identifier: MIT OR Apache-2.0
 //! An auditor of records of multiprocessor runs under x86-64 four-level paging with PCIDs.
 //! `auditor [THREADS]` reads a record of version 1 or 2 from standard input, and reports whether
 //! the moments that it names prove its accesses and assists.

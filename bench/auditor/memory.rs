@@ -1,3 +1,4 @@
+// SPDX-License-Identifier: MIT OR Apache-2.0
 //! The words of memory at each moment.
 use crate::lists::{NumberMap, Packed};
 use crate::record::has_bit;

@@ -1,3 +1,4 @@
+// SPDX-License-Identifier: MIT OR Apache-2.0
 //! What held, and what was dropped, at each moment.
 use crate::lists::{next_in, Lists, NEVER};
 use crate::memory::Memory;

@@ -1,3 +1,4 @@
+// SPDX-License-Identifier: MIT OR Apache-2.0
 //! The events of a record, read from its bytes.
 use crate::past::{Control, Past, Processor};
 use std::io::{ErrorKind, Read};

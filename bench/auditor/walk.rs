@@ -1,3 +1,4 @@
+// SPDX-License-Identifier: MIT OR Apache-2.0
 //! Walks by moments, and a memo of them.
 use crate::judge::Reason;
 use crate::lists::spread;

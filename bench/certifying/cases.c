@@ -1,3 +1,4 @@
+/* SPDX-License-Identifier: MIT OR Apache-2.0 */
 /*
  * cases KIND EVENTS: writes a record of one processor to standard output that names no moments, and
  * for which guesses are of little use. Some run of the machine has its events, but for `one-frame`.
@@ -19,10 +20,8 @@
  *   assists     (version 2) an entry of the root has had many values, and nothing was dropped; A/D
  *               updates by the oldest of its tables and the next, in turns
  */
-#include "../../emit/pcid_record.h"
+#include "../record.h"
 
-#include <stdio.h>
-#include <stdlib.h>
 #include <string.h>
 
 enum { SEGMENT = 4096, LEAST = 20000 };
@@ -40,21 +39,7 @@ enum { SEGMENT = 4096, LEAST = 20000 };
 #define USER_READ (PCID_RECORD_READ | PCID_RECORD_USER)
 #define USER_WRITE (PCID_RECORD_WRITE | PCID_RECORD_USER)
 
-static struct pcid_record record;
 static uint64_t flags_of_entries; /* A and D in version 2 */
-
-static int put(void *context, const uint8_t *bytes, size_t count)
-{
-    return fwrite(bytes, 1, count, context) != count;
-}
-
-static void taken(enum pcid_record_status status)
-{
-    if (status != PCID_RECORD_TAKEN) {
-        fprintf(stderr, "cases: status %d\n", (int)status);
-        exit(1);
-    }
-}
 
 static uint64_t written(void)
 {
@@ -97,16 +82,6 @@ static uint64_t other_frame(uint64_t number)
     return (UINT64_C(0x2000000) + number) << 12;
 }
 
-static uint64_t random_below(uint64_t limit)
-{
-    static uint64_t state = 7;
-
-    state ^= state << 13;
-    state ^= state >> 7;
-    state ^= state << 17;
-    return state % limit;
-}
-
 static void write_tables(uint64_t pages)
 {
     uint64_t table;
@@ -145,7 +120,7 @@ static void values(uint64_t events)
     for (number = 0; number < events / 2; number++)
         write_word(leaf_of(0), frame_of(number) | 7);
     while (written() < events)
-        answer(USER_READ, 0x123, frame_of(random_below(events / 2 - 1)) | 0x123);
+        answer(USER_READ, 0x123, frame_of(random_bits() % (events / 2 - 1)) | 0x123);
 }
 
 static void rights(uint64_t events)
@@ -307,11 +282,11 @@ int main(int count, char **words)
 
         if (strcmp(words[1], kinds[kind].name) != 0)
             continue;
+        random_state = 7;
         flags_of_entries = header.version == 2 ? 0x60 : 0;
         taken(pcid_record_begin(&record, &header, buffer, sizeof buffer, put, stdout));
         kinds[kind].make(events);
-        taken(pcid_record_end(&record));
-        return fflush(stdout) ? 1 : 0;
+        return finish();
     }
     fprintf(stderr, "usage: cases KIND EVENTS, at least %d\n", LEAST);
     return 64;

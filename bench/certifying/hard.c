@@ -1,13 +1,11 @@
+/* SPDX-License-Identifier: MIT OR Apache-2.0 */
 /*
  * hard EVENTS: writes a record to standard output that names no moments. Some run of the machine has
  * its events, but half of the accesses need moments that no guess finds: each table on their way is
  * read and then replaced before the next is filled, and a processor goes on in those that it has
  * cached. Two processors load four PCIDs in turns, and keep what each has. Nothing is ever dropped.
  */
-#include "../../emit/pcid_record.h"
-
-#include <stdio.h>
-#include <stdlib.h>
+#include "../record.h"
 
 enum { PROCESSORS = 2, PCIDS = 4, SEGMENT = 1000, PLAIN_PAGES = 64 };
 
@@ -22,21 +20,7 @@ enum { PROCESSORS = 2, PCIDS = 4, SEGMENT = 1000, PLAIN_PAGES = 64 };
 /* Tables of which each is used once. */
 #define FRESH UINT64_C(0x100000)
 
-static struct pcid_record record;
 static uint64_t fresh_tables;
-
-static int put(void *context, const uint8_t *bytes, size_t count)
-{
-    return fwrite(bytes, 1, count, context) != count;
-}
-
-static void taken(enum pcid_record_status status)
-{
-    if (status != PCID_RECORD_TAKEN) {
-        fprintf(stderr, "hard: status %d\n", (int)status);
-        exit(1);
-    }
-}
 
 static void write_entry(uint64_t table, uint64_t place, uint64_t target)
 {
@@ -112,6 +96,5 @@ int main(int count, char **words)
         read_page(p, 4096 * (number % PLAIN_PAGES), frame_of(number % PLAIN_PAGES));
         taken(pcid_record_mov_cr3(&record, p, ROOT | (1 + number % PCIDS) | KEEP));
     }
-    taken(pcid_record_end(&record));
-    return fflush(stdout) ? 1 : 0;
+    return finish();
 }

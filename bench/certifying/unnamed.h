@@ -1,3 +1,4 @@
+/* SPDX-License-Identifier: MIT OR Apache-2.0 */
 /*
  * Compiled before a source that uses the emitter, it has each access and each assist recorded without
  * the moments that it names.

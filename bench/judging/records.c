@@ -1,3 +1,4 @@
+/* SPDX-License-Identifier: MIT OR Apache-2.0 */
 /*
  * records KIND EVENTS: writes an accepted record of PROCESSORS processors to standard output, made by
  * a small machine that caches translations as a hypervisor would.
@@ -13,10 +14,8 @@
  *            were read once
  *   fresh    all events are reads, each by entries that are read at it
  */
-#include "../../emit/pcid_record.h"
+#include "../record.h"
 
-#include <stdio.h>
-#include <stdlib.h>
 #include <string.h>
 
 #ifndef SEGMENT
@@ -63,30 +62,7 @@ struct processor {
 
 static struct processor processors[PROCESSORS];
 static uint64_t entries[PAGES];
-static struct pcid_record record;
 static uint64_t slip = SLIP;
-static uint64_t state = UINT64_C(0x9e3779b97f4a7c15);
-
-static uint32_t random_below(uint32_t n)
-{
-    state ^= state << 13;
-    state ^= state >> 7;
-    state ^= state << 17;
-    return (uint32_t)((state >> 32) * n >> 32);
-}
-
-static int put(void *context, const uint8_t *bytes, size_t count)
-{
-    return fwrite(bytes, 1, count, context) != count;
-}
-
-static void taken(enum pcid_record_status status)
-{
-    if (status != PCID_RECORD_TAKEN) {
-        fprintf(stderr, "records: status %d\n", (int)status);
-        exit(1);
-    }
-}
 
 static uint64_t address_of(uint32_t page)
 {
@@ -252,6 +228,7 @@ int main(int count, char **words)
                 return 3;
         }
     }
+    random_state = UINT64_C(0x9e3779b97f4a7c15);
     taken(pcid_record_begin(&record, &header, buffer, sizeof buffer, put, stdout));
     write_tables();
     while (pcid_record_moment(&record) < events) {
@@ -273,6 +250,5 @@ int main(int count, char **words)
         else
             load(p, random_below(PCIDS), 0);
     }
-    taken(pcid_record_end(&record));
-    return fflush(stdout) ? 1 : 0;
+    return finish();
 }

@@ -1,3 +1,4 @@
+/* SPDX-License-Identifier: MIT OR Apache-2.0 */
 /*
  * walks EVENTS PROCESSORS VERSION: writes an accepted record to standard output, of processors that
  * switch between 16 address spaces, each with a PCID of its own. Most accesses are to pages that the
@@ -6,10 +7,8 @@
  * of the instructions, and load CR3; a page that is absent faults, and the next event maps it. Entries
  * are written with their accessed and dirty flags set, so that the events are the same in both versions.
  */
-#include "../../emit/pcid_record.h"
+#include "../record.h"
 
-#include <stdio.h>
-#include <stdlib.h>
 #include <string.h>
 
 /* Of a space: REGIONS leaf tables for the user and as many large pages; of the kernel, KERNEL leaf
@@ -51,31 +50,8 @@ struct processor {
 static struct processor *processors;
 static uint32_t count_of_processors;
 static uint64_t entries[SPACES + 1][PAGES];
-static struct pcid_record record;
-static uint64_t state = UINT64_C(0x2545f4914f6cdd1d);
 /* The page that faulted last and is to be mapped, where there is one. */
 static uint32_t is_pending, pending_space, pending_page;
-
-static uint32_t random_below(uint32_t n)
-{
-    state ^= state << 13;
-    state ^= state >> 7;
-    state ^= state << 17;
-    return (uint32_t)((state >> 32) * n >> 32);
-}
-
-static int put(void *context, const uint8_t *bytes, size_t count)
-{
-    return fwrite(bytes, 1, count, context) != count;
-}
-
-static void taken(enum pcid_record_status status)
-{
-    if (status != PCID_RECORD_TAKEN) {
-        fprintf(stderr, "walks: status %d\n", (int)status);
-        exit(1);
-    }
-}
 
 static uint32_t now(void)
 {
@@ -335,6 +311,7 @@ int main(int count, char **words)
         fprintf(stderr, "usage: walks EVENTS PROCESSORS VERSION, at least 8192 events\n");
         return 64;
     }
+    random_state = UINT64_C(0x2545f4914f6cdd1d);
     header.processors = count_of_processors;
     processors = calloc(count_of_processors, sizeof *processors);
     if (!processors)
@@ -352,6 +329,5 @@ int main(int count, char **words)
         map(random_below(count_of_processors), random_below(SPACES), some_page());
     while (now() < events)
         event(random_below(count_of_processors));
-    taken(pcid_record_end(&record));
-    return fflush(stdout) ? 1 : 0;
+    return finish();
 }

@@ -1,3 +1,4 @@
+// SPDX-License-Identifier: MIT OR Apache-2.0
 //! The same decoding in plain Rust: reads a record from standard input in blocks of 64 KiB, checks
 //! every field as docs/FORMAT.md says, and keeps the events segment by segment, then lets them go.
 use std::io::Read;

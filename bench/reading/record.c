@@ -1,30 +1,14 @@
+/* SPDX-License-Identifier: MIT OR Apache-2.0 */
 /*
  * record: writes a record of a million events to standard output. Most are reads of users with four
  * moments, in an order that a branch predictor can't learn. No machine answers so: it is to be read, and
  * not to be judged.
  */
-#include "../../emit/pcid_record.h"
-
-#include <stdio.h>
-#include <stdlib.h>
+#include "../record.h"
 
 enum { EVENTS = 1000000, SEGMENT = 65536, PROCESSORS = 4 };
 
 static uint8_t buffer[PCID_RECORD_BYTES(1, SEGMENT)];
-static struct pcid_record record;
-
-static int put(void *context, const uint8_t *bytes, size_t count)
-{
-    return fwrite(bytes, 1, count, context) != count;
-}
-
-static void taken(enum pcid_record_status status)
-{
-    if (status != PCID_RECORD_TAKEN) {
-        fprintf(stderr, "record: status %d\n", (int)status);
-        exit(1);
-    }
-}
 
 static uint64_t low_bits(uint64_t bits, unsigned count)
 {
@@ -66,6 +50,5 @@ int main(void)
     taken(pcid_record_begin(&record, &header, buffer, sizeof buffer, put, stdout));
     for (number = 0; number < EVENTS; number++)
         add(number);
-    taken(pcid_record_end(&record));
-    return 0;
+    return finish();
 }

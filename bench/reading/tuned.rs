@@ -1,3 +1,4 @@
+// SPDX-License-Identifier: MIT OR Apache-2.0
 //! The decoding of baseline.rs by hand-tuned Rust: the bytes of the longest event are had at hand once
 //! an event, and its fields are then taken from the front of a slice.
 use std::io::Read;

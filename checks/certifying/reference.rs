@@ -1,3 +1,4 @@
+// SPDX-License-Identifier: MIT OR Apache-2.0
 //! A reference for `pcid-audit certify`, which shares no code with the program: it keeps, for each
 //! processor and page, all that the processor may have cached at a moment, each entry with the
 //! freshest moments at which it can have been read. So it searches all lists of moments at once.

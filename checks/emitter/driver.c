@@ -1,3 +1,4 @@
+/* SPDX-License-Identifier: MIT OR Apache-2.0 */
 /*
  * Makes the calls of emit/pcid_record.h and emit/pcid_log.h that standard input names, one a line,
  * and writes the record or the log to standard output. Standard error has a line for each call: its status, the moment after

@@ -1,3 +1,4 @@
+# SPDX-License-Identifier: MIT OR Apache-2.0
 """Records as Python values and as bytes, written from docs/FORMAT.md alone.
 
 A header is (version, m, settings, segment, [(cr3, pge), ..]). An event is a tuple: its name, its

@@ -1,3 +1,4 @@
+/* SPDX-License-Identifier: MIT OR Apache-2.0 */
 /* Names every call of emit/pcid_record.h and emit/pcid_log.h, so that each is compiled: as C99 and as C++, and for a
  * kernel, where nothing may be left for a library. */
 #include "../../emit/pcid_log.h"

@@ -1,3 +1,4 @@
+/* SPDX-License-Identifier: MIT OR Apache-2.0 */
 /* Writes the peak resident memory of the program that it is preloaded into, in KiB, to the file that
  * PEAK names, once the program ends, by `exit` or by `_exit`. */
 #define _GNU_SOURCE

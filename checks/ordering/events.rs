@@ -1,3 +1,4 @@
+// SPDX-License-Identifier: MIT OR Apache-2.0
 //! Chance, the events of a record, and its bytes.
 
 pub struct Rng(pub u64);

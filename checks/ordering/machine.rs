@@ -1,3 +1,4 @@
+// SPDX-License-Identifier: MIT OR Apache-2.0
 //! A machine that caches what its processors may cache. Sections are those of the Intel SDM, volume 3.
 use crate::events::{has, Deed, Event, Outcome, Rng, Settings};
 use std::collections::{BTreeSet, HashMap};

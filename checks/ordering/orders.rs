@@ -1,3 +1,4 @@
+// SPDX-License-Identifier: MIT OR Apache-2.0
 //! What is true of a run in its own order, and of a small record in all orders.
 use crate::events::{Deed, Event, Settings, Source};
 use crate::machine::{Machine, Processor};

@@ -1,3 +1,4 @@
+// SPDX-License-Identifier: MIT OR Apache-2.0
 //! Records of processors that run at once, with spans in the place of an order, and what is true of
 //! them. It shares no code with the program. Sections are those of the Intel SDM, volume 3.
 //!

@@ -1,3 +1,4 @@
+// SPDX-License-Identifier: MIT OR Apache-2.0
 //! Runs of the machine in which all processors write few words at random, and of a small operating
 //! system.
 use crate::events::{has, Deed, Event, Rng, Settings};

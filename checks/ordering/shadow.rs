@@ -1,3 +1,4 @@
+// SPDX-License-Identifier: MIT OR Apache-2.0
 //! Runs of a small operating system on a hypervisor with shadow paging, which may have a bug.
 //!
 //! Of each page the hypervisor keeps the guest's entry as it was when it was last read, in shadow

@@ -1,3 +1,4 @@
+// SPDX-License-Identifier: MIT OR Apache-2.0
 //! Spans around the events of a run.
 use crate::events::{Event, Rng};
 

@@ -1,3 +1,4 @@
+# SPDX-License-Identifier: MIT OR Apache-2.0
 """Which text is a script, and which line is refused for what, written from docs/SCRIPT.md alone.
 
 `refusal(text)` gives the line and the number of the refusal of these bytes, and None where they are a

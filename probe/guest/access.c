@@ -1,3 +1,4 @@
+/* SPDX-License-Identifier: MIT OR Apache-2.0 */
 /* Accesses: what is carried out, what answered, and which flags of entries were set meanwhile. */
 #include "machine.h"
 #include "probe.h"

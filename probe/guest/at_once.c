@@ -1,3 +1,4 @@
+/* SPDX-License-Identifier: MIT OR Apache-2.0 */
 /* Events of a processor that acts while others do: each is carried out between two stamps, and then
  * logged by its processor. */
 #include "machine.h"

@@ -1,3 +1,4 @@
+; SPDX-License-Identifier: MIT OR Apache-2.0
 ; The boot sector: loads the guest from the sectors behind it to 0x10000, and starts it.
         bits 16
         org 0x7C00

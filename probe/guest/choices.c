@@ -1,3 +1,4 @@
+/* SPDX-License-Identifier: MIT OR Apache-2.0 */
 /*
  * What random runs choose from: few pages, used again and again, so that what was cached before
  * matters. Processors that act at once have a stream each, and share the pages. Where they act one

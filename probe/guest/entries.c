@@ -1,3 +1,4 @@
+/* SPDX-License-Identifier: MIT OR Apache-2.0 */
 /* Entries: random ones, and what the tables in memory say of an address. The latter serves to
  * choose what is done; it is never recorded. */
 #include "probe.h"

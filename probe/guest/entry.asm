@@ -1,3 +1,4 @@
+; SPDX-License-Identifier: MIT OR Apache-2.0
 ; The guest's entry, its settings, the handlers of exceptions, the instructions whose accesses are
 ; recorded, and the start of the other processors.
         bits 64

@@ -1,3 +1,4 @@
+/* SPDX-License-Identifier: MIT OR Apache-2.0 */
 /* Events: each is carried out by the acting processor, and then recorded. */
 #include "probe.h"
 

@@ -1,3 +1,4 @@
+/* SPDX-License-Identifier: MIT OR Apache-2.0 */
 /*
  * Focused streams: one word W that processor 0 rewrites again and again, while the others read and
  * invalidate what is reached through it, and through words that stay.

@@ -1,3 +1,4 @@
+/* SPDX-License-Identifier: MIT OR Apache-2.0 */
 ENTRY(_start)
 PHDRS { guest PT_LOAD FLAGS(7); far PT_LOAD FLAGS(6); }
 SECTIONS

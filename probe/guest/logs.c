@@ -1,3 +1,4 @@
+/* SPDX-License-Identifier: MIT OR Apache-2.0 */
 /*
  * A log for each processor that acts at once, in memory of its own, so that no lock is taken: the
  * bytes that docs/FORMAT.md has as "Logs of single processors". Each event has two stamps of one

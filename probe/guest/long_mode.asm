@@ -1,3 +1,4 @@
+; SPDX-License-Identifier: MIT OR Apache-2.0
 ; Included by the code that starts processor 0: 16-bit or 32-bit code, no paging, segments from 0.
 ; It makes the boot tables, which map the first GB at 0 and at 0xFFFF800000000000 by 2-MB pages,
 ; with A and D set. Then it enters long mode and jumps to the guest. The tables stay, since the

@@ -1,3 +1,4 @@
+/* SPDX-License-Identifier: MIT OR Apache-2.0 */
 /* Instructions that C has no words for. */
 #ifndef MACHINE_H
 #define MACHINE_H

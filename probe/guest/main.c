@@ -1,3 +1,4 @@
+/* SPDX-License-Identifier: MIT OR Apache-2.0 */
 /* Processor 0 begins here, and carries out the seeds that the settings ask for. */
 #include "machine.h"
 #include "probe.h"

@@ -1,3 +1,4 @@
+/* SPDX-License-Identifier: MIT OR Apache-2.0 */
 /*
  * Where the record goes: to port 0xE9, or to the first serial line, or to memory, from where a
  * loader takes it at the doorbell. Lines for a person go to the serial line, where no record does.

@@ -1,3 +1,4 @@
+/* SPDX-License-Identifier: MIT OR Apache-2.0 */
 /*
  * Physical frames. Each frame that a tested address can lead to holds, at one offset, a slot of 32
  * bytes that says where it lies: what answered an access is read from it.

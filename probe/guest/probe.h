@@ -1,3 +1,4 @@
+/* SPDX-License-Identifier: MIT OR Apache-2.0 */
 /*
  * The guest: it carries out paging operations by a seed, and writes the record of what it saw.
  *

@@ -1,3 +1,4 @@
+/* SPDX-License-Identifier: MIT OR Apache-2.0 */
 /* The processors: their descriptors, how they start, and the orders that they carry out, one at a
  * time. Processor 0 decides; the others wait for orders. */
 #include "machine.h"

@@ -1,3 +1,4 @@
+/* SPDX-License-Identifier: MIT OR Apache-2.0 */
 /* A sequence of numbers for each processor, by a seed. */
 #include "probe.h"
 

@@ -1,3 +1,4 @@
+/* SPDX-License-Identifier: MIT OR Apache-2.0 */
 /*
  * Carries out the events of a record again, one at a time, and records what is answered now.
  * probe/replay.py lays them out at 0x700000: for each record a head, the addresses of its frames of

@@ -1,3 +1,4 @@
+/* SPDX-License-Identifier: MIT OR Apache-2.0 */
 /* Random runs, one processor at a time. Each event is a segment, and so put at once: a crash loses
  * none. */
 #include "probe.h"

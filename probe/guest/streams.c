@@ -1,3 +1,4 @@
+/* SPDX-License-Identifier: MIT OR Apache-2.0 */
 /*
  * All processors act at once: each carries out a random stream of its own. They run freely, or in
  * bursts: each chooses so many events, all meet, and then carry them out. The settings' focus has

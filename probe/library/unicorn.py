@@ -1,4 +1,5 @@
 #!/usr/bin/env python3
+# SPDX-License-Identifier: MIT OR Apache-2.0
 """Drives Unicorn, an emulator that is a library, with random paging operations, and has `pcid-audit
 certify` judge the record: an example for emulators that boot no guest. One processor without PCIDs
 executes writes of table entries (all levels and page sizes, rights, reserved bits, A and D, global
@@ -12,10 +13,11 @@ import struct
 import sys
 
 sys.dont_write_bytecode = True
-# In place of this file's folder, where `unicorn` is this file.
-sys.path[0] = os.path.dirname(os.path.dirname(os.path.abspath(__file__)))
-import image  # noqa: E402
-import records  # noqa: E402
+# (in place of this file's folder, where `unicorn` is this file)
+sys.path[0] = os.path.abspath(os.path.join(os.path.dirname(__file__), "../.."))
+from probe import auditor, image
+from records.events import Answer, Fault, Header, InvalidatePage, LoadRoot, SetGlobalPages, Write
+from records.writing import record_bytes
 
 LEAST = (2, 1)  # the version: earlier ones look for memory by the linear address
 KINDS = ("reserved", "large", "global", "user", "writes", "fetches", "implicit", "implicit-ac",
@@ -43,8 +45,12 @@ LOCAL, FIRST_OF_LOCAL = 0x30, 7  # selectors: of the local table, and of its fir
 ZERO_FLAG = 1 << 6
 
 
+unicorn = x86 = None  # pylint: disable=invalid-name
+
+
 def load_library(folder):
     """Imports Unicorn, where a folder of probe/suite is named from there."""
+    # pylint: disable=global-statement,import-outside-toplevel,import-self,no-member,redefined-outer-name
     global unicorn, x86
     try:
         if folder:
@@ -69,7 +75,8 @@ class Machine:
         self.uc.ctl_set_cpu_model(x86.UC_CPU_X86_SKYLAKE_SERVER)
         for base in (0, GIGABYTE):
             self.uc.mem_map(base, LOW_MEMORY)
-        self.vector = None
+        # Of the last stub: its exception, the processor's state at that, and its address.
+        self.vector, self.left, self.fault_address = None, b"", 0
         self.uc.hook_add(unicorn.UC_HOOK_INTR, self.take_exception)
         self.lay_out()
         self.set_registers(rules)
@@ -177,15 +184,13 @@ class Recorder:
 
     def __init__(self, machine, rules):
         flags = rules["wp"] | rules["nxe"] << 1 | rules["smep"] << 2 | rules["smap"] << 3
-        self.head = b"PGRECORD" + struct.pack("<HBBBIQB", 1, machine.width, flags, 1, 1024, POOL,
-                                              0)
-        self.events = []
+        self.header, self.events = Header(1, machine.width, flags, 1024, ((POOL, 0),)), []
 
-    def add(self, form, *values):
-        self.events.append(struct.pack("<" + form, *values))
+    def add(self, event):
+        self.events.append(event)
 
     def bytes(self):
-        return records.Record(self.head, 1, 1, self.events).bytes()
+        return record_bytes(self.header, self.events)
 
 
 class Run:
@@ -220,7 +225,7 @@ class Run:
         self.machine.set_word(slot + 24, slot + 24)
 
     def page(self):
-        address = sum(self.dice.choice(INDICES[level]) << 3 + 9 * level for level in INDICES)
+        address = sum(self.dice.choice(indices) << 3 + 9 * level for level, indices in INDICES.items())
         return address | 0xFFFF << 48 if address >> 47 else address
 
     def likely_page(self):
@@ -262,7 +267,7 @@ class Run:
 
     def write_entry(self, physical, value):
         self.machine.set_word(physical, value)
-        self.recorder.add("BBQQ", 0x10, 0, physical, value)
+        self.recorder.add(Write(0, physical, value))
 
     def write_all(self):
         for level in (4, 3, 2, 1):
@@ -284,17 +289,17 @@ class Run:
 
     def invalidate(self, linear):
         self.machine.run("invlpg", linear, stays=True)
-        self.recorder.add("BBQ", 0x13, 0, linear)
+        self.recorder.add(InvalidatePage(0, linear))
 
     def load_root(self):
         self.root = POOL + 4096 * self.dice.randrange(*FRAMES[4])
         self.machine.run("cr3", self.root, stays=True)
-        self.recorder.add("BBQ", 0x12, 0, self.root)
+        self.recorder.add(LoadRoot(0, self.root))
 
     def set_pge(self):
         self.pge ^= self.dice.randrange(2)
         self.machine.run("cr4", self.machine.cr4 | (CR4_PGE if self.pge else 0), stays=True)
-        self.recorder.add("BBB", 0x15, 0, self.pge)
+        self.recorder.add(SetGlobalPages(0, self.pge))
 
     def written_at(self, value):
         """The frame where the value was written, which is put back."""
@@ -329,18 +334,17 @@ class Run:
             flags, value = OPERATIONS[name], FIRST_OF_LOCAL
             self.machine.load_local_table(linear)
         vector = self.machine.run(name, linear, value, 2 | (AC if ac else 0), is_user)
-        asked = (0x11, 0, flags, linear)
         if vector is None:
             answer = self.answer(name, linear, value)
             self.machine.go_back()
-            self.recorder.add("BBBQBQBI", *asked, 0, answer, 1, 0)
+            self.recorder.add(Answer(0, flags, linear, answer, (0,)))
             return
         if vector != PAGE_FAULT or self.machine.fault_address != linear:
             raise image.Stop(f"an access of {linear:#x} gave vector {vector}, "
                              f"CR2 {self.machine.fault_address:#x}")
         code = self.machine.error_code()
         self.machine.go_back()
-        self.recorder.add("BBBQBHBI", *asked, 1, code, 1, 0)
+        self.recorder.add(Fault(0, flags, linear, code, (0,)))
         if not self.allows("bare-faults"):
             self.invalidate(linear)
 
@@ -376,12 +380,12 @@ def main():
         if kind not in KINDS:
             raise image.Stop(f"no such kind: {kind}; there are {' '.join(KINDS)}")
     load_library(chosen.folder)
-    records.ready()
+    auditor.ready()
     record = Run(chosen.seed, chosen.events, left_out).carry_out()
     if chosen.keep:
         with open(chosen.keep, "wb") as file:
             file.write(record)
-    status, report, said = records.certify(records.program(), record)
+    status, report, said = auditor.certify(record)
     sys.stderr.buffer.write(said)
     sys.stdout.buffer.write(report)
     return status

@@ -1,3 +1,4 @@
+/* SPDX-License-Identifier: MIT OR Apache-2.0 */
 /* Above the pool, the log and the frames of the first 128 MB that tested addresses lead to. */
 ENTRY(start)
 PHDRS

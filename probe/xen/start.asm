@@ -1,3 +1,4 @@
+; SPDX-License-Identifier: MIT OR Apache-2.0
 ; A kernel that Xen boots as its first domain, in the mode PVH: protected mode, flat segments, no
 ; paging. It puts the probe's guest to 0x10000, and a record that is carried out again to its place,
 ; and starts the guest.

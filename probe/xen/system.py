@@ -1,10 +1,10 @@
+# SPDX-License-Identifier: MIT OR Apache-2.0
 """Runs the guest as the first domain of Xen, in QEMU: Xen keeps shadow tables of it."""
 import os
 import shutil
 import tempfile
 
-import image
-import systems
+from probe import image, systems
 
 HERE = os.path.dirname(os.path.abspath(__file__))
 SHADOW = "dom0=pvh,shadow"

@@ -1,3 +1,4 @@
+// SPDX-License-Identifier: MIT OR Apache-2.0
 //! pcid-audit: the program over the standard streams.
 #![tactic(auto)]
 

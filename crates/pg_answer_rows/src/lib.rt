@@ -1,3 +1,4 @@
+// SPDX-License-Identifier: MIT OR Apache-2.0
 //! Worked rows of what commands answer, as text, as pictures and as JSON, by the whole program over
 //! memory; and rows over streams, from files, by several checkers, and with changed bytes.
 #![tactic(auto)]
@@ -20,6 +21,8 @@ mod json;
 mod json_spans;
 #[cfg(test)]
 mod lines;
+#[cfg(test)]
+mod long;
 #[cfg(test)]
 mod many_lines;
 #[cfg(test)]

@@ -1,3 +1,4 @@
+// SPDX-License-Identifier: MIT OR Apache-2.0
 //! What each command answers of a record, over any streams.
 #![tactic(auto)]
 

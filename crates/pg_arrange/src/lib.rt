@@ -1,3 +1,4 @@
+// SPDX-License-Identifier: MIT OR Apache-2.0
 //! A search for an order of events with spans in which a machine may have had them. Nothing is
 //! claimed of what it finds: who calls it checks the order, and certifies the events in it.
 #![tactic(auto)]

@@ -11,10 +11,11 @@ use pg_codec::{Sink, Source};
 use pg_plan::Checkers;
 use pg_report::{AuditError, Verdict, audit, audit_one};
 use std::alloc::AllocGlobal;
+use std::sync::Wait;
 use std::thread::Threads;
 
 /// The audit by so many checkers: by one, on the calling thread.
-fn audit_by<T: AllocGlobal + Threads + Sync, R: Source, O: Sink>(
+fn audit_by<T: AllocGlobal + Threads + Wait + Sync, R: Source, O: Sink>(
     rt: &T,
     checkers: Checkers,
     input: &mut R,
@@ -35,7 +36,7 @@ fn audit_by<T: AllocGlobal + Threads + Sync, R: Source, O: Sink>(
 /// Audits the record on `input` by so many checkers, and writes its report to `output`, or one line
 /// to `errors` that says why there is none. It gives the exit status: 0 yes, 1 no, 2 refused, 3
 /// memory or a thread. One checker is the calling thread.
-pub fn check<T: AllocGlobal + Threads + Sync, R: Source, O: Sink, E: Sink>(
+pub fn check<T: AllocGlobal + Threads + Wait + Sync, R: Source, O: Sink, E: Sink>(
     rt: &T,
     checkers: Checkers,
     input: &mut R,

@@ -1,3 +1,4 @@
+// SPDX-License-Identifier: MIT OR Apache-2.0
 //! `check` over any streams: the audit of a record, its exit status, and the lines that tell of
 //! what was refused.
 #![tactic(auto)]

@@ -1,3 +1,4 @@
+// SPDX-License-Identifier: MIT OR Apache-2.0
 //! Cases that the whole program is run on, over memory and over streams that fail: for the crates
 //! that test it.
 #![tactic(auto)]

@@ -1,3 +1,4 @@
+// SPDX-License-Identifier: MIT OR Apache-2.0
 //! Whether any moments witness all events of a record, which is to say whether any run of the
 //! machine has them. Each event is alone: its moments are guessed, each guess is judged, and where
 //! the guesses fail all moments are searched.

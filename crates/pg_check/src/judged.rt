@@ -1,23 +1,16 @@
 //! A run that is judged as it is read.
 
-ghost use Rattle.std.specs.Prelude.{◌≡◌, ◌+◌, ◌<◌, ◌≤◌, ◌^◌, ◌++◌, ◌∷◌, List, [], length, Some};
-ghost use Rattle.std.specs.Prelude.{None};
+ghost use Rattle.std.specs.Prelude.{◌≡◌, ◌+◌, ◌<◌, ◌≤◌, ◌^◌, ◌++◌, List, [], length};
 ghost use Rattle.std.specs.Prelude.{IfOk, OnOk, OnErr};
-ghost use Rattle.std.specs.List.{AllByRecursion};
-ghost use Rattle.pg_event.specs.Form.{processor_of};
-ghost use Rattle.pg_chain.specs.Standing.{IsPast, processor_count};
 ghost use Rattle.pg_event.specs.declared.event.Event.{Event};
 ghost use Rattle.pg_event.specs.Heads.{Head};
 ghost use Rattle.pg_event.specs.Spelling.{IsHead, segment_count};
-ghost use Rattle.pg_event.specs.Witness.{first_bad, first_some};
+ghost use Rattle.pg_event.specs.Witness.{first_bad};
 ghost use Rattle.pg_check.specs.Judging.{Awaits, IsFound, IsJudged, MayFollow};
-ghost use Rattle.pg_check.specs.Remembered.{HaveWalks};
 ghost use Rattle.pg_check.specs.Stretches.{IsStretch};
 
-use crate::ahead::{AHEAD, look_ahead};
-use crate::places::Kept;
+use crate::judge::Judge;
 use crate::stretch::Stretch;
-use crate::tip::failing_next;
 use pg_chain::Past;
 use pg_event::{Event, Header, Reason};
 use std::alloc::{AllocError, Global};
@@ -28,30 +21,27 @@ use std::marker::Model;
 #[derive(Drop)]
 pub struct Judged {
     header: Header,
-    past: Past,
+    judge: Judge,
+    /// How many events were judged.
     count: u64,
     first_bad: Option<(u64, Reason)>,
-    /// Walks that were made by the events that were judged.
-    kept: Kept,
 }
 
 impl Model for Judged {
     ghost use Rattle.pg_event.specs.Spelling.{IsHead};
     ghost use Rattle.pg_check.specs.Judging.{Findings};
-    ghost use Rattle.pg_check.specs.Remembered.{HaveWalks};
-    ghost use Rattle.pg_check.specs.Stems.{HaveStems};
 
     ghost Value = { Findings };
 
     ghost view = { λ j. record {
       head = j.header;
-      past = j.past;
+      past = j.judge.past;
+      noted = j.judge.count;
       count = j.count;
       first_bad = j.first_bad;
     } };
 
-    ghost invariant = { λ j. IsHead j.header × HaveWalks j.past j.count j.kept.slots.items
-        × HaveStems j.past j.count j.kept.stems.items };
+    ghost invariant = { λ j. IsHead j.header };
 }
 
 impl Judged {
@@ -60,13 +50,12 @@ impl Judged {
         requires { IsHead header }
         ensures { IfOk result (λ judged. IsJudged judged header []) }
     {
-        let past = Past::new(alloc, &header)?;
+        let judge = Judge::new(alloc, &header)?;
         Ok(Judged {
             header,
-            past,
+            judge,
             count: 0,
             first_bad: None,
-            kept: Kept::new(alloc),
         })
     }
 
@@ -78,6 +67,20 @@ impl Judged {
         &self.header
     }
 
+    /// What the run did up to the last event that was noted.
+    pub(crate) fn past(&self) -> &Past
+        ensures { result.now ≡ self.now.past }
+    {
+        self.judge.past()
+    }
+
+    /// Makes all lists of what was dropped, for those who look up the past at many moments.
+    pub(crate) fn make_lists(&mut self)
+        ensures { self.new ≡ self.old }
+    {
+        self.judge.make_lists();
+    }
+
     /// Notes the events that come next, which then wait to be judged. Fails where memory is
     /// refused, and then they have not come.
     pub fn note(&mut self, events: &[Event]) -> Result<(), AllocError>
@@ -87,7 +90,9 @@ impl Judged {
         ensures err { (head : Head) (before : List Event) → IsJudged self.old head before →
             OnErr result (IsJudged self.new head before) }
     {
-        self.past.note_all(self.count as u32, events)
+        let noted = self.judge.note(events);
+        self.judge.make_lists();
+        noted
     }
 
     /// The events that wait, with what is known of all events up to their end.
@@ -98,7 +103,7 @@ impl Judged {
         ensures first { result.first ≡ self.now.count }
     {
         Stretch {
-            past: &self.past,
+            past: self.judge.past(),
             segment: self.header.segment,
             first: self.count,
             events,
@@ -113,18 +118,6 @@ impl Judged {
             IsFound found head before events.now →
             IsJudged self.new head (before ++ events.now) }
     {
-        self.move_on(events, found);
-    }
-
-    /// The same, and what it leaves as it is.
-    fn move_on(&mut self, events: &[Event], found: Option<(u64, Reason)>)
-        requires { (head : Head) × (before : List Event) × Awaits self.old head before events.now }
-        ensures judged { (head : Head) (before : List Event) →
-            Awaits self.old head before events.now → IsFound found head before events.now →
-            IsJudged self.new head (before ++ events.now) }
-        ensures past { self.new.past ≡ self.old.past }
-        ensures count { self.new.count ≡ self.old.count + length events.now }
-    {
         self.first_bad = self.first_bad.or(found);
         self.count += events.len() as u64;
     }
@@ -138,104 +131,32 @@ impl Judged {
         ensures err { (head : Head) (before : List Event) → IsJudged self.old head before →
             OnErr result (IsJudged self.new head before) }
     {
-        let count = self.count as u32;
-        let bad = self.first_bad;
-        for (i, event) in events.iter().enumerate() {
-            self.look_ahead(events, i);
-            if let Err(refused) = self.judge_next(event) {
-                self.go_back(count, bad);
-                return Err(refused);
+        match self.found_in(events) {
+            Ok(found) => {
+                self.settle(events, found);
+                Ok(())
             }
-        }
-        Ok(())
-    }
-
-    /// Before every so many events, reads what these will ask for. `i` is the index of the next.
-    #[inline(always)]
-    fn look_ahead(&mut self, events: &[Event], i: usize)
-        ensures { self.new ≡ self.old }
-    {
-        if i % AHEAD == 0 && i < events.len() {
-            let end = i.saturating_add(AHEAD).min(events.len());
-            look_ahead(&self.past, &mut self.kept, &events[i..end]);
+            Err(refused) => Err(refused),
         }
     }
 
-    /// Judges the event that comes next, unless one before it is bad, and notes it. Fails where
-    /// memory is refused, and then it has not come.
-    #[inline(always)]
-    fn judge_next(&mut self, event: &Event) -> Result<(), AllocError>
-        requires { MayFollow self.old (event.now ∷ []) }
+    /// Judges the events that come next and notes them, which then wait for what was found to be
+    /// taken. They are not judged where an event before them is bad. Fails where memory is refused,
+    /// and then they have not come.
+    fn found_in(&mut self, events: &[Event]) -> Result<Option<(u64, Reason)>, AllocError>
+        requires { MayFollow self.old events.now }
         ensures ok { (head : Head) (before : List Event) → IsJudged self.old head before →
-            OnOk result (IsJudged self.new head (before ++ event.now ∷ [])) }
-        ensures err { (head : Head) (before : List Event) → IsJudged self.old head before →
-            OnErr result (IsJudged self.new head before) }
-    {
-        let found = self.found_next(event);
-        self.note_next(event)?;
-        self.settle_next(found);
-        Ok(())
-    }
-
-    /// Notes the event that comes next, which then waits to be judged. Fails where memory is
-    /// refused, and then it has not come.
-    #[inline(always)]
-    fn note_next(&mut self, event: &Event) -> Result<(), AllocError>
-        requires { MayFollow self.old (event.now ∷ []) }
-        ensures ok { (head : Head) (before : List Event) → IsJudged self.old head before →
-            OnOk result (Awaits self.new head before (event.now ∷ [])) }
-        ensures err { (head : Head) (before : List Event) → IsJudged self.old head before →
-            OnErr result (IsJudged self.new head before) }
-    {
-        self.past.note_later(self.count as u32, event)
-    }
-
-    /// The least reason that fails for the event that comes next, by the events before it. It is
-    /// not asked for where one of those is bad.
-    #[inline(always)]
-    fn found_next(&mut self, event: &Event) -> Option<Reason>
-        requires { MayFollow self.old (event.now ∷ []) }
-        ensures same { self.new ≡ self.old }
+            OnOk result (Awaits self.new head before events.now) }
         ensures found { (head : Head) (before : List Event) → IsJudged self.old head before →
-            IsFound (first_some self.old.count result None) head before (event.now ∷ []) }
+            IfOk result (λ found. IsFound found head before events.now) }
+        ensures err { (head : Head) (before : List Event) → IsJudged self.old head before →
+            OnErr result (IsJudged self.new head before) }
     {
-        if self.first_bad.is_some() {
-            return None;
+        if self.first_bad.is_none() {
+            return self.judge.judge(events);
         }
-        failing_next(&mut self.past, &mut self.kept, self.count as u32, event)
-    }
-
-    /// Takes the least reason that fails for the event that waits.
-    #[inline(always)]
-    fn settle_next(&mut self, found: Option<Reason>)
-        requires { (head : Head) × (before : List Event) × (event : Event)
-            × Awaits self.old head before (event ∷ []) }
-        ensures { (head : Head) (before : List Event) (event : Event) →
-            Awaits self.old head before (event ∷ []) →
-            IsFound (first_some self.old.count found None) head before (event ∷ []) →
-            IsJudged self.new head (before ++ event ∷ []) }
-    {
-        match found {
-            Some(reason) => {
-                self.first_bad = self.first_bad.or(Some((self.count, reason)));
-            }
-            None => {}
-        }
-        self.count += 1;
-    }
-
-    /// Goes back to the first so many events, the first bad one of which is at hand.
-    fn go_back(&mut self, count: u32, bad: Option<(u64, Reason)>)
-        requires { (head : Head) × (before : List Event) × (more : List Event)
-            × IsJudged self.old head (before ++ more) × (count ≡ length before) }
-        ensures { (head : Head) (before more : List Event) →
-            IsJudged self.old head (before ++ more) → count ≡ length before →
-            bad ≡ first_bad head before → IsJudged self.new head before }
-    {
-        self.past.forget_from(count);
-        self.kept = Kept::new(self.past.alloc);
-        self.first_bad = bad;
-        self.count = count as u64;
+        self.judge.note(events)?;
+        Ok(None)
     }
 
     /// How many events were judged.

@@ -247,7 +247,7 @@ impl<'a> Memo<'a> {
     {
         let mut own = kept;
         own.make_room(past, number);
-        let most = own.most(past);
+        let most = most_slots(past);
         Memo {
             reader: Reader::new(past, 0),
             kept: own,

@@ -19,8 +19,6 @@ pub struct Kept {
     /// How many walks were made for them.
     pub made: usize,
     pub stems: Vec<Option<Stem>>,
-    /// They are of the processors of one in so many shares of a run.
-    pub shares: u16,
     /// How many entries of the log look-ups passed over since lists of their kind were made.
     pub passed: Tally,
     /// What was read ahead, as one number. Nothing asks for it; but a reading that nothing uses is
@@ -34,27 +32,13 @@ impl Kept {
         ensures slots { result.slots.items ≡ [] }
         ensures stems { result.stems.items ≡ [] }
     {
-        Kept::of_share(alloc, 1)
-    }
-
-    /// No slot, for the walks of one in so many shares of a run.
-    pub(crate) fn of_share(alloc: Global, shares: u16) -> Kept
-        ensures slots { result.slots.items ≡ [] }
-        ensures stems { result.stems.items ≡ [] }
-    {
         Kept {
             slots: Vec::new(alloc),
             made: 0,
             stems: Vec::new(alloc),
-            shares,
             passed: Tally::NONE,
             seen: 0,
         }
-    }
-
-    /// So many slots at most outlive a window.
-    pub(crate) fn most(&self, past: &Past) -> usize {
-        most_slots(past) / (self.shares as usize).max(1)
     }
 
     /// So many slots with no walk. Where memory is refused there are none.
@@ -65,7 +49,6 @@ impl Kept {
             slots: empty_slots(alloc, count),
             made: 0,
             stems: Vec::new(alloc),
-            shares: 1,
             passed: Tally::NONE,
             seen: 0,
         }

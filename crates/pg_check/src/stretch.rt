@@ -8,7 +8,7 @@ ghost use Rattle.pg_chain.specs.Standing.{IsPast};
 ghost use Rattle.pg_check.specs.Segments.{segment_verdict};
 ghost use Rattle.pg_check.specs.Stretches.{IsStretch, HasSegment};
 
-use crate::judge::first_bad_of;
+use crate::by_past::first_bad_of;
 use crate::memo::Memo;
 use pg_chain::Past;
 use pg_event::{Event, Reason};

@@ -22,7 +22,7 @@ ghost use Rattle.pg_check.specs.Remembered.{page_bits, page_start};
 ghost use Rattle.pg_check.specs.Stems.{HaveStems};
 
 use crate::access::failing_leaf_chain;
-use crate::judge::failing;
+use crate::by_past::failing;
 use crate::lasting::Lasting;
 use crate::memo::{Memo, Slot, frame_in, slot_at, slot_of, walk_in};
 use crate::places::{Kept, most_slots, page_of, place_of};
@@ -165,7 +165,6 @@ fn failing_by_past(past: &Past, kept: &mut Kept, number: u32, event: &Event) -> 
         slots: mem::replace(&mut kept.slots, Vec::new(past.alloc)),
         made: kept.made,
         stems: Vec::new(past.alloc),
-        shares: kept.shares,
         passed: Tally::NONE,
         seen: 0,
     };
@@ -405,7 +404,7 @@ fn keep_walk(past: &Past, kept: &mut Kept, current: u16, number: u32, slot: Slot
     let place = kept.room_for(first, slot.p, slot.page, slot.pcid);
     kept.put(place, slot);
     if kept.count_walk() {
-        kept.grow(past.alloc, kept.most(past));
+        kept.grow(past.alloc, most_slots(past));
     }
 }
 

@@ -1,3 +1,4 @@
+// SPDX-License-Identifier: MIT OR Apache-2.0
 //! Records as bytes: readers and writers over any stream, and streams whose failures are counted.
 #![tactic(auto)]
 

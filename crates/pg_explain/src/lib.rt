@@ -1,3 +1,4 @@
+// SPDX-License-Identifier: MIT OR Apache-2.0
 //! Events as lines for a person, and what stands behind a "no".
 #![tactic(auto)]
 

@@ -1,3 +1,4 @@
+// SPDX-License-Identifier: MIT OR Apache-2.0
 //! How far the reading of a record has come, and how far a run, told meanwhile.
 #![tactic(auto)]
 

@@ -1,3 +1,4 @@
+// SPDX-License-Identifier: MIT OR Apache-2.0
 //! What the turns of recorded processors are, and that no run of them is refused by the auditor.
 #![tactic(auto)]
 

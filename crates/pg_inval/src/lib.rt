@@ -1,3 +1,4 @@
+// SPDX-License-Identifier: MIT OR Apache-2.0
 //! Which cached entries a processor had to drop between two moments.
 #![tactic(auto)]
 

@@ -1,3 +1,4 @@
+// SPDX-License-Identifier: MIT OR Apache-2.0
 //! Answers as JSON: events and reports.
 #![tactic(auto)]
 

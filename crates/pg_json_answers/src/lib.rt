@@ -1,3 +1,4 @@
+// SPDX-License-Identifier: MIT OR Apache-2.0
 //! What commands answer of a record as JSON, over any streams.
 #![tactic(auto)]
 

@@ -1,3 +1,4 @@
+// SPDX-License-Identifier: MIT OR Apache-2.0
 //! The causes of rejections, and what bad events have in common, as JSON.
 #![tactic(auto)]
 

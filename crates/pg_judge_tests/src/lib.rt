@@ -1,3 +1,4 @@
+// SPDX-License-Identifier: MIT OR Apache-2.0
 //! Tests of the public calls by which a record is read and judged, and of the past that they ask.
 #![tactic(auto)]
 

@@ -1,3 +1,4 @@
+// SPDX-License-Identifier: MIT OR Apache-2.0
 //! The machine of the manual, by its steps.
 #![tactic(auto)]
 

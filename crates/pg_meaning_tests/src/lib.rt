@@ -1,3 +1,4 @@
+// SPDX-License-Identifier: MIT OR Apache-2.0
 //! Tests of the machine, of the runs that a yes stands for, and of what stands behind a no.
 #![tactic(auto)]
 

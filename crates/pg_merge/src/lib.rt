@@ -1,3 +1,4 @@
+// SPDX-License-Identifier: MIT OR Apache-2.0
 //! Logs of single processors: which bytes are one, and which run with spans the logs of all
 //! processors make.
 #![tactic(auto)]

@@ -1,3 +1,4 @@
+// SPDX-License-Identifier: MIT OR Apache-2.0
 //! Whether the events of a record with no one order have an order in which some run of the machine
 //! has them.
 #![tactic(auto)]

@@ -1,3 +1,4 @@
+// SPDX-License-Identifier: MIT OR Apache-2.0
 //! What `certify` answers of a record with no one order, and what `merge` makes of logs.
 #![tactic(auto)]
 

@@ -1,3 +1,4 @@
+// SPDX-License-Identifier: MIT OR Apache-2.0
 //! A picture of what stands behind a "no".
 #![tactic(auto)]
 

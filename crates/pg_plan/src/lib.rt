@@ -1,3 +1,4 @@
+// SPDX-License-Identifier: MIT OR Apache-2.0
 //! What the words of the command line are, and what they ask for.
 #![tactic(auto)]
 

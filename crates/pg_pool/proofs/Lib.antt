@@ -1,8 +1,5 @@
 pub mod Deals
-pub mod Further
 pub mod Judged
-pub mod Going
-pub mod Messages
 pub mod Placed
 pub mod Rules
 pub mod Seats

@@ -1,10 +1,7 @@
 pub mod Errors
-pub mod Lanes
-pub mod Messages
 pub mod Rounds
 pub mod Seats
 pub mod Shares
 pub mod Verdicts
 pub mod Ways
 pub mod Work
-pub mod Workers

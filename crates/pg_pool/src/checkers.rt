@@ -3,6 +3,7 @@ ghost use Rattle.std.specs.Prelude.{◌≡◌, ◌≢◌, ◌≤◌, ◌<◌, �
 ghost use Rattle.std.specs.Prelude.{vec_len};
 ghost use Rattle.pg_pool.specs.Work.{IsDone, IsFresh, IsFreshIn, is_refused};
 
+use crate::beside::Beside;
 use crate::checker::{Done, work};
 use crate::error::PoolError;
 use crate::gate::Gate;
@@ -60,35 +61,42 @@ fn settled(done: Vec<Done>, asked: usize) -> Result<Vec<Done>, PoolError>
     Ok(done)
 }
 
-/// Lets each seat's checker work in a thread of its own. All that were started are joined before
-/// it answers, also where a thread was refused.
-pub(crate) fn run_checkers<R: Threads + Wait + Sync, J: Judge, G: Gate>(
+/// Lets each seat's checker work in a thread of its own, and does a piece of work beside them. All
+/// that were started are joined before it answers, also where a thread was refused.
+pub(crate) fn run_checkers<R: Threads + Wait + Sync, J: Judge, G: Gate, B: Beside>(
     rt: &R,
     alloc: Global,
     judge: &J,
     gate: &G,
     seats: Vec<Seat>,
-) -> Result<Vec<Done>, PoolError>
-    requires { All (IsFreshIn (J.round judge.now)) seats.items }
-    ensures len { IfOk result (λ done. vec_len seats ≤ vec_len done) }
-    ensures done { IfOk result
+    beside: B,
+) -> (Result<Vec<Done>, PoolError>, B::Output)
+    requires fresh { All (IsFreshIn (J.round judge.now)) seats.items }
+    requires beside { B.can_run beside }
+    ensures len { IfOk result.0 (λ done. vec_len seats ≤ vec_len done) }
+    ensures done { IfOk result.0
         (λ done. All (IsDone (J.finds judge.now) (J.round judge.now)) done.items) }
-    ensures err { IfErr result (λ e. e ≢ PoolError.Checkers) }
+    ensures err { IfErr result.0 (λ e. e ≢ PoolError.Checkers) }
+    ensures beside { B.gives beside result.1 }
 {
     let round = judge.round();
     thread::scope(
         thread::scope_env(),
         rt,
-        |scope| -> Result<Vec<Done>, PoolError>
+        |scope| -> (Result<Vec<Done>, PoolError>, B::Output)
             requires fresh { All (IsFreshIn round) seats.items }
             requires round { round ≡ J.round judge.now }
-            ensures len { IfOk result (λ done. vec_len seats ≤ vec_len done) }
-            ensures done { IfOk result
+            requires beside { B.can_run beside }
+            ensures len { IfOk result.0 (λ done. vec_len seats ≤ vec_len done) }
+            ensures done { IfOk result.0
                 (λ done. All (IsDone (J.finds judge.entry.now) round) done.items) }
-            ensures err { IfErr result (λ e. e ≢ PoolError.Checkers) }
+            ensures err { IfErr result.0 (λ e. e ≢ PoolError.Checkers) }
+            ensures beside { B.gives beside result.1 }
         {
             let asked = seats.len();
-            let mut handles = Vec::with_capacity(alloc, asked)?;
+            let Ok(mut handles) = Vec::with_capacity(alloc, asked) else {
+                return (Err(PoolError::Memory), beside.run());
+            };
             for seat in seats {
                 let promised = Promised { judge, round };
                 let started = scope.spawn_with(
@@ -103,9 +111,10 @@ pub(crate) fn run_checkers<R: Threads + Wait + Sync, J: Judge, G: Gate>(
                     Err(_) => break,
                 }
             }
+            let output = beside.run();
             match thread::join_promised(rt, handles) {
-                Ok(done) => settled(done, asked),
-                Err(_) => Err(PoolError::Memory),
+                Ok(done) => (settled(done, asked), output),
+                Err(_) => (Err(PoolError::Memory), output),
             }
         },
     )

@@ -1,3 +1,4 @@
+// SPDX-License-Identifier: MIT OR Apache-2.0
 //! How far a run has come, in one word that readers read without a lock.
 #![tactic(auto)]
 

@@ -1,3 +1,4 @@
+// SPDX-License-Identifier: MIT OR Apache-2.0
 //! Whether any moments witness an access or an assist, asked of the past and not event by event.
 #![tactic(auto)]
 

@@ -1,3 +1,4 @@
+// SPDX-License-Identifier: MIT OR Apache-2.0
 //! Tests of the recorder: shadows, worlds, scripts, processors, and runs by one thread and many.
 #![tactic(auto)]
 

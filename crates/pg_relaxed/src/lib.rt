@@ -1,3 +1,4 @@
+// SPDX-License-Identifier: MIT OR Apache-2.0
 //! Events that no order of a run with spans can witness: what a processor may have cached while it
 //! stands between two of its events, whatever the order of the others.
 #![tactic(auto)]

@@ -1,5 +1,5 @@
 -- A record on the way that is read window by window.
-use Rattle.std.proofs.Common.{◌≡◌, ◌∙◌, append-nil, ℕ, ◌+◌, ◌^◌, ◌<◌, ◌≤◌, Bool, true, false, List, [], ◌++◌, length, length-append, Option, Some, None, Ok, Err, sym, ap, subst, arith}
+use Rattle.std.proofs.Common.{◌≡◌, ◌∙◌, inl, inr, ⊎_elim, append-nil, ℕ, ◌+◌, ◌%◌, ◌^◌, ◌<◌, ◌≤◌, Bool, true, false, List, [], ◌++◌, length, length-append, Option, Some, None, Ok, Err, refl, sym, ap, subst, arith}
 use Rattle.std.proofs.lemmas.List.{append_assoc}
 use Rattle.pg_event.specs.declared.event.Event.{Event}
 use Rattle.pg_event.specs.declared.version.Version.TheVariants.{Two}
@@ -9,22 +9,28 @@ use Rattle.pg_codec.specs.declared.stream.Source.{Ghosts}
 use Rattle.pg_codec.specs.declared.stage.Stage.{Stage}
 use Rattle.pg_codec.specs.declared.error.ReadError.{ReadError}
 use Rattle.pg_codec.specs.Readers.{stage_after_chunk, PullsSegment, IsNext}
+use Rattle.pg_check.specs.Judging.{Findings, IsJudged, MayFollow}
+use Rattle.pg_check.specs.Kept.{AreWellFormed}
 use Rattle.pg_check.proofs.Known.{AreWellFormed-append}
 use Rattle.pg_report.specs.declared.error.AuditError.{AuditError}
 use Rattle.pg_report.specs.declared.error.AuditError.TheVariants as errors
 use Rattle.pg_report.specs.Intake.{IsErrorOf}
-use Rattle.std.specs.Prelude.{Result, IfOk, IfErr}
-use Rattle.pg_report.specs.declared.report.Report.{Report}
-use Rattle.pg_report.specs.Judging.{JudgesRecord}
-use Rattle.pg_report.specs.Text.{report_of}
-use Rattle.pg_report.specs.Going.{IsGoing, IsJudging}
+use Rattle.pg_report.specs.Judging.{BeginsSegment, StopsJudging}
+use Rattle.pg_report.specs.Going.{IsGoing}
 use Rattle.pg_report.specs.Windows.{GoesOn, IsAll, IsLast, IsWindow, ReadsWindow, with_more}
-use Rattle.pg_report.proofs.Continuing.{next_fits, going_on, going_ends, going_fails, end_counts, failure_counts}
-use Rattle.pg_report.proofs.Windows.{error_judges}
+use Rattle.pg_report.proofs.Continuing.{next_fits, next_begins, going_on, going_ends, going_fails, end_counts, failure_counts}
+use Rattle.pg_report.proofs.Windows.{error_judges, stopped_judges, stopped_counts}
 
 -- so much of a window was read, in so many segments all in all
 abbrev pub HasRead : {R : Type 0} → Ghosts R → Option (List ℕ) → ℕ → Recorded → ℕ → List ℕ × R → Stage → List Event → Type 0
 HasRead g start f r segments at stage window = IsWindow r window × IsGoing g Two start f at stage (with_more r window) segments
+
+-- a window that was read behind a run that was judged begins a segment
+pub begins : (judged : Findings) (head : Head) (events window : List Event) → IsJudged judged head events → IsWindow (record { head = head; events = events }) window → BeginsSegment judged window
+begins judged head events window is w =
+    let whole : length events % head.segment ≡ 0 → judged.count % judged.head.segment ≡ 0 = (λ h.
+    ap (λ (n : ℕ). n % judged.head.segment) is.count ∙ ap (λ (k : Head). length events % k.segment) is.settings ∙ h) in
+    ⊎_elim (λ (none : window ≡ []). inl none) (λ (here : length events % head.segment ≡ 0). inr (whole here)) w.whole
 
 -- what holds of so many segments holds of fewer
 fewer : {R : Type 0} (g : Ghosts R) (start : Option (List ℕ)) (f : ℕ) (at : List ℕ × R) (stage : Stage) (r : Recorded) (segments : ℕ) → IsGoing g Two start f at stage r segments → (less : ℕ) → less ≤ segments
@@ -46,7 +52,7 @@ module _ {R : Type 0} (g : Ghosts R) (start : Option (List ℕ)) (f : ℕ) (r : 
   pub read_nothing : IsGoing g Two start f at stage r segments → HasRead g start f r segments at stage []
   read_nothing h =
       let few : length r.events < 2 ^ 32 = h.few in (
-        record { well = tt; few = omega (arith, few) },
+        record { well = tt; whole = inl refl; few = omega (arith, few) },
         subst (λ (es : List Event). IsGoing g Two start f at stage (record { head = r.head; events = es }) segments) (sym (append-nil r.events)) h,
       )
 
@@ -57,9 +63,14 @@ module _ {R : Type 0} (g : Ghosts R) (start : Option (List ℕ)) (f : ℕ) (r : 
     read_on after items later pulls next e =
         let fits = next_fits g Two start f at stage (with_more r window) segments h.1 items next in
         let on = going_on g Two start f at after stage (with_more r window) segments h.1 items later pulls next e in
+        let all : length (r.events ++ window) % r.head.segment ≡ 0 = next_begins g Two start f at stage (with_more r window) segments h.1 items next in
+        let begin : length r.events % r.head.segment ≡ 0 = ⊎_elim
+        (λ (none : window ≡ []). ap (λ (n : ℕ). n % r.head.segment) (sym (ap length (ap (λ (es : List Event). r.events ++ es) none ∙ append-nil r.events))) ∙ all)
+        (λ (here : length r.events % r.head.segment ≡ 0). here) h.0.whole in
         let few : length ((r.events ++ window) ++ items) < 2 ^ 32 = on.few in (
           record {
             well = AreWellFormed-append r.head window items h.0.well fits.well;
+            whole = inr begin;
             few = omega (arith, few, length-append (r.events ++ window) items, length-append r.events window, length-append window items);
           },
           subst (λ (es : List Event). IsGoing g Two start f after later (record { head = r.head; events = es }) (segments + 1)) (append_assoc r.events window items) on,
@@ -104,57 +115,45 @@ module _ {R : Type 0} (g : Ghosts R) (start : Option (List ℕ)) (f : ℕ) (r : 
       device = failure_counts g Two start f at after stage (with_more r window) segments h.1 e x is pulls;
     }
 
--- what was read is what was sent
-all_of : (before window : List Event) → (before ++ []) ++ window ≡ (before ++ window) ++ []
-all_of before window = ap (λ (es : List Event). es ++ window) (append-nil before) ∙ sym (append-nil (before ++ window))
-
-module _ {R : Type 0} (g : Ghosts R) (start : Option (List ℕ)) (f : ℕ) (at : List ℕ × R) (stage : Stage) (head : Head) where
-  -- a window was read and sent
-  pub fed_on : (before window : List Event) (Knows : List Event → Type 0) → Knows (before ++ window) → (more : Bool)
-      → ReadsWindow g start f (record { head = head; events = before ++ [] }) 0 at stage window (Ok more) → GoesOn g start f at stage head Knows [] 0 (Ok more)
-  fed_on before window Knows known true reads =
-      let going : IsGoing g Two start f at stage (record { head = head; events = (before ++ window) ++ [] }) 1 =
-      subst (λ (es : List Event). IsGoing g Two start f at stage (record { head = head; events = es }) 1) (all_of before window) reads.goes in
+module _ {R : Type 0} (g : Ghosts R) (start : Option (List ℕ)) (f : ℕ) (at : List ℕ × R) (stage : Stage) (windows : ℕ) where
+  -- the window was judged and the next was read
+  pub goes_on : (head : Head) (events next : List Event) (judged : Findings) → IsJudged judged head events → (more : Bool)
+      → ReadsWindow g start f (record { head = head; events = events }) windows at stage next (Ok more) → GoesOn g start f at stage judged next (windows + 1) (Ok more)
+  goes_on head events next judged is true reads =
+      let judges : IsJudged judged judged.head events = subst (λ (k : Head). IsJudged judged k events) (sym is.settings) is in
       record {
-        waits = record { before = before ++ window; known = known; well = tt; going = fewer g start f at stage (record { head = head; events = (before ++ window) ++ [] }) 1 going 0 (omega arith) };
+        waits = record {
+          before = events;
+          judges = judges;
+          well = subst (λ (k : Head). AreWellFormed k next) (sym is.settings) reads.fits.well;
+          whole = begins judged head events next is reads.fits;
+          going = subst (λ (k : Head). IsGoing g Two start f at stage (record { head = k; events = events ++ next }) (windows + 1)) (sym is.settings) reads.goes;
+        };
         fails = tt;
         device = reads.device;
       }
-  fed_on before window Knows known false reads =
-      let few : length (before ++ []) + length window < 2 ^ 32 = reads.fits.few in
+  goes_on head events next judged is false reads =
+      let judges : IsJudged judged judged.head events = subst (λ (k : Head). IsJudged judged k events) (sym is.settings) is in
       record {
         waits = record {
-          before = before ++ window;
-          known = known;
-          fits = record { well = tt; few = omega (arith, few, length-append (before ++ []) window, length-append before window, length-append before []) };
-          all = subst (λ (es : List Event). IsAll start (record { head = head; events = es })) (all_of before window) reads.goes;
+          before = events;
+          judges = judges;
+          fits = subst (λ (k : Head). IsWindow (record { head = k; events = events }) next) (sym is.settings) reads.fits;
+          all = subst (λ (k : Head). IsAll start (record { head = k; events = events ++ next })) (sym is.settings) reads.goes;
         };
         fails = tt;
         device = reads.device;
       }
 
-  -- a window was read, and not sent for want of memory
-  pub fed_refused : (r : Recorded) (window : List Event) (Knows : List Event → Type 0) (more : Bool) → ReadsWindow g start f r 0 at stage window (Ok more) → GoesOn g start f at stage head Knows [] 0 (Err errors.Memory)
-  fed_refused r window Knows more reads = record { waits = tt; fails = tt; device = reads.device }
+  -- judging stopped, and the next window was read
+  pub stops : (r : Recorded) (next : List Event) (judged : Findings) (more : Bool) → ReadsWindow g start f r windows at stage next (Ok more) → (e : AuditError) → StopsJudging e
+      → GoesOn g start f at stage judged next (windows + 1) (Err e)
+  stops r next judged more reads e stop = record { waits = tt; fails = stopped_judges start e stop; device = stopped_counts e f (g.failed at.1) stop reads.device }
 
   -- the next window was refused
-  pub fed_fails : (r : Recorded) (window : List Event) (Knows : List Event → Type 0) (e : AuditError) → ReadsWindow g start f r 0 at stage window (Err e) → GoesOn g start f at stage head Knows [] 0 (Err e)
-  fed_fails r window Knows e reads = record { waits = tt; fails = reads.fails; device = reads.device }
+  pub next_fails : (r : Recorded) (next : List Event) (judged : Findings) (e : AuditError) → ReadsWindow g start f r windows at stage next (Err e) → GoesOn g start f at stage judged next (windows + 1) (Err e)
+  next_fails r next judged e reads = record { waits = tt; fails = reads.fails; device = reads.device }
 
-  -- what is known of the events so far tells something else
-  pub judging_so : (Knows Known : List Event → Type 0) → ((events : List Event) → Knows events → Known events) → IsJudging g start f at stage head Knows [] 0 → IsJudging g start f at stage head Known [] 0
-  judging_so Knows Known so h = record { before = h.before; known = so h.before h.known; well = h.well; going = h.going }
-
-  -- nothing was read for now
-  pub fed_nothing : (Knows : List Event → Type 0) → IsJudging g start f at stage head Knows [] 0 → GoesOn g start f at stage head Knows [] 0 (Ok true)
-  fed_nothing Knows h = record { waits = h; fails = tt; device = h.going.failed }
-
--- what is known of the events so far tells something else
-pub last_so : (start : Option (List ℕ)) (head : Head) (Knows Known : List Event → Type 0) → ((events : List Event) → Knows events → Known events) → IsLast start head Knows [] → IsLast start head Known []
-last_so start head Knows Known so h = record { before = h.before; known = so h.before h.known; fits = h.fits; all = h.all }
-
--- a record that was read to its end was judged
-pub judged_all : (start : Option (List ℕ)) (head : Head) (before : List Event) (result : Result Report AuditError) → IfOk result (λ report. report ≡ report_of (record { head = head; events = before }))
-    → IfErr result (λ e. e ≡ errors.Memory) → IsAll start (record { head = head; events = before ++ [] }) → JudgesRecord start result
-judged_all start head before (Ok report) is e all = (record { head = head; events = before }, is, subst (λ (es : List Event). IsAll start (record { head = head; events = es })) (append-nil before) all)
-judged_all start head before (Err x) is e all = subst (λ (y : AuditError). JudgesRecord start (Err y)) (sym e) tt
+-- the last window may be judged
+pub last_follows : (start : Option (List ℕ)) (judged : Findings) (window : List Event) → IsLast start judged window → MayFollow judged window
+last_follows start judged window h = record { before = h.before; judged = h.judges; well = h.fits.well; limit = h.fits.few }

@@ -1,5 +1,5 @@
 -- A record on the way that is judged window by window.
-use Rattle.std.proofs.Common.{◌≡◌, cond, append-nil, ℕ, ◌+◌, ◌^◌, ◌<◌, List, [], ◌++◌, length, length-append, Option, Some, Ok, Err, sym, subst, arith}
+use Rattle.std.proofs.Common.{◌≡◌, cond, inl, inr, ⊎_elim, append-nil, ℕ, ◌+◌, ◌%◌, ◌^◌, ◌<◌, List, [], ◌++◌, length, length-append, Option, Some, Ok, Err, refl, sym, ap, subst, ◌∙◌, arith}
 use Rattle.std.specs.Prelude.{IfSome}
 use Rattle.std.proofs.lemmas.List.{append_assoc}
 use Rattle.pg_event.specs.declared.event.Event.{Event}
@@ -18,9 +18,9 @@ use Rattle.pg_report.specs.declared.error.AuditError.TheVariants as errors
 use Rattle.pg_codec.specs.declared.error.ReadError.{ReadError}
 use Rattle.pg_codec.specs.declared.error.ReadError.TheVariants as reads
 use Rattle.pg_report.specs.Intake.{IsErrorOf, ReadsRecord, is_device}
-use Rattle.pg_report.specs.Judging.{StopsJudging, JudgesRecord}
+use Rattle.pg_report.specs.Judging.{BeginsSegment, StopsJudging, JudgesRecord, IsMovedOn}
 use Rattle.pg_report.specs.Going.{IsGoing, IsJudging}
-use Rattle.pg_report.proofs.Continuing.{next_fits, going_on}
+use Rattle.pg_report.proofs.Continuing.{next_fits, next_begins, going_on}
 
 -- where judging stops nothing is said of the bytes, and no device failed
 pub stopped_judges : (left : Option (List ℕ)) (e : AuditError) → StopsJudging e → JudgesRecord left (Err e)
@@ -45,45 +45,48 @@ stopped_counts (errors.Refused d) old new stops same = absurd stops
 stopped_counts errors.Device old new stops same = absurd stops
 stopped_counts errors.Checkers old new stops same = absurd stops
 
--- more events may be judged behind a run that was judged
-pub follows : (judged : Findings) (head : Head) (before more : List Event) → IsJudged judged head before → AreWellFormed head more → length before + length more < 2 ^ 32 → MayFollow judged more
-follows judged head before more is well limit = record {
-  before = before;
-  judged = subst (λ (h : Head). IsJudged judged h before) (sym is.settings) is;
-  well = subst (λ (h : Head). AreWellFormed h more) (sym is.settings) well;
-  limit = limit;
-}
+module _ {R : Type 0} (g : Ghosts R) (start : Option (List ℕ)) (f : ℕ) where
+  pub judging_at_start : (at : List ℕ × R) (stage : Stage) (judged : Findings) (head : Head) → IsJudged judged head [] → IsGoing g Two start f at stage (record { head = head; events = [] }) 0 → IsJudging g start f at stage judged [] 0
+  judging_at_start at stage judged head judges going = record {
+    before = [];
+    judges = subst (λ (h : Head). IsJudged judged h []) (sym judges.settings) judges;
+    well = tt;
+    whole = inl refl;
+    going = subst (λ (h : Head). IsGoing g Two start f at stage (record { head = h; events = [] }) 0) (sym judges.settings) going;
+  }
 
-module _ {R : Type 0} (g : Ghosts R) (start : Option (List ℕ)) (f : ℕ) (head : Head) where
-  pub judging_at_start : (at : List ℕ × R) (stage : Stage) (Knows : List Event → Type 0) → Knows [] → IsGoing g Two start f at stage (record { head = head; events = [] }) 0 → IsJudging g start f at stage head Knows [] 0
-  judging_at_start at stage Knows known going = record { before = []; known = known; well = tt; going = going }
-
-  module _ (at : List ℕ × R) (stage : Stage) (Knows : List Event → Type 0) (window : List Event) (segments : ℕ) (h : IsJudging g start f at stage head Knows window segments) where
-    -- the window is not too long
-    pub window_fits : length h.before + length window < 2 ^ 32
-    window_fits =
+  module _ (at : List ℕ × R) (stage : Stage) (judged : Findings) (window : List Event) (segments : ℕ) (h : IsJudging g start f at stage judged window segments) where
+    -- the window may be judged
+    pub may_follow : MayFollow judged window
+    may_follow =
         let few : length (h.before ++ window) < 2 ^ 32 = h.going.few in
-        omega (arith, length-append h.before window, few)
+        record { before = h.before; judged = h.judges; well = h.well; limit = omega (arith, length-append h.before window, few) }
 
     -- a segment that comes next waits in the window
     pub longer : (after : List ℕ × R) (items : List Event) (later : Stage) → PullsSegment g stage at after (Ok (Some items)) → IsNext stage (Some items)
-        → later ≡ stage_after_chunk stage (Ok (Some items)) → IsJudging g start f after later head Knows (window ++ items) (segments + 1)
+        → later ≡ stage_after_chunk stage (Ok (Some items)) → IsJudging g start f after later judged (window ++ items) (segments + 1)
     longer after items later pulls next e =
-        let r : Recorded = record { head = head; events = h.before ++ window } in
+        let r : Recorded = record { head = judged.head; events = h.before ++ window } in
         let fits = next_fits g Two start f at stage r segments h.going items next in
         let on = going_on g Two start f at after stage r segments h.going items later pulls next e in
+        let all : length (h.before ++ window) % judged.head.segment ≡ 0 = next_begins g Two start f at stage r segments h.going items next in
+        let begins : BeginsSegment judged window → judged.count % judged.head.segment ≡ 0 = (λ b. ⊎_elim
+        (λ none. ap (λ (n : ℕ). n % judged.head.segment) (h.judges.count ∙ sym (ap length (ap (λ (es : List Event). h.before ++ es) none ∙ append-nil h.before))) ∙ all)
+        (λ (here : judged.count % judged.head.segment ≡ 0). here) b) in
         record {
           before = h.before;
-          known = h.known;
-          well = AreWellFormed-append head window items h.well fits.well;
-          going = subst (λ (es : List Event). IsGoing g Two start f after later (record { head = head; events = es }) (segments + 1)) (append_assoc h.before window items) on;
+          judges = h.judges;
+          well = AreWellFormed-append judged.head window items h.well fits.well;
+          whole = inr (begins h.whole);
+          going = subst (λ (es : List Event). IsGoing g Two start f after later (record { head = judged.head; events = es }) (segments + 1)) (append_assoc h.before window items) on;
         }
 
-    -- the window was judged
-    pub moved_on : (Knows' : List Event → Type 0) → Knows' (h.before ++ window) → IsJudging g start f at stage head Knows' [] segments
-    moved_on Knows' known = record {
-      before = h.before ++ window;
-      known = known;
-      well = tt;
-      going = subst (λ (es : List Event). IsGoing g Two start f at stage (record { head = head; events = es }) segments) (sym (append-nil (h.before ++ window))) h.going;
+    -- a window that was judged, or not yet
+    pub moved_on : (judged' : Findings) (window' : List Event) → IsMovedOn judged' judged.head (h.before ++ window) window' → BeginsSegment judged' window' → IsJudging g start f at stage judged' window' segments
+    moved_on judged' window' m whole = record {
+      whole = whole;
+      before = m.before;
+      judges = subst (λ (h : Head). IsJudged judged' h m.before) (sym m.judged.settings) m.judged;
+      well = subst (λ (h : Head). AreWellFormed h window') (sym m.judged.settings) m.well;
+      going = subst (λ (h : Head). IsGoing g Two start f at stage (record { head = h; events = m.before ++ window' }) segments) (sym m.judged.settings) (subst (λ (es : List Event). IsGoing g Two start f at stage (record { head = judged.head; events = es }) segments) m.all h.going);
     }

@@ -11,8 +11,10 @@ use Rattle.pg_codec.specs.declared.stage.Stage.{Stage}
 use Rattle.pg_codec.specs.declared.stage.Stage.TheVariants.{Segments}
 use Rattle.pg_codec.specs.declared.stream.Source.{Ghosts}
 use Rattle.pg_codec.specs.Reads.{left_in, Took}
+use Rattle.pg_check.specs.Judging.{Findings, IsJudged}
 use Rattle.pg_check.specs.Kept.{AreWellFormed}
 use Rattle.pg_report.specs.Intake.{is_too_new}
+use Rattle.pg_report.specs.Judging.{BeginsSegment}
 
 -- the events that were read before, and those that are still read
 abbrev pub with_front : List Event → Part (List Event) → Part (List Event)
@@ -61,12 +63,13 @@ pub record IsGoing {R : Type 0} (g : Ghosts R) (newest : Version) (start : Optio
   pub few : length r.events < 2 ^ 32
   pub whole : full ≡ true → length r.events % r.head.segment ≡ 0
 
--- what was read was judged, but for a window: what is known is of a run with the events before it
+-- what was read was judged, but for a window
 pub record IsJudging {R : Type 0} (g : Ghosts R) (start : Option (List ℕ)) (f : ℕ)
-    (at : List ℕ × R) (stage : Stage) (head : Head) (Knows : List Event → Type 0)
-    (window : List Event) (segments : ℕ) : Type 0 where
+    (at : List ℕ × R) (stage : Stage) (judged : Findings) (window : List Event)
+    (segments : ℕ) : Type 0 where
   pub before : List Event
-  pub known : Knows before
-  pub well : AreWellFormed head window
+  pub judges : IsJudged judged judged.head before
+  pub well : AreWellFormed judged.head window
+  pub whole : BeginsSegment judged window
   pub going : IsGoing g Two start f at stage
-      (record { head = head; events = before ++ window }) segments
+      (record { head = judged.head; events = before ++ window }) segments

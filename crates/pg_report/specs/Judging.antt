@@ -1,5 +1,5 @@
 -- What judging a record as it is read answers.
-use Rattle.std.specs.Prelude.{◌≡◌, ◌⊎◌, ℕ, ◌+◌, ◌%◌, List, [], length, Option}
+use Rattle.std.specs.Prelude.{◌≡◌, ◌⊎◌, ℕ, ◌+◌, ◌%◌, List, [], ◌++◌, length, Option}
 use Rattle.std.specs.Prelude.{Result, Ok, Err, IfSome}
 use Rattle.std.specs.Int.{div_ceil}
 use Rattle.pg_event.specs.declared.event.Event.{Event}
@@ -7,6 +7,7 @@ use Rattle.pg_event.specs.declared.version.Version.TheVariants.{Two}
 use Rattle.pg_event.specs.Heads.{Head}
 use Rattle.pg_event.specs.Spelling.{Recorded}
 use Rattle.pg_check.specs.Judging.{Findings, IsJudged}
+use Rattle.pg_check.specs.Kept.{AreWellFormed}
 use Rattle.pg_report.specs.declared.report.Report.{Report}
 use Rattle.pg_pool.specs.declared.round.Round.{Round}
 use Rattle.pg_report.specs.declared.error.AuditError.{AuditError}
@@ -43,6 +44,13 @@ waiting_round f events = record {
   first = div_ceil f.count f.head.segment;
   last = div_ceil (f.count + length events) f.head.segment;
 }
+
+-- of these events the first were judged, and the others wait
+pub record IsMovedOn (f : Findings) (head : Head) (events waiting : List Event) : Type 0 where
+  pub before : List Event
+  pub judged : IsJudged f head before
+  pub all : events ≡ before ++ waiting
+  pub well : AreWellFormed head waiting
 
 -- the report is that of the run that was judged
 abbrev pub IsReportOf : Findings → Report → Type 0

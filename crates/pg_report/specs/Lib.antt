@@ -7,5 +7,4 @@ pub mod Judging
 pub mod Merging
 pub mod Going
 pub mod Windows
-pub mod Team
 pub mod Rounds

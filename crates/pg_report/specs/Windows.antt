@@ -1,5 +1,5 @@
 -- A record on the way that is read window by window, one window ahead of those that are judged.
-use Rattle.std.specs.Prelude.{ℕ, ◌+◌, ◌^◌, ◌<◌, Bool, List, ◌++◌}
+use Rattle.std.specs.Prelude.{◌≡◌, ◌⊎◌, ℕ, ◌+◌, ◌%◌, ◌^◌, ◌<◌, Bool, List, [], ◌++◌}
 use Rattle.std.specs.Prelude.{length, Option, Result, Ok, Err, IfSome, IfOk, IfErr, MatchBool}
 use Rattle.pg_event.specs.declared.event.Event.{Event}
 use Rattle.pg_event.specs.declared.version.Version.TheVariants.{Two}
@@ -7,7 +7,7 @@ use Rattle.pg_event.specs.Spelling.{Recorded}
 use Rattle.pg_codec.specs.declared.stage.Stage.{Stage}
 use Rattle.pg_codec.specs.declared.stream.Source.{Ghosts}
 use Rattle.pg_codec.specs.Streams.{FailsWithDevice}
-use Rattle.pg_event.specs.Heads.{Head}
+use Rattle.pg_check.specs.Judging.{Findings, IsJudged}
 use Rattle.pg_check.specs.Kept.{AreWellFormed}
 use Rattle.pg_report.specs.declared.error.AuditError.{AuditError}
 use Rattle.pg_report.specs.Going.{IsGoing, IsJudging}
@@ -18,9 +18,11 @@ use Rattle.pg_report.specs.Judging.{JudgesRecord}
 abbrev pub with_more : Recorded → List Event → Recorded
 with_more r more = record { head = r.head; events = r.events ++ more }
 
--- events that may be judged behind those of a record: they are well formed, and not too many
+-- events that may be judged behind those of a record: they are well formed and not too many, and
+-- begin a segment if there are any
 pub record IsWindow (r : Recorded) (window : List Event) : Type 0 where
   pub well : AreWellFormed r.head window
+  pub whole : (window ≡ []) ⊎ (length r.events % r.head.segment ≡ 0)
   pub few : length r.events + length window < 2 ^ 32
 
 -- a record was read to its end, if the reader tells what was left
@@ -40,19 +42,18 @@ pub record ReadsWindow {R : Type 0} (g : Ghosts R) (start : Option (List ℕ)) (
   pub device : FailsWithDevice is_device f (g.failed at.1) result
 
 -- a record was read to its end, and judged but for a window
-pub record IsLast (start : Option (List ℕ)) (head : Head) (Knows : List Event → Type 0)
-    (window : List Event) : Type 0 where
+pub record IsLast (start : Option (List ℕ)) (judged : Findings) (window : List Event) : Type 0 where
   pub before : List Event
-  pub known : Knows before
-  pub fits : IsWindow (record { head = head; events = before }) window
-  pub all : IsAll start (record { head = head; events = before ++ window })
+  pub judges : IsJudged judged judged.head before
+  pub fits : IsWindow (record { head = judged.head; events = before }) window
+  pub all : IsAll start (record { head = judged.head; events = before ++ window })
 
 -- A call judges the window that waits and reads the next: it answers whether there is more behind
 -- that, or an error.
 pub record GoesOn {R : Type 0} (g : Ghosts R) (start : Option (List ℕ)) (f : ℕ) (at : List ℕ × R)
-    (stage : Stage) (head : Head) (Knows : List Event → Type 0) (next : List Event) (windows : ℕ)
+    (stage : Stage) (judged : Findings) (next : List Event) (windows : ℕ)
     (result : Result Bool AuditError) : Type 0 where
   pub waits : IfOk result (λ more. MatchBool more
-      (IsJudging g start f at stage head Knows next windows) (IsLast start head Knows next))
+      (IsJudging g start f at stage judged next windows) (IsLast start judged next))
   pub fails : IfErr result (λ e. JudgesRecord start (Err e))
   pub device : FailsWithDevice is_device f (g.failed at.1) result

@@ -1,6 +1,6 @@
 //! The audit of a record, from bytes to report.
 
-ghost use Rattle.std.specs.Prelude.{◌≡◌, ◌≢◌, ◌↔◌, Err, string_bytes};
+ghost use Rattle.std.specs.Prelude.{◌≡◌, ◌≢◌, ◌↔◌, Err, IfErr};
 ghost use Rattle.pg_pool.specs.Rounds.{AreCheckers};
 ghost use Rattle.pg_report.specs.Changes.{drawn, filled};
 ghost use Rattle.pg_report.specs.Text.{report_of, report_text};
@@ -16,6 +16,7 @@ use pg_check::{History, first_bad};
 use pg_codec::{Sink, Source, put_all};
 use pg_pool::{Gate, OpenGate};
 use std::alloc::Global;
+use std::sync::Wait;
 use std::thread::Threads;
 
 /// The report of a record.
@@ -32,6 +33,7 @@ pub fn report_of(history: &History) -> Report
 /// Writes a text. A beginning of it is written where the writer fails.
 pub fn write_text<W: Sink>(writer: &mut W, text: &str) -> Result<(), AuditError>
     ensures text { WritesText (filled W.Sink writer.old writer.new) text.now result }
+    ensures only { IfErr result (λ e. e ≡ AuditError.Device) }
     ensures device { TellsDevice (filled W.Sink writer.old writer.new) result }
 {
     match put_all(writer, text.as_bytes()) {
@@ -79,16 +81,15 @@ pub fn audit_one<R: Source, W: Sink>(
 }
 
 /// Reads the record that the reader has left, has it judged by so many checkers, and writes its
-/// report, as `audit_one` does. Each checker judges the events of its own processors, in a thread
-/// of its own where one can be made; no more take part than the run has processors, but for a
-/// second, and no more than 8. They judge one window of events while the calling thread reads the
-/// next.
-/// Each segment goes through the gate once, with the number of one of the checkers, which differs
-/// from that of the next segment if there are several.
+/// report, as `audit_one` does. Each checker has a thread of its own, but for those that would find
+/// no segment: they take the segments of a window of events from one another, and each segment
+/// goes through the gate with the number of the checker that judges it. Windows after one with a
+/// bad event are read, and not judged.
 ///
-/// Where the number of checkers is none of 1 to 64 nothing is read. The threads of a window have
-/// ended before the next is judged, and before an error is told, also one of the reader.
-pub fn audit_watched<T: Threads + Sync, R: Source, W: Sink, G: Gate>(
+/// Where the number of checkers is none of 1 to 64 nothing is read. Where a thread is refused the
+/// audit stops by that. The calling thread reads the next window meanwhile. The threads of a window
+/// have ended before the next is judged, and before an error is told, also one of the reader.
+pub fn audit_watched<T: Threads + Wait + Sync, R: Source, W: Sink, G: Gate>(
     rt: &T,
     alloc: Global,
     reader: &mut R,
@@ -123,7 +124,7 @@ pub fn audit_watched<T: Threads + Sync, R: Source, W: Sink, G: Gate>(
 
 /// Reads the record that the reader has left, has it judged by so many checkers, and writes its
 /// report: `audit_watched` with a gate that does nothing.
-pub fn audit<T: Threads + Sync, R: Source, W: Sink>(
+pub fn audit<T: Threads + Wait + Sync, R: Source, W: Sink>(
     rt: &T,
     alloc: Global,
     reader: &mut R,

@@ -15,7 +15,7 @@ use crate::merger::merge;
 use crate::report::Verdict;
 use pg_check::{Judged, SegmentVerdict};
 use pg_event::{Event, Reason};
-use pg_pool::{Gate, PoolError, Round, audit_round};
+use pg_pool::{Asked, Beside, Gate, NoWork, PoolError, Round, audit_round_beside};
 use std::alloc::Global;
 use std::sync::Wait;
 use std::thread::Threads;
@@ -129,32 +129,65 @@ impl<'a, T, G> Crew<'a, T, G> {
 }
 
 impl<'a, T: Threads + Wait + Sync, G: Gate> Crew<'a, T, G> {
-    /// The first bad event of those that wait, segment by segment. None is looked for behind a bad
-    /// one.
-    fn first_bad_of(
+    /// The first bad event of those that wait, segment by segment, and what the work beside gives.
+    /// Each segment is judged, also behind a bad one.
+    fn first_bad_of<B: Beside>(
         &self,
         judged: &Judged,
         events: &[Event],
-    ) -> Result<Option<(u64, Reason)>, AuditError>
+        beside: B,
+    ) -> (Result<Option<(u64, Reason)>, AuditError>, B::Output)
         requires waits { (head : Head) × (before : List Event)
             × Awaits judged.now head before events.now }
         requires whole { BeginsSegment judged.now events.now }
+        requires beside { B.can_run beside }
         ensures ok { (head : Head) (before : List Event) →
             Awaits judged.now head before events.now →
-            IfOk result (λ found. IsFound found head before events.now) }
-        ensures err { IfErr result StopsJudging }
+            IfOk result.0 (λ found. IsFound found head before events.now) }
+        ensures err { IfErr result.0 StopsJudging }
+        ensures beside { B.gives beside result.1 }
     {
         if events.is_empty() {
-            return Ok(None);
-        }
-        if let Some(_) = judged.first_bad() {
-            return Ok(None);
+            return (Ok(None), beside.run());
         }
         let round = waiting_round(judged, events);
         let stretch = judged.stretch(events);
+        let asked = Asked { stretch, round };
         let workers = self.workers(round);
-        let verdicts = audit_round(self.rt, self.alloc, stretch, round, workers, self.gate);
-        found_in(self.alloc, verdicts, round)
+        let (verdicts, output) = audit_round_beside(
+            self.rt, self.alloc, asked, workers, self.gate, beside,
+        );
+        (found_in(self.alloc, verdicts, round), output)
+    }
+
+    /// Judges the events that come next, whole segments but for the last of the run, while the
+    /// calling thread does a piece of work; that is done once, also after an error. After an error
+    /// `judged` may have noted events that it does not count, and is not to be used.
+    pub(crate) fn judge_beside<B: Beside>(
+        &self,
+        judged: &mut Judged,
+        events: &[Event],
+        beside: B,
+    ) -> (Result<(), AuditError>, B::Output)
+        requires next { MayFollow judged.old events.now }
+        requires whole { BeginsSegment judged.old events.now }
+        requires beside { B.can_run beside }
+        ensures ok { (head : Head) (before : List Event) → IsJudged judged.old head before →
+            OnOk result.0 (IsJudged judged.new head (before ++ events.now)) }
+        ensures err { IfErr result.0 StopsJudging }
+        ensures beside { B.gives beside result.1 }
+    {
+        if let Err(_) = judged.note(events) {
+            return (Err(AuditError::Memory), beside.run());
+        }
+        let (found, output) = self.first_bad_of(judged, events, beside);
+        match found {
+            Ok(found) => {
+                judged.settle(events, found);
+                (Ok(()), output)
+            }
+            Err(error) => (Err(error), output),
+        }
     }
 
     /// Judges the events that come next, whole segments but for the last of the run. After an error
@@ -166,9 +199,7 @@ impl<'a, T: Threads + Wait + Sync, G: Gate> Crew<'a, T, G> {
             OnOk result (IsJudged judged.new head (before ++ events.now)) }
         ensures err { IfErr result StopsJudging }
     {
-        judged.note(events)?;
-        let found = self.first_bad_of(judged, events)?;
-        judged.settle(events, found);
-        Ok(())
+        let (result, ()) = self.judge_beside(judged, events, NoWork);
+        result
     }
 }

@@ -1,45 +1,41 @@
 //! Whole records, judged by checkers as they are read.
 
-ghost use Rattle.std.specs.Prelude.{◌≡◌, ℕ, ◌<◌, [], true, All, List, Option};
-ghost use Rattle.pg_event.specs.Heads.{Head};
+ghost use Rattle.std.specs.Prelude.{◌≡◌, ℕ, ◌+◌, ◌<◌, [], List, Option};
 ghost use Rattle.pg_event.specs.Spelling.{Recorded};
 ghost use Rattle.pg_event.specs.declared.version.Version.TheVariants.{Two};
-ghost use Rattle.pg_pool.specs.declared.lanes.Lane.{Lane};
-ghost use Rattle.pg_pool.specs.declared.lanes.Outbox.{Outbox};
-ghost use Rattle.pg_pool.specs.Lanes.{HasRoom};
 ghost use Rattle.pg_report.specs.Changes.{drawn};
 ghost use Rattle.pg_codec.specs.Streams.{FailsWithDevice};
 ghost use Rattle.pg_report.specs.Going.{IsGoing, IsJudging};
 ghost use Rattle.pg_report.specs.Intake.{TellsDevice, is_device};
 ghost use Rattle.pg_report.specs.Judging.{JudgesRecord};
-ghost use Rattle.pg_report.specs.Team.{ArePairs, IsFeed, IsTeam};
 ghost use Rattle.pg_report.specs.Windows.{GoesOn, IsLast, ReadsWindow};
 
 use crate::crew::Crew;
 use crate::error::AuditError;
-use crate::feed::Feed;
 use crate::intake::{MOST_CHUNKS, audit_error, read_header_up_to};
 use crate::report::Report;
-use crate::team::Team;
+use crate::whole_record::report_of_judged;
+use pg_check::Judged;
 use pg_codec::{RecordReader, Source};
 use pg_event::{Event, Version};
-use pg_pool::{Gate, pause};
+use pg_pool::{Beside, Gate};
 use std::alloc::Global;
-use std::thread::{Threads, join_mut};
+use std::mem;
+use std::sync::Wait;
+use std::thread::Threads;
 
-/// A window is full once it has so many events, or a first segment with an eighth of them; its last
-/// segment may bring more. Some windows wait for each checker, so they are short.
-const WINDOW: usize = 1 << 12;
+/// The first window is full once it has so many events; the last segment of a window may bring
+/// more. Nothing is judged while the first is read, so it is short.
+const FIRST_WINDOW: usize = 1 << 13;
 
-/// So often the reader looks for room before it lets the checkers' threads end: where no thread can
-/// be made, they judge in turn.
-const MOST_LOOKS: u32 = 1 << 19;
+/// No window asks for more events. To start threads takes time, so rounds are few and long.
+const MOST_WINDOW: usize = 1 << 17;
 
-/// Whether a segment is a window by itself, so that it is not copied: if it is the first, and long.
-fn is_long(window: &[Event], segment: &[Event], size: usize) -> bool
-    ensures { result ≡ true → window.now ≡ [] }
+/// How many events the next window asks for: twice as many as the one that is judged meanwhile has.
+fn next_size(judged: usize) -> usize
+    ensures { 0 < result }
 {
-    window.is_empty() && segment.len() >= size / 8
+    judged.saturating_mul(2).max(FIRST_WINDOW).min(MOST_WINDOW)
 }
 
 /// Reads segments into a window, whose own events are let go, until it has so many or the record
@@ -65,10 +61,6 @@ fn read_window<R: Source>(
     for _ in 0..size {
         match reader.read_segment_in(room, source) {
             Ok(Some(events)) => {
-                if is_long(window, &events, size) {
-                    *window = events;
-                    return Ok(true);
-                }
                 if let Err(_) = window.extend_from_slice(&events) {
                     return Err(AuditError::Memory);
                 }
@@ -84,184 +76,163 @@ fn read_window<R: Source>(
     Ok(true)
 }
 
-/// Reads the next window, and sends it to the checkers; tells whether there is more to be read.
-fn feed_window<R: Source>(
+/// The window that comes next, to be read while another is judged.
+#[derive(Drop)]
+struct Next<'a, 'b, 'c, R> {
     alloc: Global,
+    reader: &'a mut RecordReader,
+    source: &'b mut R,
+    window: &'c mut Vec<Event>,
+    /// It is full once it has so many events.
+    size: usize,
+}
+
+impl<'a, 'b, 'c, R: Source> Beside for Next<'a, 'b, 'c, R> {
+    ghost use Rattle.std.specs.Prelude.{◌≡◌, ◌<◌, ℕ, List, Option};
+    ghost use Rattle.pg_event.specs.Spelling.{Recorded};
+    ghost use Rattle.pg_event.specs.declared.version.Version.TheVariants.{Two};
+    ghost use Rattle.pg_report.specs.Going.{IsGoing};
+    ghost use Rattle.pg_report.specs.Windows.{ReadsWindow};
+
+    type Output = (Next<'a, 'b, 'c, R>, Result<bool, AuditError>);
+
+    ghost can_run = { λ n. (0 < n.size)
+        × (start : Option (List ℕ)) × (f : ℕ) × (r : Recorded) × (windows : ℕ)
+        × IsGoing R.Source Two start f (n.reader.now.unread, n.source.now) n.reader.now.stage
+        r windows };
+
+    ghost gives = { λ n out. (out.0.reader.ghost_name ≡ n.reader.ghost_name)
+        × (out.0.source.ghost_name ≡ n.source.ghost_name)
+        × (out.0.window.ghost_name ≡ n.window.ghost_name)
+        × ((start : Option (List ℕ)) (f : ℕ) (r : Recorded) (windows : ℕ) →
+        IsGoing R.Source Two start f (n.reader.now.unread, n.source.now) n.reader.now.stage
+        r windows → ReadsWindow R.Source start f r windows
+        (out.0.reader.now.unread, out.0.source.now) out.0.reader.now.stage
+        out.0.window.now.items out.1) };
+
+    fn run(self) -> (Next<'a, 'b, 'c, R>, Result<bool, AuditError>) {
+        let Next {
+            alloc,
+            reader,
+            source,
+            window,
+            size,
+        } = self;
+        let more = read_window(alloc, reader, source, window, size);
+        let next = Next {
+            alloc,
+            reader,
+            source,
+            window,
+            size,
+        };
+        (next, more)
+    }
+}
+
+/// Does nothing, but this use of a reference that came back ties it to the parameter that was lent.
+fn take_back<T>(lent: &mut T)
+    ensures { lent.new ≡ lent.old }
+{}
+
+/// Judges the window that waits, and reads the next beside.
+fn judge_and_read<T: Threads + Wait + Sync, G: Gate, R: Source>(
+    crew: &Crew<'_, T, G>,
     reader: &mut RecordReader,
     source: &mut R,
-    feed: &mut Feed,
+    judged: &mut Judged,
+    window: &[Event],
+    next: &mut Vec<Event>,
 ) -> Result<bool, AuditError>
-    requires room { All (HasRoom 1) feed.old.outboxes.items }
-    requires going { (start : Option (List ℕ)) × (f : ℕ) × (head : Head)
+    requires waits { (start : Option (List ℕ)) × (f : ℕ) × (windows : ℕ)
         × IsJudging R.Source start f (reader.old.unread, source.old) reader.old.stage
-        head (IsFeed feed.old head) [] 0 }
-    ensures goes { (start : Option (List ℕ)) (f : ℕ) (head : Head) →
+        judged.old window.now windows }
+    ensures { (start : Option (List ℕ)) (f : ℕ) (windows : ℕ) →
         IsJudging R.Source start f (reader.old.unread, source.old) reader.old.stage
-        head (IsFeed feed.old head) [] 0 →
+        judged.old window.now windows →
         GoesOn R.Source start f (reader.new.unread, source.new) reader.new.stage
-        head (IsFeed feed.new head) [] 0 result }
-    ensures pairs { (lanes : List Lane) → ArePairs feed.old.outboxes.items lanes →
-        ArePairs feed.new.outboxes.items lanes }
+        judged.new next.new.items (windows + 1) result }
 {
-    let mut window = Vec::new(alloc);
-    match read_window(alloc, reader, source, &mut window, WINDOW) {
-        Ok(more) => match feed.send(alloc, window, !more) {
+    let work = Next {
+        alloc: crew.alloc,
+        reader,
+        source,
+        window: next,
+        size: next_size(window.len()),
+    };
+    let (judging, (done, reading)) = crew.judge_beside(judged, window, work);
+    let Next {
+        alloc: _,
+        reader,
+        source,
+        window,
+        size: _,
+    } = done;
+    take_back(reader);
+    take_back(source);
+    take_back(window);
+    match reading {
+        Ok(more) => match judging {
             Ok(()) => Ok(more),
-            Err(_) => Err(AuditError::Memory),
+            Err(error) => Err(error),
         },
-        Err(error) => {
-            // So that no checker waits for more. One that is not told waits for a while.
-            let _ = feed.send(alloc, Vec::new(alloc), true);
-            Err(error)
-        }
+        Err(error) => Err(error),
     }
 }
 
-/// Reads windows and sends them to the checkers, until the record ends or no checker has made room
-/// for a while; tells whether there may be more to be read.
-fn feed_all<R: Source>(
-    alloc: Global,
-    reader: &mut RecordReader,
-    source: &mut R,
-    feed: &mut Feed,
-) -> Result<bool, AuditError>
-    requires going { (start : Option (List ℕ)) × (f : ℕ) × (head : Head)
-        × IsJudging R.Source start f (reader.old.unread, source.old) reader.old.stage
-        head (IsFeed feed.old head) [] 0 }
-    ensures goes { (start : Option (List ℕ)) (f : ℕ) (head : Head) →
-        IsJudging R.Source start f (reader.old.unread, source.old) reader.old.stage
-        head (IsFeed feed.old head) [] 0 →
-        GoesOn R.Source start f (reader.new.unread, source.new) reader.new.stage
-        head (IsFeed feed.new head) [] 0 result }
-    ensures pairs { (lanes : List Lane) → ArePairs feed.old.outboxes.items lanes →
-        ArePairs feed.new.outboxes.items lanes }
-{
-    let mut looks = 0;
-    for _ in 0..MOST_CHUNKS {
-        if looks > MOST_LOOKS {
-            return Ok(true);
-        }
-        if feed.has_room() {
-            match feed_window(alloc, reader, source, feed) {
-                Ok(more) => {
-                    if !more {
-                        return Ok(false);
-                    }
-                }
-                Err(error) => return Err(error),
-            }
-            looks = 0;
-        } else {
-            looks += 1;
-            pause(looks);
-        }
-    }
-    Ok(true)
-}
-
-/// Has the checkers judge what comes to them, and reads and sends what comes next meanwhile.
-fn judge_and_feed<T: Threads + Sync, G: Gate, R: Source>(
+/// Judges the last window, and gives the report.
+fn judge_last<T: Threads + Wait + Sync, G: Gate>(
     crew: &Crew<'_, T, G>,
-    reader: &mut RecordReader,
-    source: &mut R,
-    team: &mut Team,
-    feed: &mut Feed,
-) -> Result<bool, AuditError>
-    requires team { (head : Head) × IsTeam team.old head }
-    requires going { (start : Option (List ℕ)) × (f : ℕ) × (head : Head)
-        × IsJudging R.Source start f (reader.old.unread, source.old) reader.old.stage
-        head (IsFeed feed.old head) [] 0 }
-    requires pairs { ArePairs feed.old.outboxes.items team.old.lanes.items }
-    ensures goes { (start : Option (List ℕ)) (f : ℕ) (head : Head) →
-        IsJudging R.Source start f (reader.old.unread, source.old) reader.old.stage
-        head (IsFeed feed.old head) [] 0 →
-        GoesOn R.Source start f (reader.new.unread, source.new) reader.new.stage
-        head (IsFeed feed.new head) [] 0 result }
-    ensures team { (head : Head) → IsTeam team.old head → IsTeam team.new head }
-    ensures pairs { ArePairs feed.new.outboxes.items team.new.lanes.items }
-{
-    let rt = crew.rt;
-    let gate = crew.gate;
-    let alloc = crew.alloc;
-    let (_, reading) = join_mut(
-        rt,
-        &mut ||
-            requires { (head : Head) × IsTeam team.now head }
-            ensures team { (head : Head) → IsTeam team.entry.now head → IsTeam team.exit.now head }
-            ensures pairs { (os : List Outbox) → ArePairs os team.entry.now.lanes.items →
-                ArePairs os team.exit.now.lanes.items }
-        { team.work(rt, gate) },
-        &mut || -> Result<bool, AuditError>
-            requires going { (start : Option (List ℕ)) × (f : ℕ) × (head : Head)
-                × IsJudging R.Source start f (reader.now.unread, source.now) reader.now.stage
-                head (IsFeed feed.now head) [] 0 }
-            ensures goes { (start : Option (List ℕ)) (f : ℕ) (head : Head) →
-                IsJudging R.Source start f (reader.entry.now.unread, source.entry.now)
-                reader.entry.now.stage head (IsFeed feed.entry.now head) [] 0 →
-                GoesOn R.Source start f (reader.exit.now.unread, source.exit.now)
-                reader.exit.now.stage head (IsFeed feed.exit.now head) [] 0 result }
-            ensures pairs { (lanes : List Lane) → ArePairs feed.entry.now.outboxes.items lanes →
-                ArePairs feed.exit.now.outboxes.items lanes }
-        { feed_all(alloc, reader, source, feed) },
-    );
-    reading
-}
-
-/// Judges what is left of a record that was read, and gives the report.
-fn judge_last<T: Threads + Sync, G: Gate>(
-    crew: &Crew<'_, T, G>,
-    team: &mut Team,
-    feed: &mut Feed,
+    judged: &mut Judged,
+    window: &[Event],
 ) -> Result<Report, AuditError>
-    requires last { (start : Option (List ℕ)) × (head : Head) × IsTeam team.old head
-        × IsLast start head (IsFeed feed.old head) [] }
-    requires pairs { ArePairs feed.old.outboxes.items team.old.lanes.items }
-    ensures judges { (start : Option (List ℕ)) (head : Head) → IsTeam team.old head →
-        IsLast start head (IsFeed feed.old head) [] → JudgesRecord start result }
+    requires last { (start : Option (List ℕ)) × IsLast start judged.old window.now }
+    ensures judges { (start : Option (List ℕ)) → IsLast start judged.old window.now →
+        JudgesRecord start result }
     ensures device { (f : ℕ) → FailsWithDevice is_device f f result }
 {
-    for _ in 0..MOST_CHUNKS {
-        if team.is_drained(feed) {
-            return team.report(feed);
-        }
-        team.work(crew.rt, crew.gate);
+    if let Err(error) = crew.judge(judged, window) {
+        return Err(error);
     }
-    Err(AuditError::Thread)
+    Ok(report_of_judged(judged))
 }
 
-/// Reads what is left of a record behind its header, and has it judged by checkers as it is read.
-/// Some windows wait for each checker meanwhile, and no more events are kept.
-fn judge_rest<T: Threads + Sync, G: Gate, R: Source>(
+/// Reads what is left of a record behind its header, and has it judged by checkers as it is read:
+/// each window is read while the one before it is judged. No more events are kept than those of the
+/// two, and those of the segment that was read last.
+fn judge_rest<T: Threads + Wait + Sync, G: Gate, R: Source>(
     crew: &Crew<'_, T, G>,
     reader: &mut RecordReader,
     source: &mut R,
-    team: &mut Team,
-    feed: &mut Feed,
+    judged: &mut Judged,
 ) -> Result<Report, AuditError>
-    requires going { (start : Option (List ℕ)) × (f : ℕ) × (head : Head) × IsTeam team.old head
-        × IsJudging R.Source start f (reader.old.unread, source.old) reader.old.stage
-        head (IsFeed feed.old head) [] 0 }
-    requires pairs { ArePairs feed.old.outboxes.items team.old.lanes.items }
-    ensures judges { (start : Option (List ℕ)) (f : ℕ) (head : Head) → IsTeam team.old head →
-        IsJudging R.Source start f (reader.old.unread, source.old) reader.old.stage
-        head (IsFeed feed.old head) [] 0 → JudgesRecord start result }
-    ensures device { (start : Option (List ℕ)) (f : ℕ) (head : Head) → IsTeam team.old head →
-        IsJudging R.Source start f (reader.old.unread, source.old) reader.old.stage
-        head (IsFeed feed.old head) [] 0 →
+    requires going { (start : Option (List ℕ)) × (f : ℕ) × IsJudging R.Source start f
+        (reader.old.unread, source.old) reader.old.stage judged.old [] 0 }
+    ensures judges { (start : Option (List ℕ)) (f : ℕ) → IsJudging R.Source start f
+        (reader.old.unread, source.old) reader.old.stage judged.old [] 0 →
+        JudgesRecord start result }
+    ensures device { (start : Option (List ℕ)) (f : ℕ) → IsJudging R.Source start f
+        (reader.old.unread, source.old) reader.old.stage judged.old [] 0 →
         FailsWithDevice is_device f (R.failed source.new) result }
 {
+    let mut window = Vec::new(crew.alloc);
+    let mut next = Vec::new(crew.alloc);
     for _ in 0..MOST_CHUNKS {
-        match judge_and_feed(crew, reader, source, team, feed) {
-            Ok(true) => {}
-            Ok(false) => return judge_last(crew, team, feed),
+        match judge_and_read(crew, reader, source, judged, window.as_slice(), &mut next) {
+            Ok(more) => {
+                if !more {
+                    return judge_last(crew, judged, next.as_slice());
+                }
+            }
             Err(error) => return Err(error),
         }
+        mem::swap(&mut window, &mut next);
     }
-    Err(AuditError::Thread)
+    unreachable!()
 }
 
 /// Reads the record that a source has left, all of it, and judges it by checkers as it is read.
-pub fn judge_record_by<T: Threads + Sync, G: Gate, R: Source>(
+pub fn judge_record_by<T: Threads + Wait + Sync, G: Gate, R: Source>(
     crew: &Crew<'_, T, G>,
     source: &mut R,
 ) -> Result<Report, AuditError>
@@ -274,6 +245,6 @@ pub fn judge_record_by<T: Threads + Sync, G: Gate, R: Source>(
         Ok(header) => header,
         Err(error) => return Err(audit_error(error)),
     };
-    let (mut feed, mut team) = Team::new(alloc, &header, crew.checkers)?;
-    judge_rest(crew, &mut reader, source, &mut team, &mut feed)
+    let mut judged = Judged::new(alloc, header)?;
+    judge_rest(crew, &mut reader, source, &mut judged)
 }

@@ -1,15 +1,14 @@
+// SPDX-License-Identifier: MIT OR Apache-2.0
 //! Reports of records: the audit, its verdict and its text.
 #![tactic(auto)]
 
 mod auditor;
 mod crew;
 mod error;
-mod feed;
 mod intake;
 mod judging_by;
 mod merger;
 mod report;
-mod team;
 mod whole_record;
 
 pub use auditor::{audit, audit_one, audit_watched, report_of, write_report, write_text};

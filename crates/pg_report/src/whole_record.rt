@@ -1,8 +1,6 @@
 //! Whole records, judged as they are read.
 
 ghost use Rattle.std.specs.Prelude.{◌≢◌, ℕ, List, [], Option, Err};
-ghost use Rattle.pg_event.specs.Heads.{Head};
-ghost use Rattle.pg_check.specs.Judging.{IsJudged};
 ghost use Rattle.pg_report.specs.Changes.{drawn};
 ghost use Rattle.pg_codec.specs.Streams.{FailsWithDevice};
 ghost use Rattle.pg_report.specs.Going.{IsJudging};
@@ -36,15 +34,14 @@ fn judge_rest<R: Source>(
     source: &mut R,
     judged: &mut Judged,
 ) -> Result<Report, AuditError>
-    requires going { (start : Option (List ℕ)) × (f : ℕ) × (head : Head)
-        × IsJudging R.Source start f (reader.old.unread, source.old) reader.old.stage
-        head (IsJudged judged.old head) [] 0 }
-    ensures judges { (start : Option (List ℕ)) (f : ℕ) (head : Head) → IsJudging R.Source start f
-        (reader.old.unread, source.old) reader.old.stage head (IsJudged judged.old head) [] 0 →
+    requires going { (start : Option (List ℕ)) × (f : ℕ) × IsJudging R.Source start f
+        (reader.old.unread, source.old) reader.old.stage judged.old [] 0 }
+    ensures judges { (start : Option (List ℕ)) (f : ℕ) → IsJudging R.Source start f
+        (reader.old.unread, source.old) reader.old.stage judged.old [] 0 →
         JudgesRecord start result }
     ensures alone { result ≢ Err AuditError.Thread }
-    ensures device { (start : Option (List ℕ)) (f : ℕ) (head : Head) → IsJudging R.Source start f
-        (reader.old.unread, source.old) reader.old.stage head (IsJudged judged.old head) [] 0 →
+    ensures device { (start : Option (List ℕ)) (f : ℕ) → IsJudging R.Source start f
+        (reader.old.unread, source.old) reader.old.stage judged.old [] 0 →
         FailsWithDevice is_device f (R.failed source.new) result }
 {
     let mut room = Vec::new(alloc);

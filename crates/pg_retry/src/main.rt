@@ -1,3 +1,4 @@
+// SPDX-License-Identifier: MIT OR Apache-2.0
 //! Calls that are refused memory are called again, and come to what they come to without that. One
 //! processor carries out a script of each version of records: its record, the record's report, how
 //! many of its events were given out in segments, and how many steps its run has are written to

@@ -1,3 +1,4 @@
+// SPDX-License-Identifier: MIT OR Apache-2.0
 //! Worked rows by the whole program, over memory; and tests of what its arguments ask for, and of
 //! what it tells meanwhile.
 #![tactic(auto)]

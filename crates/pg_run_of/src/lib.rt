@@ -1,3 +1,4 @@
+// SPDX-License-Identifier: MIT OR Apache-2.0
 //! What "accepted" means: the events of an accepted record are those of a run of the machine, and
 //! each run has moments with which its events are an accepted record.
 #![tactic(auto)]

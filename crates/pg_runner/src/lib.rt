@@ -1,3 +1,4 @@
+// SPDX-License-Identifier: MIT OR Apache-2.0
 //! Runs of guest scripts: their records, judged, and the receipts of their processors.
 #![tactic(auto)]
 

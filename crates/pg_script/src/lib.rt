@@ -1,3 +1,4 @@
+// SPDX-License-Identifier: MIT OR Apache-2.0
 //! Guest scripts: the text of a run's settings and of the instructions of its processors.
 #![tactic(auto)]
 

@@ -1,3 +1,4 @@
+// SPDX-License-Identifier: MIT OR Apache-2.0
 //! What it is that moments witness an event, and the laws of it; and a run as a search sees it,
 //! whole or kept in little room. `pg_reach` searches.
 #![tactic(auto)]

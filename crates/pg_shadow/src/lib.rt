@@ -1,3 +1,4 @@
+// SPDX-License-Identifier: MIT OR Apache-2.0
 //! What one processor of the recorder caches: translations and paging-structure-cache entries, each
 //! with the moments at which it was read (Intel SDM, vol. 3, 4.10).
 #![tactic(auto)]

@@ -1,3 +1,4 @@
+// SPDX-License-Identifier: MIT OR Apache-2.0
 //! Records of versions 3 and 4, whose events have spans in the place of one order, as bytes.
 #![tactic(auto)]
 

@@ -1,3 +1,4 @@
+// SPDX-License-Identifier: MIT OR Apache-2.0
 //! Records with no one order: of each event it is known when it began and ended, and of each
 //! processor its own order. Which orders may all events have had?
 #![tactic(auto)]

@@ -1,3 +1,4 @@
+// SPDX-License-Identifier: MIT OR Apache-2.0
 //! Events with spans as lines for a person, and why in every order of them one does not come to
 //! pass.
 #![tactic(auto)]

@@ -1,3 +1,4 @@
+// SPDX-License-Identifier: MIT OR Apache-2.0
 //! The run of a script's processors as one value, which threads share under a lock, and the
 //! threads: each processor carries its instructions out in one of its own.
 #![tactic(auto)]

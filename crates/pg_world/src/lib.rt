@@ -1,3 +1,4 @@
+// SPDX-License-Identifier: MIT OR Apache-2.0
 //! Table memory and the record of a run: a world that processors read, write and record in.
 #![tactic(auto)]
 

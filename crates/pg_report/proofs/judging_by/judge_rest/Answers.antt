@@ -1,47 +1,54 @@
-use Rattle.std.proofs.Common.{[], List, Option, ℕ}
-use Rattle.pg_event.specs.Heads.{Head}
+use Rattle.std.proofs.Common.{rules, ◌≡◌, ◌+◌, true, false, ℕ, List, Option}
 use Rattle.pg_report.specs.Going.{IsJudging}
-use Rattle.pg_report.specs.Team.{IsFeed, IsTeam}
 use Rattle.pg_report.specs.Windows.{IsLast}
 use Rattle.pg_report.proofs.judging_by.judge_rest.Goals as goal
 
 pub judge_last-requires-clause-last : goal.judge_last-requires-clause-last
 judge_last-requires-clause-last g c κs within =
     let was = c.loop.invariant.0 in
-    let on = c.in-Ok-false.ensures.goes was.0 was.1 was.2 was.4 in
-    let last : IsLast was.0 was.2 (IsFeed c.judge_and_feed.new.feed was.2) [] = rw c.in-Ok-false.field-0-test at on.waits in
-    (was.0, was.2, c.judge_and_feed.ensures.team was.2 was.3, last)
+    let h : IsJudging g.R.Source was.0 was.1 (c.loop.reader.unread, c.loop.source) c.loop.reader.stage c.loop.judged c.as_slice.result.now c.loop.counter = rw c.as_slice.ensures.value was.2 in
+    let on = c.in-Ok.ensures was.0 was.1 c.loop.counter h in
+    let no : c.in-Ok.more ≡ false = search rules in
+    let last : IsLast was.0 c.judge_and_read.new.judged c.judge_and_read.new.next.items = rw no at on.waits in
+    (was.0, rw c.as_slice-then-not-more.ensures.value last)
 
-pub returns-in-Ok-false-clause-judges : goal.returns-in-Ok-false-clause-judges
-returns-in-Ok-false-clause-judges g c = λ start f head team at.
-    let was = c.loop.invariant.1 start f head team at in
-    let on = c.in-Ok-false.ensures.goes start f head was.1 in
-    let last : IsLast start head (IsFeed c.judge_and_feed.new.feed head) [] = rw c.in-Ok-false.field-0-test at on.waits in
-    c.judge_last.ensures.judges start head (c.judge_and_feed.ensures.team head was.0) last
+pub returns-then-not-more-clause-judges : goal.returns-then-not-more-clause-judges
+returns-then-not-more-clause-judges g c = λ start f at.
+    let was = c.loop.invariant.1 start f at in
+    let h : IsJudging g.R.Source start f (c.loop.reader.unread, c.loop.source) c.loop.reader.stage c.loop.judged c.as_slice.result.now c.loop.counter = rw c.as_slice.ensures.value was in
+    let on = c.in-Ok.ensures start f c.loop.counter h in
+    let no : c.in-Ok.more ≡ false = search rules in
+    let last : IsLast start c.judge_and_read.new.judged c.judge_and_read.new.next.items = rw no at on.waits in
+    c.judge_last.ensures.judges start (rw c.as_slice-then-not-more.ensures.value last)
 
-pub returns-in-Ok-false-clause-device : goal.returns-in-Ok-false-clause-device
-returns-in-Ok-false-clause-device g c = λ start f head team at.
-    let was = c.loop.invariant.1 start f head team at in
-    let on = c.in-Ok-false.ensures.goes start f head was.1 in
+pub returns-then-not-more-clause-device : goal.returns-then-not-more-clause-device
+returns-then-not-more-clause-device g c = λ start f at.
+    let was = c.loop.invariant.1 start f at in
+    let h : IsJudging g.R.Source start f (c.loop.reader.unread, c.loop.source) c.loop.reader.stage c.loop.judged c.as_slice.result.now c.loop.counter = rw c.as_slice.ensures.value was in
+    let on = c.in-Ok.ensures start f c.loop.counter h in
     rw on.device (c.judge_last.ensures.device f)
 
 pub returns-in-Err-clause-judges : goal.returns-in-Err-clause-judges
-returns-in-Err-clause-judges g c = λ start f head team at. (c.in-Err.ensures.goes start f head (c.loop.invariant.1 start f head team at).1).fails
+returns-in-Err-clause-judges g c = λ start f at.
+    let was = c.loop.invariant.1 start f at in
+    let h : IsJudging g.R.Source start f (c.loop.reader.unread, c.loop.source) c.loop.reader.stage c.loop.judged c.as_slice.result.now c.loop.counter = rw c.as_slice.ensures.value was in
+    (c.in-Err.ensures start f c.loop.counter h).fails
 
 pub returns-in-Err-clause-device : goal.returns-in-Err-clause-device
-returns-in-Err-clause-device g c = λ start f head team at. (c.in-Err.ensures.goes start f head (c.loop.invariant.1 start f head team at).1).device
+returns-in-Err-clause-device g c = λ start f at.
+    let was = c.loop.invariant.1 start f at in
+    let h : IsJudging g.R.Source start f (c.loop.reader.unread, c.loop.source) c.loop.reader.stage c.loop.judged c.as_slice.result.now c.loop.counter = rw c.as_slice.ensures.value was in
+    (c.in-Err.ensures start f c.loop.counter h).device
 
 pub loop-preserved : goal.loop-preserved
 loop-preserved g c =
+    let yes : c.in-Ok.more ≡ true = search rules in
+    let step : (start : Option (List ℕ)) (f : ℕ) → IsJudging g.R.Source start f (c.loop.reader.unread, c.loop.source) c.loop.reader.stage c.loop.judged c.loop.window.items c.loop.counter
+    → IsJudging g.R.Source start f (c.judge_and_read.new.reader.unread, c.judge_and_read.new.source) c.judge_and_read.new.reader.stage c.judge_and_read.new.judged c.swap.new.x.items (c.loop.counter + 1) =
+    (λ start f was.
+    let h : IsJudging g.R.Source start f (c.loop.reader.unread, c.loop.source) c.loop.reader.stage c.loop.judged c.as_slice.result.now c.loop.counter = rw c.as_slice.ensures.value was in
+    let on = c.in-Ok.ensures start f c.loop.counter h in
+    let next : IsJudging g.R.Source start f (c.judge_and_read.new.reader.unread, c.judge_and_read.new.source) c.judge_and_read.new.reader.stage c.judge_and_read.new.judged c.judge_and_read.new.next.items (c.loop.counter + 1) = rw yes at on.waits in
+    rw c.swap.ensures.x_after next) in
     let was = c.loop.invariant in
-    let step : (start : Option (List ℕ)) (f : ℕ) (head : Head) → IsTeam c.loop.team head → IsJudging g.R.Source start f (c.loop.reader.unread, c.loop.source) c.loop.reader.stage head (IsFeed c.loop.feed head) [] 0
-    → IsTeam c.judge_and_feed.new.team head × IsJudging g.R.Source start f (c.judge_and_feed.new.reader.unread, c.judge_and_feed.new.source) c.judge_and_feed.new.reader.stage head (IsFeed c.judge_and_feed.new.feed head) [] 0 =
-    (λ start f head team at. let on = c.in-Ok-true.ensures.goes start f head at in (c.judge_and_feed.ensures.team head team, rw c.in-Ok-true.field-0-test at on.waits)) in
-    let first = step was.0.0 was.0.1 was.0.2 was.0.3 was.0.4 in (
-      (was.0.0, was.0.1, was.0.2, first.0, first.1),
-      (λ start f head team at. let before = was.1 start f head team at in step start f head before.0 before.1),
-      c.judge_and_feed.ensures.pairs,
-    )
-
-pub returns-clause-device : goal.returns-clause-device
-returns-clause-device g c = λ start f head team at. (c.loop.invariant.1 start f head team at).1.going.failed
+    ((was.0.0, was.0.1, step was.0.0 was.0.1 was.0.2), λ start f at. step start f (was.1 start f at))

@@ -1,4 +1,4 @@
-use Rattle.std.proofs.Common.{[], sym, ◌≡◌, ◌∙◌, ◌+◌, ◌++◌, List, ℕ, Option, ap, arith}
+use Rattle.std.proofs.Common.{◌≡◌, ◌∙◌, ◌+◌, ◌++◌, List, ℕ, Option, ap, arith}
 use Rattle.pg_event.specs.declared.event.Event.{Event}
 use Rattle.pg_event.specs.Spelling.{Recorded}
 use Rattle.pg_report.proofs.Ahead.{HasRead, read_on, read_further, window_read, window_refused, window_ends, window_fails}
@@ -20,7 +20,7 @@ returns g c = λ start f r windows h.
 -- what was read once a segment was added
 module _ (g : _) (c : Else-len-size g) where
   added : c.extend_from_slice.new.self.items ≡ c.loop.window.items ++ c.in-Ok-Some.events.items
-  added = c.in_default.ensures.items ∙ ap (λ (es : List Event). c.loop.window.items ++ es) c.deref-in-Ok-Some-2.ensures.value
+  added = c.in_default.ensures.items ∙ ap (λ (es : List Event). c.loop.window.items ++ es) c.deref.ensures.value
 
   step : (start : Option (List ℕ)) (f : ℕ) (r : Recorded) (windows : ℕ) → HasRead g.R.Source start f r (windows + c.loop.counter) (c.loop.reader.unread, c.loop.source) c.loop.reader.stage c.loop.window.items
       → HasRead g.R.Source start f r (windows + (c.loop.counter + 1)) (c.read_segment_in.new.self.unread, c.read_segment_in.new.source) c.read_segment_in.new.self.stage c.extend_from_slice.new.self.items
@@ -38,7 +38,7 @@ loop-preserved g c =
 pub returns-then-len-size : goal.returns-then-len-size
 returns-then-len-size g c = λ start f r windows h.
     let read = c.in-Ok-Some.ensures in
-    let items : c.extend_from_slice.new.self.items ≡ c.loop.window.items ++ c.in-Ok-Some.events.items = c.in_default.ensures.items ∙ ap (λ (es : List Event). c.loop.window.items ++ es) c.deref-in-Ok-Some-2.ensures.value in
+    let items : c.extend_from_slice.new.self.items ≡ c.loop.window.items ++ c.in-Ok-Some.events.items = c.in_default.ensures.items ∙ ap (λ (es : List Event). c.loop.window.items ++ es) c.deref.ensures.value in
     let on = read_further g.R.Source start f r _ c.loop.reader.stage (windows + c.loop.counter) c.loop.window.items (c.loop.invariant.1 start f r windows h) _ c.in-Ok-Some.events.items _
     (rw c.in-Ok-Some.field-0-is at read.pulls) (rw c.in-Ok-Some.field-0-is at read.next) (rw c.in-Ok-Some.field-0-is at read.stage)
     c.extend_from_slice.new.self.items items (windows + (c.loop.counter + 1)) (omega arith) in
@@ -50,13 +50,3 @@ returns-in-Err-extend_from_slice g c = λ start f r windows h.
     let on = read_on g.R.Source start f r _ c.loop.reader.stage (windows + c.loop.counter) c.loop.window.items (c.loop.invariant.1 start f r windows h) _ c.in-Ok-Some.events.items _
     (rw c.in-Ok-Some.field-0-is at read.pulls) (rw c.in-Ok-Some.field-0-is at read.next) (rw c.in-Ok-Some.field-0-is at read.stage) in
     window_refused g.R.Source start f r _ _ (windows + c.loop.counter + 1) _ on windows _
-
-pub returns-then-is_long : goal.returns-then-is_long
-returns-then-is_long g c = λ start f r windows h.
-    let read = c.in-Ok-Some.ensures in
-    let empty : c.loop.window.items ≡ [] = sym c.deref.ensures.value ∙ c.is_long.ensures c.if-is_long.true in
-    let items : c.in-Ok-Some.events.items ≡ c.loop.window.items ++ c.in-Ok-Some.events.items = ap (λ (es : List Event). es ++ c.in-Ok-Some.events.items) (sym empty) in
-    let on = read_further g.R.Source start f r _ c.loop.reader.stage (windows + c.loop.counter) c.loop.window.items (c.loop.invariant.1 start f r windows h) _ c.in-Ok-Some.events.items _
-    (rw c.in-Ok-Some.field-0-is at read.pulls) (rw c.in-Ok-Some.field-0-is at read.next) (rw c.in-Ok-Some.field-0-is at read.stage)
-    c.in-Ok-Some.events.items items (windows + (c.loop.counter + 1)) (omega arith) in
-    window_read g.R.Source start f r _ _ (windows + (c.loop.counter + 1)) c.in-Ok-Some.events.items on windows (omega arith)

@@ -1,7 +1,6 @@
 use Rattle.std.proofs.Common.{[], refl}
 use Rattle.pg_event.specs.declared.version.Version.TheVariants.{Two}
 use Rattle.pg_event.specs.Spelling.{Recorded}
-use Rattle.pg_check.specs.Judging.{IsJudged}
 use Rattle.pg_report.proofs.Continuing.{fresh_header_fails, going_from_fresh}
 use Rattle.pg_report.proofs.Windows.{error_judges, judging_at_start}
 use Rattle.pg_report.proofs.whole_record.judge_record.Goals as goal
@@ -19,8 +18,7 @@ judge_rest-requires g c =
       going = (
         g.R.Source.left c.args.source.now,
         g.R.Source.failed c.args.source.now,
-        c.in-Ok.header,
-        judging_at_start g.R.Source _ _ c.in-Ok.header _ _ (IsJudged c.in_ok-judged.judged c.in-Ok.header) c.in_ok-judged.ensures
+        judging_at_start g.R.Source _ _ _ _ c.in_ok-judged.judged c.in-Ok.header c.in_ok-judged.ensures
             (going_from_fresh g.R.Source Two c.in_ok-reader.reader _ _ c.in_ok-reader.ensures c.in-Ok.header _ read.pulls read.stage r refl),
       );
     }
@@ -29,12 +27,12 @@ pub returns-clause-judges : goal.returns-clause-judges
 returns-clause-judges g c =
     let read = c.in-Ok.ensures in
     let r : Recorded = record { head = c.in-Ok.header; events = [] } in
-    c.judge_rest.ensures.judges (g.R.Source.left c.args.source.now) (g.R.Source.failed c.args.source.now) c.in-Ok.header ((judging_at_start g.R.Source _ _ c.in-Ok.header _ _ (IsJudged c.in_ok-judged.judged c.in-Ok.header) c.in_ok-judged.ensures
+    c.judge_rest.ensures.judges (g.R.Source.left c.args.source.now) (g.R.Source.failed c.args.source.now) ((judging_at_start g.R.Source _ _ _ _ c.in_ok-judged.judged c.in-Ok.header c.in_ok-judged.ensures
     (going_from_fresh g.R.Source Two c.in_ok-reader.reader _ _ c.in_ok-reader.ensures c.in-Ok.header _ read.pulls read.stage r refl)))
 
 pub returns-clause-device : goal.returns-clause-device
 returns-clause-device g c =
     let read = c.in-Ok.ensures in
     let r : Recorded = record { head = c.in-Ok.header; events = [] } in
-    c.judge_rest.ensures.device (g.R.Source.left c.args.source.now) (g.R.Source.failed c.args.source.now) c.in-Ok.header ((judging_at_start g.R.Source _ _ c.in-Ok.header _ _ (IsJudged c.in_ok-judged.judged c.in-Ok.header) c.in_ok-judged.ensures
+    c.judge_rest.ensures.device (g.R.Source.left c.args.source.now) (g.R.Source.failed c.args.source.now) ((judging_at_start g.R.Source _ _ _ _ c.in_ok-judged.judged c.in-Ok.header c.in_ok-judged.ensures
     (going_from_fresh g.R.Source Two c.in_ok-reader.reader _ _ c.in_ok-reader.ensures c.in-Ok.header _ read.pulls read.stage r refl)))

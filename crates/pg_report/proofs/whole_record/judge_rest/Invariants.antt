@@ -1,11 +1,9 @@
 use Rattle.std.proofs.Common.{ℕ, List, [], Option}
-use Rattle.pg_event.specs.Heads.{Head}
-use Rattle.pg_check.specs.Judging.{IsJudged}
 use Rattle.pg_report.specs.Going.{IsJudging}
 use Rattle.pg_report.proofs.whole_record.judge_rest.Given as goal
 
 abbrev pub invariant-loop : goal.invariant-loop
 invariant-loop g l =
-    ((start : Option (List ℕ)) × (f : ℕ) × (head : Head) × IsJudging g.R.Source start f (l.reader.unread, l.source) l.reader.stage head (IsJudged l.judged head) [] l.counter)
-    × ((start : Option (List ℕ)) (f : ℕ) (head : Head) → IsJudging g.R.Source start f (l.fn.reader.unread, l.fn.source) l.fn.reader.stage head (IsJudged l.fn.judged head) [] 0
-    → IsJudging g.R.Source start f (l.reader.unread, l.source) l.reader.stage head (IsJudged l.judged head) [] l.counter)
+    ((start : Option (List ℕ)) × (f : ℕ) × IsJudging g.R.Source start f (l.reader.unread, l.source) l.reader.stage l.judged [] l.counter)
+    × ((start : Option (List ℕ)) (f : ℕ) → IsJudging g.R.Source start f (l.fn.reader.unread, l.fn.source) l.fn.reader.stage l.fn.judged [] 0
+    → IsJudging g.R.Source start f (l.reader.unread, l.source) l.reader.stage l.judged [] l.counter)

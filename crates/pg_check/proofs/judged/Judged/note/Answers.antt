@@ -1,35 +1,28 @@
-use Rattle.std.proofs.Common.{◌≡◌, length, sym, subst, arith}
-use Rattle.pg_check.specs.Judging.{Findings, IsJudged, MayFollow}
-use Rattle.pg_check.proofs.Judgings.{findings, noted_ok, noted_err}
-use Rattle.pg_check.proofs.Grown.{walks_noted}
-use Rattle.pg_check.proofs.Uppers.{stems_noted}
+use Rattle.std.proofs.Common.{◌++◌, OnOk, OnErr, sym, subst}
+use Rattle.pg_check.specs.Judging.{Noted, HasNoted, Findings, IsJudged, MayFollow}
+use Rattle.pg_check.proofs.Judgings.{findings, judged_noted, may_note, noted_ok, noted_err}
 use Rattle.pg_check.proofs.judged.Judged.note.Goals as goal
 
-pub invariant_of-self : goal.invariant_of-self
-invariant_of-self c =
+pub note-noted-requires : goal.note-noted-requires
+note-noted-requires c =
     let s = c.self.inside in
-    let f : Findings = findings s.header s.past s.count s.first_bad in
-    let may : MayFollow f c.args.events.now = subst (λ (x : Findings). MayFollow x c.args.events.now) (sym c.self.view_is) c.requires in
-    let was : IsJudged f s.header may.before = may.judged in
-    let count : s.count ≡ length may.before = was.count in (
-      c.self.invariant.0,
-      walks_noted c.note_all.result s.past c.note_all.new.self s.count s.header may.before c.args.events.now s.kept.slots.items (omega (arith, count)) was.past
-          (c.note_all.ensures.ok s.header may.before was.past was.count) (c.note_all.ensures.err s.header may.before was.past was.count) c.self.invariant.1,
-      stems_noted c.note_all.result s.past c.note_all.new.self s.count s.header may.before c.args.events.now s.kept.stems.items (omega (arith, count)) was.past
-          (c.note_all.ensures.ok s.header may.before was.past was.count) (c.note_all.ensures.err s.header may.before was.past was.count) c.self.invariant.2,
-    )
+    let f : Findings = findings s.header s.judge s.count s.first_bad in
+    may_note f c.args.events.now (subst (λ (x : Findings). MayFollow x c.args.events.now) (sym c.self.view_is) c.requires)
 
 pub returns-clause-ok : goal.returns-clause-ok
-returns-clause-ok c = λ head before judged.
+returns-clause-ok c = λ head before j.
     let s = c.self.inside in
-    let f : Findings = findings s.header s.past s.count s.first_bad in
-    let was : IsJudged f head before = subst (λ (x : Findings). IsJudged x head before) (sym c.self.view_is) judged in
-    let may : MayFollow f c.args.events.now = subst (λ (x : Findings). MayFollow x c.args.events.now) (sym c.self.view_is) c.requires in
-    noted_ok c.note_all.result f head before c.args.events.now may was c.note_all.new.self (c.note_all.ensures.ok head before was.past was.count)
+    let more = c.args.events.now in
+    let f : Findings = findings s.header s.judge s.count s.first_bad in
+    let was : IsJudged f head before = subst (λ (x : Findings). IsJudged x head before) (sym c.self.view_is) j in
+    let may : MayFollow f more = subst (λ (x : Findings). MayFollow x more) (sym c.self.view_is) c.requires in
+    noted_ok c.note-noted.result f head before more may was c.make_lists.new.self
+    (subst (λ (n : Noted). OnOk c.note-noted.result (HasNoted n head (before ++ more))) (sym c.make_lists.ensures) (c.note-noted.ensures.ok head before (judged_noted f head before was)))
 
 pub returns-clause-err : goal.returns-clause-err
-returns-clause-err c = λ head before judged.
+returns-clause-err c = λ head before j.
     let s = c.self.inside in
-    let f : Findings = findings s.header s.past s.count s.first_bad in
-    let was : IsJudged f head before = subst (λ (x : Findings). IsJudged x head before) (sym c.self.view_is) judged in
-    noted_err c.note_all.result f head before was c.note_all.new.self (c.note_all.ensures.err head before was.past was.count)
+    let f : Findings = findings s.header s.judge s.count s.first_bad in
+    let was : IsJudged f head before = subst (λ (x : Findings). IsJudged x head before) (sym c.self.view_is) j in
+    noted_err c.note-noted.result f head before was c.make_lists.new.self
+    (subst (λ (n : Noted). OnErr c.note-noted.result (HasNoted n head before)) (sym c.make_lists.ensures) (c.note-noted.ensures.err head before (judged_noted f head before was)))

@@ -18,8 +18,8 @@ not_checkers : {A : Type 0} (r : Result A PoolError) → (r ≡ Err Checkers →
 not_checkers (Ok x) h = tt
 not_checkers (Err e) h = λ is. h (ap (λ (x : PoolError). Err x) is)
 
-pub audit_round-verdicts-requires-after_bounds : goal.audit_round-verdicts-requires-after_bounds
-audit_round-verdicts-requires-after_bounds g c κs within =
+pub audit_round_beside-verdicts-requires-clause-segments : goal.audit_round_beside-verdicts-requires-clause-segments
+audit_round_beside-verdicts-requires-clause-segments g c κs within =
     let w = c.requires.waits in
     let is = c.stretch-stretch.ensures.stretch w.0 w.1 w.2 in
     subst (λ (r : Round). HasSegments c.stretch-stretch.result r.first r.last) (sym c.waiting_round-round.ensures)
@@ -36,10 +36,10 @@ found_in-requires-clause-each g c =
     let w = c.requires.waits in
     let is = c.stretch-stretch.ensures.stretch w.0 w.1 w.2 in
     let r : Recorded = record { head = w.0; events = w.1 ++ c.args.events.now } in
-    (r, c.audit_round-verdicts.ensures.ok r is)
+    (r, c.audit_round_beside-verdicts.ensures.ok r is)
 
 pub found_in-requires-clause-known : goal.found_in-requires-clause-known
-found_in-requires-clause-known g c = not_checkers c.audit_round-verdicts.result (λ is. c.audit_round-verdicts.ensures.checkers.0 is c.workers-workers.ensures)
+found_in-requires-clause-known g c = not_checkers c.audit_round_beside-verdicts.result.0 (λ is. c.audit_round_beside-verdicts.ensures.checkers.0 is c.workers-workers.ensures)
 
 pub returns-clause-ok : goal.returns-clause-ok
 returns-clause-ok g c = λ head before a.
@@ -49,4 +49,4 @@ returns-clause-ok g c = λ head before a.
     if_ok (IsFoundIn r c.waiting_round-round.result) (λ found. IsFound found head before c.args.events.now) c.found_in.result
     (λ found merged none. first_found c.args.judged.now head before c.args.events.now a is.head.size (round_verdicts r round) refl found c.requires.whole
     (subst (λ (q : Round). IsFoundIn r q found) c.waiting_round-round.ensures merged))
-    (c.found_in.ensures.ok r (c.audit_round-verdicts.ensures.ok r is))
+    (c.found_in.ensures.ok r (c.audit_round_beside-verdicts.ensures.ok r is))
