@@ -33,24 +33,24 @@ const MAPPING: [(u64, u64); 4] = [
     (0x4028, 0x9007),
 ];
 
-/// Version 1, physical addresses of 40 bits, WP and NXE; then the segment's size, one processor, its
-/// CR3 with PCID 1, and CR4.PGE.
+/// Version 1, physical addresses of 40 bits, WP and NXE, and one processor; then the segment's size,
+/// the processor's CR3 with PCID 1, and CR4.PGE.
 fn put_header(bytes: &mut Vec<u8>, segment: u32) -> Result<(), AllocError> {
-    bytes.extend_from_slice(b"PGRECORD\x01\x00\x28\x03")?;
+    bytes.extend_from_slice(b"PGRECORD\x01\x00\x28\x03\x01")?;
     bytes.extend_from_slice(&segment.to_le_bytes())?;
-    bytes.extend_from_slice(b"\x01\x00\x01\x10\x00\x00\x00\x00\x00\x00\x01")
+    bytes.extend_from_slice(b"\x01\x10\x00\x00\x00\x00\x00\x00\x01")
 }
 
 /// A write by processor 0.
 fn put_write(bytes: &mut Vec<u8>, address: u64, value: u64) -> Result<(), AllocError> {
-    bytes.extend_from_slice(b"\x10\x00\x00")?;
+    bytes.extend_from_slice(b"\x10\x00")?;
     bytes.extend_from_slice(&address.to_le_bytes())?;
     bytes.extend_from_slice(&value.to_le_bytes())
 }
 
 /// A user read of 0x5123 by processor 0 with four moments, all this one.
 fn put_read(bytes: &mut Vec<u8>, page: u64, moment: u32) -> Result<(), AllocError> {
-    bytes.extend_from_slice(b"\x11\x00\x00\x04")?;
+    bytes.extend_from_slice(b"\x11\x00\x04")?;
     bytes.extend_from_slice(&0x5123u64.to_le_bytes())?;
     bytes.extend_from_slice(b"\x00")?;
     bytes.extend_from_slice(&page.to_le_bytes())?;
