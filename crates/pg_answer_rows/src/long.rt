@@ -33,8 +33,8 @@ const MAPPING: [(u64, u64); 4] = [
     (0x4028, 0x9007),
 ];
 
-/// Version 1, physical addresses of 40 bits, WP and NXE, and one processor; then the segment's size,
-/// the processor's CR3 with PCID 1, and CR4.PGE.
+/// Version 1, physical addresses of 40 bits, WP and NXE, and one processor; then the size of a
+/// segment, the processor's CR3 with PCID 1, and CR4.PGE.
 fn put_header(bytes: &mut Vec<u8>, segment: u32) -> Result<(), AllocError> {
     bytes.extend_from_slice(b"PGRECORD\x01\x00\x28\x03\x01")?;
     bytes.extend_from_slice(&segment.to_le_bytes())?;
