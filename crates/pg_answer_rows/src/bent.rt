@@ -1,6 +1,7 @@
-//! Records that end early, and of which one byte is bent, each byte to each other value: one
-//! checker and two say the same of each that ends early and of each with one bit bent. Two start
-//! threads, which takes so long on some machines that they are not asked of every value.
+//! Records that end early, and records with one byte changed, each byte to each other value. One
+//! checker and two give the same report of each record that ends early and of each with one bit
+//! changed. Two checkers start threads, which takes so long on some machines that they do not judge
+//! every value.
 
 use pg_cases::{versions, walks};
 use pg_codec::Watched;
@@ -12,8 +13,8 @@ use std::sync::Wait;
 use std::test::Fail;
 use std::thread::Threads;
 
-/// How many bent records came to what: first a yes, then by the number of the reason, from 1, and
-/// then by the number of the refusal, from 1.
+/// How many changed records got which report: first a yes, then by the number of the reason, from
+/// 1, and then by the number of the refusal, from 1.
 type Tally = [u32; 24];
 
 /// The place where an answer is counted.
@@ -122,7 +123,7 @@ fn cut_each<T: AllocGlobal + Abort + Threads + Wait + Sync>(rt: &T, record: &[u8
     }
 }
 
-/// A record is refused at each proper beginning, and its bent records come to so much.
+/// Each proper beginning of a record is refused, and its changed records give this tally.
 fn cut_and_bend<T: AllocGlobal + Abort + Threads + Wait + Sync>(
     rt: &T,
     record: &[u8],

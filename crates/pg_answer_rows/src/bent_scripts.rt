@@ -1,5 +1,5 @@
-//! Scripts that end early, and of which one byte is bent: each byte to each other value. One thread
-//! and a thread for the processor say the same of each.
+//! Scripts that end early, and scripts with one byte changed, each byte to each other value. One
+//! thread and a thread for the processor answer the same to each.
 
 use pg_cases::run_over;
 use pg_codec::Watched;
@@ -156,7 +156,7 @@ fn is_well_told(number: usize, status: u8, output: &[u8], line: &[u8]) -> bool {
     }
 }
 
-/// What a bent script comes to, as the number of its refusal, and 0 where it is run.
+/// The number of a changed script's refusal, and 0 where it is run.
 fn number_of<T: AllocGlobal + Abort + Threads + Wait + Sync>(rt: &T, text: &[u8]) -> usize {
     let mut output = Watched::new(Vec::new(rt.alloc()));
     let mut errors = Watched::new(Vec::new(rt.alloc()));

@@ -1,4 +1,4 @@
-//! What stands behind a no: a row for each reason.
+//! The causes of rejections: a row for each reason.
 
 /// Walks that no entries of the moments make.
 pub const WALKS: &str = "

@@ -1,4 +1,4 @@
-//! Pictures of what stands behind a no.
+//! Pictures of the causes of rejections.
 
 /// A no is drawn, a yes has its report, and what is no record is refused. The records are those of
 /// `json`.

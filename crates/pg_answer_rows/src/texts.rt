@@ -1,6 +1,6 @@
-//! The texts of help, of the version and of usage faults, to the byte.
+//! The texts of help, of the version and of usage errors, to the byte.
 
-/// Words that are no command, and what is told of them.
+/// Invalid arguments, and the message for them.
 #[derive(Clone, Copy)]
 pub struct Told {
     pub words: &'static [&'static str],

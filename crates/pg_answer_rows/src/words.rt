@@ -1,4 +1,4 @@
-//! Words that are no command of the program, and help.
+//! Invalid arguments, and help.
 
 use crate::texts::{FAULTS, TEXTS, Told};
 use pg_cases::run_over;

@@ -37,7 +37,7 @@ abbrev pub refusal_line : AuditError → List ℕ
 refusal_line error =
     refusal_text (error_number error) (error_name error) ++ (place_text error ++ codes "\n")
 
--- `pcid-audit: refused 1 memory`, the line for want of memory before any input was read
+-- `pcid-audit: refused 1 memory`, the line for running out of memory before any input was read
 abbrev pub memory_line : List ℕ
 memory_line = refusal_text 1 (codes "memory") ++ codes "\n"
 
@@ -62,7 +62,7 @@ abbrev pub TellsError : {A : Type 0} → Change → Result A AuditError → Type
 TellsError errors (Ok x) = StaysSame errors
 TellsError errors (Err e) = Tells errors (refusal_line e)
 
--- a word that is no text is told as one, with 64, and want of memory as that, with 3
+-- a word that is no text is told as one, with 64, and running out of memory as that, with 3
 abbrev pub TellsNoWords : Change → NoWords → ℕ → Type 0
 TellsNoWords errors unread.NoText status =
     Tells errors (codes "error: a word is no UTF-8 text\n") × (status ≡ 64)

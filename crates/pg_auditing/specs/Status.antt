@@ -9,8 +9,8 @@ use Rattle.pg_report.specs.Audits.{IsAudit}
 use Rattle.pg_auditing.specs.Refusals.{TellsError}
 use Rattle.pg_auditing.specs.Streams.{Streams}
 
--- 0 yes, 1 no, 2 refused input or a failed device, 3 want of memory or of a thread, 64 a number of
--- checkers that can't be
+-- 0 yes, 1 no, 2 refused input or an I/O error, 3 out of memory or a thread that could not be
+-- created, 64 a number of checkers that can't be
 abbrev pub error_status : AuditError → ℕ
 error_status (Refused e) = 2
 error_status Device = 2

@@ -117,7 +117,7 @@ pub fn tell_error<W: Sink, T>(errors: &mut W, answer: &Result<T, AuditError>)
     }
 }
 
-/// Writes the line for want of memory before any input was read.
+/// Writes the line for running out of memory before any input was read.
 pub fn tell_memory<W: Sink>(errors: &mut W)
     ensures { Tells (filled W.Sink errors.old errors.new) memory_line }
 {

@@ -11,13 +11,13 @@ pub const YES: u8 = 0;
 /// Of a no.
 pub const NO: u8 = 1;
 
-/// Of a refused input or a failed device.
+/// Of a refused input or an I/O error.
 pub const REFUSED: u8 = 2;
 
-/// Of want of memory or of a thread.
+/// Of running out of memory, or of a thread that could not be created.
 pub const MEMORY: u8 = 3;
 
-/// Of words that are no command.
+/// Of invalid arguments.
 pub const USAGE: u8 = 64;
 
 /// Of a file that can't be opened.

@@ -1,4 +1,4 @@
-//! What stands behind a no, and reports of a yes: the samples, and a stale leaf.
+//! The causes of rejections, and reports of a yes: the samples, and a stale leaf.
 
 /// The records in `samples/`, and one of them without its last byte.
 pub const SAMPLES: &str = "

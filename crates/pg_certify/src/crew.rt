@@ -155,7 +155,7 @@ fn workers(history: &History, checkers: u32) -> u32
 /// What `first_denied` tells, by so many checkers, each in a thread of its own: each judges some of
 /// the events, by guesses of its own. One alone is the calling thread, and so it is where there are
 /// few events. All threads that were started are joined before it answers, also where one was
-/// refused. Fails where memory or a thread is refused, and by want of memory where both are.
+/// refused. Fails where memory or a thread is refused, and says out of memory where both are.
 pub fn first_denied_by<R: Threads + Wait + Sync>(
     rt: &R,
     alloc: Global,

@@ -34,7 +34,7 @@ abbrev pub GivesRest : {A : Type 0} → A → Option (List ℕ) → Part A → T
 GivesRest x None part = ⊥
 GivesRest x (Some rest) part = part ≡ Ok (x, rest)
 
--- a refusal is the first of the part; a failed device or want of memory says nothing of it
+-- a refusal is the first of the part; an I/O error or running out of memory says nothing of it
 abbrev pub Fails : {A : Type 0} → ReadError → Part A → Type 0
 Fails (errors.Refused e) part = part ≡ Err e
 Fails errors.Device part = Unit {0}

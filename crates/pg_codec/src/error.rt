@@ -17,7 +17,7 @@ pub enum ReadError {
     /// The source failed in this call.
     #[error("the device failed")]
     Device,
-    /// A growth was refused in this call.
+    /// An allocation failed in this call.
     #[error("memory ran out")]
     Memory,
     /// The reader refused before. Nothing was read.

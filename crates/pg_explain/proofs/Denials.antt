@@ -1,4 +1,4 @@
--- What stands behind an event that no moments witness, by what is kept of the events before it.
+-- Why no moments witness an event, by what is kept of the events before it.
 use Rattle.std.proofs.Common.{◌≡◌, ℕ, ◌+◌, ◌-◌, ◌≤◌, List, [], ◌∷◌, length, map, Option, Some, None, IfSome, IfNone, refl, ap, sym, ◌∙◌, subst, arith}
 use Rattle.std.specs.Prelude.{slice_get, option_map}
 use Rattle.std.specs.List.{AllByRecursion}

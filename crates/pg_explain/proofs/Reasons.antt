@@ -167,7 +167,7 @@ fault_reasons : (head : Head) (events : List Event) (c : Claim) (cause : Cause) 
 fault_reasons head events c cause kind r (Page page) = refl
 fault_reasons head events c cause kind r (Fault code) = denied_or (r.moment == c.number) (code == fault_code head.cfg c.kind cause) _ _
 
--- what stands behind a translation that was dropped or is foreign, and what comes after
+-- what is found of a translation that was dropped or is foreign, and what comes after
 page_tests : (level : Level) (o : Option ℕ) (f : Bool) (foreign : Finding) (rest : Option Finding) → reason_of foreign ≡ reasons.ForeignPcid →
     reasons_of (option_or (translation_drop level o) (option_or (cond f (Some foreign) None) rest))
     ≡ cond (not (not (is_some o))) (Some reasons.TranslationDropped) (cond f (Some reasons.ForeignPcid) (reasons_of rest))

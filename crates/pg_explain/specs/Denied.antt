@@ -1,4 +1,4 @@
--- What stands behind an event that no moments witness, and its text, a fact a line.
+-- Why no moments witness an event, and the text that says so, a fact a line.
 --
 --     event: LINE                             the event, as it is shown, without its moments
 --     now: level L [HEX] = HEX KIND, WRITTEN  for each entry that the processor would read at the
@@ -56,7 +56,7 @@ pub record IsDenialOf (head : Head) (events : List Event) (i : ℕ) (x : Denial)
   pub last : IfSome x.last (IsLast head events i)
   pub never : IfNone x.last (HasNoLast head events i)
 
--- what stands behind an event is told by what is kept of the events before it
+-- what is kept of the events before an event tells why no moments witness it
 abbrev pub DenialsAmongKept : Type 0
 DenialsAmongKept = (head : Head) (kept events : List Event) (i : ℕ) (e : Event) (x : Denial) →
     AreKeptOf kept events → i ≤ length kept → slice_get events i ≡ Some e →
@@ -92,7 +92,7 @@ abbrev pub given_text : Option Outcome → List ℕ
 given_text None = []
 given_text (Some outcome) = codes "now: would give " ++ (outcome_text outcome ++ codes "\n")
 
--- the text of what stands behind this event, where this one took its last moments away
+-- the text of why no moments witness this event, where this one took its last moments away
 abbrev pub denial_text_by : Option Event → Option Event → Denial → List ℕ
 denial_text_by event taken x =
     claimed_text x.number event

@@ -36,9 +36,9 @@ TellsEvent failing found IsRight told =
     (λ x. (failing ≡ Some (reason_of x.finding)) × (found ≡ Some x.finding)
     × IsRight x.walk.items)
 
--- event i is not witnessed, and this is what stands behind it. Other moments that are told are the
--- freshest that prove it. Where none are, no moments prove it, no run of the machine begins with
--- the events up to it, and it is told when it would last have been witnessed
+-- event i is not witnessed, and this explains why. Other moments that are told are the freshest
+-- that prove it. Where none are, no moments prove it, no run of the machine begins with the events
+-- up to it, and it is told when it would last have been witnessed
 pub record IsExplained (head : Head) (events : List Event) (i : ℕ) (x : Explanation) :
     Type 0 where
   pub number : x.number ≡ i

@@ -1,4 +1,4 @@
--- What stands behind the least reason that fails for an access or an assist. Each definition goes
+-- What is found for the least reason that fails for an access or an assist. Each definition goes
 -- through the tests of the reason in their order, and tells what the first that fails found.
 use Rattle.std.specs.Prelude.{ℕ, ◌+◌, ◌%◌, ◌^◌, Bool, true, false, not, ◌&&◌, ◌||◌, ◌==◌}
 use Rattle.std.specs.Prelude.{nat_le, if◌then◌else◌, List, [], ◌∷◌, Option, Some, None}
@@ -143,7 +143,7 @@ structure_finding head events p pcid la (r ∷ rs) =
     option_or (structure_at head events p pcid la r rs)
     (structure_finding head events p pcid la rs)
 
--- what stands behind the reasons of a walk by moments
+-- what is found for the reasons of a walk by moments
 abbrev pub walk_finding :
     Head → List Event → Asked → Tagged → List ℕ → List Reading → Option Finding
 walk_finding head events a first ws rs =
@@ -179,7 +179,7 @@ abbrev pub held_finding : Cfg → Reading → ℕ → Finding
 held_finding cfg r value =
     findings.NotAtEvent r.moment r.address value (kind_of cfg r.level value)
 
--- what stands behind the reasons of a fault that an absent or reserved entry gives
+-- what is found for the reasons of a fault that an absent or reserved entry gives
 abbrev pub fault_finding :
     Head → List Event → Claim → Cause → Kind → Reading → Outcome → Option Finding
 fault_finding head events c cause kind r (Page page) =
@@ -200,7 +200,7 @@ foreign_finding read current global =
     if not (current.pcid == read.pcid) && not global
     then Some (findings.ForeignPcid read current) else None
 
--- what stands behind the reasons from the translation on, by what was read last under a PCID
+-- what is found for the reasons from the translation on, by what was read last under a PCID
 abbrev pub end_finding : Head → List Event → Claim → ℕ → Reading → Kind → Option Finding
 end_finding head events c pcid r (kinds.Leaf frame shift global_bit) =
     let global = global_bit && (control_at head events c.p r.moment).pge in
@@ -236,7 +236,7 @@ dirty_finding c r =
     if is_done_write c.kind c.outcome && not (dirty r.value)
     then Some (findings.Dirty r.address r.value) else None
 
--- what stands behind the reasons by the flags of what an access reads
+-- what is found for the reasons by the flags of what an access reads
 abbrev pub flag_finding : Version → Claim → List Reading → Reading → Option Finding
 flag_finding version c rs end =
     if judges_accessed version
@@ -317,7 +317,7 @@ assist_finding head events u (w ∷ ws) =
     mark_finding head events u (tagged head events u.p w) (w ∷ ws)
     (readings_by head events u.p u.la (w ∷ ws))
 
--- what stands behind the least reason that fails for an event with this number
+-- what is found for the least reason that fails for an event with this number
 abbrev pub event_finding : Head → List Event → ℕ → Event → Option Finding
 event_finding head events i (Write p addr value) = None
 event_finding head events i (Access p flags la outcome moments) =

@@ -4,7 +4,7 @@
 --     level L: moment M pcid HEX [HEX] = HEX KIND, WRITTEN
 --                                             for each entry of the walk down to the first that is
 --                                             no table: its word, what it is, and who wrote it
---     FINDING                                 what stands behind the reason
+--     FINDING                                 what was found for the reason
 --     final: no moments prove this DEED       where none do
 --     last: ..                                then when it would last have been witnessed (`Lasts`)
 --     other moments would: M ..               else the freshest that do

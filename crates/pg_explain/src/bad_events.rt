@@ -52,7 +52,7 @@ fn bad_of(number: u32, event: &Event, reason: Reason) -> Bad
 }
 
 /// The events that their moments do not prove, in their order. Each is judged by the events before
-/// it, whatever they were answered. `Err` is for want of memory alone.
+/// it, whatever they were answered. Fails only when out of memory.
 pub fn bads(alloc: Global, history: &History) -> Result<Vec<Bad>, AllocError>
     ensures { IfOk result (λ found. found.items
         ≡ bads history.now.head history.now.events) }
@@ -66,7 +66,7 @@ pub fn bads(alloc: Global, history: &History) -> Result<Vec<Bad>, AllocError>
     Ok(found)
 }
 
-/// Appends what stands behind the reason of an event that is not witnessed.
+/// Appends the explanation of an event that is not witnessed.
 pub fn push_explanation(
     alloc: Global,
     text: &mut String,
@@ -102,7 +102,7 @@ fn explain_each(alloc: Global, history: &History, bads: &[Bad]) -> Result<String
 }
 
 /// The texts of explanations of so many of a history's bad events at most, one of each in their
-/// order, with an empty line behind each. `Err` is for want of memory alone.
+/// order, with an empty line behind each. Fails only when out of memory.
 pub fn explanations_text(
     alloc: Global,
     history: &History,

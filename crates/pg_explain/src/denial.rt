@@ -1,4 +1,4 @@
-//! What stands behind an event that no moments witness.
+//! Why no moments witness an event.
 
 ghost use Rattle.std.specs.Prelude.{◌≡◌, ◌<◌, ◌≤◌, true, ◌∷◌, [], length, IfOk, IfSome, slice_get};
 ghost use Rattle.std.specs.Prelude.{None};
@@ -19,7 +19,7 @@ use pg_reach::last_moments_at;
 use pg_search::{Last, Seen, witnessed_among_kept};
 use std::alloc::{AllocError, Global};
 
-/// What stands behind an event that no moments witness.
+/// Why no moments witness an event.
 #[derive(Drop)]
 pub struct Denial {
     /// The number of the event.
@@ -81,9 +81,9 @@ fn walk_now(alloc: Global, seen: &Seen<'_>, number: u32, event: &Event) -> Resul
     }
 }
 
-/// What stands behind an access or an assist that no moments witness as the event with this number,
-/// which need not be one of those that are seen: what its processor would read at this number, what
-/// that would give, and when the event would last have been witnessed.
+/// Why no moments witness an access or an assist as the event with this number, which need not be
+/// one of those that are seen: what its processor would read at this number, what that would give,
+/// and when the event would last have been witnessed.
 ///
 /// It asks the past, as `last_moments_at` of `pg_reach` does. It fails only where memory is
 /// refused.
@@ -118,8 +118,8 @@ pub fn deny(alloc: Global, history: &History, number: u64) -> Result<Denial, All
     deny_event(alloc, &Seen::of(history), number as u32, event)
 }
 
-/// What stands behind an event that no moments witness is told by what is kept of the events before
-/// it. It does nothing: its contract is the law.
+/// What is kept of the events before an event tells why no moments witness it. The function does
+/// nothing: its contract is the law.
 pub fn denials_among_kept()
     ensures { DenialsAmongKept }
 {

@@ -1,4 +1,4 @@
-//! The text of what stands behind an event that no moments witness.
+//! The text of why no moments witness an event.
 
 ghost use Rattle.std.specs.Prelude.{◌≡◌, ◌++◌, IfOk, OnOk, string_bytes};
 ghost use Rattle.pg_explain.specs.Denied.{claimed_text, now_entry_text, now_walk_text};
@@ -17,8 +17,8 @@ use pg_entry::Level;
 use pg_event::{Event, Outcome, processor_of};
 use std::alloc::{AllocError, Global};
 
-/// Appends the line of an event without the moments that it names, without its end. `Err` is for
-/// want of memory alone, and may leave a part of the line.
+/// Appends the line of an event without the moments that it names, without its end. Fails only when
+/// out of memory, and may then leave a part of the line.
 pub fn push_claim_line(text: &mut String, number: u32, event: &Event) -> Result<(), AllocError>
     ensures { OnOk result
         (string_bytes text.new ≡ string_bytes text.old ++ claim_line number event.now) }
@@ -101,8 +101,8 @@ fn push_given(text: &mut String, given: Option<Outcome>) -> Result<(), AllocErro
     }
 }
 
-/// The text of what stands behind an event that no moments witness, where `taken` is the event that
-/// took its last moments away, if it had some. `Err` is for want of memory alone.
+/// The text of why no moments witness an event, where `taken` is the event that took its last
+/// moments away, if it had some. Fails only when out of memory.
 pub fn denial_text_by(
     alloc: Global,
     event: Option<Event>,

@@ -1,4 +1,4 @@
-//! What stands behind the reasons from the translation on.
+//! What is found for the reasons from the translation on.
 
 ghost use Rattle.std.specs.Prelude.{◌≡◌, ◌<◌, ◌≤◌, ◌%◌, ◌^◌, ◌&&◌, length};
 ghost use Rattle.pg_entry.specs.declared.Kind.TheVariants as kinds;
@@ -41,7 +41,7 @@ fn prevention_of(cfg: Cfg, rights: Rights, access: AccessKind) -> Option<Prevent
     }
 }
 
-/// What stands behind the reasons by the rights, the answer and the code, where a leaf gives an
+/// What is found for the reasons by the rights, the answer and the code, where a leaf gives an
 /// address.
 fn leaf_finding(cfg: Cfg, claim: &Claim, rights: Rights, address: u64) -> Option<Finding>
     ensures { result ≡ leaf_finding cfg claim.now.kind rights address claim.now.outcome }
@@ -94,7 +94,7 @@ fn held_finding(cfg: Cfg, step: EntryRead, value: u64) -> Finding
     }
 }
 
-/// What stands behind the reasons of a fault, where the entry that is read last is absent or
+/// What is found for the reasons of a fault, where the entry that is read last is absent or
 /// reserved.
 fn fault_finding(
     history: &History,
@@ -169,7 +169,7 @@ struct Leaf {
     global_bit: bool,
 }
 
-/// What stands behind the reasons by the translation that a leaf gives.
+/// What is found for the reasons by the translation that a leaf gives.
 fn page_finding(
     history: &History,
     claim: &Claim,
@@ -199,7 +199,7 @@ fn page_finding(
     leaf_finding(history.header().cfg, claim, step.rights, address)
 }
 
-/// What stands behind the reasons from the translation on, by what was read last under a PCID.
+/// What is found for the reasons from the translation on, by what was read last under a PCID.
 pub(crate) fn end_finding(
     history: &History,
     claim: &Claim,

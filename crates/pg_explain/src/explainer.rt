@@ -1,4 +1,4 @@
-//! What stands behind a "no", and whether other moments would do.
+//! The cause of a rejection, and whether other moments would do.
 
 ghost use Rattle.std.specs.Prelude.{◌≡◌, ◌<◌, ◌≤◌, true, length, map, slice_get, IfOk};
 ghost use Rattle.std.specs.Prelude.{IfSome, IfNone, MatchOption};
@@ -25,7 +25,7 @@ use pg_reach::{freshest_moments, last_moments};
 use pg_search::{Last, Seen};
 use std::alloc::{AllocError, Global};
 
-/// What stands behind a "no".
+/// The cause of a rejection.
 #[derive(Drop)]
 pub struct Explanation {
     /// The number of the event.
@@ -33,7 +33,7 @@ pub struct Explanation {
     /// The entries that its moments name, from level 4 down. What stands below an entry that is no
     /// table was read as if it were one.
     pub walk: Vec<WalkEntry>,
-    /// What stands behind the reason.
+    /// What was found for the reason.
     pub finding: Finding,
     /// The freshest moments that prove the event in the place of its own. Where there are none, no
     /// moments do, and no run of the machine has the events up to this one.
@@ -43,7 +43,7 @@ pub struct Explanation {
     pub last: Option<Last>,
 }
 
-/// The walk of an event that is not witnessed, and what stands behind the reason.
+/// The walk of an event that is not witnessed, and what was found for the reason.
 #[derive(Drop)]
 pub struct Told {
     pub walk: Vec<WalkEntry>,
@@ -67,7 +67,7 @@ fn first_tag(history: &History, p: u16, moments: &[u32]) -> Tagged
     tagged(history, p, moments[0])
 }
 
-/// What stands behind the reason of an access, by what its moments read.
+/// What is found for the reason of an access, by what its moments read.
 fn claim_finding(
     history: &History,
     claim: &Claim,
@@ -98,7 +98,7 @@ fn claim_finding(
     flag_finding(history.header().version, claim, steps, end)
 }
 
-/// What stands behind the reason of an assist, by what its moments read.
+/// What is found for the reason of an assist, by what its moments read.
 fn mark_finding(
     history: &History,
     update: &Update,
@@ -253,12 +253,12 @@ fn last_of(
     }
 }
 
-/// What stands behind the least reason that fails for an event, or `None` where the event is
+/// The explanation of the least reason that fails for an event, or `None` where the event is
 /// witnessed.
 ///
 /// The past is asked first whether other moments prove the event. One search then goes over the
 /// events before it, in a few passes: where there are other moments, for the freshest of them, and
-/// else for when the event would last have been witnessed. `Err` is for want of memory alone.
+/// else for when the event would last have been witnessed. Fails only when out of memory.
 pub fn explain(alloc: Global, history: &History, i: u64) -> Result<Option<Explanation>, AllocError>
     requires { i < length history.now.events }
     ensures { IfOk result (λ x. MatchOption x

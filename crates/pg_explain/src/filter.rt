@@ -111,7 +111,7 @@ fn users(alloc: Global, page: u64, events: &[Event]) -> Result<Vec<bool>, AllocE
 }
 
 /// A mark for each processor of the page that is asked for, where these are all events of a run.
-/// `Err` is for want of memory alone.
+/// Fails only when out of memory.
 pub fn marks_of(alloc: Global, page: Option<u64>, events: &[Event]) -> Result<Vec<bool>, AllocError>
     ensures { IfOk result (λ marks. AreMarks events.now page marks.items) }
 {
@@ -148,9 +148,9 @@ fn push_shown(
     Ok(())
 }
 
-/// The lines of the events that a selection asks for, in their order, where these are all events
-/// of a run. It takes one pass over them, and where a page is asked for another. `Err` is for want
-/// of memory alone.
+/// The lines of the events that a selection asks for, in their order, where these are all events of
+/// a run. It takes one pass over them, and where a page is asked for another. Fails only when out
+/// of memory.
 pub fn shown_text(
     alloc: Global,
     selection: Selection,

@@ -51,7 +51,7 @@ pub enum Prevention {
     Smep,
 }
 
-/// What stands behind the least reason that fails for an event.
+/// What the test found that fails for an event's least reason.
 #[derive(Clone, Copy)]
 pub enum Finding {
     /// The first moment that is above the next one, or above the event.

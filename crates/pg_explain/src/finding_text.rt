@@ -1,4 +1,4 @@
-//! The text of what stands behind a reason.
+//! The text of what was found for a reason.
 
 ghost use Rattle.std.specs.Prelude.{◌≡◌, ◌++◌, OnOk, string_bytes, codes};
 ghost use Rattle.pg_explain.specs.Line.{hex, word_text, code_text};
@@ -15,8 +15,8 @@ use pg_entry::{AccessKind, Kind, Level, Rights};
 use pg_event::{Event, Want};
 use std::alloc::AllocError;
 
-/// Appends the line of the event with this number, where there is one. `Err` is for want of memory
-/// alone, and may leave a part of the line.
+/// Appends the line of the event with this number, where there is one. Fails only when out of
+/// memory, and may then leave a part of the line.
 pub fn push_numbered(text: &mut String, events: &[Event], number: u32) -> Result<(), AllocError>
     ensures { OnOk result
         (string_bytes text.new ≡ string_bytes text.old ++ numbered_text events.now number) }
@@ -220,8 +220,8 @@ fn push_expected_code(text: &mut String, expected: u16) -> Result<(), AllocError
     push_code(text, expected)
 }
 
-/// Appends what stands behind a reason, without an end of the line. `Err` is for want of memory
-/// alone, and may leave a part of the line.
+/// Appends what was found for a reason, without an end of the line. Fails only when out of memory,
+/// and may then leave a part of the line.
 pub fn push_finding(text: &mut String, events: &[Event], finding: Finding) -> Result<(), AllocError>
     ensures { OnOk result
         (string_bytes text.new ≡ string_bytes text.old ++ finding_text events.now finding) }

@@ -1,4 +1,4 @@
-//! What stands behind the reasons by accessed and dirty flags, and those of an assist.
+//! What is found for the reasons by accessed and dirty flags, and those of an assist.
 
 ghost use Rattle.std.specs.Prelude.{◌≡◌, ◌≤◌, map};
 ghost use Rattle.pg_chain.specs.Walked.{reading_of};
@@ -50,7 +50,7 @@ fn dirty_finding(claim: &Claim, end: EntryRead) -> Option<Finding>
     }
 }
 
-/// What stands behind the reasons by the flags of what an access reads (Intel SDM, vol. 3, 4.8).
+/// What is found for the reasons by the flags of what an access reads (Intel SDM, vol. 3, 4.8).
 pub(crate) fn flag_finding(
     version: Version,
     claim: &Claim,

@@ -19,7 +19,7 @@ fn push_by(text: &mut String, moments: &Moments) -> Result<(), AllocError>
 }
 
 /// Appends the last number at which an event would have been witnessed, and its moments there.
-/// `Err` is for want of memory alone, and may leave a part of it.
+/// Fails only when out of memory, and may then leave a part of it.
 pub fn push_last_moments(text: &mut String, last: &Last) -> Result<(), AllocError>
     ensures { OnOk result
         (string_bytes text.new ≡ string_bytes text.old ++ last_moments_text last.now) }

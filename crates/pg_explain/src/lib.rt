@@ -1,5 +1,5 @@
 // SPDX-License-Identifier: MIT OR Apache-2.0
-//! Events as lines for a person, and what stands behind a "no".
+//! Events as lines for a person, and the cause of a rejection.
 #![tactic(auto)]
 
 mod bad_events;

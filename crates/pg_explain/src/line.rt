@@ -237,8 +237,8 @@ fn push_deed(text: &mut String, event: &Event) -> Result<(), AllocError>
     push_named(text, event)
 }
 
-/// Appends the line of the event with this number, without its end. `Err` is for want of memory
-/// alone, and may leave a part of the line.
+/// Appends the line of the event with this number, without its end. Fails only when out of memory,
+/// and may then leave a part of the line.
 pub(crate) fn push_event(text: &mut String, number: u64, event: &Event) -> Result<(), AllocError>
     ensures { OnOk result
         (string_bytes text.new ≡ string_bytes text.old ++ event_line number event.now) }

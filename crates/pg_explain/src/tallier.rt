@@ -132,8 +132,8 @@ fn tallies_of(alloc: Global, reasons: &[Reason], bads: &[Bad]) -> Result<Vec<Tal
     Ok(tallies)
 }
 
-/// A tally for each reason that some bad event has, in the reasons' order. `Err` is for want of
-/// memory alone.
+/// A tally for each reason that some bad event has, in the reasons' order. Fails only when out of
+/// memory.
 pub fn tallies(alloc: Global, bads: &[Bad]) -> Result<Vec<Tally>, AllocError>
     ensures { IfOk result (λ ts. AreTallies bads.now ts.items) }
 {

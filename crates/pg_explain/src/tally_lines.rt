@@ -133,8 +133,7 @@ fn head_of(alloc: Global, number: u8, name: &str, tally: &Tally) -> Result<Strin
     format!(in alloc; "{number} {name}: {count}, first {first}, cpus")
 }
 
-/// The line of a tally, whose reason has this number and this name. `Err` is for want of memory
-/// alone.
+/// The line of a tally, whose reason has this number and this name. Fails only when out of memory.
 pub fn tally_text(
     alloc: Global,
     number: u8,

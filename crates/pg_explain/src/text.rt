@@ -38,7 +38,7 @@ fn push_listed(text: &mut String, name: &str, numbers: &[u32]) -> Result<(), All
     text.push_str("\n")
 }
 
-/// Appends whether other moments would do, as a line. `Err` is for want of memory alone, and may
+/// Appends whether other moments would do, as a line. Fails only when out of memory, and may then
 /// leave a part of the line.
 pub fn push_last(text: &mut String, deed: &str, other: Option<Moments>) -> Result<(), AllocError>
     ensures { OnOk result
@@ -77,7 +77,7 @@ fn push_head(text: &mut String, events: &[Event], number: u32) -> Result<(), All
 }
 
 /// Appends the text of an explanation, where these are the events of its run: the event, the
-/// entries that its moments name down to the first that is no table, what stands behind the reason,
+/// entries that its moments name down to the first that is no table, what was found for the reason,
 /// and whether other moments would do, or when some last would have.
 pub(crate) fn push_explained(
     text: &mut String,
@@ -96,8 +96,8 @@ pub(crate) fn push_explained(
     push_ended(text, events, explanation.other, explanation.last)
 }
 
-/// The text of an explanation, where these are the events of its run. `Err` is for want of memory
-/// alone.
+/// The text of an explanation, where these are the events of its run. Fails only when out of
+/// memory.
 pub fn explanation_text(
     alloc: Global,
     events: &[Event],

@@ -1,4 +1,4 @@
-//! What stands behind the reasons that no end of a walk takes part in.
+//! What is found for the reasons that no end of a walk takes part in.
 
 ghost use Rattle.std.specs.Prelude.{◌≡◌, ◌<◌, ◌≤◌, length, map};
 ghost use Rattle.pg_entry.specs.declared.Level.TheVariants.{Four};
@@ -230,7 +230,7 @@ fn structure_finding(
     None
 }
 
-/// What stands behind the reasons of a walk by moments.
+/// What is found for the reasons of a walk by moments.
 pub(crate) fn walk_finding(
     history: &History,
     asked: Asked,

@@ -57,7 +57,7 @@ pub(crate) fn push_writer(text: &mut String, writer: Option<u32>) -> Result<(), 
     }
 }
 
-/// Appends the line of an entry of a walk. `Err` is for want of memory alone, and may leave a part
+/// Appends the line of an entry of a walk. Fails only when out of memory, and may then leave a part
 /// of the line.
 pub fn push_entry(text: &mut String, entry: &WalkEntry) -> Result<(), AllocError>
     ensures { OnOk result

@@ -58,7 +58,7 @@ pub struct Counter {
     bytes: u64,
 }
 
-/// What stands behind the tag of an event, where a processor's number has so many bytes.
+/// What follows the tag of an event, where a processor's number has so many bytes.
 fn behind_tag(tag: u8, processor: u8) -> (u64, Part) {
     let processor = processor as u64;
     match tag {
@@ -72,7 +72,7 @@ fn behind_tag(tag: u8, processor: u8) -> (u64, Part) {
     }
 }
 
-/// What stands behind the tag of an outcome: a page, or a code.
+/// What follows the tag of an outcome: a page, or a code.
 fn behind_outcome(tag: u8) -> (u64, Part) {
     match tag {
         0 => (8, Part::Moments),
@@ -81,7 +81,7 @@ fn behind_outcome(tag: u8) -> (u64, Part) {
     }
 }
 
-/// What stands behind the number of processors: a segment size, and their registers.
+/// What follows the number of processors: a segment size, and their registers.
 fn behind_processors(low: u8, high: u8) -> (u64, Part) {
     let processors = low as u64 + 256 * high as u64;
     (4 + 9 * processors, Part::Chunk)
@@ -110,13 +110,13 @@ impl Counter {
         self.bytes
     }
 
-    /// Takes in the version, and gives what stands behind it: its high byte, M and the flags.
+    /// Takes in the version, and gives what follows it: its high byte, M and the flags.
     fn behind_version(&mut self, version: u8) -> (u64, Part) {
         self.is_wide = version == 2;
         (3, Part::Processors)
     }
 
-    /// Takes in a byte of a count, the lowest first, and gives what stands behind it.
+    /// Takes in a byte of a count, the lowest first, and gives what follows it.
     fn behind_count(&mut self, byte: u8, left: u8) -> (u64, Part) {
         self.coming = (self.coming >> 8) | ((byte as u32) << 24);
         if left > 0 {

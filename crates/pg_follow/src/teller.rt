@@ -1,4 +1,4 @@
-//! An onlooker that tells how far a run has come.
+//! An observer that tells how far a run has come.
 
 ghost use Rattle.std.specs.Prelude.{◌≡◌};
 ghost use Rattle.pg_progress.specs.Seats.{IsNotBelow, counts};

@@ -1,4 +1,4 @@
-//! The worked example of docs/FORMAT.md, whose bytes were made by hand, and bytes bent from it.
+//! The worked example of docs/FORMAT.md, whose bytes were made by hand, and changed bytes of it.
 
 ghost use Rattle.std.specs.Prelude.{◌≤◌};
 
@@ -49,7 +49,7 @@ fn the_example_is_read_and_spelled(rt: HostRuntime) -> Result<(), Fail> {
     Ok(())
 }
 
-/// Bytes of the example that are bent, and what refuses it then.
+/// Changed bytes of the example, and the refusal that they get.
 struct Bent {
     name: &'static str,
     /// Places and the bytes that stand there.

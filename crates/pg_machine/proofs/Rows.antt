@@ -41,7 +41,7 @@ version_2 = of_version versions.Two
 abbrev table_at : ℕ → Parent
 table_at table = record { table = table; rights = all_rights }
 
--- memory by its words, and what each processor has cached; the root is 0x1000 and the PCID 1
+-- the words of memory, and what each processor has cached; the root is 0x1000 and the PCID 1
 abbrev state : List (ℕ × ℕ) → List Structure → List Translation → State
 state words structures translations = record {
   memory = value_at words;

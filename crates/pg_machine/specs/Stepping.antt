@@ -310,7 +310,8 @@ next_step l (FillLeaf p la level from) = next_leaf l p la level from
 next_step l (Drop p member) = next_drop l p member
 next_step l (Do e) = next_event l e
 
--- an error is why a step is stuck, or want of memory for one that is not and that adds something
+-- an error is why a step is stuck, or out of memory for one that is not stuck and that adds
+-- something
 abbrev pub IsStuckBy : Bool → Option Stuck → Stuck → Type 0
 IsStuckBy adds why stucks.Memory = (why ≡ None) × (adds ≡ true)
 IsStuckBy adds why stuck = why ≡ Some stuck

@@ -50,7 +50,7 @@ impl Model for Machine {
 
 impl Machine {
     /// The machine at the start of a run: memory is 0, the control registers are as the header says
-    /// and the caches hold nothing. `Err` is for want of memory alone.
+    /// and the caches hold nothing. Fails only when out of memory.
     pub fn start(alloc: Global, header: &Header) -> Result<Machine, AllocError>
         requires width { (36 ≤ header.now.cfg.m) × (header.now.cfg.m ≤ 52) }
         ensures state { IfOk result (λ m. state_of m ≡ start header.now) }

@@ -1,5 +1,5 @@
 // SPDX-License-Identifier: MIT OR Apache-2.0
-//! Tests of the machine, of the runs that a yes stands for, and of what stands behind a no.
+//! Tests of the machine, of the runs that a yes stands for, and of the causes of rejections.
 #![tactic(auto)]
 
 #[cfg(test)]

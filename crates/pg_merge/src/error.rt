@@ -27,7 +27,7 @@ pub enum LogError {
     /// The bytes are no log.
     #[error("the bytes are no log: {0:?}")]
     Refused(LogRefusal),
-    /// A growth was refused.
+    /// An allocation failed.
     #[error("memory ran out")]
     Memory,
 }
@@ -76,7 +76,7 @@ pub enum MergeError {
     /// The logs have more than 4,294,967,295 events.
     #[error("there are too many events")]
     TooMany,
-    /// A growth was refused.
+    /// An allocation failed.
     #[error("memory ran out")]
     Memory,
 }

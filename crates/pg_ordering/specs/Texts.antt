@@ -28,7 +28,7 @@ head_text (Never n edges) = no_text n
 head_text (NoneOfAll n) = no_text n
 head_text (Undecided n) = codes "verdict: undecided\nevent: " ++ (decimal n ++ codes "\n")
 
--- what stands behind a no where all orders were tried
+-- the cause of a rejection where all orders were tried
 abbrev pub none_of_all : List ℕ
 none_of_all = codes "all orders: each was tried, and none has a run\n"
 

@@ -11,7 +11,7 @@ use pg_spanned::SpannedRun;
 use pg_spanned_text::{cause_picture, cause_text};
 use std::alloc::{AllocError, Global};
 
-/// What stands behind a no where all orders were tried.
+/// The cause of a rejection where all orders were tried.
 const NONE_OF_ALL: &str = "all orders: each was tried, and none has a run\n";
 
 /// How many segments hold all events of a run.

@@ -73,7 +73,7 @@ abbrev pub paper_text : ℕ → List ℕ
 paper_text height =
     codes "<rect width='1200' height='" ++ (decimal height ++ codes "' fill='#fff'/>\n")
 
--- what stands behind the reason
+-- what was found for the reason
 abbrev pub finding_line : List ℕ → List ℕ
 finding_line finding =
     codes "<text x='10' y='24' font-weight='bold'>" ++ (escaped finding ++ codes "</text>\n")

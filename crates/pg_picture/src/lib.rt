@@ -1,5 +1,5 @@
 // SPDX-License-Identifier: MIT OR Apache-2.0
-//! A picture of what stands behind a "no".
+//! A picture of the cause of a rejection.
 #![tactic(auto)]
 
 mod named;

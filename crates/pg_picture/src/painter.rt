@@ -60,7 +60,7 @@ fn push_paper(text: &mut String, height: u64) -> Result<(), AllocError>
     writeln!(text, "<rect width='1200' height='{height}' fill='#fff'/>")
 }
 
-/// Appends what stands behind the reason.
+/// Appends what was found for the reason.
 fn push_finding_line(text: &mut String, finding: &str) -> Result<(), AllocError>
     ensures { OnOk result
         (string_bytes text.new ≡ string_bytes text.old ++ finding_line finding.now) }
@@ -252,8 +252,8 @@ fn svg_text(
 
 /// An explanation as a picture: one SVG, 1,200 pixels wide, without scripts. It shows each event
 /// that the explanation names, in the lane of its processor, the entries of the walk at their
-/// moments, and which event wrote or dropped which entry. It takes one pass over the events. `Err`
-/// is for want of memory alone.
+/// moments, and which event wrote or dropped which entry. It takes one pass over the events. Fails
+/// only when out of memory.
 pub fn picture_text(
     alloc: Global,
     history: &History,
@@ -266,8 +266,7 @@ pub fn picture_text(
     svg_text(alloc, history.events(), explanation, &layout)
 }
 
-/// The picture of what stands behind the reason of an event that is not witnessed. `Err` is for
-/// want of memory alone.
+/// The picture of why an event is not witnessed. Fails only when out of memory.
 pub fn draw(alloc: Global, history: &History, number: u64) -> Result<String, AllocError>
     requires within { number < length history.now.events }
     requires bad { ¬ Witnessed history.now.head history.now.events number }

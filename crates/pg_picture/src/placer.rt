@@ -455,8 +455,8 @@ fn laid(
     })
 }
 
-/// Where everything of an explanation stands. It takes one pass over the events. `Err` is for want
-/// of memory alone.
+/// Where everything of an explanation stands. It takes one pass over the events. Fails only when
+/// out of memory.
 pub fn lay_out(
     alloc: Global,
     history: &History,

@@ -31,7 +31,7 @@ kinds_of app words error app_is kinds =
     let P : App → Type 0 = λ a. is_simple_and_free a ≡ true → HasKind (fault_of a words) error in
     subst P app_is kinds is_plain
 
--- it fails for want of memory alone, where the words are taken
+-- it fails only when out of memory, where the words are taken
 pub fails_by_memory : (app : App) (words : List Text) (error : Error) → app ≡ command_line → (is_simple_and_free app ≡ true → HasKind (fault_of app words) error) → faults words ≡ [] → kind_of error ≡ OutOfMemory
 fails_by_memory app words error app_is kinds taken =
     let P : Kinds → Type 0 = λ ks. HasKind ks error in
@@ -69,7 +69,7 @@ is_asked words plan file taken plans file_is = ((taken, (plans plan).0 refl, fil
 some_is : {A : Type 0} (x y : A) → Some x ≡ Some y → x ≡ y
 some_is x y e = ap (λ o. option_map_or (λ r. r) o x) e
 
--- a number that was read may be one of those that are wished, or may not, or there is none
+-- a number that was read may be one of those that are asked for, or may not, or there is none
 module _ (P Q : ℕ → Type 0) where
   pub reads_both : (k : ℕ) → Reads (Some k) P → Q k → Reads (Some k) (λ n. P n × Q n)
   reads_both k is wished n = (λ e. ((is n).0 e, subst Q (some_is k n e) wished), λ h. (is n).1 h.0)
@@ -138,7 +138,7 @@ text_named kind app words error app_is kinds is_asked apart =
     let P : ErrorKind → Type 0 = λ k. IsAmong k (faults words) in
     ⊎_elim (λ memory. absurd (apart (sym is_asked ∙ memory))) (λ among. subst P is_asked among) (kinds_of app words error app_is kinds)
 
--- it fails for want of memory, or gives the text, where the words just ask for it
+-- it fails when out of memory, or gives the text, where the arguments just ask for it
 pub gives_text : (kind : ErrorKind) (app : App) (words : List Text) (error : Error) → app ≡ command_line → (is_simple_and_free app ≡ true → HasKind (fault_of app words) error) → faults words ≡ kind ∷ []
     → (kind_of error ≡ OutOfMemory) ⊎ (kind_of error ≡ kind)
 gives_text kind app words error app_is kinds asks =

@@ -99,7 +99,7 @@ version_before_help : Gives (codes "-Vh" ∷ []) (DisplayVersion ∷ [])
 unfolding clap_on_literals
 version_before_help = refl
 
--- and what stands behind a flag is not looked at
+-- and what follows a flag is not looked at
 version_before_more : Gives (codes "--version" ∷ codes "more" ∷ []) (DisplayVersion ∷ [])
 unfolding clap_on_literals
 version_before_more = refl

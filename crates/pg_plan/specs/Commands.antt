@@ -176,7 +176,7 @@ faults words = fault_of command_line words
 abbrev pub AreTaken : List Text → Type 0
 AreTaken words = faults words ≡ []
 
--- ---- what words ask for
+-- ---- what arguments ask for
 
 -- the options that matches have
 abbrev pub options_of : ArgMatches → List Row
@@ -285,11 +285,11 @@ AsksOnly words plan file =
     Asks words plan file × ((other : Plan) (named : Option Text) → Asks words other named →
     (other ≡ plan) × (named ≡ file))
 
--- the words ask for no command
+-- the arguments ask for no command
 abbrev pub AsksNone : List Text → Type 0
 AsksNone words = (plan : Plan) (file : Option Text) → Asks words plan file → ⊥
 
--- the words ask for help, or for the version, alone
+-- the arguments ask for help, or for the version, alone
 abbrev pub AsksHelp : List Text → Type 0
 AsksHelp words = faults words ≡ DisplayHelp ∷ []
 

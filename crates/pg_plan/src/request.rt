@@ -4,10 +4,10 @@ use pg_event::Selection;
 /// What `explain` tells of bad events.
 #[derive(Clone, Copy, Debug, PartialEq, Eq)]
 pub enum Telling {
-    /// What stands behind the first.
+    /// The cause of the first.
     First,
-    /// What stands behind so many of them at most, 1 to 1,000,000, and a summary of all. It is 100
-    /// where the words say nothing.
+    /// The causes of so many of them at most, 1 to 1,000,000, and a summary of all. It is 100 where
+    /// the words say nothing.
     All(u32),
     /// The first, drawn.
     Picture,
@@ -69,14 +69,14 @@ pub enum Command {
     /// Read a record, and write its report.
     Check(CheckOptions),
     /// Read a record, take no notice of the moments that it names, and write whether any run of the
-    /// manual's machine has its events and, where none has, what stands behind that. Of a record
-    /// with spans, whether its events have an order in which some run has them.
+    /// manual's machine has its events and, where no run has them, the cause. Of a record with
+    /// spans, whether its events have an order in which some run has them.
     Certify(CertifyOptions),
     /// Read a guest script, run it, and write the report of the run's record, or the record.
     Run(RunOptions),
     /// Read a record, and write a run of the manual's machine that has its events.
     RunOf,
-    /// Read a record, and write its report and, where it is no, what stands behind it.
+    /// Read a record, and write its report and, of a rejection, its cause.
     Explain(ExplainOptions),
     /// Read a record, and write its events, a line each.
     Show(ShowOptions),

@@ -18,7 +18,7 @@ pub trait Onlooker {
         ensures { IsNotBelow (told self.new) counts };
 }
 
-/// The onlooker that does nothing.
+/// The observer that does nothing.
 #[derive(Clone, Copy)]
 pub struct Nobody;
 

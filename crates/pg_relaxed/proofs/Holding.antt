@@ -28,7 +28,7 @@ pub record IsLast (s : Spanned) (order : List ℕ) (w a v j : ℕ) : Type 0 wher
   pub came : Before order w j
   pub last : (i : ℕ) → WritesTo s.events a i → Before order w i → MustPrecede s j i → ⊥
 
--- what the last write has left, or 0 where none has come
+-- what the last write has left, or 0 where no write has come
 abbrev pub Left : Spanned → List ℕ → ℕ → ℕ → ℕ → Type 0
 Left s order w a v = ((j : ℕ) × IsLast s order w a v j) ⊎ ((v ≡ 0) × ((i : ℕ) → WritesTo s.events a i → Before order w i → ⊥))
 

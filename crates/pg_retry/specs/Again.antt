@@ -25,13 +25,13 @@ pub record Stand : Type 0 where
 abbrev pub stand : Recording → List Held → ℕ → Stand
 stand r hs refused = record { world = r; processors = map seen hs; refused = refused }
 
--- p took one turn, which was not stopped for want of memory
+-- p took one turn, which running out of memory did not stop
 pub record TookOne (p : ℕ) (answer : Advance) (old new : Stand) : Type 0 where
   pub run : IsCoreRun old.world old.processors (p ∷ []) (answer ∷ []) new.world new.processors
   pub granted : answer ≢ Stopped Memory
   pub refused : new.refused ≡ old.refused
 
--- p took two turns, the first of which was stopped for want of memory
+-- p took two turns, the first of which running out of memory stopped
 pub record TookTwo (p : ℕ) (answer : Advance) (old new : Stand) : Type 0 where
   pub run : IsCoreRun old.world old.processors (p ∷ p ∷ []) (Stopped Memory ∷ answer ∷ [])
       new.world new.processors

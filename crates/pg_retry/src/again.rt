@@ -18,8 +18,8 @@ use pg_machine::{Machine, Step, Stuck};
 use pg_world::World;
 use std::alloc::{AllocError, Global};
 
-/// A turn of the processor at a place. Where it is stopped for want of memory another one begins
-/// the instruction again.
+/// A turn of the processor at a place. Where running out of memory stops it, another one begins the
+/// instruction again.
 pub(crate) fn turn(
     world: &mut World,
     guests: &mut [Processor],

@@ -3,7 +3,7 @@
 use pg_cases::{Case, answers, bytes_of};
 use std::test::Fail;
 
-/// What stands behind the header: a dirty assist, and the write that it was for.
+/// What follows the header: a dirty assist, and the write that it was for.
 const REST: &str =
     "01000000000600000010000000100000000000002720000000000000100000002000000000000027\
     30000000000000100000003000000000000027400000000000001000002840000000000000279000\

@@ -19,7 +19,7 @@ pub record BuildsRun (head : Head) (events : List Event) (steps : List Step) : T
   pub keeps : DropsNothing steps
   pub few : length steps ≤ 5 * length events
 
--- events are not accepted, by this first bad event; want of memory says nothing of them
+-- events are not accepted, by this first bad event; running out of memory says nothing of them
 abbrev pub IsNotAccepted : Head → List Event → BuildError → Type 0
 IsNotAccepted head events (NotAccepted event reason) = first_bad head events ≡ Some (event, reason)
 IsNotAccepted head events Memory = Unit {0}

@@ -122,7 +122,7 @@ refuses_nothing false false why empty going_on is = cc
 refuses_nothing false true why empty going_on is = cc
 refuses_nothing true finished why empty going_on is = cc
 
--- a record that is neither full nor finished refuses nothing but for want of memory
+-- a record that is neither full nor finished refuses nothing unless out of memory
 for_memory : (r : Recording) (due : Advance) (why : Stop) → is_full r ≡ false → r.finished ≡ false → MayStop r due why → why ≡ stops.Memory
 for_memory r due why empty going_on (inl memory) = memory
 for_memory r (Read level) why empty going_on (inr refused) = absurd (refuses_nothing false r.finished why refl going_on refused)

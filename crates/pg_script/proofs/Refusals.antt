@@ -1,4 +1,4 @@
--- No reading of a text refuses it for want of memory.
+-- No reading of a text refuses it as out of memory.
 use Rattle.std.proofs.Common.{◌≡◌, ℕ, zero, suc, ◌+◌, ◌-◌, ◌^◌, Bool, true, false, List, [], ◌∷◌, Option, Some, None, refl}
 use Rattle.std.specs.Prelude.{Result, Ok, Err, MatchResult, if◌then◌else◌, ◌&&◌, nat_lt, codes}
 use Rattle.std.specs.Str.{bytes_eq}
@@ -227,6 +227,6 @@ reading_refuses bytes =
     refuses_then (head_at (lines_of 1 bytes)) _ (head_refuses (lines_of 1 bytes))
     (λ head. refuses_then (tasks_at head.0 0 head.1) _ (tasks_refuses head.0 0 head.1) (λ tasks. tt))
 
--- a refusal of a text is not for want of memory
+-- no refusal of a text is out of memory
 pub never_memory : (bytes : List ℕ) (e : ScriptError) → reading bytes ≡ Err e → is_memory e.refusal ≡ false
 never_memory bytes e is = rw is at (reading_refuses bytes)

@@ -122,7 +122,7 @@ named_access kind la i e = go kind.op e
     go ops.Write h = h
     go ops.Fetch h = h
 
--- an instruction by its words, the first of which is its name
+-- an instruction from its words, the first of which is its name
 named : Words → Result Instruction ScriptRefusal
 named [] = Err refusals.Instruction
 named (name ∷ words) = instruction_in name words

@@ -11,7 +11,7 @@ pub data Lines : Type 0 where
   Cut : ℕ → Lines
   Line : ℕ → List ℕ → Lines → Lines
 
--- a text is cut at each LF; what stands behind the last is a line that no LF ends, or nothing
+-- a text is cut at each LF; what follows the last is a line that no LF ends, or nothing
 abbrev pub lines_from : ℕ → List (List ℕ) → Lines
 lines_from n [] = Ended n
 lines_from n (last ∷ []) = if length last == 0 then Ended n else Cut n

@@ -147,7 +147,7 @@ fn first_start<'a>(maxphyaddr: u8, text: &Text<'a>) -> Result<Told<'a, (u64, boo
     })
 }
 
-/// Want of memory in a line.
+/// Out of memory in a line.
 fn out_of_memory(line: u32) -> ScriptError
     ensures { result ≡ record { line = line; refusal = ScriptRefusal.Memory } }
 {

@@ -27,7 +27,7 @@ pub enum ScriptRefusal {
     LineEnd,
     /// More instructions than 1,048,576.
     TooMany,
-    /// A growth was refused in this call.
+    /// An allocation failed in this call.
     Memory,
 }
 

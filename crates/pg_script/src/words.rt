@@ -43,7 +43,7 @@ impl<'a> Words<'a> {
     }
 }
 
-/// The piece before the first separator, and what stands behind it, if there is one.
+/// The piece before the first separator, and what follows it, if there is one.
 pub(crate) fn cut(bytes: &[u8], separator: u8) -> (&[u8], Option<&[u8]>)
     ensures pieces { pieces separator bytes.now
         ≡ result.0.now ∷ pieces_behind separator (option_copied result.1) }
@@ -97,7 +97,7 @@ pub(crate) fn bit_word<'a>(words: &Words<'a>) -> Result<(bool, Words<'a>), Scrip
     }
 }
 
-/// What stands behind this very word.
+/// What follows this very word.
 #[tactic(auto, unfolding(crate::specs::Words::keyword_at))]
 pub(crate) fn after_keyword<'a>(
     keyword: &[u8],

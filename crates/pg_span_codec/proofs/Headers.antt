@@ -90,14 +90,14 @@ front_takes bytes x fits e =
     let t1 = spans_version_takes a.1 x t0.rest_fits e in
     Takes-then bytes (codes "PGRECORD") a.1 (to_le_bytes w16 (spans_number x.0)) x.1 t0 t1)
 
--- ---- what stands behind the version
+-- ---- what follows the version
 
 -- a header behind its version
 abbrev settings_tail : Head → List ℕ
 settings_tail head =
     head.cfg.m ∷ head.cfg.flags.0 ∷ (processor_bytes head.version (length head.processors) ++ (to_le_bytes w32 head.segment ++ flat_map start_bytes head.processors))
 
--- what stands behind the version is read as in a header of version 1 or 2
+-- what follows the version is read as in a header of version 1 or 2
 as_header : (version : Version) (bytes : List ℕ) → header_at (codes "PGRECORD" ++ (to_le_bytes w16 (version_number version) ++ bytes)) ≡ settings_behind version bytes
 unfolding header_at settings_behind
 as_header version bytes = ok_bind _ _ _ (magic_again (to_le_bytes w16 (version_number version) ++ bytes)) ∙ ok_bind _ _ _ (version_again version bytes)

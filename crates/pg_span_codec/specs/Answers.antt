@@ -4,7 +4,7 @@ use Rattle.pg_span_codec.specs.declared.refusal.SpannedRefusal.{SpannedRefusal}
 use Rattle.pg_span_codec.specs.declared.error.SpannedError.{SpannedError}
 use Rattle.pg_span_codec.specs.declared.error.SpannedError.TheVariants.{Refused, Memory}
 
--- a refusal is what reading gives; want of memory says nothing of it
+-- a refusal is what reading gives; running out of memory says nothing of it
 abbrev pub Fails : {A : Type 0} → SpannedError → Result A SpannedRefusal → Type 0
 Fails (Refused e) reading = reading ≡ Err e
 Fails Memory reading = Unit {0}

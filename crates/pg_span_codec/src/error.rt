@@ -15,7 +15,7 @@ pub enum SpannedError {
     /// The bytes spell no record of version 3 or 4: the first fault from left to right.
     #[error("the bytes spell no record with spans: {0:?}")]
     Refused(SpannedRefusal),
-    /// A growth was refused.
+    /// An allocation failed.
     #[error("memory ran out")]
     Memory,
 }

@@ -151,7 +151,7 @@ fn push_event(
 /// event has, and the event's own line for one that names no walk.
 ///
 /// It takes a few passes over the events, and one for each table that a walk may come to: 65 for
-/// each level at most. `Err` is for want of memory alone.
+/// each level at most. Fails only when out of memory.
 pub fn cause_text(alloc: Global, run: &SpannedRun, number: u64) -> Result<String, AllocError>
     ensures { IfOk result (λ t. string_bytes t ≡ cause_text run.now number) }
 {

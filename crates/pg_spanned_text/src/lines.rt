@@ -9,8 +9,8 @@ use pg_explain::{fits, is_marked, marks_of, push_claim_line};
 use pg_spanned::SpannedRun;
 use std::alloc::{AllocError, Global};
 
-/// Appends the line of an event with its span, without its end. `Err` is for want of memory alone,
-/// and may leave a part of the line.
+/// Appends the line of an event with its span, without its end. Fails only when out of memory, and
+/// may then leave a part of the line.
 pub fn push_began(
     text: &mut String,
     number: u32,
@@ -44,7 +44,7 @@ fn push_spanned(
 }
 
 /// The lines of the events that a selection asks for, as they ended. It takes one pass over them,
-/// and where a page is asked for another. `Err` is for want of memory alone.
+/// and where a page is asked for another. Fails only when out of memory.
 pub fn spanned_lines(
     alloc: Global,
     selection: Selection,

@@ -166,8 +166,7 @@ fn cause_of_span(
 
 /// What the cause of the event with this number says of its walk of a linear address: the parts of
 /// which the lines of `cause_text` are written. It takes a few passes over the events, and one for
-/// each table that the walk may come to: 65 for each level at most. `Err` is for want of memory
-/// alone.
+/// each table that the walk may come to: 65 for each level at most. Fails only when out of memory.
 pub fn walk_cause(
     alloc: Global,
     run: &SpannedRun,

@@ -59,7 +59,7 @@ fn run_on<R: Threads + Wait + Sync, G: Gate, H: Gate, O: Onlooker>(
     }
 }
 
-/// The run that an onlooker sees, judged by what is passed in.
+/// The run that an observer sees, judged by what is passed in.
 fn run_judged<R: Threads + Wait + Sync, G: Gate, H: Gate, O: Onlooker + Drop>(
     crew: &Crew<'_, R, H>,
     script: &Script,
@@ -82,7 +82,7 @@ fn run_judged<R: Threads + Wait + Sync, G: Gate, H: Gate, O: Onlooker + Drop>(
 /// while the processors run. These share their record and its memory under one lock, and take it
 /// for one turn at a time. Each instruction goes through the gate, with the number of its processor
 /// and its own, and each segment's judging through that of the crew. The calling thread lets the
-/// onlooker see the counts of events and sealed segments, each time that it looks for segments to
+/// observer see the counts of events and sealed segments, each time that it looks for segments to
 /// be judged, and once more when the processors' threads have ended, unless memory or a thread was
 /// refused. It was told nothing before.
 ///
@@ -103,7 +103,7 @@ pub fn run_guest_followed<R: Threads + Wait + Sync, G: Gate, H: Gate, O: Onlooke
     run_judged(crew, script, gate, onlooker, &mut judging)
 }
 
-/// The same with no onlooker, by a crew of so many checkers, whose work goes through a gate.
+/// The same with no observer, by a crew of so many checkers, whose work goes through a gate.
 ///
 /// Fails where the number of checkers is none of 1 to 64, before all else.
 pub fn run_guest_watched<R: Threads + Wait + Sync, G: Gate, H: Gate>(

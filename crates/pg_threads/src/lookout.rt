@@ -17,7 +17,7 @@ use std::sync::{Mutex, Wait};
 use std::thread::Threads;
 
 /// Where the calling thread sees how far the processors have come, without their lock, and lets an
-/// onlooker see it. The onlooker was told no more than was read.
+/// observer see it. The observer was told no more than was read.
 #[derive(Drop)]
 pub(crate) struct Lookout<'a, O: Onlooker> {
     progress: &'a Progress,

@@ -14,7 +14,7 @@ use std::sync::{Mutex, Wait};
 pub(crate) enum Left {
     /// It was carried out.
     Done,
-    /// A turn was stopped for want of memory.
+    /// Running out of memory stopped a turn.
     Refused,
     /// There is nothing to go on with: the processor has ended, or the record is full.
     Over,

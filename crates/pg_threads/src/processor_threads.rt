@@ -109,8 +109,8 @@ fn run_all<R: Threads + Wait + Sync, G: Gate, H: Gate, O: Onlooker>(
 }
 
 /// Runs all processors of a script, each that has instructions in a thread of its own, and judges
-/// what they seal. It answers once all threads have ended, and by want of memory
-/// where there was that as well as a refused thread.
+/// what they seal. It answers once all threads have ended, and says out of memory where memory and
+/// a thread were refused.
 pub(crate) fn run_processors<R: Threads + Wait + Sync, G: Gate, H: Gate, O: Onlooker>(
     crew: &Crew<'_, R, H>,
     shared: &Mutex<Board<'_>>,

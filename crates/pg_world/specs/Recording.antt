@@ -96,8 +96,8 @@ commit_refusal r p e = refusal r (is_access e && is_own r.head p e) true
 abbrev pub control_refusal : Recording → ℕ → Event → Option WorldError
 control_refusal r p e = refusal r (is_control e && is_own r.head p e) true
 
--- a call is refused by the least reason there is; where there is none, for want of memory, which
--- only a call that adds an event meets
+-- a call is refused by the least reason there is; where there is none, because memory ran out,
+-- which only a call that adds an event meets
 abbrev pub IsRefusedBy : Bool → Option WorldError → WorldError → Type 0
 IsRefusedBy adds (Some reason) error = error ≡ reason
 IsRefusedBy adds None error = IsTrue adds × (error ≡ errors.Memory)

@@ -5,7 +5,7 @@ use std::alloc::AllocError;
 use thiserror::Error;
 
 /// Why a call is refused: the least of these that applies. A refused call changes nothing. The same
-/// call later can succeed where it was refused for want of memory, and nowhere else.
+/// call can succeed later where memory ran out, and nowhere else.
 #[derive(Clone, Copy, PartialEq, Eq, Debug, Error)]
 pub enum WorldError {
     /// The event breaks a rule of records, or is of another processor or kind than the call's. Of a
