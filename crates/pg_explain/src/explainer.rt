@@ -256,9 +256,8 @@ fn last_of(
 /// The explanation of the least reason that fails for an event, or `None` where the event is
 /// witnessed.
 ///
-/// The past is asked first whether other moments prove the event. One search then goes over the
-/// events before it, in a few passes: where there are other moments, for the freshest of them, and
-/// else for when the event would last have been witnessed. Fails only when out of memory.
+/// The past is asked for the freshest other moments that prove the event and, where there are none,
+/// for when the event would last have been witnessed. Fails only when out of memory.
 pub fn explain(alloc: Global, history: &History, i: u64) -> Result<Option<Explanation>, AllocError>
     requires { i < length history.now.events }
     ensures { IfOk result (λ x. MatchOption x

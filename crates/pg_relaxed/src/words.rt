@@ -17,8 +17,9 @@ use std::alloc::{AllocError, Global};
 /// What a word costs beside its writes.
 const LOOKS: u64 = 32;
 
-/// So many writes are looked at for one that must follow the first of them. Where no two events of
-/// one processor overlap, at most 63 of other processors end behind it and need not follow it.
+/// So many writes are looked at for one that must follow the first of them. In version 3, which has
+/// 64 processors at most, at most 63 of other processors end behind it and need not follow it,
+/// where no two events of one processor overlap.
 const MOST_LATER: usize = 65;
 
 /// A write to a word: the number of its event.

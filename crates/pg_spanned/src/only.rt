@@ -20,7 +20,7 @@ fn precedes_next(run: &SpannedRun, i: usize) -> bool
 }
 
 /// Whether each event comes before the next in every order, so that the order in which they ended
-/// is their only one: where no event overlaps another, or all are of one processor. It takes time
+/// is their only one: for example where no event overlaps one of another processor. It takes time
 /// linear in their count.
 pub fn has_one_order(run: &SpannedRun) -> bool
     ensures { IsTrue result ↔ EachPrecedesNext run.now }
