@@ -215,7 +215,8 @@ impl Drops {
         most.max(space).max(page)
     }
 
-    /// The same for each size of page, of translations of the PCID and of global ones.
+    /// The first slot from which on a translation lasts, for each size of page, of translations of
+    /// the PCID and of global ones.
     pub(crate) fn translations_from(
         &self,
         p: u16,

@@ -167,7 +167,7 @@ impl<'a> Facts<'a> {
         self.is_surely_before(j, i)
     }
 
-    /// The same by what is known beyond the spans.
+    /// Whether one event must come before another by what is known beyond the spans.
     fn is_surely_before(&self, j: u32, i: u32) -> bool {
         let Some(p) = self.processor(j) else {
             return false;
@@ -300,7 +300,8 @@ impl<'a> Facts<'a> {
         Ok(is_news)
     }
 
-    /// The same of an event of a processor and those behind it, as far as it is news.
+    /// Raises, as `raise` does, what is known of an event of a processor and of those after it, as
+    /// far as it is news.
     fn raise_all(&mut self, p: u16, first: u32, before: u32) -> Result<(), AllocError> {
         for place in first..self.count(p) {
             let Some(event) = self.own(p, place) else {

@@ -354,7 +354,8 @@ impl<'a> Maker<'a> {
         Ok(None)
     }
 
-    /// The same where nothing may witness an event: begins again only where that was supposed.
+    /// Begins again or gives up, where nothing may witness an event: begins again only where that
+    /// was supposed.
     fn give_up(&mut self, event: u32) -> Result<Option<Vec<u32>>, AllocError> {
         if self.has_supposed() {
             return self.go_on_or_give_up(event);

@@ -124,7 +124,7 @@ impl<'s> Search<'s> {
         })
     }
 
-    /// The same with the flags of an assist that may come behind it.
+    /// What a write wrote, with the flags of an assist that may come after it.
     fn marked(&self, plain: &Version, marks: u64) -> Option<Version> {
         if plain.value | marks == plain.value {
             return None;

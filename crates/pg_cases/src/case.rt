@@ -47,7 +47,7 @@ pub fn run_on<T: AllocGlobal + Threads + Wait + Sync, R: Source, O: Sink, E: Sin
     pcid_audit(rt, planned, no_file, input, output, errors)
 }
 
-/// The same over memory.
+/// The exit status of the program over memory (`run_on`).
 pub fn run_over<T: AllocGlobal + Threads + Wait + Sync>(
     rt: &T,
     words: &[&str],

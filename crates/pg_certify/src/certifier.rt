@@ -94,7 +94,7 @@ impl<J: Judging + Drop> Certifier<J> {
         }
     }
 
-    /// The same, where it is told quickly: `None` says nothing.
+    /// These moments, if they witness an event and that shows quickly: `None` says nothing.
     #[inline(always)]
     fn judge_quickly(&mut self, event: &Event, i: u32, moments: Moments) -> Option<Option<Reason>>
         requires { broken_rule self.old.head event.now ≡ None }
@@ -107,7 +107,7 @@ impl<J: Judging + Drop> Certifier<J> {
         self.judging.failing_quickly(i, &guessed)
     }
 
-    /// The same, as far as `speed` asks.
+    /// These moments, if they witness an event, as far as `speed` asks.
     #[inline(always)]
     fn judge_at(
         &mut self,

@@ -75,7 +75,7 @@ impl Flushes {
         }
     }
 
-    /// The same for its global pages.
+    /// The first moment since which what a processor has for its global pages may have been read.
     #[inline(always)]
     pub(crate) fn globals_since(&self, p: u16) -> u32 {
         match self.by_processor.get(p as usize) {

@@ -35,7 +35,7 @@ pub(crate) trait Judging {
         ensures failing { result
             ≡ failing_event (run self.old).head (run self.old).events i event.now };
 
-    /// The same, where it is told quickly: None says nothing.
+    /// What `failing` gives, where that shows quickly: `None` says nothing.
     fn failing_quickly(&mut self, i: u32, event: &Event) -> Option<Option<Reason>>
         requires { broken_rule (run self.old).head event.now ≡ None }
         ensures same { run self.new ≡ run self.old }

@@ -98,7 +98,7 @@ impl Past {
         self.note_change(moment, event)
     }
 
-    /// The same of an event that may change something.
+    /// Notes the next event, which may change something, as `note_later` does.
     #[inline(never)]
     fn note_change(&mut self, moment: u32, event: &Event) -> Result<(), AllocError>
         requires next { IsNext self.old moment }
@@ -151,7 +151,7 @@ impl Past {
         }
     }
 
-    /// The same, and makes all lists.
+    /// Notes the next event as `note_later` does, and makes all lists.
     pub fn note(&mut self, moment: u32, event: &Event) -> Result<(), AllocError>
         requires next { IsNext self.old moment }
         requires processor { processor_of event.now < processor_count self.old }
@@ -181,22 +181,22 @@ impl Past {
         self.drops.catch_up();
     }
 
-    /// The same of the lists that most look-ups ask: those of translations of 4-KiB pages that are
-    /// not global.
+    /// Makes the lists that most look-ups ask: those of translations of 4-KiB pages that are not
+    /// global.
     pub fn catch_up_pages(&mut self)
         ensures { self.new ≡ self.old }
     {
         self.drops.catch_up_pages();
     }
 
-    /// The same of the lists of paging-structure-cache entries.
+    /// Makes the lists of paging-structure-cache entries.
     pub fn catch_up_regions(&mut self)
         ensures { self.new ≡ self.old }
     {
         self.drops.catch_up_regions();
     }
 
-    /// The same of the lists of translations of large and of global pages.
+    /// Makes the lists of translations of large and of global pages.
     pub fn catch_up_wide(&mut self)
         ensures { self.new ≡ self.old }
     {
@@ -292,7 +292,7 @@ impl Past {
         self.value_at_counted(moment, addr, &mut Probes::new())
     }
 
-    /// The same, and counts the moments that were read.
+    /// What `value_at` gives, and counts the moments that were read.
     pub(crate) fn value_at_counted(&self, moment: u32, addr: u64, probes: &mut Probes) -> u64
         ensures run { InEachRun self.now (λ head events. result ≡ mem_at events moment addr) }
         ensures probes { (probes.old ≤ probes.new) × (probes.new ≤ probes.old + 34) }
@@ -309,7 +309,7 @@ impl Past {
         self.control_at_counted(p, moment, &mut Probes::new())
     }
 
-    /// The same, and counts the moments that were read.
+    /// What `control_at` gives, and counts the moments that were read.
     pub(crate) fn control_at_counted(&self, p: u16, moment: u32, probes: &mut Probes) -> Control
         requires { p < processor_count self.now }
         ensures run { InEachRun self.now (λ head events. result ≡ control_at head events p moment) }
@@ -341,7 +341,7 @@ impl Past {
         self.drops.translation_outlasts(p, key, from)
     }
 
-    /// The same value, with the moments around this one at which it is the same.
+    /// What `value_at` gives, and the moments around this one at which the value is the same.
     pub fn value_span(&self, moment: u32, addr: u64, probes: &mut Probes) -> Span<u64>
         ensures run { InEachRun self.now (λ head events.
             IsSpan (λ w. mem_at events w addr) moment result) }
@@ -371,7 +371,7 @@ impl Past {
         self.structure_survives_counted(p, key, window, &mut Probes::new())
     }
 
-    /// The same, and counts what was read.
+    /// What `structure_survives` answers, and counts what was read.
     pub(crate) fn structure_survives_counted(
         &self,
         p: u16,

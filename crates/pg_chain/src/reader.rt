@@ -256,7 +256,7 @@ impl<'a> Reader<'a> {
         }
     }
 
-    /// The same of a word that is not kept, since it is hardly read twice.
+    /// What `value_at` gives, of a word that is not kept, since it is hardly read twice.
     pub(crate) fn value_once(&mut self, moment: u32, address: u64) -> u64
         ensures past { self.new ≡ self.old }
         ensures value { InEachRun self.old (λ head events. result ≡ mem_at events moment address) }

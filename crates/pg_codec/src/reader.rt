@@ -150,7 +150,7 @@ impl RecordReader {
         self.read_segment_in(Vec::new(alloc), source)
     }
 
-    /// The same, in the memory of a list whose own events are let go.
+    /// What `read_segment` gives, in the memory of a list whose own events are freed.
     pub fn read_segment_in<R: Source>(
         &mut self,
         room: Vec<Event>,

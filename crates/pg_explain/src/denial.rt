@@ -108,7 +108,7 @@ pub fn deny_event(
     })
 }
 
-/// The same of the event with this number of a history.
+/// Why no moments witness the event with this number of a history (`deny_event`).
 pub fn deny(alloc: Global, history: &History, number: u64) -> Result<Denial, AllocError>
     requires within { number < length history.now.events }
     requires names { IfSome (slice_get history.now.events number) (λ e. names_moments e ≡ true) }

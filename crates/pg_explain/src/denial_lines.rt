@@ -28,7 +28,7 @@ pub fn push_claim_line(text: &mut String, number: u32, event: &Event) -> Result<
     push_claim(text, event)
 }
 
-/// The same of an event, where there is one.
+/// Appends the line that `push_claim_line` gives of an event, where there is one.
 fn push_claim_at(text: &mut String, number: u32, event: Option<Event>) -> Result<(), AllocError>
     ensures { OnOk result
         (string_bytes text.new ≡ string_bytes text.old ++ claim_at number event) }
@@ -119,7 +119,7 @@ pub fn denial_text_by(
     Ok(text)
 }
 
-/// The same, where these are the events of its run.
+/// What `denial_text_by` gives, where these are the events of its run.
 pub fn denial_text(alloc: Global, events: &[Event], denial: &Denial) -> Result<String, AllocError>
     ensures { IfOk result (λ t. string_bytes t ≡ denial_text events.now denial.now) }
 {

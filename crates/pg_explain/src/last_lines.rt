@@ -40,7 +40,7 @@ pub(crate) fn taken_in(events: &[Event], last: Option<Last>) -> Option<Event>
     }
 }
 
-/// The same with the event that took that away.
+/// Appends when an event would last have been witnessed, and the event that took that away.
 fn push_last_seen(text: &mut String, taken: Option<Event>, last: &Last) -> Result<(), AllocError>
     ensures { OnOk result
         (string_bytes text.new ≡ string_bytes text.old ++ last_seen_by taken last.now) }
@@ -66,7 +66,7 @@ pub(crate) fn push_taken_by(
     }
 }
 
-/// The same, where these are the events of its run.
+/// What `push_taken_by` appends, where these are the events of its run.
 pub(crate) fn push_taken(
     text: &mut String,
     events: &[Event],

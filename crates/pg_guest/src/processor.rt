@@ -108,7 +108,7 @@ impl Processor {
         self.transcript.as_slice()
     }
 
-    /// The same, and nothing else of the processor.
+    /// What `transcript` gives, and nothing else of the processor.
     pub fn into_transcript(self) -> Vec<Receipt>
         ensures { result.items ≡ self.transcript }
     {

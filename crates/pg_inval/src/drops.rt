@@ -107,10 +107,10 @@ impl Drops {
         noted
     }
 
-    /// The same, in the log and in the last moments of keys alone: lists wait for `catch_up`. Until
-    /// then look-ups that the last moments do not answer go through the part of the log that their
-    /// window has. How many entries they pass over is counted in their `Probes`, so that whoever
-    /// asks can tell when lists are worth making.
+    /// Notes an event as `note` does, in the log and in the last moments of keys alone: lists wait
+    /// for `catch_up`. Until then look-ups that the last moments do not answer go through the part
+    /// of the log that their window has. How many entries they pass over is counted in their
+    /// `Probes`, so that whoever asks can tell when lists are worth making.
     pub fn note_later(
         &mut self,
         moment: u32,
@@ -170,15 +170,15 @@ impl Drops {
         }
     }
 
-    /// The same of the lists that most look-ups ask: those of translations of 4-KiB pages that are
-    /// not global.
+    /// Makes the lists that most look-ups ask, up to the last event that was noted: those of
+    /// translations of 4-KiB pages that are not global.
     pub fn catch_up_pages(&mut self)
         ensures { self.new ≡ self.old }
     {
         self.listed.catch_up_pages(self.alloc, self.log.as_slice());
     }
 
-    /// The same of the lists of paging-structure-cache entries.
+    /// Makes the lists of paging-structure-cache entries.
     pub fn catch_up_regions(&mut self)
         ensures { self.new ≡ self.old }
     {
@@ -186,7 +186,7 @@ impl Drops {
             .catch_up_regions(self.alloc, self.log.as_slice());
     }
 
-    /// The same of the lists of translations of large and of global pages.
+    /// Makes the lists of translations of large and of global pages.
     pub fn catch_up_wide(&mut self)
         ensures { self.new ≡ self.old }
     {
@@ -215,7 +215,7 @@ impl Drops {
         }
     }
 
-    /// The same of a paging-structure-cache entry.
+    /// What `translation_outlasts` says, of a paging-structure-cache entry.
     #[inline(always)]
     pub fn structure_outlasts(&self, p: u16, key: StructureKey, from: u32) -> bool
         requires { IsTableLevel key.level }
@@ -252,7 +252,8 @@ impl Drops {
         self.structure_dropped_counted(p, key, Window { from, to }, &mut Probes::new())
     }
 
-    /// The same of the entry that a key names, and counts the moments that were read in lists.
+    /// What `structure_dropped` says, of the entry that a key names, and counts the moments that
+    /// were read in lists.
     pub fn structure_dropped_counted(
         &self,
         p: u16,
@@ -342,8 +343,8 @@ impl Drops {
         self.translation_dropped_counted(p, key, Window { from, to }, &mut Probes::new())
     }
 
-    /// The same of the translation that a key names, and counts the moments that were read in
-    /// lists.
+    /// What `translation_dropped` says, of the translation that a key names, and counts the moments
+    /// that were read in lists.
     pub fn translation_dropped_counted(
         &self,
         p: u16,

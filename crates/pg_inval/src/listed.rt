@@ -59,7 +59,7 @@ impl Listed {
         self.catch_up_regions(alloc, log);
     }
 
-    /// The same for large and global pages.
+    /// Goes through the rest of the log for large and for global pages.
     pub(crate) fn catch_up_wide(&mut self, alloc: Global, log: &[LogEntry])
         requires listed { AreListed log.now self.old }
         requires rising { IsRisingFrom 0 log.now }
@@ -69,7 +69,7 @@ impl Listed {
         self.global_pages.catch_up(Class::GlobalPages, alloc, log);
     }
 
-    /// The same for 4-KiB pages that are not global.
+    /// Goes through the rest of the log for 4-KiB pages that are not global, and for spaces.
     pub(crate) fn catch_up_pages(&mut self, alloc: Global, log: &[LogEntry])
         requires listed { AreListed log.now self.old }
         requires rising { IsRisingFrom 0 log.now }
@@ -79,7 +79,7 @@ impl Listed {
         self.spaces.catch_up(Class::Spaces, alloc, log);
     }
 
-    /// The same for paging-structure-cache entries.
+    /// Goes through the rest of the log for paging-structure-cache entries, and for spaces.
     pub(crate) fn catch_up_regions(&mut self, alloc: Global, log: &[LogEntry])
         requires listed { AreListed log.now self.old }
         requires rising { IsRisingFrom 0 log.now }

@@ -46,8 +46,8 @@ pub(crate) fn last_logged(
     None
 }
 
-/// The same, or another value where there is none, and the moments around this one at which it is
-/// the same.
+/// What `last_logged` gives, or another value where there is none, and the moments around this one
+/// at which it is the same.
 pub(crate) fn span_logged(
     log: &[Older],
     place: u32,

@@ -65,7 +65,8 @@ impl Superseded {
         }
     }
 
-    /// The same of a word with `count` values in the log, the last of them at `place`.
+    /// Keeps the last value, as `keep` does, of a word with `count` values in the log, the last of
+    /// them at `place`.
     #[inline(always)]
     fn keep_logged(
         &mut self,
@@ -98,7 +99,7 @@ impl Superseded {
         }
     }
 
-    /// The same, and the word has a list from now on.
+    /// Keeps the last value, as `keep_logged` does, and the word has a list from now on.
     #[inline(never)]
     fn begin_list(
         &mut self,
@@ -143,7 +144,7 @@ impl Superseded {
         }
     }
 
-    /// The same of the others of a word.
+    /// What `value_before` gives, of the other values of a word.
     fn other_before(
         &self,
         addr: u64,
@@ -204,7 +205,7 @@ impl Superseded {
         }
     }
 
-    /// The same of the others of a word.
+    /// What `span_at` gives, of the other values of a word.
     fn other_span(
         &self,
         addr: u64,

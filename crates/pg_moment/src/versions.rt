@@ -76,7 +76,7 @@ impl Versions {
         self.at_counted(moment, addr, &mut Probes::new())
     }
 
-    /// The same, and counts the moments that were read.
+    /// What `at` gives, and counts the moments that were read.
     pub fn at_counted(&self, moment: u32, addr: u64, probes: &mut Probes) -> u64
         ensures value { result ≡ value_at self.now moment addr }
         ensures memory { (events : List Event) → StandsFor self.now events →
@@ -86,8 +86,8 @@ impl Versions {
         self.words.last_before(addr, moment, probes).unwrap_or(0)
     }
 
-    /// The same, with the moments around this one at which the value is the same. It counts the
-    /// moments that were read.
+    /// What `at` gives, and the moments around this one at which the value is the same. It counts
+    /// the moments that were read.
     pub fn span_at(&self, moment: u32, addr: u64, probes: &mut Probes) -> Span<u64>
         ensures value { IsSpan (λ w. value_at self.now w addr) moment result }
         ensures memory { (events : List Event) → StandsFor self.now events →

@@ -132,8 +132,8 @@ impl Words {
         }
     }
 
-    /// The same, or another value where there is none, and the moments around this one at which it
-    /// is the same.
+    /// What `last_before` gives, or another value where there is none, and the moments around this
+    /// one at which it is the same.
     pub(crate) fn span_at(
         &self,
         addr: u64,

@@ -65,7 +65,7 @@ pub(crate) fn give_out<O: Sink, E: Sink>(
     }
 }
 
-/// The same of standard error.
+/// Writes a text to standard error, and gives the status, which is this one where that works.
 fn give_error<O: Sink, E: Sink>(output: &mut O, errors: &mut E, text: &str, good: u8) -> u8
     ensures { GivesError text.now good
         (filled O.Sink output.old output.new) (filled E.Sink errors.old errors.new) result }

@@ -349,7 +349,7 @@ fn judging_line<'a>(alloc: Global) -> Result<CommandLine<'a>, AllocError>
     with_command(line, certify_line(alloc))
 }
 
-/// The same with `run` and `run-of`.
+/// The commands that judge a record, with `run` and `run-of`.
 fn running_line<'a>(alloc: Global) -> Result<CommandLine<'a>, AllocError>
     ensures { IsLine running_line result }
 {
@@ -357,7 +357,7 @@ fn running_line<'a>(alloc: Global) -> Result<CommandLine<'a>, AllocError>
     with_command(line, plain_line(alloc, RUN_OF, RUN_OF_ABOUT))
 }
 
-/// The same with `explain` and `show`.
+/// The commands of `running_line`, with `explain` and `show`.
 fn telling_line<'a>(alloc: Global) -> Result<CommandLine<'a>, AllocError>
     ensures { IsLine telling_line result }
 {

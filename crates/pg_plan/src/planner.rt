@@ -247,7 +247,7 @@ fn names_of<'m, 'a>(matches: &'m ArgMatches<'a>) -> Option<&'m [&'a str]>
     own.get_strs(LOG)
 }
 
-/// The same in a list, which has none where the matches have none.
+/// The names of logs that the matches have, in a list, which has none where the matches have none.
 fn logs_of<'a>(alloc: Global, matches: &ArgMatches<'a>) -> Result<Vec<&'a str>, AllocError>
     ensures { IfOk result (λ logs. map (λ s. s.now) logs.items
         ≡ logs_in (subcommand_rows_of matches.now)) }

@@ -170,7 +170,7 @@ impl View<'_> {
         }
     }
 
-    /// The same of all pieces of the table of a reach.
+    /// What `last_by` gives, of all pieces of the table of a reach.
     fn last_in(
         &self,
         memo: &mut Memo<'_>,
@@ -207,7 +207,7 @@ impl View<'_> {
         last
     }
 
-    /// The same of some reaches.
+    /// What `last_in` gives, of some reaches.
     fn last_among(
         &self,
         memo: &mut Memo<'_>,

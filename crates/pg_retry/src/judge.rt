@@ -39,7 +39,7 @@ fn take_steps(
     Ok(taken)
 }
 
-/// The same of the run that a history has, if it has one.
+/// Has a machine take the steps of the run that a history has, if it has one, and counts them.
 fn count_steps(alloc: Global, history: &History, refused: &mut u64) -> Result<u64, AllocError> {
     match run_of(alloc, history) {
         Ok(steps) => take_steps(alloc, history.header(), &steps, refused),

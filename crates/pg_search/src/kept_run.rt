@@ -227,7 +227,7 @@ impl KeptRun {
         failing_next(&mut self.past, &mut self.walks, self.count, event)
     }
 
-    /// The same, where a walk that was kept tells it: None says nothing.
+    /// What `failing_next` gives, where a walk that was kept shows it: `None` says nothing.
     #[inline(always)]
     pub fn failing_where_kept(&self, event: &Event) -> Option<Option<Reason>>
         requires { broken_rule self.now.head event.now ≡ None }

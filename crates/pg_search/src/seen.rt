@@ -87,7 +87,7 @@ impl<'a> Seen<'a> {
         }
     }
 
-    /// The same run.
+    /// This run once more, as another value.
     pub fn again(&self) -> Seen<'a>
         ensures { result ≡ self.now }
     {
@@ -124,7 +124,8 @@ impl<'a> Seen<'a> {
         }
     }
 
-    /// The same value, with the moments around this one at which it is the same.
+    /// The value at a physical address just before the event with this number, and the moments
+    /// around it at which the value is the same.
     pub fn value_span(&self, moment: u32, addr: u64) -> Span<u64>
         ensures { IsSpan (λ w. mem_at self.now.events w addr) moment result }
     {
@@ -140,7 +141,8 @@ impl<'a> Seen<'a> {
         self.past.control_at(p, moment)
     }
 
-    /// The same, with the moments around this one at which they are the same.
+    /// What `control_at` gives, and the moments around this one at which the registers are the
+    /// same.
     pub fn control_span(&self, p: u16, moment: u32) -> Span<Control>
         requires { p < length self.now.head.processors }
         ensures span { IsSpan (λ w. control_at self.now.head self.now.events p w) moment result }

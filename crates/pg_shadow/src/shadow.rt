@@ -235,7 +235,7 @@ impl Shadow {
         self.find_counted(la, kind, header, &mut Probes::new())
     }
 
-    /// The same, and counts the slots that were read.
+    /// What `find` gives, and counts the slots that were read.
     pub fn find_counted(
         &self,
         la: u64,

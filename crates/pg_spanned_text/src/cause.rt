@@ -53,7 +53,7 @@ fn push_after_event(text: &mut String, run: &SpannedRun, after: ReadAfter) -> Re
     push_numbered(text, run, after.number, event_of(run, after.number))
 }
 
-/// The same, if there is one.
+/// Appends the line of the event after which a page is read, if there is one.
 fn push_after(
     text: &mut String,
     run: &SpannedRun,

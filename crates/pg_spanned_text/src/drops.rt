@@ -64,7 +64,7 @@ pub(crate) fn keeps_global(control: Control, pcid: u16, la: u64, event: &Event) 
     control.pge && !must_drop_translation(control, event, translation_key(pcid, 12, true, la))
 }
 
-/// The same of an event of processor `p` alone.
+/// Whether an event of processor `p` must drop each translation of the address that is not global.
 fn drops_by(control: Control, p: u16, pcid: u16, la: u64, event: &Event) -> bool
     ensures { result ≡ drops_by control p pcid la event.now }
 {

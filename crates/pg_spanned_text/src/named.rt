@@ -25,7 +25,7 @@ fn put_name(names: &mut Vec<u32>, number: u32) -> Result<(), AllocError>
     Ok(())
 }
 
-/// The same, if there is one.
+/// Puts the number of an event behind others, as `put_name` does, if there is one.
 fn put_some(names: &mut Vec<u32>, number: Option<u32>) -> Result<(), AllocError>
     ensures { OnOk result (names.new.items ≡ put_some names.old.items number) }
 {
@@ -92,7 +92,7 @@ fn named_by(
     Ok(names)
 }
 
-/// The same of the walk of an event.
+/// The events that the walk of an event names.
 fn named_walk(
     alloc: Global,
     run: &SpannedRun,

@@ -147,7 +147,8 @@ fn cause_behind(
     })
 }
 
-/// The same behind the last event that must drop what its processor had.
+/// What is said of the walk of the asked event after the last event that must drop what its
+/// processor had.
 fn cause_of_span(
     alloc: Global,
     run: &SpannedRun,

@@ -33,7 +33,7 @@ fn put_lane(lanes: &mut Vec<u32>, p: u32) -> Result<(), AllocError>
     Ok(())
 }
 
-/// The same of the processor of an event by its number.
+/// Puts the processor of an event, given by its number, behind others, unless it is there.
 fn put_lane_with(lanes: &mut Vec<u32>, run: &SpannedRun, number: u32) -> Result<(), AllocError>
     ensures { OnOk result (lanes.new.items ≡ lane_with run.now lanes.old.items number) }
 {
@@ -249,7 +249,7 @@ fn push_event(
     push_label(text, (count_of(lanes), row), fill, number, began, event)
 }
 
-/// The same of a number, if an event has it.
+/// Appends the bar and the label of the event with this number, if there is one.
 fn push_row(
     text: &mut String,
     run: &SpannedRun,

@@ -72,8 +72,8 @@ impl Changes {
         self.all.last_before(moment, probes)
     }
 
-    /// The same, or others where there is no such change, and the moments around this one at which
-    /// they are the same.
+    /// What `last_before` gives, or other registers where there is no such change, and the moments
+    /// around this one at which they are the same.
     pub(crate) fn span_at(&self, moment: u32, start: Control, probes: &mut Probes) -> Span<Control>
         ensures span { IsSpan (λ w. unwrap_or (last_before w self.now) start) moment result }
         ensures probes { (probes.old ≤ probes.new) × (probes.new ≤ probes.old + 35) }

@@ -252,7 +252,7 @@ impl Controls {
         self.root_at_counted(p, moment, &mut Probes::new())
     }
 
-    /// The same, and counts the moments that were read.
+    /// What `root_at` gives, and counts the moments that were read.
     pub fn root_at_counted(&self, p: u16, moment: u32, probes: &mut Probes) -> u64
         requires { p < processor_count self.now }
         ensures value { result ≡ (control_in self.now p moment).root }
@@ -274,7 +274,7 @@ impl Controls {
         self.pcid_at_counted(p, moment, &mut Probes::new())
     }
 
-    /// The same, and counts the moments that were read.
+    /// What `pcid_at` gives, and counts the moments that were read.
     pub fn pcid_at_counted(&self, p: u16, moment: u32, probes: &mut Probes) -> u16
         requires { p < processor_count self.now }
         ensures value { result ≡ (control_in self.now p moment).pcid }
@@ -295,7 +295,7 @@ impl Controls {
         self.pge_at_counted(p, moment, &mut Probes::new())
     }
 
-    /// The same, and counts the moments that were read.
+    /// What `pge_at` gives, and counts the moments that were read.
     pub fn pge_at_counted(&self, p: u16, moment: u32, probes: &mut Probes) -> bool
         requires { p < processor_count self.now }
         ensures value { result ≡ (control_in self.now p moment).pge }
@@ -306,7 +306,7 @@ impl Controls {
         self.control_at_counted(p, moment, probes).pge
     }
 
-    /// The same, and counts the moments that were read.
+    /// What `control_at` gives, and counts the moments that were read.
     pub fn control_at_counted(&self, p: u16, moment: u32, probes: &mut Probes) -> Control
         requires { p < processor_count self.now }
         ensures value { result ≡ control_in self.now p moment }
@@ -321,7 +321,8 @@ impl Controls {
         }
     }
 
-    /// The same, with the moments around this one at which they are the same.
+    /// What `control_at` gives, and the moments around this one at which the registers are the
+    /// same.
     pub fn control_span(&self, p: u16, moment: u32, probes: &mut Probes) -> Span<Control>
         requires { p < processor_count self.now }
         ensures value { IsSpan (λ w. control_in self.now p w) moment result }

@@ -103,7 +103,8 @@ pub fn run_guest_followed<R: Threads + Wait + Sync, G: Gate, H: Gate, O: Onlooke
     run_judged(crew, script, gate, onlooker, &mut judging)
 }
 
-/// The same with no observer, by a crew of so many checkers, whose work goes through a gate.
+/// Runs a script as `run_guest_followed` does, with no observer, by a crew of so many checkers,
+/// whose work goes through a gate.
 ///
 /// Fails where the number of checkers is none of 1 to 64, before all else.
 pub fn run_guest_watched<R: Threads + Wait + Sync, G: Gate, H: Gate>(
@@ -131,7 +132,7 @@ pub fn run_guest_watched<R: Threads + Wait + Sync, G: Gate, H: Gate>(
     run_guest_followed(&crew, script, gate, Nobody)
 }
 
-/// The same, and with nothing round the checkers' work either.
+/// Runs a script as `run_guest_watched` does, with nothing around the checkers' work.
 pub fn run_guest<R: Threads + Wait + Sync, G: Gate>(
     rt: &R,
     alloc: Global,

@@ -35,7 +35,7 @@ fn take_from(
     Ok(events)
 }
 
-/// The same in one hold of the lock.
+/// What `take_from` gives, in one hold of the lock.
 pub(crate) fn take_segments<R: Wait>(
     rt: &R,
     alloc: Global,
