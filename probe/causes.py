@@ -29,7 +29,7 @@ def explicit(event, words):
 
 
 def answer_of(data):
-    """The report of certify behind a no, None behind a yes, and where it did not decide."""
+    """The report of certify for a rejected record, None for an accepted one and where it did not decide."""
     status, report, said = auditor.certify(data)
     if status not in (0, 1, image.UNDECIDED):
         raise image.Stop(f"certify ends with status {status}: {said.decode().strip()}")

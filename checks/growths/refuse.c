@@ -1,6 +1,6 @@
 /* SPDX-License-Identifier: MIT OR Apache-2.0 */
-/* Refuses one growth of the program that it is preloaded into, the one whose number REFUSE gives, or
- * one thread, the one whose number REFUSE_THREAD gives; both are counted from 1, in all threads. */
+/* Has one allocation of the program fail that it is preloaded into, the one whose number REFUSE gives, or
+ * the start of one thread, whose number REFUSE_THREAD gives; both are counted from 1, in all threads. */
 #define _GNU_SOURCE
 #include <dlfcn.h>
 #include <errno.h>
