@@ -11,12 +11,12 @@ use crate::sweep::{Hit, Limits, Reading, View};
 use std::alloc::{AllocError, Global};
 use std::collections::HashMap;
 
-/// So many events before the one that waits are looked at, and so many behind it.
+/// So many events before the one that waits are looked at, and so many after it.
 const BEFORE: u32 = 300;
 
 const BEHIND: u32 = 100;
 
-/// So many events before the first of them, and behind the last, have a place among what is sure.
+/// So many events before the first of them, and after the last, have a place among what is sure.
 const MORE: u32 = 700;
 
 /// So often all of them are looked at. What is sure is kept, and looked at again where the event
@@ -55,7 +55,7 @@ impl<'n> Needs<'n> {
         Ok(())
     }
 
-    /// The event behind which an entry is read, and that before which it is read.
+    /// The event after which an entry is read, and that before which it is read.
     fn range(&self, i: usize) -> (u32, u32) {
         let Asked { p, event, slot, .. } = *self.asked;
         let mut from = 0;

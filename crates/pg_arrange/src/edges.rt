@@ -187,7 +187,7 @@ impl<'v> Edges<'v> {
         }
     }
 
-    /// Another write of the word comes before what was read, or behind the begin of its slot.
+    /// Another write of the word comes before what was read, or after the begin of its slot.
     fn part(
         &mut self,
         reading: &Reading,
@@ -261,7 +261,7 @@ impl<'v> Edges<'v> {
         }
     }
 
-    /// Other writes of the word that was read: they come before what was read, or behind the begin
+    /// Other writes of the word that was read: they come before what was read, or after the begin
     /// of its slot.
     fn push_others(
         &mut self,

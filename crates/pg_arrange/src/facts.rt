@@ -187,15 +187,15 @@ impl<'a> Facts<'a> {
         let Some(own) = self.own.get(p as usize) else {
             return 0;
         };
-        // All that ended before the event began come before it, and all that ended too far behind
-        // it to overlap it come behind it.
+        // All that ended before the event began come before it, and all that ended too far after
+        // it to overlap it come after it.
         let first = count_below(own, self.since(event)) as usize;
         let last = count_below(own, event.saturating_add(self.reach).saturating_add(1)) as usize;
         let near = own.get(first..last).unwrap_or(&[]);
         number(first.saturating_add(near.partition_point(|i| !self.must_precede(event, *i))))
     }
 
-    /// The first slot of a processor that may come behind an event.
+    /// The first slot of a processor that may come after an event.
     pub(crate) fn first_slot(&self, p: u16, event: u32) -> u32 {
         if self.processor(event) == Some(p) {
             return self.place(event).saturating_add(1);
@@ -276,7 +276,7 @@ impl<'a> Facts<'a> {
         self.stays.control(p, slot)
     }
 
-    /// How many events of a processor are surely before what comes behind an event.
+    /// How many events of a processor are surely before what comes after an event.
     fn count_with(&self, event: u32, p: u16) -> u32 {
         if self.processor(event) == Some(p) {
             self.place(event).saturating_add(1)

@@ -45,7 +45,7 @@ pub(crate) struct Found {
     last: Vec<u32>,
     /// How many were forgotten.
     forgotten: u32,
-    /// Those behind, and then the latest.
+    /// Those after, and then the latest.
     older: Vec<Noted>,
     noted: Vec<Noted>,
 }
@@ -185,7 +185,7 @@ impl Found {
         }
     }
 
-    /// Forgets what was found behind a moment.
+    /// Forgets what was found after a moment.
     pub(crate) fn take_back_to(&mut self, moment: u32) {
         for _ in 0..self.noted.len().saturating_add(self.older.len()) {
             let Some(noted) = self.latest() else {

@@ -1,6 +1,6 @@
 //! Numbers of events, slots and moments, and rising lists of them.
 
-/// No event, and behind all slots and moments.
+/// No event, and after all slots and moments.
 pub(crate) const NEVER: u32 = u32::MAX;
 
 /// How many there are, as a number.

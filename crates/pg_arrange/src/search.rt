@@ -58,7 +58,7 @@ pub(crate) struct Maker<'a> {
     pub surely: usize,
 }
 
-/// The rank of writes, behind all others.
+/// The rank of writes, after all others.
 const WRITES: u64 = 5;
 
 /// The place of an event among those that can come next: answers change nothing; faults and
@@ -132,7 +132,7 @@ impl<'a> Maker<'a> {
         }
     }
 
-    /// Whether an event is known to come behind one that has no place yet.
+    /// Whether an event is known to come after one that has no place yet.
     fn is_early(&self, event: u32) -> bool {
         if self.facts.sure.is_none() {
             return false;

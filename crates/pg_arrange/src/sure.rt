@@ -45,7 +45,7 @@ impl Sure {
         self.processors == 0
     }
 
-    /// Whether an event lies behind all of which something is told here.
+    /// Whether an event lies after all of which something is told here.
     pub(crate) fn ends_before(&self, event: u32) -> bool {
         self.processors > 0 && event > self.first && self.index(event, 0) >= self.counts.len()
     }

@@ -11,7 +11,7 @@ use pg_codec::{Failed, Sink, put_all};
 use pg_event::Refusal;
 use pg_report::{AuditError, rule_number};
 
-/// Writes a number behind what stands before it.
+/// Writes a number after what stands before it.
 pub fn put_number<W: Sink>(errors: &mut W, before: &[u8], number: u64) -> Result<(), Failed>
     ensures { Puts W.Sink (before.now ++ decimal number) errors.old errors.new result }
 {
@@ -74,7 +74,7 @@ pub fn put_error<W: Sink>(errors: &mut W, error: AuditError) -> Result<(), Faile
     put_all(errors, b"\n")
 }
 
-/// The line of a refusal with nothing behind its name.
+/// The line of a refusal with nothing after its name.
 pub fn put_line<W: Sink>(errors: &mut W, number: u8, name: &str) -> Result<(), Failed>
     ensures { Puts W.Sink (refusal_text number name.now ++ codes "\n")
         errors.old errors.new result }

@@ -48,7 +48,7 @@ named_more s es n e old now later at was is =
     behind true xs ys y = append_assoc xs ys (y ∷ [])
     behind false xs ys y = refl
 
--- those of events and of more behind them
+-- those of events and of more after them
 pub named_all : (s : ℕ) (es more : List Event) → named_from s (es ++ more) ≡ named_from s es ++ named_from (s + length es) more
 named_all s [] more = let here : s ≡ s + 0 = omega arith in ap (λ n. named_from n more) here
 named_all s (x ∷ xs) more =

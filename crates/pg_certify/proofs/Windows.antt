@@ -148,14 +148,14 @@ one_coming h s q window i e same at is =
     ∙ ap (λ ys. h.events ++ ys) (sym (map-append kept_of (take i window) (e ∷ [])))
     ∙ ap (λ ys. h.events ++ map kept_of ys) (sym (ap (λ n. take n window) next ∙ take_next window i e at)))
 
--- what is kept of the events behind
+-- what is kept of the events after
 pub rest_coming : (h s q : Recorded) (window rest : List Event) (i : ℕ) → s ≡ with_window h (take i window) → rest ≡ drop i window → q ≡ record { head = s.head; events = s.events ++ map kept_of rest } → q ≡ with_window h window
 rest_coming h s q window rest i same left is =
     is ∙ ap (λ (r : Recorded). record { head = r.head; events = r.events ++ map kept_of rest }) same
     ∙ ap (λ es. record { head = h.head; events = es })
     (ap (λ ys. (h.events ++ map kept_of (take i window)) ++ map kept_of ys) left ∙ sym (split_window h.events window i))
 
--- of two lists, one behind the other
+-- of two lists, one after the other
 
 pub there_past : (xs more : List Event) (k : ℕ) → slice_get (xs ++ more) (length xs + k) ≡ slice_get more k
 there_past [] more k = let n : 0 + k ≡ k = omega arith in ap (slice_get more) n
@@ -261,7 +261,7 @@ window_judged law f new head before more may none j c =
     let first = subst (λ (h : Head). IsFirstDenied h (f.kept.events ++ map kept_of more) (length f.kept.events) more j.found) c.settings j.first in
     subst (λ (q : Findings). IsCertifying q head (before ++ more)) (sym j.after) (judged law f head before more c none j.found well (omega (arith, lengths, may.limit)) first)
 
--- one behind an event that is denied
+-- one after an event that is denied
 
 pub window_passed : (f new : Findings) (head : Head) (before more : List Event) (n : ℕ) → MayCome f more → f.denied ≡ Some n → new ≡ record { kept = f.kept; count = f.count + length more; denied = f.denied } →
     IsCertifying f head before → IsCertifying new head (before ++ more)

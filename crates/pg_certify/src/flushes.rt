@@ -3,7 +3,7 @@
 use std::alloc::Global;
 use std::collections::HashMap;
 
-/// The moments behind the last events at which a processor dropped what it had, and 0 where none
+/// The moments after the last events at which a processor dropped what it had, and 0 where none
 /// did.
 #[derive(Clone, Copy)]
 struct Dropped {

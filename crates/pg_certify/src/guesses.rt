@@ -101,7 +101,7 @@ fn page_by(count: usize) -> Part {
     }
 }
 
-/// One to four moments, and `NO_MOMENT` in each place behind them.
+/// One to four moments, and `NO_MOMENT` in each place after them.
 fn filled(moments: &Moments) -> [u32; 4] {
     let mut all = NOTHING;
     for (place, moment) in all.iter_mut().zip(moments.as_slice()) {

@@ -11,7 +11,7 @@ use pg_search::KeptRun;
 use std::alloc::AllocError;
 
 /// The place of the first event of a window that no moments witness. What changes something in the
-/// window is kept, also behind that event.
+/// window is kept, also after that event.
 pub(crate) fn first_denied_in(
     certifier: &mut Certifier<KeptRun>,
     window: &[Event],

@@ -70,7 +70,7 @@ behind : (front : List ℕ) (n : ℕ) (first : Part ℕ) → with_front front (f
 behind front n (Ok x) = regroup front x.0 (numbers_at n x.1)
 behind front n (Err e) = refl
 
--- numbers behind a front are one, and then the others behind that
+-- numbers after a front are one, and then the others after that
 pub one_by_one : (front : List ℕ) (n : ℕ) (bytes : List ℕ) → with_front front (numbers_at (suc n) bytes) ≡ (number_at w32 bytes >>= λ x. with_front (front ++ x.0 ∷ []) (numbers_at n x.1))
 unfolding numbers_at
 one_by_one front n bytes = behind front n (number_at w32 bytes)

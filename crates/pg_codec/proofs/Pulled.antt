@@ -1,4 +1,4 @@
--- What a buffer holds after bytes moved to its front and more were pulled behind them.
+-- What a buffer holds after bytes moved to its front and more were pulled after them.
 use Rattle.std.proofs.Common.{◌≡◌, ℕ, ◌+◌, ◌-◌, ◌≤◌, List, ◌++◌, length, take, drop, Option, Some, None, sym, ap, ◌∙◌, arith, append_assoc, length-take-le, length-drop}
 use Rattle.std.proofs.lemmas.List.{take-append-le, drop-take, drop-drop}
 use Rattle.std.proofs.Math.Seq.{take-append-add, take-append_seam}
@@ -20,7 +20,7 @@ last_of_range xs start end n low high fits =
     ap (λ k. take k (drop (end - n) xs)) many ∙ ap (λ k. take n (drop k xs)) place ∙ ap (take n) (sym (drop-drop (m - n) start xs))
     ∙ sym (drop-take (m - n) n (drop start xs)) ∙ ap (λ k. drop (m - n) (take k (drop start xs))) (sym parts) ∙ ap (λ k. drop k (take m (drop start xs))) (sym first)
 
--- a front, and behind it the front of what was written there
+-- a front, and after it the front of what was written there
 pub front_and_more : (a k n : ℕ) (xs ys : List ℕ) → a ≤ length xs → n ≤ length ys → take (a + n) (put_mid a k xs ys) ≡ take a xs ++ take n ys
 front_and_more a k n xs ys within fits =
     let rest = ys ++ post_of a k xs in

@@ -42,7 +42,7 @@ appends_none (Some xs) = sym (append-nil xs)
 pub failures_after : {X E : Type 0} (r : Result X E) (a b c : ℕ) → b ≡ a → RaisesFailures b c r → RaisesFailures a c r
 failures_after r a b c same h = subst (λ n. RaisesFailures n c r) same h
 
--- one more piece, behind what a block passed on and what it keeps
+-- one more piece, after what a block passed on and what it keeps
 one_more : (written block bytes left piece head flat whole : List ℕ) → written ++ block ≡ head ++ flat → block ≡ bytes ++ left → whole ≡ flat ++ piece → (written ++ bytes) ++ (left ++ piece) ≡ head ++ whole
 one_more written block bytes left piece head flat whole so_far passed e =
     append_assoc written bytes (left ++ piece) ∙ ap (λ l. written ++ l) (sym (append_assoc bytes left piece) ∙ ap (λ l. l ++ piece) (sym passed))

@@ -20,7 +20,7 @@ pub record Reader : Type 0 where
   pub unread : List ℕ
   pub stage : Stage
 
--- where a reader stands behind the header
+-- where a reader stands after the header
 abbrev pub behind_header : Head → Stage
 behind_header head = Segments (record { header = head; number = 0; before = 0; full = true })
 
@@ -28,7 +28,7 @@ abbrev pub stage_after_header : Result Head ReadError → Stage
 stage_after_header (Ok head) = behind_header head
 stage_after_header (Err e) = Refused
 
--- where a reader stands behind a segment, or the end
+-- where a reader stands after a segment, or the end
 abbrev pub behind_chunk : Progress → Option (List Event) → Stage
 behind_chunk p None = Ended
 behind_chunk p (Some events) = Segments (record {
@@ -52,7 +52,7 @@ MayReadHeader Refused = Unit {0}
 MayReadHeader (Segments p) = ⊥
 MayReadHeader Ended = ⊥
 
--- a segment is read behind the header and before the end; a reader that refused may be asked again
+-- a segment is read after the header and before the end; a reader that refused may be asked again
 abbrev pub MayReadSegment : Stage → Type 0
 MayReadSegment (Segments p) = Unit {0}
 MayReadSegment Refused = Unit {0}
@@ -101,7 +101,7 @@ pub record IsSegment (p : Progress) (events : List Event) : Type 0 where
   pub limit : p.before + length events < 2 ^ 32
   pub well : AllByRecursion (λ e. broken_rule p.header e ≡ None) events
 
--- a segment that may come behind those that were read: the last of them was full
+-- a segment that may come after those that were read: the last of them was full
 abbrev pub MayCome : Progress → List Event → Type 0
 MayCome p events = (p.full ≡ true) × IsSegment p events
 

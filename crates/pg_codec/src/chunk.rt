@@ -149,7 +149,7 @@ fn is_at_end<R: Source>(buffer: &mut Buffer, source: &mut R) -> Result<bool, Fai
     Ok(buffer.unread().is_empty())
 }
 
-/// A segment, or none at the end mark and the end of the input behind it.
+/// A segment, or none at the end mark and the end of the input after it.
 pub(crate) fn next_closed_chunk<R: Source>(
     room: Vec<Event>,
     buffer: &mut Buffer,

@@ -120,7 +120,7 @@ pub(crate) fn outcome_of(bytes: &[u8]) -> Result<(Outcome, &[u8]), Refusal>
     Ok((Outcome::Fault(code), rest))
 }
 
-/// One moment more, behind those that were read. A call, or a loop, would have the list of moments
+/// One moment more, after those that were read. A call, or a loop, would have the list of moments
 /// written to memory and read again for each of them.
 #[inline(always)]
 fn one_more(front: Moments, bytes: &[u8]) -> (Moments, &[u8])
@@ -152,7 +152,7 @@ fn three_more(front: Moments, bytes: &[u8]) -> (Moments, &[u8])
     two_more(front.with(moment).unwrap(), rest)
 }
 
-/// So many moments, behind the first.
+/// So many moments, after the first.
 #[inline(always)]
 fn more_moments(front: Moments, count: u8, bytes: &[u8]) -> (Moments, &[u8])
     requires room { length front + count ≤ 4 }

@@ -19,8 +19,8 @@ pub(crate) enum Stage {
     Start,
     /// Before a segment or the end mark.
     Segments(Progress),
-    /// Behind the end of the input.
+    /// After the end of the input.
     Ended,
-    /// Behind a refusal.
+    /// After a refusal.
     Refused,
 }

@@ -1,4 +1,4 @@
--- A finding stands behind the least reason that fails.
+-- A finding is of the least reason that fails.
 use Rattle.std.proofs.Common.{◌≡◌, ℕ, zero, suc, ◌+◌, ◌-◌, ◌≤◌, ◌%◌, ◌^◌, Bool, true, false, not, ◌&&◌, ◌||◌, ◌==◌, nat_le, cond, List, [], ◌∷◌, length, map, get_or, Option, Some, None, refl, sym, ap, ◌∙◌, arith}
 use Rattle.std.specs.Prelude.{slice_get, option_and_then, option_map}
 use Rattle.std.specs.Option.{option_or, is_some}
@@ -44,7 +44,7 @@ use Rattle.pg_explain.specs.Drops.{first_from, must_drop, is_dropped_at, first_d
 use Rattle.pg_explain.specs.Findings.{reason_of, order_finding, entry_finding, tagged, context_finding, structure_drop, structure_finding, walk_finding, leaf_finding, fault_finding, translation_drop, end_finding, accessed_finding, flag_finding, misfit_of, update_finding, claim_finding, access_finding, mark_finding, assist_finding, event_finding, finding, asked_by, asked_of, first_tag, readings_by, last_of}
 use Rattle.pg_explain.specs.Laws.{FindingsStandBehindReasons}
 
--- the reason that something stands behind, if anything does
+-- the reason of what was found, if anything was
 abbrev pub reasons_of : Option Finding → Option Reason
 reasons_of None = None
 reasons_of (Some f) = Some (reason_of f)
@@ -310,7 +310,7 @@ event_reasons head events i (Invlpg p la) = refl
 event_reasons head events i (Invpcid p kind pcid la) = refl
 event_reasons head events i (MovCr4Pge p on) = refl
 
--- ---- what was found stands behind the reason
+-- ---- what was found is of the reason
 
 pub findings_stand_behind_reasons : FindingsStandBehindReasons
 findings_stand_behind_reasons head events i = mapped (finding head events i) ∙ of_event (slice_get events i)

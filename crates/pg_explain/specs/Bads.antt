@@ -1,5 +1,5 @@
 -- The events of a run that are bad: their moments do not prove them. Each is judged by the events
--- before it, as they are recorded, also behind the first bad one, where no run has that past.
+-- before it, as they are recorded, also after the first bad one, where no run has that past.
 use Rattle.std.specs.Prelude.{◌≡◌, ◌↔◌, ℕ, ◌+◌, ◌-◌, ◌%◌, ◌^◌, List, [], ◌∷◌, ◌++◌, codes}
 use Rattle.std.specs.Prelude.{Option, Some, None}
 use Rattle.std.specs.List.{Contains}
@@ -60,7 +60,7 @@ BadsAreExact = (head : Head) (events : List Event) (i : ℕ) (reason : Reason) �
     (failing head events i ≡ Some reason)
     ↔ ((x : Bad) × Contains (bads head events) x × (x.number ≡ i) × (x.reason ≡ reason))
 
--- the texts of explanations of these events, one of each, with an empty line behind each
+-- the texts of explanations of these events, one of each, with an empty line after each
 abbrev pub AreExplained : Head → List Event → List Bad → List ℕ → Type 0
 AreExplained head events [] text = text ≡ []
 AreExplained head events (b ∷ bs) text =

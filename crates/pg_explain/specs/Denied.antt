@@ -39,7 +39,7 @@ IsWalkNow head events i (Invlpg p la) walk = walk ≡ []
 IsWalkNow head events i (Invpcid p kind pcid la) walk = walk ≡ []
 IsWalkNow head events i (MovCr4Pge p on) walk = walk ≡ []
 
--- this stands behind an event that no moments witness as event i
+-- this says why no moments witness an event as event i
 pub record IsDenialFor (head : Head) (events : List Event) (i : ℕ) (e : Event)
     (x : Denial) : Type 0 where
   pub number : x.number ≡ i
@@ -48,7 +48,7 @@ pub record IsDenialFor (head : Head) (events : List Event) (i : ℕ) (e : Event)
   pub last : IfSome x.last (IsLastOf head events i e)
   pub never : IfNone x.last (NoneWitness head events e 0 i)
 
--- this stands behind event i, where no moments witness it
+-- this says why no moments witness event i, where none do
 pub record IsDenialOf (head : Head) (events : List Event) (i : ℕ) (x : Denial) : Type 0 where
   pub number : x.number ≡ i
   pub walk : IfSome (slice_get events i) (λ e. IsWalkNow head events i e x.walk.items)

@@ -28,7 +28,7 @@ IsWalkOf head events (Invlpg p la) walk = walk ≡ []
 IsWalkOf head events (Invpcid p kind pcid la) walk = walk ≡ []
 IsWalkOf head events (MovCr4Pge p on) walk = walk ≡ []
 
--- what is told of an event: its walk, and the finding behind the reason that fails
+-- what is told of an event: its walk, and the finding of the reason that fails
 abbrev pub TellsEvent : Option Reason → Option Finding → (List WalkEntry → Type 0) →
     Option Told → Type 0
 TellsEvent failing found IsRight told =

@@ -49,7 +49,7 @@ use Rattle.pg_explain.specs.declared.finding.Finding.TheVariants as findings
 use Rattle.pg_explain.specs.declared.walk_finding.Asked.{Asked}
 use Rattle.pg_explain.specs.Drops.{first_drop}
 
--- the reason that a finding stands behind
+-- the reason that a finding is of
 abbrev pub reason_of : Finding → Reason
 reason_of (findings.Order level moment limit) = reasons.Order
 reason_of (findings.Entry level wish kind) = reasons.Entry

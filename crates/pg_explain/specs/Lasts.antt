@@ -1,7 +1,7 @@
 -- When an event would last have been witnessed, had it come earlier, a line:
 --
 --     last: moment M by W ..; taken by LINE   the number, the freshest moments that would have, and
---                                             the event there, behind which it never was
+--                                             the event there, after which it never was
 --     last: never                             where there is none
 use Rattle.std.specs.Prelude.{ℕ, List, ◌++◌, Option, Some, None, codes, decimal, slice_get}
 use Rattle.pg_event.specs.declared.event.Event.{Event}
@@ -24,7 +24,7 @@ abbrev pub taken_by : Option Event → Option Last → List ℕ
 taken_by taken None = codes "last: never\n"
 taken_by taken (Some last) = last_seen_by taken last
 
--- the event behind which it never was, where there is one
+-- the event after which it never was, where there is one
 abbrev pub taken_in : List Event → Option Last → Option Event
 taken_in events None = None
 taken_in events (Some last) = slice_get events last.number

@@ -21,7 +21,7 @@ abbrev pub WritersLeaveTheWord : Type 0
 WritersLeaveTheWord = (events : List Event) (a w j : ℕ) →
     IsWriter events a w (Some j) → mem_at events w a ≡ mem_at events (j + 1) a
 
--- the finding of an event stands behind the least reason that fails for it
+-- the finding of an event is of the least reason that fails for it
 abbrev pub FindingsStandBehindReasons : Type 0
 FindingsStandBehindReasons = (head : Head) (events : List Event) (i : ℕ) →
     option_map reason_of (finding head events i) ≡ failing head events i

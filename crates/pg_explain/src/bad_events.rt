@@ -86,7 +86,7 @@ pub fn push_explanation(
     }
 }
 
-/// The texts of explanations of bad events, one of each in their order, with an empty line behind
+/// The texts of explanations of bad events, one of each in their order, with an empty line after
 /// each.
 fn explain_each(alloc: Global, history: &History, bads: &[Bad]) -> Result<String, AllocError>
     requires { AllByRecursion (IsBad history.now.head history.now.events) bads.now }
@@ -102,7 +102,7 @@ fn explain_each(alloc: Global, history: &History, bads: &[Bad]) -> Result<String
 }
 
 /// The texts of explanations of so many of a history's bad events at most, one of each in their
-/// order, with an empty line behind each. Fails only when out of memory.
+/// order, with an empty line after each. Fails only when out of memory.
 pub fn explanations_text(
     alloc: Global,
     history: &History,

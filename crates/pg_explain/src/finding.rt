@@ -130,7 +130,7 @@ pub enum Finding {
 }
 
 impl Finding {
-    /// The reason that it stands behind.
+    /// The reason that it is of.
     pub fn reason(self) -> Reason
         ensures { result ≡ reason_of self }
     {

@@ -9,7 +9,7 @@ use pg_event::{Event, Moments};
 use pg_search::Last;
 use std::alloc::AllocError;
 
-/// Appends moments behind a word.
+/// Appends moments after a word.
 fn push_by(text: &mut String, moments: &Moments) -> Result<(), AllocError>
     ensures { OnOk result
         (string_bytes text.new ≡ string_bytes text.old ++ by_text moments.now) }

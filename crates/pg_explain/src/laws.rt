@@ -18,7 +18,7 @@ pub fn writers_leave_the_word()
     ensures { WritersLeaveTheWord }
 {}
 
-/// Where a reason fails there is a finding, and it stands behind the least that does; where none
+/// Where a reason fails there is a finding, and it is of the least that does; where none
 /// fails there is none. It is so whatever the events are.
 pub fn findings_stand_behind_reasons()
     ensures { FindingsStandBehindReasons }

@@ -41,7 +41,7 @@ fn more_text(alloc: Global, count: u64) -> Result<String, AllocError>
     format!(in alloc; " and {count} more")
 }
 
-/// Whether two texts of these lengths fit, one behind the other.
+/// Whether two texts of these lengths fit, one after the other.
 fn do_fit(one: usize, other: usize, room: usize) -> bool
     ensures { result ≡ nat_le (one + other) room }
 {

@@ -25,11 +25,11 @@ enum Part {
     Version,
     /// The low byte of the number of processors.
     Processors,
-    /// Its high byte, behind this low one.
+    /// Its high byte, after this low one.
     MoreProcessors(u8),
     /// The tag of a segment, or of the end.
     Chunk,
-    /// A byte of a segment's count of events, with so many behind it.
+    /// A byte of a segment's count of events, with so many after it.
     Count(u8),
     /// The tag of an event.
     Event,
@@ -39,7 +39,7 @@ enum Part {
     Moments,
     /// Nothing: an event has ended.
     EventEnd,
-    /// Nothing: these bytes are no event, and nor are those behind them.
+    /// Nothing: these bytes are no event, and nor are those after them.
     Rest,
 }
 

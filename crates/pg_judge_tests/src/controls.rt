@@ -24,7 +24,7 @@ fn one_processor(alloc: Global) -> Result<Header, AllocError>
     })
 }
 
-/// A MOV to CR3 and one to CR4, and what stood before the one and behind it.
+/// A MOV to CR3 and one to CR4, and what stood before the one and after it.
 fn seen(alloc: Global) -> Result<([u64; 2], [u16; 2], [bool; 2], u64), AllocError> {
     let header = one_processor(alloc)?;
     let mut controls = Controls::new(alloc, &header)?;

@@ -10,7 +10,7 @@ use std::test::Fail;
 
 struct Case {
     name: &'static str,
-    /// The events behind the mapping.
+    /// The events after the mapping.
     events: &'static [Spanned],
     /// The number of the event that is asked about.
     number: u64,

@@ -78,7 +78,7 @@ pub(crate) const OTHER_DENIED: [Written; 1] = [Written::Access {
     at: &[0],
 }];
 
-/// Parts of a history, each so many turns and events behind them, and the least event that is
+/// Parts of a history, each so many turns and events after them, and the least event that is
 /// denied.
 struct Case {
     name: &'static str,
@@ -112,7 +112,7 @@ const CASES: [Case; 4] = [
     },
 ];
 
-/// Adds so many turns, and more behind them.
+/// Adds so many turns, and more after them.
 fn add_turns(
     history: &mut History,
     turn: &[Written],

@@ -6,7 +6,7 @@ use pg_spanned::{SpannedRun, is_order};
 use std::alloc::{AllocGlobal, Global};
 use std::test::Fail;
 
-/// An event behind the mapping, and how many before it had not ended when it began.
+/// An event after the mapping, and how many before it had not ended when it began.
 pub(crate) type Spanned = (Written, u32);
 
 /// What is to be told.
@@ -112,7 +112,7 @@ pub(crate) fn push(run: &mut SpannedRun, written: &Written, back: u32) -> Result
     }
 }
 
-/// The mapping, and these events behind it.
+/// The mapping, and these events after it.
 pub(crate) fn run_of(alloc: Global, events: &[Spanned]) -> Result<SpannedRun, Fail> {
     let header = header_of(alloc, Version::One, 2)?;
     if !header.is_in_range() {

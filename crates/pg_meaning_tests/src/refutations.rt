@@ -7,7 +7,7 @@ use std::test::Fail;
 
 struct Case {
     name: &'static str,
-    /// The events behind the mapping, the last of which is asked.
+    /// The events after the mapping, the last of which is asked.
     events: &'static [Spanned],
     /// Whether no order can witness it.
     refuted: bool,
@@ -139,7 +139,7 @@ fn is_so(alloc: Global, case: &Case) -> Result<bool, Fail> {
     Ok(refute(alloc, &run, run.len() as u32 - 1)? == case.refuted)
 }
 
-/// The events of a processor that reads a new leaf and then, behind an INVLPG or not, the old one,
+/// The events of a processor that reads a new leaf and then, after an INVLPG or not, the old one,
 /// while another writes it.
 const NEW_THEN_OLD: [Spanned; 4] = [(NEW_READ, 0), (OWN_INVLPG, 0), (OLD_READ, 0), (REMAP, 3)];
 

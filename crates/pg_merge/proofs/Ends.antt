@@ -16,7 +16,7 @@ use Rattle.std.proofs.lemmas.List.{get_or_push}
 use Rattle.std.proofs.Math.ListN.{get_or-append}
 use Rattle.std.proofs.lemmas.Option.{get_or_from_slice_get}
 
--- each event ends no later than those behind it
+-- each event ends no later than those after it
 abbrev pub Up : List Stamped → Type 0
 Up [] = Unit {0}
 Up (x ∷ xs) = AllByRecursion (λ y. x.end ≤ y.end) xs × Up xs

@@ -40,7 +40,7 @@ counted_least p (x ∷ xs) (suc n) le holds =
     let step : count_by p (x ∷ xs) ≡ cond {A = ℕ} (p x) 1 0 + count_by p xs = sum_by-cons (λ y. cond {A = ℕ} (p y) 1 0) x xs in
     omega (arith, here, rest, step)
 
--- a test that no element passes behind one that fails it
+-- a test that no element passes after one that fails it
 stands_first : {X : Type 0} (p : X → Bool) (xs : List X) (j : ℕ) (y : X) → IsPartitionedBy p xs → slice_get xs j ≡ Some y → (j < count_by p xs) ↔ (p y ≡ true)
 stands_first p xs j y parted there =
     let within : j < length xs = slice_get_within xs j y there in

@@ -12,7 +12,7 @@ pub record Logged : Type 0 where
   pub head : LogHeader
   pub events : List Stamped
 
--- what stands in the place of a begin stamp behind the last event
+-- what stands in the place of a begin stamp after the last event
 abbrev pub end_mark : ℕ
 end_mark = 2 ^ 64 - 1
 

@@ -69,14 +69,14 @@ own_at own i begin end e =
     if processor_of e.0 == own then
     Ok (record { begin = begin; end = end; event = e.0 }, e.1) else Err (faults.Processor i)
 
--- event number i, behind its begin stamp
+-- event number i, after its begin stamp
 unfoldable pub stamped_at : Head → ℕ → ℕ → ℕ → List ℕ → LogPart Stamped
 stamped_at head own i begin bytes = do
   end ← field (number_at w64 bytes)
   if nat_lt begin end.0 && nat_lt end.0 end_mark then
       (field (bare_event_at head i end.1) >>= own_at own i begin end.0) else Err (faults.Stamps i)
 
--- the end mark, behind its first field, of a log with so many events
+-- the end mark, after its first field, of a log with so many events
 unfoldable pub end_at : ℕ → List ℕ → LogPart (Option Stamped)
 end_at total bytes = do
   found ← field (passing (λ n. n == total) refusals.Total (number_at w64 bytes))

@@ -19,7 +19,7 @@ use pg_event::{Header, MOST_SEGMENT, Refusal, processor_of};
 use pg_span_codec::u64_of;
 use std::alloc::{AllocError, Global};
 
-/// What stands in the place of a begin stamp behind the last event.
+/// What stands in the place of a begin stamp after the last event.
 const END_MARK: u64 = u64::MAX;
 
 /// The header of a record of the run, as far as the log tells it: all processors start as its own.
@@ -34,7 +34,7 @@ fn alone(alloc: Global, header: &LogHeader) -> Result<Header, AllocError>
     })
 }
 
-/// Event number `i`, behind its begin stamp.
+/// Event number `i`, after its begin stamp.
 #[tactic(auto, unfolding(crate::specs::Reading::stamped_at))]
 fn stamped_of<'a>(
     header: &Header,
@@ -68,7 +68,7 @@ fn stamped_of<'a>(
     }
 }
 
-/// The end mark, behind its first field, of a log with so many events.
+/// The end mark, after its first field, of a log with so many events.
 #[tactic(auto, unfolding(crate::specs::Reading::end_at))]
 fn end_of(total: u64, bytes: &[u8]) -> Result<(Option<Stamped>, &[u8]), LogRefusal>
     ensures value { Gives (λ x. (x.0, x.1.now)) result (end_at total bytes.now) }

@@ -32,7 +32,7 @@ AreLogged-grown log more (suc n) place are =
     subst (λ (k : Older). (place < length (log ++ more)) × AreLogged (log ++ more) n k.before × AreBelow k.moment (logged (log ++ more) n k.before)) (sym (older_before log more place are.0))
     (within, AreLogged-grown log more n o.before are.1, below)
 
--- one more is behind those that a word had there
+-- one more is after those that a word had there
 module _ (log : List Older) (o : Older) (n : ℕ) (are : AreLogged log n o.before) (below : AreBelow o.moment (logged log n o.before)) where
   here : slice_index_or (log ++ o ∷ []) (length log) nothing ≡ o
   here = get_or-append_seam log o [] nothing

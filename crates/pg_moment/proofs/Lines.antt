@@ -34,7 +34,7 @@ line_back line place within = omega (arith, within)
 same_addr : (a b : ℕ) → line_of a ≡ line_of b → place_of a ≡ place_of b → a ≡ b
 same_addr a b line place = omega (arith, line, place)
 
--- ---- two lists, one behind the other
+-- ---- two lists, one after the other
 
 append-absent : (test : ℕ → Bool) (xs ys : Stamps) → lookup test xs ≡ None → lookup test (xs ++ ys) ≡ lookup test ys
 append-absent test [] ys none = refl

@@ -8,7 +8,7 @@ use pg_timeline::Timeline;
 use std::alloc::{AllocError, Global};
 use std::collections::HashMap;
 
-/// Adds a value behind those of a word. Fails where memory is refused, and then nothing is added.
+/// Adds a value after those of a word. Fails where memory is refused, and then nothing is added.
 pub(crate) fn push_listed(
     lists: &mut HashMap<u64, Timeline<u64>>,
     alloc: Global,

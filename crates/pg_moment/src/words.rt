@@ -154,7 +154,7 @@ impl Words {
         }
     }
 
-    /// Adds a value behind those of an address, which may be its first. Fails where
+    /// Adds a value after those of an address, which may be its first. Fails where
     /// memory is refused, and then nothing is added.
     pub(crate) fn push(
         &mut self,

@@ -19,7 +19,7 @@ ordered_more events order k i e within at low is =
     let own : ordered events (i ∷ []) ≡ e ∷ [] = ap (λ o. option_to_list o ++ []) (slice_get-get_or events i e low ∙ ap Some (sym is)) in
     ap (ordered events) front ∙ (flat_map-append (λ j. option_to_list (slice_get events j)) (take k order) (i ∷ []) ∙ ap (λ xs. ordered events (take k order) ++ xs) own)
 
--- events that stand behind others are well formed where all are
+-- events that stand after others are well formed where all are
 pub well_behind : (head : Head) (xs ys : List Event) → AreWellFormed head (xs ++ ys) → AreWellFormed head ys
 well_behind head [] ys well = well
 well_behind head (x ∷ xs) ys well = well_behind head xs ys well.1

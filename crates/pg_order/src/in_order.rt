@@ -54,7 +54,7 @@ fn events_between(
     Ok(chosen)
 }
 
-/// Certifies the events whose numbers stand between two places of a list, behind those before them.
+/// Certifies the events whose numbers stand between two places of a list, after those before them.
 fn certify_between(
     alloc: Global,
     certifying: &mut Certifying,

@@ -1,5 +1,5 @@
 //! All orders of a run with few events, tried one after another. What begins an order and has an
-//! event that no moments witness begins none with a run, whatever comes behind it.
+//! event that no moments witness begins none with a run, whatever comes after it.
 
 ghost use Rattle.std.specs.Prelude.{◌≡◌, ℕ, ◌<◌, ◌≤◌, ◌^◌, ◌↔◌, [], ◌∷◌, ◌++◌, length, IfOk, OnOk};
 ghost use Rattle.std.specs.Prelude.{IsTrue, IsFalse, slice_index};
@@ -69,7 +69,7 @@ fn lacks_own(run: &SpannedRun, numbers: &[u32], number: u32) -> bool
     false
 }
 
-/// Whether no moments witness one of these events behind those before it.
+/// Whether no moments witness one of these events after those before it.
 fn are_denied(alloc: Global, run: &SpannedRun, numbers: &[u32]) -> Result<bool, AllocError>
     requires { AreNumbers run.now numbers.now }
     ensures { IfOk result (λ denied. IsTrue denied → NoneBegins run.now numbers.now) }

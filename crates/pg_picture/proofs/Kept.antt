@@ -6,7 +6,7 @@ use Rattle.pg_explain.specs.declared.entry.WalkEntry.{WalkEntry}
 use Rattle.pg_explain.specs.declared.explainer.Explanation.{Explanation}
 use Rattle.pg_picture.specs.Named.{down_to_end, is_named, named_from}
 
--- a walk goes on behind a table, and ends with any other entry
+-- a walk goes on after a table, and ends with any other entry
 pub goes_on : (x : WalkEntry) (xs : List WalkEntry) → true ≡ is_table x.kind → down_to_end (x ∷ xs) ≡ x ∷ down_to_end xs
 goes_on x xs table = ap (λ b. x ∷ (if b then down_to_end xs else [])) (sym table)
 

@@ -1,7 +1,7 @@
 use Rattle.std.proofs.Common.{◌≡◌, ℕ, List, ◌++◌, append_assoc, ap, ◌∙◌, if◌then◌else◌, Result, Ok, Err, OnOk}
 use Rattle.std.specs.Result.{is_ok}
 
--- one text written behind another, and so on
+-- one text written after another, and so on
 pub two_written : (old one two a b : List ℕ) → one ≡ old ++ a → two ≡ one ++ b → two ≡ old ++ (a ++ b)
 two_written old one two a b p q = q ∙ ap (λ t. t ++ b) p ∙ append_assoc old a b
 

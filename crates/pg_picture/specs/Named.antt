@@ -61,7 +61,7 @@ dropper_of here (findings.Accessed level address value) = None
 dropper_of here (findings.Dirty address value) = None
 dropper_of here (findings.Assist misfit) = None
 
--- the event behind which no moments prove the bad one
+-- the event after which no moments prove the bad one
 abbrev pub taker : Option (List ℕ) → Option Last → Option ℕ
 taker None None = None
 taker None (Some last) = Some last.number

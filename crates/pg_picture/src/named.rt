@@ -107,7 +107,7 @@ pub(crate) fn dropper_of(here: Level, finding: Finding) -> Option<u32>
     }
 }
 
-/// The event behind which no moments prove the bad one.
+/// The event after which no moments prove the bad one.
 fn taker(other: Option<Moments>, last: Option<Last>) -> Option<u32>
     ensures { result ≡ taker other last }
 {
@@ -124,7 +124,7 @@ pub(crate) fn is_dropper(explanation: &Explanation, number: u32) -> bool
     is_at(number, dropper(explanation.finding))
 }
 
-/// Whether no moments prove the bad event behind this one.
+/// Whether no moments prove the bad event after this one.
 pub(crate) fn is_taker(explanation: &Explanation, number: u32) -> bool
     ensures { result ≡ is_taker explanation.now number }
 {

@@ -22,7 +22,7 @@ pub enum Role {
     Bad,
     /// An entry that the bad event reads had to go by it.
     Drops,
-    /// No moments prove the bad event behind it.
+    /// No moments prove the bad event after it.
     Takes,
     /// It wrote an entry that the bad event reads.
     Writes,

@@ -120,7 +120,7 @@ asks_no_explain name rows is reads (Show other) = (λ e. cc, λ h. let e = h.0 i
 asks_no_explain name rows is reads Upgrade = (λ e. cc, λ h. absurd (apart name (codes "upgrade") is h (λ (e : 101 ≡ 117). omega (arith, e))))
 asks_no_explain name rows is reads (Merge other) = (λ e. cc, λ h. let e = h.0 in cc)
 
--- the digits behind `0x` spell the address
+-- the digits after `0x` spell the address
 pub address_is : (text digits : Text) (r : Option ℕ) → text ≡ codes "0x" ++ digits → Reads r (AreHexDigits digits) → Reads r (IsAddressIn text)
 address_is text digits r is spelled n = (there, back)
   where

@@ -321,7 +321,7 @@ dash : Asks (codes "check" ∷ codes "-" ∷ []) (quiet (Check bare)) None
 unfolding clap_on_literals
 dash = (refl, ((refl, record { checkers = refl; all = refl; json = refl }), refl), refl)
 
--- behind `--` each word is a name
+-- after `--` each word is a name
 dashes : Asks (codes "check" ∷ codes "--" ∷ codes "--help" ∷ []) (quiet (Check bare)) (Some (codes "--help"))
 unfolding clap_on_literals
 dashes = (refl, ((refl, record { checkers = refl; all = refl; json = refl }), refl), refl)

@@ -47,13 +47,13 @@ value_rule name = record (new_rule name) {
   value_names = 1;
 }
 
--- a number from 1 to 64 behind `--checkers`
+-- a number from 1 to 64 after `--checkers`
 abbrev pub checkers_rule : Rule
 checkers_rule = record (value_rule (codes "checkers")) {
   parser = Some (parsers.Signed (pos 1) (pos 64));
 }
 
--- a file's name, behind the options
+-- a file's name, after the options
 abbrev pub file_rule : Rule
 file_rule = record (new_rule (codes "file")) { action = Some Set; value_names = 1 }
 
@@ -67,7 +67,7 @@ switch_rule name = record (new_rule name) { long = Some name; action = Some SetT
 abbrev pub with_json : App → App
 with_json line = with_rule line (switch_rule (codes "json"))
 
--- `--progress`, and a file's name behind it
+-- `--progress`, and a file's name after it
 abbrev pub with_progress : App → App
 with_progress line = with_file (with_rule line (switch_rule (codes "progress")))
 
@@ -94,13 +94,13 @@ run_line =
     let single = with_rule line (switch_rule (codes "single")) in
     with_progress (with_rule single (switch_rule (codes "bytes")))
 
--- an event number behind `--` and a name
+-- an event number after `--` and a name
 abbrev pub number_rule : Text → Rule
 number_rule name = record (value_rule name) {
   parser = Some (parsers.Signed (pos 0) (pos 4294967295));
 }
 
--- a processor behind `--cpu`
+-- a processor after `--cpu`
 abbrev pub cpu_rule : Rule
 cpu_rule = record (value_rule (codes "cpu")) {
   parser = Some (parsers.Signed (pos 0) (pos 65535));
@@ -119,7 +119,7 @@ show_line =
     let to = with_rule line (number_rule (codes "to")) in
     with_file (with_json to)
 
--- a number from 1 to 1,000,000 behind `--most`
+-- a number from 1 to 1,000,000 after `--most`
 abbrev pub most_rule : Rule
 most_rule = record (value_rule (codes "most")) {
   parser = Some (parsers.Signed (pos 1) (pos 1000000));
@@ -132,11 +132,11 @@ explain_line =
     let svg = with_rule most (switch_rule (codes "svg")) in
     with_progress (with_json svg)
 
--- a number of 32 bits behind `--error`
+-- a number of 32 bits after `--error`
 abbrev pub error_rule : Rule
 error_rule = number_rule (codes "error")
 
--- the names of logs, one at least, behind the options
+-- the names of logs, one at least, after the options
 abbrev pub logs_rule : Rule
 logs_rule = record (new_rule (codes "log")) {
   action = Some Append;

@@ -138,7 +138,7 @@ fn bare_line<'a>(alloc: Global) -> CommandLine<'a>
         .subcommand_required(true)
 }
 
-/// A command with no options. Like each step behind it, it is a `Result`, so that a chain of steps
+/// A command with no options. Like each step after it, it is a `Result`, so that a chain of steps
 /// ends in one place where memory runs out.
 fn new_line<'a>(alloc: Global, name: &'a str, about: &'a str) -> Result<CommandLine<'a>, AllocError>
     ensures { IsLine (new_app name.entry.now) result }
@@ -169,7 +169,7 @@ fn with_command<'a>(
     line?.subcommand(command)
 }
 
-/// A switch behind `--` and its name.
+/// A switch after `--` and its name.
 fn switch<'a>(alloc: Global, name: &'a str, about: &'a str) -> Arg<'a>
     ensures { IsOption (switch_rule name.entry.now) result }
 {
@@ -179,7 +179,7 @@ fn switch<'a>(alloc: Global, name: &'a str, about: &'a str) -> Arg<'a>
         .action(ArgAction::SetTrue)
 }
 
-/// An option behind `--` and its name, with any text as its value.
+/// An option after `--` and its name, with any text as its value.
 fn value_option<'a>(alloc: Global, name: &'a str, value: &'a str, about: &'a str) -> Arg<'a>
     ensures { IsOption (value_rule name.entry.now) result }
 {
@@ -197,21 +197,21 @@ fn checkers_option<'a>(alloc: Global) -> Arg<'a>
     value_option(alloc, CHECKERS, "N", CHECKERS_ABOUT).value_parser(parser)
 }
 
-/// An event number behind `--` and a name.
+/// An event number after `--` and a name.
 fn number_option<'a>(alloc: Global, name: &'a str, value: &'a str, about: &'a str) -> Arg<'a>
     ensures { IsOption (number_rule name.entry.now) result }
 {
     value_option(alloc, name, value, about).value_parser(value_parser!(u32))
 }
 
-/// A processor behind `--cpu`.
+/// A processor after `--cpu`.
 fn cpu_option<'a>(alloc: Global) -> Arg<'a>
     ensures { IsOption cpu_rule result }
 {
     value_option(alloc, CPU, "P", CPU_ABOUT).value_parser(value_parser!(u16))
 }
 
-/// How many are explained, behind `--most`.
+/// How many are explained, after `--most`.
 fn most_option<'a>(alloc: Global) -> Arg<'a>
     ensures { IsOption most_rule result }
 {
@@ -219,14 +219,14 @@ fn most_option<'a>(alloc: Global) -> Arg<'a>
     value_option(alloc, MOST, "N", MOST_ABOUT).value_parser(parser)
 }
 
-/// By how much spans are widened, behind `--error`.
+/// By how much spans are widened, after `--error`.
 fn error_option<'a>(alloc: Global) -> Arg<'a>
     ensures { IsOption error_rule result }
 {
     number_option(alloc, ERROR, "N", ERROR_ABOUT)
 }
 
-/// The names of logs, one at least, behind the options.
+/// The names of logs, one at least, after the options.
 fn logs_option<'a>(alloc: Global) -> Arg<'a>
     ensures { IsOption logs_rule result }
 {
@@ -238,7 +238,7 @@ fn logs_option<'a>(alloc: Global) -> Arg<'a>
         .required(true)
 }
 
-/// A file's name behind the options.
+/// A file's name after the options.
 fn file_option<'a>(alloc: Global) -> Arg<'a>
     ensures { IsOption file_rule result }
 {
@@ -248,7 +248,7 @@ fn file_option<'a>(alloc: Global) -> Arg<'a>
         .action(ArgAction::Set)
 }
 
-/// The command with `--progress` and a file's name behind its options.
+/// The command with `--progress` and a file's name after its options.
 fn with_progress<'a>(
     alloc: Global,
     line: Result<CommandLine<'a>, AllocError>,

@@ -13,7 +13,7 @@ pub enum NoWords {
     Memory,
 }
 
-/// The program's name, and the words behind it.
+/// The program's name, and the words after it.
 pub fn arguments<T: Env + AllocGlobal>(rt: &T) -> Result<Vec<String>, NoWords> {
     match env::args(rt) {
         Ok(arguments) => {
@@ -30,7 +30,7 @@ pub fn arguments<T: Env + AllocGlobal>(rt: &T) -> Result<Vec<String>, NoWords> {
     }
 }
 
-/// The words behind the first. Fails where memory is refused, which none asks for where there are
+/// The words after the first. Fails where memory is refused, which none asks for where there are
 /// no such words.
 pub fn words_of(alloc: Global, arguments: &[String]) -> Result<Vec<&str>, AllocError>
     ensures none { length arguments.now ≤ 1 → IsOk result }

@@ -27,7 +27,7 @@ use Rattle.pg_reach.specs.Stays.{IsUnder}
 use Rattle.pg_search.specs.Lasts.{IsEnd}
 use Rattle.pg_reach.specs.Reaching.{entry_of, structure_lasts, IsLastRead, IsPiece, up_to, way_of, steps_to, IsReach, AreFresh, Has, AreAt, LeadsOn, next_at, IsFilled, IsAdded, IsNextOf}
 
--- one more link behind a chain
+-- one more link after a chain
 chain_push : (head : Head) (events : List Event) (v : ways.Walker) (w y : ℕ) (level : Level) (from : Parent) (ws : List ℕ) (at : Level) (to : Parent) →
     IsChain head events v w level from ws at to → IsLink head events v y at to w →
     IsChain head events v y level from (ws ++ w ∷ []) (below at) (table_by head.cfg.m to (entry_at events v.la w at to))

@@ -1,4 +1,4 @@
--- Spans of which each lies behind those before it.
+-- Spans of which each lies after those before it.
 use Rattle.std.proofs.Common.{◌≡◌, ℕ, ◌+◌, ◌<◌, ◌≤◌, min, List, [], ◌∷◌, ◌++◌, length, slice_index_or, take, inl, inr, sym, ◌∙◌, subst, arith, Some, None}
 use Rattle.std.specs.List.{All, Contains}
 use Rattle.std.proofs.lemmas.Bool.{cases_lt}
@@ -8,7 +8,7 @@ use Rattle.pg_event.specs.declared.control.Control.{Control}
 use Rattle.pg_timeline.specs.declared.timeline.Span.{Span}
 use Rattle.pg_reach.specs.Stays.{AreInOrder, IsCountTo, IsWithin, IsLatest}
 
--- one more, behind them all
+-- one more, after them all
 pub order_push : (xs : List (Span Control)) (s : Span Control) → AreInOrder xs → All (λ x. x.to < s.from) xs → s.from ≤ s.to → AreInOrder (xs ++ s ∷ [])
 order_push xs s h before some =
     let count : length (xs ++ s ∷ []) ≡ length xs + 1 = length-append xs (s ∷ []) in

@@ -68,7 +68,7 @@ abbrev pub ComesBy : Recorded → Walker → Level → Parent → ℕ → List �
 ComesBy r v level table w moments = (ws : List ℕ) × (moments ≡ ws ++ w ∷ [])
     × IsWayFromRoot r.head r.events (way_of v) w ws level table
 
--- moments with the greatest of all behind them, which stands for the one that comes next
+-- moments with the greatest of all after them, which stands for the one that comes next
 abbrev pub AreOpen : List ℕ → Type 0
 AreOpen latest = (ws : List ℕ) × (latest ≡ ws ++ (2 ^ 32 - 1) ∷ [])
 

@@ -27,7 +27,7 @@ pub record IsStay (r : Recorded) (v : Walker) (s : Span Control) : Type 0 where
 abbrev pub IsWithin : List (Span Control) → ℕ → Type 0
 IsWithin spans w = (s : Span Control) × Contains spans s × (s.from ≤ w) × (w ≤ s.to)
 
--- spans that have moments, each behind those before it
+-- spans that have moments, each after those before it
 pub record AreInOrder (spans : List (Span Control)) : Type 0 where
   pub each : (i : ℕ) (d : Span Control) → i < length spans →
       (slice_index_or spans i d).from ≤ (slice_index_or spans i d).to

@@ -15,7 +15,7 @@ pub(crate) struct Reach {
     pub from: u32,
     pub to: u32,
     pub table: Parent,
-    /// The latest moments of the readings that lead there, and behind them the greatest of all,
+    /// The latest moments of the readings that lead there, and after them the greatest of all,
     /// which stands for that of the reading in the table itself.
     pub latest: Moments,
 }

@@ -108,7 +108,7 @@ impl<'a> View<'a> {
         })
     }
 
-    /// What a table has from a moment on, but not behind the last.
+    /// What a table has from a moment on, but not after the last.
     pub(crate) fn piece_at(&self, level: Level, table: Parent, at: u32, last: u32) -> Piece
         requires low { self.now.low ≤ at }
         requires order { at ≤ last }

@@ -45,7 +45,7 @@ fn turn_both(board: &mut Board<'_>) -> bool {
     false
 }
 
-/// Whether a board is of its script, before its last turn and behind it, and has no full segment.
+/// Whether a board is of its script, before its last turn and after it, and has no full segment.
 fn is_carried_out(
     alloc: Global,
     board: &mut Board<'_>,
@@ -71,7 +71,7 @@ fn events_of(
     Ok(is_right.then_some(board.finish().world.len()))
 }
 
-/// What a reader sees before the first turn and behind the last, and how many events there are
+/// What a reader sees before the first turn and after the last, and how many events there are
 /// then, if the script was carried out.
 fn counts_of(alloc: Global, script: &Script) -> Result<(Counts, Counts, Option<u64>), Fail> {
     let (progress, publisher, mut seats) = Progress::open(alloc, 1)?;

@@ -34,7 +34,7 @@ fn reads_follow_stores(rt: HostRuntime) -> Result<(), Fail> {
 
 const MOST: u32 = 4_294_967_295;
 
-/// What one reader sees before it ends, and another one behind the end of two.
+/// What one reader sees before it ends, and another one after the end of two.
 fn ended(alloc: Global) -> Result<[Counts; 2], Fail> {
     let (progress, mut publisher, mut seats) = Progress::open(alloc, 3)?;
     let other = seats.pop().ok_or("no third reader")?;

@@ -196,7 +196,7 @@ fn reads_scripts(rt: HostRuntime) -> Result<(), Fail> {
     spell_all(&rt, &SPELLED)
 }
 
-/// Each of these lines, between semicolons, is refused so behind what stands before it.
+/// Each of these lines, between semicolons, is refused so after what stands before it.
 struct Refused {
     head: &'static str,
     lines: &'static str,
@@ -388,7 +388,7 @@ fn refuses_bytes_of_lines(rt: HostRuntime) -> Result<(), Fail> {
     Ok(())
 }
 
-/// A line so many times, and more behind it.
+/// A line so many times, and more after it.
 struct Repeated {
     head: &'static str,
     line: &'static str,

@@ -86,7 +86,7 @@ fn run(alloc: Global, script: &Script, history: &mut History) -> Result<bool, Fa
     turn_all(&mut board, history)
 }
 
-/// How many events a history has behind a script of one processor, if all went so.
+/// How many events a history has after a script of one processor, if all went so.
 fn witnessed(alloc: Global, script: &Script, history: &mut History) -> Result<Option<u64>, Fail> {
     let is_witnessed = run(alloc, script, history)?;
     Ok(is_witnessed.then_some(history.len()))

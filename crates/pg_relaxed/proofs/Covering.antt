@@ -63,7 +63,7 @@ pub record IsThere (s : Spanned) (p la : ℕ) (order : List ℕ) (past : List St
   pub known : IsKnown (state_after s.head past) p la k
   pub come : HaveCome order (count past) ended
 
--- in each order that is as supposed, at each time before event next of p and behind its earlier ones
+-- in each order that is as supposed, at each time before event next of p and after its earlier ones
 abbrev pub Covers : Spanned → List Edge → ℕ → ℕ → ℕ → ℕ → Known → Type 0
 Covers s edges p la next ended k = (order : List ℕ) (past : List Step) → IsOrder s order → Keeps order edges → Came s order past → IsFront s p order (count past) next → IsThere s p la order past ended k
 

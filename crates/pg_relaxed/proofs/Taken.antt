@@ -78,7 +78,7 @@ none_at [] i le = refl
 none_at (y ∷ ys) zero le = absurd (omega (arith, le))
 none_at (y ∷ ys) (suc i) le = none_at ys i (omega (arith, le))
 
--- what is behind the first so many is in the list
+-- what is after the first so many is in the list
 pub in_drop : {X : Type 0} (xs : List X) (n : ℕ) (x : X) → IsIn x (drop n xs) → IsIn x xs
 in_drop [] zero x h = absurd h
 in_drop [] (suc n) x h = absurd h

@@ -69,7 +69,7 @@ pub record Grows (k l : Known) : Type 0 where
   pub tables : (t : Table) → IsIn t k.tables → IsIn t l.tables
   pub translations : (x : Translation) → IsIn x k.translations → IsIn x l.translations
 
--- nothing is forgotten, and what is new stands behind it
+-- nothing is forgotten, and what is new stands after it
 pub record Extends (k l : Known) : Type 0 where
   pub control : l.control ≡ k.control
   pub more_tables : List Table

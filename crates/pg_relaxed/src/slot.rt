@@ -7,7 +7,7 @@ use crate::edge::Edge;
 use crate::precede::{is_own, must_precede};
 use pg_spanned::SpannedRun;
 
-/// A time of a processor just before one of its events and behind the one before.
+/// A time of a processor just before one of its events and after the one before.
 #[derive(Clone, Copy)]
 pub(crate) struct Slot<'a> {
     pub p: u16,

@@ -18,7 +18,7 @@ use std::alloc::{AllocError, Global};
 const LOOKS: u64 = 32;
 
 /// So many writes are looked at for one that must follow the first of them. In version 3, which has
-/// 64 processors at most, at most 63 of other processors end behind it and need not follow it,
+/// 64 processors at most, at most 63 of other processors end after it and need not follow it,
 /// where no two events of one processor overlap.
 const MOST_LATER: usize = 65;
 

@@ -9,7 +9,7 @@ use pg_progress::{Counts, Onlooker};
 use std::alloc::{AllocError, Global};
 use std::test::Fail;
 
-/// Adds what is said, and so many zeros behind it.
+/// Adds what is said, and so many zeros after it.
 fn put(bytes: &mut Vec<u8>, said: &[u8], zeros: usize) -> Result<(), AllocError> {
     for byte in said {
         bytes.push(*byte)?;
@@ -98,7 +98,7 @@ fn events_of_version_2(rt: HostRuntime) -> Result<(), Fail> {
     Ok(())
 }
 
-/// An event, and behind it bytes that begin none. Gives where the event ends.
+/// An event, and after it bytes that begin none. Gives where the event ends.
 fn put_no_record(bytes: &mut Vec<u8>) -> Result<u64, AllocError> {
     put(bytes, b"PGRECORD\x01\x00\x28\x03\x00", 4)?;
     put(bytes, b"\x01\x00\x00\x00\x00\x02\x00\x00\x00", 0)?;
@@ -136,7 +136,7 @@ fn told(alloc: Global) -> Teller<Watched<Vec<u8>>> {
     teller
 }
 
-/// The lines of the looks that were the first behind a million events.
+/// The lines of the looks that were the first after a million events.
 const TOLD: &[u8] = b"pcid-audit: 1000000 events, 3 segments
 pcid-audit: 4200000 events, 8 segments
 pcid-audit: 4294967295 events, 4294967295 segments

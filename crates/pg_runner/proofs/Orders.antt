@@ -51,7 +51,7 @@ by_one_more tasks k turns answers task a at so keeps =
       left_after_more tasks answers a ∙ ap (lines_left a) from ∙ keeps task (drop (k + 1) tasks) ∙ sym (lines_from tasks k task at),
     )
 
--- and one that does leaves the lines behind it
+-- and one that does leaves the lines after it
 pub by_one_done : (tasks : List Task) (k : ℕ) (turns : List ℕ) (answers : List Advance) (task : Task) (receipt : Receipt) → slice_get tasks k ≡ Some task → GoBy tasks k turns answers →
     GoBy tasks (k + 1) (turns ++ task.p ∷ []) (answers ++ Done receipt ∷ [])
 by_one_done tasks k turns answers task receipt at so =

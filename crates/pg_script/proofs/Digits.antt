@@ -63,7 +63,7 @@ digits_ascii base (b ∷ word) high all =
 pub spelled_none : (base most : ℕ) (word : List ℕ) → base ≤ 16 → (IsUtf8 word → ⊥) → None ≡ spelled base most word
 spelled_none base most word high bad = spelled_is base most word None (λ are. bad (IsUtf8-from_ascii word (digits_ascii base word high are.0.1)))
 
--- what std reads behind no sign fits 64 bits
+-- what std reads after no sign fits 64 bits
 pub spelled_parsed : {E : Type 0} (base most : ℕ) (word : List ℕ) (r : Result ℕ E) → 2 ≤ base → base ^ most ≤ 2 ^ 64 → length word ≤ most
     → OkIff r (IsNumeral base word × (digits_value base word < 2 ^ 64)) (digits_value base word) → result_ok r ≡ spelled base most word
 spelled_parsed {E} base most word r low fits few is = spelled_is base most word (result_ok r) (go r is)

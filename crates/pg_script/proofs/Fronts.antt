@@ -8,7 +8,7 @@ line_on : (n : ℕ) (line : List ℕ) (more : List (List ℕ)) → 0 < length mo
 line_on n line [] some = absurd (omega arith)
 line_on n line (next ∷ more) some = refl
 
--- a line, and the lines behind its LF
+-- a line, and the lines after its LF
 pub lines_of_cut : (n : ℕ) (bytes line rest : List ℕ) → pieces 10 bytes ≡ line ∷ pieces 10 rest → lines_of n bytes ≡ Line n line (lines_of (n + 1) rest)
 lines_of_cut n bytes line rest cut =
     let count = length-slice_split (λ b. b == 10) rest in

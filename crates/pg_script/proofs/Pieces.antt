@@ -1,4 +1,4 @@
--- A text is cut at the first separator, and goes on behind it.
+-- A text is cut at the first separator, and goes on after it.
 use Rattle.std.proofs.Common.{◌≡◌, ◌+◌, ℕ, Bool, true, false, List, [], ◌∷◌, Some, None, length, take, drop, refl, subst, arith, ltb}
 use Rattle.std.specs.Prelude.{position, ◌==◌}
 use Rattle.std.specs.List.{position_or_len}

@@ -336,7 +336,7 @@ ok_second {A} {B} a c b d r e f =
     let same : x ≡ y = cc in
     ap (λ (p : A × B). p.1) same
 
--- what is added behind the processors is added behind the lines before
+-- what is added after the processors is added after the lines before
 adds_starts : (m most : ℕ) (lines : Lines) (starts : Starts) (more : Lines) (n : ℕ) → starts_at m most lines ≡ Ok (starts, more) → Adds more n → Adds lines n
 unfolding starts_at
 adds_starts m zero lines starts more n e a = subst (λ ls. Adds ls n) (sym (ok_second [] starts lines more (Ok ([], lines)) refl e)) a
@@ -361,7 +361,7 @@ adds_processors m most lines starts more n e a =
     let same = ok_second (p.0.0 ∷ q.0.0) starts q.0.1 more (Ok (p.0.0 ∷ q.0.0, q.0.1)) refl q.2 in
     adds_heading refusals.Cpu (start_in m) lines p.0.0 p.0.1 n p.1 (adds_starts m most p.0.1 q.0.0 q.0.1 n q.1 (subst (λ ls. Adds ls n) (sym same) a))
 
--- what is added behind the header is added behind the first line
+-- what is added after the header is added after the first line
 adds_head : (lines : Lines) (head : Head) (more : Lines) (n : ℕ) → head_at lines ≡ Ok (head, more) → Adds more n → Adds lines n
 unfolding head_at
 adds_head lines head more n e a =
@@ -405,7 +405,7 @@ refused_in_tasks bytes head more e is (inr lacks) =
     wanted_by bytes e lacks.0 (adds_head (lines_of 1 bytes) head more e.line is lacks.1)
     (rw is (bind_all (λ x. Unit {0}) (λ x. Unit {0}) (λ first. e.line < first.line) (tasks_at head 0 more) _ lacks.2 (λ tasks u. tt)))
 
--- ---- lines behind a line
+-- ---- lines after a line
 
 pub adds_behind_first : (m : ℕ) (lines : Lines) (start : ℕ × Bool) (more : Lines) (n : ℕ) → heading_at refusals.Cpu (start_in m) lines ≡ Ok (start, more) → Adds more n → Adds lines n
 adds_behind_first m lines start more n e a = adds_heading refusals.Cpu (start_in m) lines start more n e a

@@ -29,7 +29,7 @@ AreRising (Ended n) = Unit {0}
 AreRising (Cut n) = Unit {0}
 AreRising (Line n line more) = (n < first_number more) × AreRising more
 
--- lines behind the one of this number
+-- lines after the one of this number
 abbrev pub AreBehind : ℕ → Lines → Type 0
 AreBehind n lines = (n < first_number lines) × AreRising lines
 
@@ -52,7 +52,7 @@ abbrev pub AgreesOnAll : {X A : Type 0} → (X → A) → Result X ScriptError �
 AgreesOnAll view (Ok x) lines read = read ≡ Ok (view x)
 AgreesOnAll view (Err e) lines read = (read ≡ Err e) ⊎ Lacks (λ x. Unit {0}) lines read e
 
--- the pieces behind the first separator, if there is one
+-- the pieces after the first separator, if there is one
 abbrev pub pieces_behind : ℕ → Option (List ℕ) → List (List ℕ)
 pieces_behind separator None = []
 pieces_behind separator (Some bytes) = pieces separator bytes
@@ -82,7 +82,7 @@ abbrev pub front_in : (Rest → Lines) → Front → Lines
 front_in lines (fronts.Ended n) = Ended n
 front_in lines (fronts.Line told) = Line told.number told.value.now (lines told.rest)
 
--- behind the front fewer bytes are left than these
+-- after the front fewer bytes are left than these
 abbrev pub ShortensTo : ℕ → Front → Type 0
 ShortensTo left (fronts.Ended n) = Unit {0}
 ShortensTo left (fronts.Line told) = length told.rest.1 < left

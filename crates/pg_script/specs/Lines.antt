@@ -4,7 +4,7 @@ use Rattle.std.specs.Prelude.{List, [], ◌∷◌, length}
 use Rattle.std.specs.List.{slice_split, list_all}
 
 -- The lines of a text, from one on, each with its number; the first line of a text has number 1.
--- Where a text ends behind an LF, it has ended before the line of the next number; else it is cut
+-- Where a text ends after an LF, it has ended before the line of the next number; else it is cut
 -- within a line.
 pub data Lines : Type 0 where
   Ended : ℕ → Lines

@@ -29,7 +29,7 @@ abbrev pub in_line : {A : Type 0} → ℕ → Result A ScriptRefusal → Result 
 in_line n (Ok x) = Ok x
 in_line n (Err refusal) = refused n refusal
 
--- what a line says, under its number, and the lines behind it
+-- what a line says, under its number, and the lines after it
 pub record Said (A : Type 0) : Type 0 where
   pub number : ℕ
   pub value : A

@@ -1,4 +1,4 @@
--- What the words of a line say, from left to right: a value and the words behind it, or the refusal
+-- What the words of a line say, from left to right: a value and the words after it, or the refusal
 -- of the first word that is wrong or missing.
 use Rattle.std.specs.Prelude.{ℕ, Bool, true, false, if◌then◌else◌, List, [], ◌∷◌}
 use Rattle.std.specs.Prelude.{codes, Option, Some, None, Result, Ok, Err}

@@ -27,7 +27,7 @@ pub(crate) fn version_of(words: &Words) -> Result<Version, ScriptRefusal>
     }
 }
 
-/// The bit of a setting if its word comes next, else 0; and the words behind it.
+/// The bit of a setting if its word comes next, else 0; and the words after it.
 fn setting_of<'a>(name: &[u8], bit: u8, words: Words<'a>) -> (u8, Words<'a>)
     ensures value { result ≡ setting_at name.now bit words.entry }
     ensures bound { result.0 ≤ bit }

@@ -8,7 +8,7 @@ use thiserror::Error;
 pub enum ScriptRefusal {
     /// Line 1 is not `pcid-guest 1` or `pcid-guest 2`.
     FirstLine,
-    /// The next line is not `machine M` with any of `wp nxe smep smap` behind it in this order, M
+    /// The next line is not `machine M` with any of `wp nxe smep smap` after it in this order, M
     /// from 36 to 52.
     Machine,
     /// The next line is not `segment N`, N from 1 to 65,536.

@@ -28,7 +28,7 @@ impl<'a> Model for Text<'a> {
     ghost invariant = { λ t. t.number + length t.bytes.now < 2 ^ 32 };
 }
 
-/// What a line says, under its number, and the lines behind it.
+/// What a line says, under its number, and the lines after it.
 #[derive(Drop)]
 pub(crate) struct Told<'a, T> {
     pub(crate) number: u32,

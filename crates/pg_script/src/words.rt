@@ -34,7 +34,7 @@ impl<'a> Words<'a> {
         Words { rest: Some(line) }
     }
 
-    /// The next word, and those behind it.
+    /// The next word, and those after it.
     pub(crate) fn split_first(&self) -> Option<(&'a [u8], Words<'a>)>
         ensures { MatchOption result (self.now ≡ []) (λ x. self.now ≡ x.0.now ∷ x.1) }
     {

@@ -168,7 +168,7 @@ unloaded m p c (MovCr4Pge q on) h = absurd (apart h)
 undropped : (test : Control → Event → Bool) (p : ℕ) (c : Control) (e : Event) → IsOfChanges test → takes_out p test c (Some idle) ≡ false → changes_something e ≡ false → takes_out p test c (Some e) ≡ false
 undropped test p c e h none f = sym (h p c e) ∙ ap (λ b. takes_out p test c (Some (cond b (with_placeholder e) idle))) f ∙ none
 
--- moments up to event n, the last of which is put behind it
+-- moments up to event n, the last of which is put after it
 abbrev past : ℕ → ℕ → ℕ
 past n w = cond (w == n) (suc n) w
 
@@ -179,7 +179,7 @@ past_before : (n w : ℕ) → w < n → past n w ≡ w
 past_before n w lt = ap (λ b. cond b (suc n) w) (false_from_ne_true (w == n) (λ t. let is : w ≡ n = eqb-true w n t in omega (arith, lt, is)))
 
 module _ (head : Head) (events : List Event) (n : ℕ) (e : Event) (at : slice_get events n ≡ Some e) (leaves : changes_something e ≡ false) where
-  -- what is the same before and behind it is the same at both moments
+  -- what is the same before and after it is the same at both moments
   moved : {B : Type 0} (g : ℕ → B) → g (suc n) ≡ g n → (w : ℕ) → w ≤ n → g w ≡ g (past n w)
   moved g same w low =
       elim (cases_eq w n) as (λ _. g w ≡ g (past n w)) [

@@ -74,7 +74,7 @@ ArePlaced n low high [] = Unit {0}
 ArePlaced n low high (b ∷ bs) =
     (b.place < n) × (low ≤ b.number) × (b.number < high) × ArePlaced n (b.number + 1) high bs
 
--- with more pairs behind them, if any
+-- with more pairs after them, if any
 pub record Extends (old new : List Pair) : Type 0 where
   pub more : List Pair
   pub is : new ≡ old ++ more

@@ -14,7 +14,7 @@ pub fn witnessed_among_kept()
     ensures { WitnessedAmongKept }
 {}
 
-/// Behind the last number at which an event would have been witnessed stands an event that changes
+/// After the last number at which an event would have been witnessed stands an event that changes
 /// something.
 pub fn taken_by_a_change()
     ensures { TakenByAChange }

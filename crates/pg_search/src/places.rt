@@ -48,7 +48,7 @@ impl Places {
     }
 }
 
-/// Where a pair stands, once it was put behind the others or was found among them. Fails where
+/// Where a pair stands, once it was put after the others or was found among them. Fails where
 /// memory is refused, or as many stand there as a place can tell.
 pub(crate) fn place_of(
     pairs: &mut Vec<Pair>,

@@ -92,7 +92,7 @@ front_takes bytes x fits e =
 
 -- ---- what follows the version
 
--- a header behind its version
+-- a header after its version
 abbrev settings_tail : Head → List ℕ
 settings_tail head =
     head.cfg.m ∷ head.cfg.flags.0 ∷ (processor_bytes head.version (length head.processors) ++ (to_le_bytes w32 head.segment ++ flat_map start_bytes head.processors))
@@ -126,7 +126,7 @@ settings_again head rest is =
     ∙ ap (λ (w : List ℕ). header_at (w ++ rest)) (sym (old_header head))
     ∙ header_again head rest is
 
--- the version and what is behind it, of bytes with the same magic
+-- the version and what is after it, of bytes with the same magic
 same_front : (v w : Version) (xs ys : List ℕ) → codes "PGRECORD" ++ (to_le_bytes w16 (version_number v) ++ xs) ≡ codes "PGRECORD" ++ (to_le_bytes w16 (version_number w) ++ ys) → (v ≡ w) × (xs ≡ ys)
 same_front versions.One versions.One xs ys h = (refl, ap (drop 10) h)
 same_front versions.One versions.Two xs ys h = let differ : 1 ≡ 2 = ap (λ (l : List ℕ). get_or l 8 0) h in absurd (omega (arith, differ))

@@ -1,4 +1,4 @@
--- Segments and the end mark that are read behind a run are spelled so, and what is spelled so is read again.
+-- Segments and the end mark that are read after a run are spelled so, and what is spelled so is read again.
 use Rattle.std.proofs.Common.{◌≡◌, ℕ, zero, suc, ◌+◌, ◌-◌, ◌^◌, ◌<◌, ◌≤◌, min, Bool, true, false, cond, leb, ltb, eqb, ◌&&◌, ◌||◌, List, [], ◌∷◌, ◌++◌, length, take, drop, Ok, Err, refl, sym, ap, subst, ◌∙◌, append_assoc, take-append-drop, arith, ◌⊎◌, inl, inr}
 use Rattle.std.specs.List.{flat_map}
 use Rattle.std.specs.Int.{w32, to_le_bytes}
@@ -125,7 +125,7 @@ segments_count_le head number (suc n) (x ∷ xs) =
     length-append (timed_segment_bytes head.version number (take size (x ∷ xs))) (timed_segments_bytes head (number + 1) n (drop size (x ∷ xs))) in
     omega arith
 
--- events that segments spell, from a number on and behind a run
+-- events that segments spell, from a number on and after a run
 pub record AreSegments (s : Spanned) (number : ℕ) (xs : List Timed) : Type 0 where
   pub size : 1 ≤ s.head.segment
   pub order : number ≤ length s.events

@@ -41,7 +41,7 @@ spans_version_at bytes = do
 unfoldable pub spans_front_at : List ℕ → Part Version
 spans_front_at bytes = magic_at bytes >>= λ magic. spans_version_at magic.1
 
--- a header behind its version
+-- a header after its version
 unfoldable pub settings_behind : Version → List ℕ → Part Head
 settings_behind version bytes = do
   m ← passing (is_between least_maxphyaddr most_maxphyaddr) refusals.HeaderField (byte_at bytes)
@@ -111,7 +111,7 @@ judged s x (Some rule) = Err (Plain (refusals.Malformed (length s.events) rule))
 judged s x None =
     if nat_le x.1 (length s.events) then Ok (with_event s x) else Err (Back (length s.events))
 
--- the event behind those of a run
+-- the event after those of a run
 unfoldable pub next_event_at : Spanned → List ℕ → SpannedPart Spanned
 next_event_at s bytes = do
   x ← plain (timed_at s.head.version bytes)

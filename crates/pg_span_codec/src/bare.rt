@@ -96,7 +96,7 @@ fn assist_of(p: u16, bytes: &[u8]) -> Result<(Event, &[u8]), Refusal>
     ))
 }
 
-/// An event of a processor by the fields behind its tag, processor and span, without moments: an
+/// An event of a processor by the fields after its tag, processor and span, without moments: an
 /// access and an assist get the one moment 0, which means nothing.
 #[tactic(auto, unfolding(crate::specs::Reading::bare_at, pg_event::specs::Reading::fields_at))]
 pub fn bare_of(tag: u8, p: u16, bytes: &[u8]) -> Result<(Event, &[u8]), Refusal>

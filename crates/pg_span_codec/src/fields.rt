@@ -1,4 +1,4 @@
-//! Fields at the front of a slice. Each reader gives the value and the bytes behind it, or refuses
+//! Fields at the front of a slice. Each reader gives the value and the bytes after it, or refuses
 //! bytes that are too few.
 
 ghost use Rattle.std.specs.Prelude.{◌≡◌, ◌≤◌, length};

@@ -101,7 +101,7 @@ fn starts_of<'a>(
     Ok((starts, rest))
 }
 
-/// A header behind its version.
+/// A header after its version.
 #[tactic(auto, unfolding(crate::specs::Reading::settings_behind))]
 fn settings_of<'a>(
     alloc: Global,

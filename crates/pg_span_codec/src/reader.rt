@@ -16,7 +16,7 @@ use pg_event::{Refusal, well_formed};
 use pg_spanned::SpannedRun;
 use std::alloc::Global;
 
-/// Reads the event behind those of the run. The least rule that it breaks is told.
+/// Reads the event after those of the run. The least rule that it breaks is told.
 #[tactic(auto, unfolding(crate::specs::Reading::next_event_at))]
 fn read_event<'a>(run: &mut SpannedRun, bytes: &'a [u8]) -> Result<&'a [u8], SpannedError>
     requires { length run.old.events + 1 < 2 ^ 32 }
@@ -107,7 +107,7 @@ fn tag_of(bytes: &[u8]) -> Result<(u8, &[u8]), Refusal>
     Ok((tag, rest))
 }
 
-/// Whether the segment was full that the run has behind so many events.
+/// Whether the segment was full that the run has after so many events.
 fn is_full(run: &SpannedRun, before: usize) -> bool
     requires { before < 2 ^ 32 }
     ensures { result ≡ (length run.now.events == before + run.now.head.segment) }

@@ -39,7 +39,7 @@ bounds_more places bounds n bound count each last m lt = elim (cases_lt m n) [
       subst (λ k. IsBoundOf (Below k) places (get_or (bounds ++ bound ∷ []) m 0)) (sym here) (subst (IsBoundOf (Below n) places) (sym same) last)
 ]
 
--- the next event stands behind what ended before it
+-- the next event stands after what ended before it
 pub spans_more : (backs places : List ℕ) (n bound : ℕ) → IsBoundOf (Below (n - get_or backs n 0)) places bound → bound ≤ get_or places n 0 →
     ((j i : ℕ) → i < n → j < i - get_or backs i 0 → get_or places j 0 < get_or places i 0) → (j i : ℕ) → i < n + 1 → j < i - get_or backs i 0 → get_or places j 0 < get_or places i 0
 spans_more backs places n bound is low kept j i lt ended = elim (cases_lt i n) [
@@ -80,7 +80,7 @@ other_of events p q m places bound own other h v = (
     last : (j m : ℕ) → j < m + 1 → m ≤ j → j ≡ m
     last j m a b = omega (arith, a, b)
 
--- an event of its own, which stands behind those before it
+-- an event of its own, which stands after those before it
 own_of : (events : List Event) (p m : ℕ) (places : List ℕ) (bound : ℕ) → option_map processor_of (slice_get events m) ≡ Some p → bound ≤ get_or places m 0 → IsBoundOf (Of events p m) places bound → IsBoundOf (Of events p (m + 1)) places (get_or places m 0 + 1)
 own_of events p m places bound own behind h v = (
   λ low j one. elim (cases_lt j m) [

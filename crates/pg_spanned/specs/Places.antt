@@ -20,12 +20,12 @@ abbrev pub IsBoundOf : (ℕ → Type 0) → List ℕ → ℕ → Type 0
 IsBoundOf chosen places bound =
     (v : ℕ) → (bound ≤ v) ↔ ((j : ℕ) → chosen j → slice_index places j < v)
 
--- each number stands behind all that had ended before it began
+-- each number stands after all that had ended before it began
 abbrev pub KeepsSpans : List ℕ → List ℕ → Type 0
 KeepsSpans backs places = (j i : ℕ) → i < length backs → j < i - slice_index backs i →
     slice_index places j < slice_index places i
 
--- and behind the earlier ones of its processor
+-- and after the earlier ones of its processor
 abbrev pub KeepsPrograms : List Event → List ℕ → Type 0
 KeepsPrograms events places = (j i : ℕ) → i < length events → j < i →
     AreOfOneProcessor events j i → slice_index places j < slice_index places i

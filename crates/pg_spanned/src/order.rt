@@ -27,7 +27,7 @@ fn places_of(alloc: Global, numbers: &[u32]) -> Result<Vec<u32>, AllocError>
     Ok(places)
 }
 
-/// Whether each event stands behind all that had ended before it began.
+/// Whether each event stands after all that had ended before it began.
 fn keeps_spans(alloc: Global, backs: &[u32], places: &[u32]) -> Result<bool, AllocError>
     requires same { length places.now ≡ length backs.now }
     requires within { (i : ℕ) → i < length places.now → slice_index places.now i + 1 < 2 ^ 32 }
@@ -46,7 +46,7 @@ fn keeps_spans(alloc: Global, backs: &[u32], places: &[u32]) -> Result<bool, All
     Ok(true)
 }
 
-/// Whether each event stands behind the earlier ones of its processor.
+/// Whether each event stands after the earlier ones of its processor.
 fn keeps_programs(
     alloc: Global,
     events: &[Event],

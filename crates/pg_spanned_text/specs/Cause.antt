@@ -3,7 +3,7 @@
 --     event: LINE                            the event, as it is shown with its span
 --     read after: LINE                       the last event of its processor that drops each
 --                                            translation of its page under its PCID: what it uses
---                                            was read behind that. Without one, no such line
+--                                            was read after that. Without one, no such line
 --     read after, if not global: LINE        the same, where global ones may stay
 --     may read: ..                           which entries a walk under its PCID may read since
 --                                            (`Text`), whatever the order
@@ -30,7 +30,7 @@ use Rattle.pg_spanned_text.specs.Text.{may_lines, cannot_lines}
 abbrev pub numbered_line : Spanned → ℕ → Event → List ℕ
 numbered_line s number e = began_line (ended_before s number) number e ++ codes "\n"
 
--- ---- behind which event
+-- ---- after which event
 
 abbrev pub after_name : Bool → List ℕ
 after_name keeps = if keeps then codes "read after, if not global: " else codes "read after: "

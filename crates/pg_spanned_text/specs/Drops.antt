@@ -1,4 +1,4 @@
--- Behind which of its events a processor must read the entries of a page anew, and from which roots
+-- After which of its events a processor must read the entries of a page anew, and from which roots
 -- (Intel SDM, vol. 3, 4.10.2.4, 4.10.4.1).
 use Rattle.std.specs.Prelude.{ℕ, zero, suc, ◌+◌, ◌-◌, Bool, true, false, not, ◌&&◌, ◌==◌}
 use Rattle.std.specs.Prelude.{nat_lt, if◌then◌else◌, List, [], ◌∷◌, ◌++◌, Option, Some, None}
@@ -48,7 +48,7 @@ last_drop s p pcid la i = last_below (drops_at s p pcid la) i
 
 -- ---- roots
 
--- a table behind others, unless it is there, or they are 65 already
+-- a table after others, unless it is there, or they are 65 already
 abbrev pub put_once : List ℕ → ℕ → List ℕ
 put_once tables table =
     if nat_lt (length tables) 65 && not (list_any (λ t. t == table) tables)
@@ -59,7 +59,7 @@ abbrev pub put_root : ℕ → List ℕ → Control → List ℕ
 put_root pcid tables c = if c.pcid == pcid then put_once tables c.root else tables
 
 -- the tables that CR3 of p had under a PCID just before event `from`, and just before each of so
--- many events behind it
+-- many events after it
 abbrev pub roots_from : Spanned → ℕ → ℕ → ℕ → ℕ → List ℕ
 roots_from s p pcid from zero = put_root pcid [] (control_at s.head s.events p from)
 roots_from s p pcid from (suc n) =

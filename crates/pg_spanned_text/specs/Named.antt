@@ -11,7 +11,7 @@ use Rattle.pg_spanned_text.specs.declared.span.Span.{Span}
 use Rattle.pg_spanned_text.specs.Parts.{walked_address, Parts, parts_of}
 use Rattle.pg_spanned_text.specs.Spans.{span_of}
 
--- a number behind others, unless it is there, or they are 40 already
+-- a number after others, unless it is there, or they are 40 already
 abbrev pub put_name : List ℕ → ℕ → List ℕ
 put_name names number =
     if nat_lt (length names) 40 && not (list_any (λ n. n == number) names)
@@ -36,7 +36,7 @@ put_names names x = put_gone (put_some names x.writer) x.gone
 abbrev pub put_all : List ℕ → List Seen → List ℕ
 put_all names xs = fold put_names names xs
 
--- the asked event, the one behind which it reads, and those of entries, first of those that may be
+-- the asked event, the one after which it reads, and those of entries, first of those that may be
 -- read
 abbrev pub named_by : ℕ → Option ReadAfter → List Seen → List Seen → List ℕ
 named_by number after may cannot =

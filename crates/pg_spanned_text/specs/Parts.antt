@@ -1,4 +1,4 @@
--- What the cause of an event says of its walk, whatever the order: behind which event of its
+-- What the cause of an event says of its walk, whatever the order: after which event of its
 -- processor it reads, which entries it may read since, and which it can't. The lines of a cause
 -- (`Cause`) are written of these parts.
 use Rattle.std.specs.Prelude.{ℕ, ◌+◌, not, filter, reverse, List, Option, Some, None, is_none}
@@ -27,9 +27,9 @@ walked_address (Invlpg p la) = None
 walked_address (Invpcid p kind pcid la) = None
 walked_address (MovCr4Pge p on) = None
 
--- ---- behind which event
+-- ---- after which event
 
--- behind this one, and whether global translations of the page may stay there
+-- after this one, and whether global translations of the page may stay there
 abbrev pub read_after_at : Spanned → ℕ → ℕ → ℕ → ℕ → Option Event → Option ReadAfter
 read_after_at s p pcid la d None = None
 read_after_at s p pcid la d (Some e) = Some (record {
@@ -37,7 +37,7 @@ read_after_at s p pcid la d (Some e) = Some (record {
   keeps_global = keeps_global (control_at s.head s.events p d) pcid la e;
 })
 
--- behind the one that drops what processor p had of the page, if there is one
+-- after the one that drops what processor p had of the page, if there is one
 abbrev pub read_after : Spanned → ℕ → ℕ → ℕ → Option ℕ → Option ReadAfter
 read_after s p pcid la None = None
 read_after s p pcid la (Some d) = read_after_at s p pcid la d (slice_get s.events d)
@@ -49,7 +49,7 @@ abbrev pub span_of_some : Spanned → Option ℕ → Option Span
 span_of_some s None = None
 span_of_some s (Some d) = span_at s d
 
--- the first event behind one, or behind none
+-- the first event after one, or after none
 abbrev pub start_of : Option ℕ → ℕ
 start_of None = 0
 start_of (Some d) = d + 1
@@ -57,7 +57,7 @@ start_of (Some d) = d + 1
 abbrev pub walk_of : Spanned → Span → ℕ → Option ℕ → Walk
 walk_of s event la d = record { la = la; event = event; drop = span_of_some s d }
 
--- what the words hold that the walk of the asked event may read behind an event
+-- what the words hold that the walk of the asked event may read after an event
 abbrev pub seen_behind : Spanned → Span → ℕ → ℕ → Option ℕ → List Seen
 seen_behind s event la pcid d =
     seen_of s (walk_of s event la d) (roots s event.p pcid (start_of d) event.number)
@@ -72,7 +72,7 @@ gone_ones xs = filter (λ (x : Seen). not (is_none x.gone)) xs
 
 -- ---- the whole
 
--- what is said of a walk: behind which event it is, if there is one; which entries may be read,
+-- what is said of a walk: after which event it is, if there is one; which entries may be read,
 -- from level 4 down; and which can't, from the last level up, and of a word the last written first
 pub record Parts : Type 0 where
   pub after : Option ReadAfter
@@ -86,12 +86,12 @@ parts_by after xs = record {
   cannot_read = reverse (gone_ones xs);
 }
 
--- behind an event, under a PCID
+-- after an event, under a PCID
 abbrev pub parts_behind : Spanned → Span → ℕ → ℕ → Option ℕ → Parts
 parts_behind s event la pcid d =
     parts_by (read_after s event.p pcid la d) (seen_behind s event la pcid d)
 
--- behind the last one that drops what the processor had under the PCID
+-- after the last one that drops what the processor had under the PCID
 abbrev pub parts_under : Spanned → Span → ℕ → ℕ → Parts
 parts_under s event la pcid =
     parts_behind s event la pcid (last_drop s event.p pcid la event.number)

@@ -15,7 +15,7 @@ use Rattle.pg_spanned_text.specs.Named.{named}
 
 -- ---- rows and lanes
 
--- a processor behind others, unless it is there
+-- a processor after others, unless it is there
 abbrev pub put_lane : List ℕ → ℕ → List ℕ
 put_lane lanes p = if list_any (λ q. q == p) lanes then lanes else lanes ++ p ∷ []
 

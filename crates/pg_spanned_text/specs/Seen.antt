@@ -1,4 +1,4 @@
--- Which entries a walk may read behind an event of its processor, and which it can't, in whichever
+-- Which entries a walk may read after an event of its processor, and which it can't, in whichever
 -- order.
 use Rattle.std.specs.Prelude.{ℕ, ◌^◌, nat_lt, if◌then◌else◌, fold}
 use Rattle.std.specs.Prelude.{List, [], ◌∷◌, ◌++◌, Option, Some, None}
@@ -20,7 +20,7 @@ use Rattle.pg_spanned_text.specs.Words.{writes_of, overwriter, is_any_before}
 
 -- ---- a word
 
--- behind which event an entry of this kind is read: what must be read anew is read behind the event
+-- after which event an entry of this kind is read: what must be read anew is read after the event
 -- that drops it, if there is one. An entry that is absent or has a reserved bit is cached nowhere
 -- (Intel SDM, vol. 3, 4.10.2.3), so it is read at the asked event itself
 abbrev pub bound_for : Walk → Kind → Option Span
@@ -67,7 +67,7 @@ unwritten walk level a ws =
 abbrev pub seen_by : Cfg → Walk → Level → ℕ → List Written → List Seen
 seen_by cfg walk level a ws = unwritten walk level a ws ++ seen_from cfg walk level a ws
 
--- what a word holds at times that are not surely behind the asked event
+-- what a word holds at times that are not surely after the asked event
 abbrev pub seen_word : Spanned → Walk → Level → ℕ → List Seen
 seen_word s walk level a = seen_by s.head.cfg walk level a (writes_of s walk.event a)
 
@@ -84,7 +84,7 @@ seen_at s walk level [] = []
 seen_at s walk level (table ∷ tables) =
     seen_in s walk level table ++ seen_at s walk level tables
 
--- the table that an entry refers to, behind others
+-- the table that an entry refers to, after others
 abbrev pub put_table : List ℕ → Kind → List ℕ
 put_table tables kinds.Absent = tables
 put_table tables kinds.Reserved = tables

@@ -32,11 +32,11 @@ writes_from s asked a number (e ∷ events) =
 abbrev pub writes_of : Spanned → Span → ℕ → List Written
 writes_of s asked a = writes_from s asked a 0 s.events
 
--- whether a write in every order comes behind another and before an event
+-- whether a write in every order comes after another and before an event
 abbrev pub overwrites : Span → Span → Span → Bool
 overwrites first span bound = precedes first span && precedes span bound
 
--- the first of these writes that in every order comes behind a write and before an event
+-- the first of these writes that in every order comes after a write and before an event
 abbrev pub overwriter : List Written → Span → Span → Option ℕ
 overwriter [] first bound = None
 overwriter (w ∷ ws) first bound =

@@ -43,7 +43,7 @@ fn after_name(keeps: bool) -> &'static str
     }
 }
 
-/// Appends the line of the event behind which a page is read.
+/// Appends the line of the event after which a page is read.
 fn push_after_event(text: &mut String, run: &SpannedRun, after: ReadAfter) -> Result<(), AllocError>
     requires { after.number < length run.now.events }
     ensures { OnOk result (string_bytes text.new ≡ string_bytes text.old
@@ -98,7 +98,7 @@ fn push_entries(
     push_cannot_lines(text, cannot)
 }
 
-/// Appends behind which event a walk reads, and which entries.
+/// Appends after which event a walk reads, and which entries.
 fn push_parts(text: &mut String, run: &SpannedRun, cause: &WalkCause) -> Result<(), AllocError>
     requires { ForSome cause.now.after (λ x. x.number < length run.now.events) }
     ensures { OnOk result (string_bytes text.new
@@ -146,7 +146,7 @@ fn push_event(
 }
 
 /// Why in every order the event with this number does not come to pass, where no order of the run's
-/// events has a run: behind which event of its processor it reads the entries of its page, which
+/// events has a run: after which event of its processor it reads the entries of its page, which
 /// values these may have there, and which they can't have any more. Nothing for a number that no
 /// event has, and the event's own line for one that names no walk.
 ///

@@ -1,4 +1,4 @@
-//! Behind which of its events a processor must read the entries of a page anew.
+//! After which of its events a processor must read the entries of a page anew.
 
 ghost use Rattle.std.specs.Prelude.{◌≡◌, ◌+◌, ◌<◌, ◌≤◌, IfOk, OnOk, length};
 ghost use Rattle.std.specs.Prelude.{slice_get};
@@ -91,7 +91,7 @@ pub(crate) fn last_drop(run: &SpannedRun, p: u16, pcid: u16, la: u64, number: u3
     last
 }
 
-/// Puts a table behind others, unless it is there, or they are too many already.
+/// Puts a table after others, unless it is there, or they are too many already.
 pub(crate) fn put_once(tables: &mut Vec<u64>, table: u64) -> Result<(), AllocError>
     ensures { OnOk result (tables.new.items ≡ put_once tables.old.items table) }
 {

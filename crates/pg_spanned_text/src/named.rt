@@ -15,7 +15,7 @@ use std::alloc::{AllocError, Global};
 /// So many events are named.
 const MOST_NAMES: usize = 40;
 
-/// Puts the number of an event behind others, unless it is there, or they are too many already.
+/// Puts the number of an event after others, unless it is there, or they are too many already.
 fn put_name(names: &mut Vec<u32>, number: u32) -> Result<(), AllocError>
     ensures { OnOk result (names.new.items ≡ put_name names.old.items number) }
 {
@@ -25,7 +25,7 @@ fn put_name(names: &mut Vec<u32>, number: u32) -> Result<(), AllocError>
     Ok(())
 }
 
-/// Puts the number of an event behind others, as `put_name` does, if there is one.
+/// Puts the number of an event after others, as `put_name` does, if there is one.
 fn put_some(names: &mut Vec<u32>, number: Option<u32>) -> Result<(), AllocError>
     ensures { OnOk result (names.new.items ≡ put_some names.old.items number) }
 {
@@ -35,7 +35,7 @@ fn put_some(names: &mut Vec<u32>, number: Option<u32>) -> Result<(), AllocError>
     }
 }
 
-/// Puts the event behind which a walk reads behind others.
+/// Puts the event after which a walk reads after others.
 fn put_after(names: &mut Vec<u32>, after: Option<ReadAfter>) -> Result<(), AllocError>
     ensures { OnOk result (names.new.items ≡ put_after names.old.items after) }
 {
@@ -45,7 +45,7 @@ fn put_after(names: &mut Vec<u32>, after: Option<ReadAfter>) -> Result<(), Alloc
     }
 }
 
-/// Puts the event that overwrites a value behind others.
+/// Puts the event that overwrites a value after others.
 fn put_gone(names: &mut Vec<u32>, gone: Option<Gone>) -> Result<(), AllocError>
     ensures { OnOk result (names.new.items ≡ put_gone names.old.items gone) }
 {
@@ -55,7 +55,7 @@ fn put_gone(names: &mut Vec<u32>, gone: Option<Gone>) -> Result<(), AllocError>
     }
 }
 
-/// Puts the events that an entry names behind others.
+/// Puts the events that an entry names after others.
 fn put_names(names: &mut Vec<u32>, seen: Seen) -> Result<(), AllocError>
     ensures { OnOk result (names.new.items ≡ put_names names.old.items seen) }
 {
@@ -63,7 +63,7 @@ fn put_names(names: &mut Vec<u32>, seen: Seen) -> Result<(), AllocError>
     put_gone(names, seen.gone)
 }
 
-/// Puts the events that entries name behind others.
+/// Puts the events that entries name after others.
 fn put_all(names: &mut Vec<u32>, seen: &[Seen]) -> Result<(), AllocError>
     ensures { OnOk result (names.new.items ≡ put_all names.old.items seen.now) }
 {
@@ -73,7 +73,7 @@ fn put_all(names: &mut Vec<u32>, seen: &[Seen]) -> Result<(), AllocError>
     Ok(())
 }
 
-/// The events that a walk names: the asked one, the one behind which it is, and those of entries,
+/// The events that a walk names: the asked one, the one after which it is, and those of entries,
 /// first of those that may be read.
 fn named_by(
     alloc: Global,

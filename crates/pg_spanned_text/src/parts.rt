@@ -14,7 +14,7 @@ use pg_event::Event;
 use pg_spanned::SpannedRun;
 use std::alloc::{AllocError, Global};
 
-/// The event of a processor behind which a walk of it reads its entries in every order.
+/// The event of a processor after which a walk of it reads its entries in every order.
 #[derive(Clone, Copy)]
 pub struct ReadAfter {
     /// Its number.
@@ -50,7 +50,7 @@ pub fn walked_address(event: &Event) -> Option<u64>
     }
 }
 
-/// Behind which event a walk reads, by the number of the one that drops what it had.
+/// After which event a walk reads, by the number of the one that drops what it had.
 fn read_after(run: &SpannedRun, p: u16, pcid: u16, la: u64, drop: Option<u32>) -> Option<ReadAfter>
     requires { ForSome drop (λ d. d < length run.now.events) }
     ensures after { result ≡ read_after run.now p pcid la drop }
@@ -75,7 +75,7 @@ fn span_of_some(run: &SpannedRun, number: Option<u32>) -> Option<Span>
     }
 }
 
-/// What the words hold that the walk of the asked event may read behind an event.
+/// What the words hold that the walk of the asked event may read after an event.
 fn seen_behind(
     alloc: Global,
     run: &SpannedRun,
@@ -121,7 +121,7 @@ fn gone_ones(alloc: Global, seen: &[Seen]) -> Result<Vec<Seen>, AllocError>
         .collect(alloc)
 }
 
-/// What is said of the walk of the asked event behind an event.
+/// What is said of the walk of the asked event after an event.
 fn cause_behind(
     alloc: Global,
     run: &SpannedRun,

@@ -23,7 +23,7 @@ const MOST: u64 = 40;
 /// There is room for so many lines of a cause.
 const MOST_LINES: u64 = 120;
 
-/// Puts a processor behind others, unless it is there.
+/// Puts a processor after others, unless it is there.
 fn put_lane(lanes: &mut Vec<u32>, p: u32) -> Result<(), AllocError>
     ensures { OnOk result (lanes.new.items ≡ put_lane lanes.old.items p) }
 {
@@ -33,7 +33,7 @@ fn put_lane(lanes: &mut Vec<u32>, p: u32) -> Result<(), AllocError>
     Ok(())
 }
 
-/// Puts the processor of an event, given by its number, behind others, unless it is there.
+/// Puts the processor of an event, given by its number, after others, unless it is there.
 fn put_lane_with(lanes: &mut Vec<u32>, run: &SpannedRun, number: u32) -> Result<(), AllocError>
     ensures { OnOk result (lanes.new.items ≡ lane_with run.now lanes.old.items number) }
 {

@@ -44,11 +44,11 @@ pub(crate) struct Walk {
     pub la: u64,
     /// The event that names the walk.
     pub event: Span,
-    /// The event behind which the walk is, if there is one.
+    /// The event after which the walk is, if there is one.
     pub drop: Option<Span>,
 }
 
-/// The event behind which a walk must read an entry for what it gives to be used at the asked
+/// The event after which a walk must read an entry for what it gives to be used at the asked
 /// event: that event itself where the entry is absent or has a reserved bit, since nothing keeps
 /// such an entry.
 fn bound_of(cfg: Cfg, walk: Walk, level: Level, value: u64) -> Option<Span>
@@ -200,7 +200,7 @@ pub(crate) fn seen_at(
     Ok(seen)
 }
 
-/// Puts the table that an entry refers to behind others.
+/// Puts the table that an entry refers to after others.
 fn put_table(tables: &mut Vec<u64>, kind: Kind) -> Result<(), AllocError>
     ensures { OnOk result (tables.new.items ≡ put_table tables.old.items kind) }
 {
@@ -210,7 +210,7 @@ fn put_table(tables: &mut Vec<u64>, kind: Kind) -> Result<(), AllocError>
     }
 }
 
-/// Puts the table that an entry refers to behind others, if a walk may read the entry.
+/// Puts the table that an entry refers to after others, if a walk may read the entry.
 fn put_below(tables: &mut Vec<u64>, cfg: Cfg, seen: Seen) -> Result<(), AllocError>
     requires { (36 ≤ cfg.m) × (cfg.m ≤ 52) }
     ensures { OnOk result (tables.new.items ≡ put_below cfg tables.old.items seen) }

@@ -64,14 +64,14 @@ pub(crate) fn writes_of(
     Ok(writes)
 }
 
-/// Whether a write comes behind another and before an event in every order.
+/// Whether a write comes after another and before an event in every order.
 fn overwrites(first: Span, span: Span, bound: Span) -> bool
     ensures { result ≡ overwrites first span bound }
 {
     precedes(first, span) && precedes(span, bound)
 }
 
-/// The number of the first of these writes that comes behind a write and before an event in every
+/// The number of the first of these writes that comes after a write and before an event in every
 /// order.
 pub(crate) fn overwriter(writes: &[Written], first: Span, bound: Span) -> Option<u32>
     ensures { result ≡ overwriter writes.now first bound }

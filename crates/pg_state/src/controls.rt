@@ -72,7 +72,7 @@ fn unchanged(alloc: Global, processors: &[(u64, bool)]) -> Result<Vec<Changes>, 
     Ok(by_processor)
 }
 
-/// Adds registers behind those of a processor.
+/// Adds registers after those of a processor.
 fn push_at(
     by_processor: &mut Vec<Changes>,
     p: u16,

@@ -19,7 +19,7 @@ pub record Watch : Type 0 where
   pub judged : Option Findings
   pub events : List Event
 
--- the events that were judged, and these behind them; where a record can't have so many, these are
+-- the events that were judged, and these after them; where a record can't have so many, these are
 -- left out
 abbrev pub AreTakenIn : List Event → List Event → List Event → Type 0
 AreTakenIn more old new =
