@@ -1,4 +1,5 @@
--- A run that is certified as it is read: more events say nothing of those before, and an event is witnessed where it is by what is kept of them.
+-- A run that is certified as it is read: more events say nothing of those before, and an event is
+-- witnessed where it is by what is kept of them.
 use Rattle.std.proofs.Common.{◌≡◌, ℕ, zero, suc, ◌+◌, ◌-◌, ◌^◌, ◌<◌, ◌≤◌, List, [], ◌∷◌, ◌++◌, length, refl, ap, sym, ◌∙◌, subst, arith, inl, inr, Option, Some, None, drop, take, take_all, map, true}
 use Rattle.std.specs.Prelude.{slice_get, IfSome, IfNone}
 use Rattle.std.proofs.lemmas.Bool.{cases_lt}

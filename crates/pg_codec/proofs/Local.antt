@@ -1,4 +1,5 @@
--- Reading functions that look no further than so many bytes: with that many at hand, what follows them is only left over.
+-- Reading functions that look no further than so many bytes: with that many at hand, what follows
+-- them is only left over.
 use Rattle.std.proofs.Common.{◌≡◌, ℕ, ◌+◌, ◌≤◌, ◌<◌, Bool, true, false, cond, ltb, List, [], ◌∷◌, ◌++◌, length, take, drop, Result, Ok, Err, refl, sym, ap, ◌∙◌, append_assoc, arith, take-append-drop, length-append, length-take, inl, inr}
 use Rattle.std.proofs.lemmas.Bool.{le-ltb, cases_lt}
 use Rattle.std.proofs.lemmas.List.{take-append-le, append-nil}

@@ -1,4 +1,5 @@
--- Accessed and dirty flags, and the assists that set them, in records of version 2 (Intel SDM, vol. 3, 4.8). 0x20 of an entry is A, 0x40 is D.
+-- Accessed and dirty flags, and the assists that set them, in records of version 2 (Intel SDM, vol.
+-- 3, 4.8). 0x20 of an entry is A, 0x40 is D.
 use Rattle.std.proofs.Common.{◌≡◌, [], ◌∷◌, ◌++◌, refl, Some, None}
 use Rattle.pg_event.specs.declared.event.Event.TheVariants.{Write, Assist, MovCr3, Invlpg}
 use Rattle.pg_event.specs.declared.event.Reason.TheVariants as reasons

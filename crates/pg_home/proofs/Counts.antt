@@ -187,7 +187,8 @@ places_grow r xs (q ∷ ps) answers end ys run p x y here there =
 
 -- ---- runs
 
--- a measure that each turn of p raises as long as it carries nothing out, up to a bound, and that turns of others leave as it is, where there are any
+-- a measure that each turn of p raises as long as it carries nothing out, up to a bound, and that
+-- turns of others leave as it is, where there are any
 record IsMeasure (p bound : ℕ) (C : Head → Type 0) (Others : Type 0) (M : Recording → Processor → ℕ) : Type 0 where
   own : (r : Recording) (x : Processor) → C r.head → HasSoundCaches r.head r.events p x → (slice_get x.instructions x.place ≡ None → ⊥) → CarriesOr (λ t. M r x < M t.world t.processor) x (turned p r x)
   other : Others → (r s : Recording) (x : Processor) → M r x ≡ M s x

@@ -1,4 +1,5 @@
--- What is read now at a place that a walk comes to: it is sound where it is kept, and it proves the fault or the assist that it gives.
+-- What is read now at a place that a walk comes to: it is sound where it is kept, and it proves the
+-- fault or the assist that it gives.
 use Rattle.std.proofs.Common.{◌≡◌, ℕ, ◌+◌, ◌*◌, ◌==◌, Bool, List, [], ◌∷◌, ◌++◌, length, refl, ap, sym, ◌∙◌, subst, true, false, not, cond, ◌&&◌, ◌||◌, arith, Some, None}
 use Rattle.std.proofs.lemmas.Bool.{eq-eqb, eqb-true, and_from}
 use Rattle.pg_entry.specs.declared.AccessKind.{AccessKind}
@@ -47,7 +48,8 @@ from_root_on : (head : Head) (es : List Event) (p la : ℕ) (key : StructureKey)
 from_root_on head es p la key kept Ends end [] h = absurd h
 from_root_on head es p la key kept Ends end (w ∷ ws) h = along_on head es p la key kept Ends end (at_root (control_at head es p w)) w ws h
 
--- for the addresses with the key of a place, a walk by these moments comes to the place, and goes on by a reading now
+-- for the addresses with the key of a place, a walk by these moments comes to the place, and goes
+-- on by a reading now
 abbrev pub Comes : Head → List Event → ℕ → ℕ → ℕ → Place → List ℕ → Type 1
 Comes head es p la pcid at ws =
     (a : ℕ) → bits_from (level_shift at.level) a ≡ bits_from (level_shift at.level) la →

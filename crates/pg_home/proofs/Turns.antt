@@ -67,7 +67,8 @@ others_stay_at_home head es e q x other home = record {
   way = home.way;
 }
 
--- a turn keeps p and the others at home whatever was recorded before; and where that is accepted, what is recorded then is too
+-- a turn keeps p and the others at home whatever was recorded before; and where that is accepted,
+-- what is recorded then is too
 record KeepsAnyway (p : ℕ) (old new : Recording) (x : Processor) : Type 0 where
   head : new.head ≡ old.head
   grows : GrowsByOne p old.events new.events

@@ -1,4 +1,5 @@
--- Physical addresses in registers and entries are below 2 ^ 52, and a page has at most 2 ^ 30 bytes.
+-- Physical addresses in registers and entries are below 2 ^ 52, and a page has at most 2 ^ 30
+-- bytes.
 use Rattle.std.proofs.Common.{◌≡◌, ℕ, ◌^◌, ◌<◌, ◌≤◌, Bool, true, false, if◌then◌else◌, ◌==◌, Option, Some, None, ap, subst, arith}
 use Rattle.pg_entry.specs.declared.Cfg.{Cfg}
 use Rattle.pg_entry.specs.declared.Level.{Level}

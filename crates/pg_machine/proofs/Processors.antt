@@ -1,4 +1,5 @@
--- What the list of processors has at a number, and the state of the definition after a change of one.
+-- What the list of processors has at a number, and the state of the definition after a change of
+-- one.
 use Rattle.std.proofs.Common.{◌≡◌, ℕ, zero, suc, ◌<◌, ◌≤◌, List, [], ◌∷◌, length, get_or, set, Some, None, refl, ap, ◌∙◌, sym, arith, ◌==◌, ⊎_elim}
 use Rattle.std.specs.List.{slice_get}
 use Rattle.std.proofs.lemmas.Option.{slice_get_read, slice_get_past}

@@ -1,4 +1,5 @@
--- A reason for which the stepper is stuck is one that the step lacks, and no step that lacks it may be taken.
+-- A reason for which the stepper is stuck is one that the step lacks, and no step that lacks it may
+-- be taken.
 use Rattle.std.proofs.Common.{◌≡◌, ◌≢◌, ℕ, ◌≤◌, Bool, true, false, ◌&&◌, Some, None, length, List, nat_lt, refl, subst, arith, ◌⊎◌, inl, inr, ⊎_elim}
 use Rattle.std.proofs.lemmas.Bool.{and_parts, and_from, lt-ltb, ltb-true, ltb-false, both_ways}
 use Rattle.pg_entry.specs.declared.Level.{Level}

@@ -1,4 +1,5 @@
--- A step for which the stepper finds no reason to be stuck may be taken, and leads where the definition says.
+-- A step for which the stepper finds no reason to be stuck may be taken, and leads where the
+-- definition says.
 use Rattle.std.proofs.Common.{◌≡◌, ℕ, ◌<◌, Bool, true, false, not, ◌&&◌, if◌then◌else◌, Option, Some, None, length, nat_lt, refl, arith}
 use Rattle.std.proofs.lemmas.Bool.{and_parts, ltb-true}
 use Rattle.pg_entry.specs.declared.Level.{Level}

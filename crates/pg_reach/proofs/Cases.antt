@@ -206,7 +206,8 @@ global_since r v since e found h none = λ ws witness alike lasts.
     apart : {b : Bool} → b ≡ true → b ≡ false → ⊥
     apart h k = cc
 
--- what is found since a moment before which no translation of the PCID survives is found of those that end late
+-- what is found since a moment before which no translation of the PCID survives is found of those
+-- that end late
 pub late_page : (r : Recorded) (v : Walker) (since : ℕ) (e : Event) (found : Option (List ℕ)) → since ≤ v.number → ((shift w : ℕ) → IsPageShift shift → w < since → translation_up_to r v shift false w ≡ false) → AreUnder r v since e found → AreLate r v e found
 late_page r v since e found low none h = λ ws witness alike ends.
     elim ends as (λ _. IsFresher v.freshest found ws) [

@@ -52,7 +52,8 @@ pub up_to-push : (a x : ℕ) (ws : List ℕ) → up_to a (ws ++ x ∷ []) ≡ up
 up_to-push a x [] = refl
 up_to-push a x (y ∷ ys) = ap (λ zs. min a y ∷ zs) (up_to-push a x ys)
 
--- where the freshest moments are as fresh as those that end at a moment, so are those up to a later one
+-- where the freshest moments are as fresh as those that end at a moment, so are those up to a later
+-- one
 pub later_fresh : (x : Reach) (w later : ℕ) (ws : List ℕ) → AreOpen x.latest → later < 2 ^ 32 → w ≤ later → is_as_fresh (up_to w x.latest) (ws ++ w ∷ []) ≡ true → is_as_fresh (up_to later x.latest) (ws ++ w ∷ []) ≡ true
 later_fresh x w later ws next small low h =
     elim (cases_lt w later) as (λ _. is_as_fresh (up_to later x.latest) (ws ++ w ∷ []) ≡ true) [

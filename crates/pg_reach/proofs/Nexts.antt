@@ -73,7 +73,8 @@ under_min r v a b h k =
       | inr le ↦ let is : b ≡ min a b = omega (arith, le) in subst (IsUnder r v) is k
     ]
 
--- a structure entry that is read at the earlier of a moment and the last at which it may be lasts to the moment, where it lasts from the last on
+-- a structure entry that is read at the earlier of a moment and the last at which it may be lasts
+-- to the moment, where it lasts from the last on
 min_lasts : (r : Recorded) (v : Walker) (level : Level) (w read to : ℕ) → read ≤ to → structure_lasts r v level read to ≡ true → w ≤ to → structure_lasts r v level (min w read) w ≡ true
 min_lasts r v level w read to order lasts low =
     elim (cases_lt w read) as (λ _. structure_lasts r v level (min w read) w ≡ true) [

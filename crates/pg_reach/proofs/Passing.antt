@@ -41,7 +41,8 @@ pub record IsUsed (r : Recorded) (v : Walker) (e : Event) (level : Level) (x : R
   pub wanted : is_wanted (want_by e) (kind_of r.head.cfg level (entry_of r v level x.table m)) ≡ true
   pub last : IsLastUse r v e (kind_of r.head.cfg level (entry_of r v level x.table m)) m n
 
--- what witnesses the event at a number up to the walker's comes no later than the last, and witnesses it there
+-- what witnesses the event at a number up to the walker's comes no later than the last, and
+-- witnesses it there
 abbrev IsPassing : Recorded → Walker → Event → Level → Reach → ℕ → ℕ → Type 0
 IsPassing r v e level x m n = IsUsed r v e level x m n → (j : ℕ) → m ≤ j → j ≤ v.number → failing_event r.head r.events j (with_moments (up_to m x.latest) e) ≡ None →
     (j ≤ n) × (failing_event r.head r.events n (with_moments (up_to m x.latest) e) ≡ None)

@@ -41,7 +41,8 @@ use Rattle.pg_event.specs.declared.event.Reason.TheVariants as reasons
 abbrev pub leaf_of : Head → List Event → ℕ → ℕ → ℕ → Reading → ℕ → ℕ → Bool → Translation
 leaf_of head all p la pcid r frame shift g = translation_of pcid shift (g && (control_at head all p r.moment).pge) la frame r.rights r.value
 
--- where the end of the walk is a leaf: its translation stands, if it was read below w and is used at w or later
+-- where the end of the walk is a leaf: its translation stands, if it was read below w and is used
+-- at w or later
 abbrev pub LeafStands : Head → List Event → State → ℕ → ℕ → ℕ → ℕ → ℕ → Reading → Kind → Type 0
 LeafStands head all s p la pcid w i r (kinds.Leaf frame shift g) = r.moment < w → w ≤ i → IsIn (leaf_of head all p la pcid r frame shift g) (s.translations p)
 LeafStands head all s p la pcid w i r _ = Unit {0}

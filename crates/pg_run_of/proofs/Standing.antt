@@ -93,7 +93,8 @@ translation_of pcid shift global la frame rights entry = record { key = translat
 abbrev pub read_at : (ℕ → ℕ → ℕ) → ℕ → Level → Parent → ℕ → Reading
 read_at look la level from w = record { level = level; address = entry_address from.table level la; value = seen look la level from w; moment = w; rights = joined from.rights (seen look la level from w) }
 
--- before the fills at w: each structure entry that was read below w and is used at w or later stands
+-- before the fills at w: each structure entry that was read below w and is used at w or later
+-- stands
 abbrev pub Stands : ℕ → (ℕ → ℕ → ℕ) → State → ℕ → ℕ → ℕ → ℕ → Level → Parent → ℕ → List ℕ → Type 0
 Stands m look s p la pcid w level from x [] = Unit {0}
 Stands m look s p la pcid w level from x (y ∷ ys) =

@@ -55,7 +55,8 @@ use Rattle.pg_event.specs.declared.event.Event.TheVariants as events
 use Rattle.pg_event.specs.declared.event.Reason.TheVariants as reasons
 use Rattle.pg_event.specs.declared.event.Want.TheVariants as wants
 
--- the walk of an access: what it reads first, the others, the last, and the table that it reads that in
+-- the walk of an access: what it reads first, the others, the last, and the table that it reads
+-- that in
 abbrev pub first : Head → List Event → ℕ → ℕ → ℕ → Reading
 first head all p la x = read_at (mem_at all) la Four (root_at head all p x) x
 

@@ -1,4 +1,5 @@
--- What is kept of events leaves the same in memory, in control registers and in caches; and an event that changes nothing takes no moments away.
+-- What is kept of events leaves the same in memory, in control registers and in caches; and an
+-- event that changes nothing takes no moments away.
 use Rattle.std.proofs.Common.{◌≡◌, ℕ, zero, suc, ◌+◌, ◌-◌, ◌<◌, ◌≤◌, Bool, true, false, not, cond, ◌||◌, ◌==◌, List, [], ◌∷◌, length, map, take, fold, Option, Some, None, refl, ap, sym, ◌∙◌, subst, inl, inr, arith}
 use Rattle.std.specs.Prelude.{slice_get, option_map}
 use Rattle.std.proofs.lemmas.Bool.{cases_Bool, cases_lt, cases_eq, and_right, eq-eqb, eqb-true, false_from_ne_true}

@@ -1,4 +1,5 @@
--- A header of version 3 or 4 that is read is spelled so, and one that is spelled so is read again: it is one of version 1 or 2 but for the number of the version.
+-- A header of version 3 or 4 that is read is spelled so, and one that is spelled so is read again:
+-- it is one of version 1 or 2 but for the number of the version.
 use Rattle.std.proofs.Common.{◌≡◌, ℕ, ◌^◌, ◌<◌, Bool, true, false, cond, ltb, eqb, ◌||◌, List, [], ◌∷◌, ◌++◌, length, take, drop, get_or, Ok, Err, refl, sym, ap, subst, ◌∙◌, take-append-drop, arith, inl, inr}
 use Rattle.std.specs.Prelude.{codes}
 use Rattle.std.specs.List.{flat_map}

@@ -1,4 +1,5 @@
--- Segments and the end mark that are read after a run are spelled so, and what is spelled so is read again.
+-- Segments and the end mark that are read after a run are spelled so, and what is spelled so is
+-- read again.
 use Rattle.std.proofs.Common.{◌≡◌, ℕ, zero, suc, ◌+◌, ◌-◌, ◌^◌, ◌<◌, ◌≤◌, min, Bool, true, false, cond, leb, ltb, eqb, ◌&&◌, ◌||◌, List, [], ◌∷◌, ◌++◌, length, take, drop, Ok, Err, refl, sym, ap, subst, ◌∙◌, append_assoc, take-append-drop, arith, ◌⊎◌, inl, inr}
 use Rattle.std.specs.List.{flat_map}
 use Rattle.std.specs.Int.{w32, to_le_bytes}

@@ -6,7 +6,8 @@ use Rattle.std.proofs.lemmas.List.{get_or-set_same, get_or-set_other, get_or-rep
 use Rattle.std.proofs.lemmas.Option.{slice_get-get_or}
 use Rattle.pg_spanned.specs.Places.{ArePlaces}
 
--- the place of a number among the first so many, where it has one there: else as many as the list has
+-- the place of a number among the first so many, where it has one there: else as many as the list
+-- has
 pub record IsPlaceIn (numbers : List ℕ) (done i place : ℕ) : Type 0 where
   pub there : place < length numbers → slice_get numbers place ≡ Some i
   pub nowhere : length numbers ≤ place → (k : ℕ) → k < done → slice_get numbers k ≡ Some i → ⊥
