@@ -77,7 +77,7 @@ after_window f None count = record { kept = f.kept; count = f.count + count; den
 after_window f (Some k) count =
     record { kept = f.kept; count = f.count + count; denied = Some (f.count + k) }
 
--- the same of the events of a window, by what judging them came to
+-- what judging the events of a window leaves, by what it found
 pub record IsJudgedWindow (old : Findings) (window : List Event) (new : Findings) : Type 0 where
   pub found : Option ℕ
   pub first : IsFirstDenied old.kept.head (old.kept.events ++ map kept_of window)

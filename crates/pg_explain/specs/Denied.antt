@@ -98,6 +98,6 @@ denial_text_by event taken x =
     claimed_text x.number event
     ++ (now_walk_text x.walk.items ++ (given_text x.given ++ taken_by taken x.last))
 
--- the same, where these are the events of its run
+-- the text of why no moments witness an event, where these are the events of its run
 abbrev pub denial_text : List Event → Denial → List ℕ
 denial_text events x = denial_text_by (slice_get events x.number) (taken_in events x.last) x

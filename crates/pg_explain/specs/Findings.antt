@@ -329,6 +329,6 @@ event_finding head events i (Invlpg p la) = None
 event_finding head events i (Invpcid p kind pcid la) = None
 event_finding head events i (MovCr4Pge p on) = None
 
--- the same, for the event of a run with this number
+-- what is found for the event of a run with this number
 abbrev pub finding : Head → List Event → ℕ → Option Finding
 finding head events i = option_and_then (event_finding head events i) (slice_get events i)

@@ -17,7 +17,7 @@ pub record Held : Type 0 where
   pub transcript : List Receipt
   pub shadow : shadows.Held
 
--- the same without its number, as its turns see it
+-- a processor without its number, as its turns see it
 abbrev pub seen : Held → Processor
 seen h = record {
   instructions = h.instructions;

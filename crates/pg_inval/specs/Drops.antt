@@ -69,7 +69,7 @@ pub record IsNoted (old new : Log) (moment : ℕ) (event : Event) (before : Cont
       is_dropped new p entry from to
       ≡ (is_dropped old p entry from to || drops_between moment event before p entry from to)
 
--- the same is known
+-- the same drops are known
 pub record IsSame (old new : Log) : Type 0 where
   pub next : next_moment new ≡ next_moment old
   pub drops : (p : ℕ) (entry : CacheEntry) (from to : ℕ) → MayBeCached entry →

@@ -94,7 +94,7 @@ cut_logged log m (suc n) place w = if nat_lt w.moment m then w
     (record { value = o.value; moment = o.moment; others = Logged o.before n }))
     (slice_get log place)) unwritten
 
--- the same, wherever the others are
+-- a word without its values from a moment on, wherever the others are
 abbrev pub cut_by : List Older → ℕ → Word → Others → Word
 cut_by log m w Unwritten = w
 cut_by log m w (Logged place count) = cut_logged log m count place w

@@ -22,7 +22,7 @@ pub record IsNoted (old new : Keyed ℕ ℕ) (moment addr value : ℕ) : Type 0 
   pub values : (w a : ℕ) → value_at new w a
       ≡ (if nat_lt moment w && addr == a then value else value_at old w a)
 
--- the same is known
+-- the same values are known
 pub record IsSame (old new : Keyed ℕ ℕ) : Type 0 where
   pub next : next_moment new ≡ next_moment old
   pub values : (w a : ℕ) → value_at new w a ≡ value_at old w a

@@ -45,7 +45,7 @@ GivesOut text good output errors status =
     ⊎ (AddsSome output text × Fails output × Tells errors (refusal_line audits.Device)
     × (status ≡ 2))
 
--- the same of standard error
+-- a text was written to standard error, and the status is this one; or that failed, and it is 2
 abbrev pub GivesError : List ℕ → ℕ → Change → Change → ℕ → Type 0
 GivesError text good output errors status = StaysSame output
     × ((Adds errors text × Works errors × (status ≡ good))

@@ -82,7 +82,7 @@ finding_line finding =
 abbrev pub seen_text : Last → List ℕ
 seen_text last = last_moments_text last ++ (codes "; taken by event " ++ decimal last.number)
 
--- the same, where no moments prove it
+-- when an event would last have been witnessed, if no moments prove it
 abbrev pub taken_text : Option (List ℕ) → Option Last → List ℕ
 taken_text None None = codes "last: never"
 taken_text None (Some last) = seen_text last

@@ -17,6 +17,6 @@ pub record IsLineOf (app : App) (line : Command) : Type 0 where
   pub form : app_of line ≡ app
   pub local : (fields_of line).has_globals ≡ false
 
--- the same, unless memory ran out
+-- a command of this form was made, unless memory ran out
 pub record IsLine (app : App) (line : Result Command AllocError) : Type 0 where
   pub made : IfOk line (IsLineOf app)

@@ -68,7 +68,7 @@ abbrev pub AreLate : Recorded → Walker → Event → Option (List ℕ) → Typ
 AreLate r v e found = (ws : List ℕ) → AreWitness r.head r.events v.number e ws →
     pcid_of r v ws ≡ v.pcid → EndsLate r v e ws → IsFresher v.freshest found ws
 
--- the same of moments under the PCID that make a global translation
+-- moments under the PCID that make a global translation witness the event only where such are found
 abbrev pub AreGlobal : Recorded → Walker → Event → Option (List ℕ) → Type 0
 AreGlobal r v e found = (ws : List ℕ) → AreWitness r.head r.events v.number e ws →
     pcid_of r v ws ≡ v.pcid → LastsBy r v true ws → IsFresher v.freshest found ws

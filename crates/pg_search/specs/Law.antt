@@ -52,7 +52,7 @@ abbrev pub AreFreshest : Head → List Event → ℕ → List ℕ → Type 0
 AreFreshest head events i ws =
     (us : List ℕ) → WitnessedBy head events i us → is_as_fresh ws us ≡ true
 
--- the same of an event that need not be one of those
+-- no moments are fresher that witness, as event i, an event that need not be one of those
 abbrev pub AreFreshestOf : Head → List Event → ℕ → Event → List ℕ → Type 0
 AreFreshestOf head events i e ws =
     (us : List ℕ) → AreWitness head events i e us → is_as_fresh ws us ≡ true

@@ -52,7 +52,7 @@ found s la head kind =
     page_or s la head kind 12 (page_or s la head kind 21 (page_or s la head kind 30
     (structure_or s la Two (structure_or s la Three (structure_or s la Four Miss)))))
 
--- the same, by the slots that a walk meets under the current PCID and among the globals
+-- what `found` gives, by the slots that a walk meets under the current PCID and among the globals
 abbrev pub chosen : Path → Path → Head → AccessKind → Found
 chosen own globals head kind =
     leaf_or head kind 12 false own.one.translation

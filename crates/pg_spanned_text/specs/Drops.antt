@@ -65,6 +65,6 @@ roots_from s p pcid from zero = put_root pcid [] (control_at s.head s.events p f
 roots_from s p pcid from (suc n) =
     put_root pcid (roots_from s p pcid from n) (control_at s.head s.events p (from + suc n))
 
--- the same, just before event `from` and till just before event `to`
+-- the tables that CR3 of p had under a PCID from just before event `from` to just before event `to`
 abbrev pub roots : Spanned → ℕ → ℕ → ℕ → ℕ → List ℕ
 roots s p pcid from to = roots_from s p pcid from (to - from)

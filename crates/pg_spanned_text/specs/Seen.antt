@@ -95,7 +95,7 @@ abbrev pub put_open : Cfg → List ℕ → Seen → Option Gone → List ℕ
 put_open cfg tables x None = put_table tables (kind_of cfg x.level x.value)
 put_open cfg tables x (Some gone) = tables
 
--- the same, where the walk may read the entry
+-- the table that an entry refers to, after others, where the walk may read the entry
 abbrev pub put_below : Cfg → List ℕ → Seen → List ℕ
 put_below cfg tables x = put_open cfg tables x x.gone
 

@@ -64,7 +64,7 @@ pub record IsNoted (old new : Registers) (moment : ℕ) (event : Event) : Type 0
       control_in new p w
       ≡ (if nat_lt moment w then controlled (cfg_of old).m p before event else before)
 
--- the same is known
+-- the same registers are known
 pub record IsSame (old new : Registers) : Type 0 where
   pub head : new.head ≡ old.head
   pub next : next_moment new ≡ next_moment old

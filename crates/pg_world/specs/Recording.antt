@@ -48,7 +48,7 @@ receipt_of es e = record { moment = length es; event = e }
 abbrev pub with_event : Recording → Event → Recording
 with_event r e = record r { events = r.events ++ e ∷ [] }
 
--- the same with one more segment given out
+-- the record with one more segment given out
 abbrev pub with_taken : Recording → Recording
 with_taken r = record r { taken = r.taken + 1 }
 
@@ -86,7 +86,7 @@ refusal r formed adds =
     if adds && is_full r then Some errors.Full else
     if r.finished then Some errors.Finished else None
 
--- the same of the record of an event, of `commit` and of `control`
+-- the least reason to refuse the record of an event, `commit` and `control`, memory apart
 abbrev pub event_refusal : Recording → Event → Option WorldError
 event_refusal r e = refusal r (is_well_formed r.head e) true
 
