@@ -86,7 +86,7 @@ refusal r formed adds =
     if adds && is_full r then Some errors.Full else
     if r.finished then Some errors.Finished else None
 
--- the least reason to refuse the record of an event, `commit` and `control`, memory apart
+-- the least reason for which the record refuses an event, by `commit` or `control`, memory apart
 abbrev pub event_refusal : Recording → Event → Option WorldError
 event_refusal r e = refusal r (is_well_formed r.head e) true
 
