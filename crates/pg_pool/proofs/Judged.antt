@@ -1,5 +1,5 @@
 -- What a checker has judged.
-use Rattle.std.proofs.Common.{All, Contains, ◌≡◌, ℕ, ◌==◌, ◌||◌, Bool, true, false, true≢false, List, [], ◌∷◌, ◌++◌, sym, refl, ap, ◌∙◌, subst}
+use Rattle.std.proofs.Common.{Contains, ◌≡◌, ℕ, ◌==◌, ◌||◌, Bool, true, false, true≢false, List, [], ◌∷◌, ◌++◌, sym, refl, ap, ◌∙◌, subst}
 use Rattle.std.proofs.lemmas.List.Elements.{All-nil, All-push, Contains-append_left, Contains-push}
 use Rattle.std.proofs.Math.Decide.{ℕ_discrete}
 use Rattle.pg_check.specs.declared.stretch.SegmentVerdict.{SegmentVerdict}

@@ -157,7 +157,7 @@ module _ {B : Type 0} (found : Found) (r : Round) where
 
   -- and all keep what they should
   pub kept_by : (keeps : B → Type 0) (done : List (Done B)) → All (IsDone keeps found r) done → All keeps (map (λ d. d.bench) done)
-  kept_by keeps done all = All-map keeps (λ (d : Done B). d.bench) done (All-weaker (IsDone keeps found r) (λ (d : Done B). keeps d.bench) (λ d is. is.keeps) done all)
+  kept_by keeps done all = All-map keeps (λ (d : Done B). d.bench) done (All-weaker (IsDone keeps found r) (λ (d : Done B). keeps d.bench) (λ d is. is.kept) done all)
 
 in_place : {B : Type 0} (found : Found) (r : Round) (done : List (Done B)) (old : List SegmentVerdict) (left : List ℕ) → 0 < length done → All (Judges found r) done → length old ≡ r.last - r.first
     → left ≡ untaken (map (λ d. d.seat) done) → placed r.first (placed r.first old (all_verdicts done)) (map (verdict found) left) ≡ verdicts_of found r
@@ -205,3 +205,7 @@ all_fresh r size checkers seats (deques, is) =
   where
     fresh : (c : ℕ) → IsFreshIn r (seat_at_start deques r size checkers c)
     fresh c = (refl, λ n. ap (nat_lt 0) (times_taken-none n (map (part_at_start deques r size checkers) (visited checkers c)) (none_taken deques r size checkers (visited checkers c))))
+
+-- and there is one for each checker
+pub all_seats : (r : Round) (size checkers : ℕ) (seats : List Checker) → AreAtStart r size checkers seats → length seats ≡ checkers
+all_seats r size checkers seats (deques, is) = ap (λ (l : List Checker). length l) is ∙ length-map-range_with_len (seat_at_start deques r size checkers) 0 checkers

@@ -14,7 +14,7 @@ use Rattle.pg_pool.specs.Rounds.{IsIn}
 abbrev pub round_of : Window → Round
 round_of w = record {
   first = w.first / w.segment;
-  last = div_ceil (w.first + length w.events.items) w.segment;
+  last = div_ceil (w.first + length w.events.now) w.segment;
 }
 
 -- each number of the round is that of a segment of the window

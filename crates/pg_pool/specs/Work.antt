@@ -6,7 +6,6 @@ use Rattle.pg_check.specs.declared.stretch.Stretch.{Stretch}
 use Rattle.pg_pool.specs.declared.round.Round.{Round}
 use Rattle.pg_pool.specs.declared.checker.Done.{Done}
 use Rattle.pg_pool.specs.Seats.{Checker, has_taken}
-use Rattle.pg_pool.specs.Rounds.{IsIn}
 use Rattle.pg_pool.specs.Verdicts.{Found, IsVerdict, verdict}
 
 -- nothing was taken yet
@@ -27,7 +26,7 @@ pub record HasJudged (found : Found) (r : Round) (c : Checker) (verdicts : List 
 pub record IsDone {B : Type 0} (keeps : B → Type 0) (found : Found) (r : Round) (d : Done B) :
     Type 0 where
   pub judged : HasJudged found r d.seat d.verdicts.items
-  pub keeps : keeps d.bench
+  pub kept : keeps d.bench
 
 -- the verdicts of all checkers
 abbrev pub all_verdicts : {B : Type 0} → List (Done B) → List SegmentVerdict

@@ -71,7 +71,7 @@ fn memos<'a>(
 ) -> Result<Vec<Memo<'a>>, AllocError>
     requires { 0 < checkers }
     ensures len { IfOk result (λ memos. vec_len memos ≡ checkers) }
-    ensures all { IfOk result (λ memos. All (λ memo. memo ≡ stretch.past.now) memos.items) }
+    ensures all { IfOk result (λ memos. All (λ memo. memo ≡ stretch.entry.past.now) memos.items) }
 {
     // A checker judges its share of the events, or somewhat more.
     let walks = stretch.events.len() / checkers as usize;

@@ -59,7 +59,9 @@ fn settled<B: Drop>(
     let started = done.len();
     let mut all = Vec::new(alloc);
     for one in done {
-        all.push(one?)?;
+        if all.push(one?).is_err() {
+            return Err(PoolError::Memory);
+        }
     }
     if started < asked {
         return Err(PoolError::Thread);

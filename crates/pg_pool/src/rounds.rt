@@ -87,8 +87,13 @@ fn gather<J: Segments, G: Gate>(
     place_done(&mut verdicts, round.first, &done);
     let (seats, mut benches) = apart(alloc, done)?;
     let left = close_round(alloc, seats)?;
-    judge_left(segments, gate, worker, &mut benches[0], &mut verdicts, round.first, &left)?;
-    segments.finish(&mut benches[0])?;
+    // Each has gone through the run, so any of them may judge what was left.
+    let Some(mut bench) = benches.pop() else {
+        unreachable!()
+    };
+    judge_left(segments, gate, worker, &mut bench, &mut verdicts, round.first, &left)?;
+    segments.finish(&mut bench)?;
+    benches.push_reserved(bench);
     Ok(Outcome { verdicts, benches })
 }
 

@@ -22,7 +22,7 @@ use std::thread::Threads;
 
 /// The segments of a window.
 struct OfWindow<'a> {
-    window: &'a Window,
+    window: &'a Window<'a>,
     round: Round,
     ghost parts: { HasParts round window.now },
 }
@@ -74,7 +74,7 @@ pub struct WindowJudged {
 }
 
 /// The segments of a window.
-fn round_of(window: &Window) -> Round
+fn round_of(window: &Window<'_>) -> Round
     requires { (head : Head) × (before : List Event) × IsNextWindow head before window.now }
     ensures { result ≡ round_of window.now }
 {
@@ -97,7 +97,7 @@ fn round_of(window: &Window) -> Round
 pub fn judge_window_beside<R: Threads + Wait + Sync, G: Gate, B: Beside>(
     rt: &R,
     alloc: Global,
-    window: &Window,
+    window: &Window<'_>,
     judges: Vec<Judge>,
     gate: &G,
     beside: B,
@@ -112,7 +112,7 @@ pub fn judge_window_beside<R: Threads + Wait + Sync, G: Gate, B: Beside>(
         (numbers (round_of window.now))) }
     ensures judges { (head : Head) (before : List Event) →
         MayJudge head before window.now judges.items → IfOk result.0 (λ judged.
-        All (λ judge. HasNoted judge head (before ++ window.now.events.items))
+        All (λ judge. HasNoted judge head (before ++ window.now.events.now))
         judged.judges.items) }
     ensures len { IfOk result.0 (λ judged. vec_len judged.judges ≡ vec_len judges) }
     ensures err { IfErr result.0 (λ e. e ≢ PoolError.Checkers) }
