@@ -1,18 +1,16 @@
 //! A round over the segments of a window, by judges that live as long as the run.
-ghost use Rattle.std.specs.Prelude.{◌≡◌, ◌≢◌, ◌++◌, All, List, IfOk, IfErr, map, vec_len};
+ghost use Rattle.std.specs.Prelude.{◌≡◌, ◌≢◌, List, IfOk, IfErr, vec_len};
 ghost use Rattle.pg_event.specs.declared.event.Event.{Event};
 ghost use Rattle.pg_event.specs.Heads.{Head};
-ghost use Rattle.pg_check.specs.Judging.{HasNoted};
-ghost use Rattle.pg_check.specs.Segments.{segment_verdict};
-ghost use Rattle.pg_check.specs.Windows.{IsNextWindow, with_window};
-ghost use Rattle.pg_pool.specs.Rounds.{AreCheckers, numbers};
-ghost use Rattle.pg_pool.specs.Windows.{HasParts, MayJudge, round_of};
+ghost use Rattle.pg_check.specs.Windows.{IsNextWindow};
+ghost use Rattle.pg_pool.specs.Rounds.{AreCheckers};
+ghost use Rattle.pg_pool.specs.Windows.{HasParts, IsWindowJudged, MayJudge, round_of};
 
 use crate::beside::Beside;
 use crate::error::PoolError;
 use crate::gate::Gate;
 use crate::round::Round;
-use crate::rounds::{Outcome, judge_round};
+use crate::rounds::judge_round;
 use crate::segments::Segments;
 use pg_check::{Judge, SegmentVerdict, Window};
 use std::alloc::{AllocError, Global};
@@ -69,6 +67,8 @@ impl<'a> Segments for OfWindow<'a> {
 /// noted all its events.
 #[derive(Drop)]
 pub struct WindowJudged {
+    /// The numbers of its segments.
+    pub round: Round,
     pub verdicts: Vec<SegmentVerdict>,
     pub judges: Vec<Judge>,
 }
@@ -106,14 +106,9 @@ pub fn judge_window_beside<R: Threads + Wait + Sync, G: Gate, B: Beside>(
     requires next { (head : Head) × (before : List Event)
         × MayJudge head before window.now judges.items }
     requires beside { B.can_run beside }
-    ensures verdicts { (head : Head) (before : List Event) →
-        MayJudge head before window.now judges.items → IfOk result.0 (λ judged.
-        judged.verdicts.items ≡ map (segment_verdict (with_window head before window.now))
-        (numbers (round_of window.now))) }
-    ensures judges { (head : Head) (before : List Event) →
-        MayJudge head before window.now judges.items → IfOk result.0 (λ judged.
-        All (λ judge. HasNoted judge head (before ++ window.now.events.now))
-        judged.judges.items) }
+    ensures ok { (head : Head) (before : List Event) →
+        MayJudge head before window.now judges.items →
+        IfOk result.0 (IsWindowJudged head before window.now) }
     ensures len { IfOk result.0 (λ judged. vec_len judged.judges ≡ vec_len judges) }
     ensures err { IfErr result.0 (λ e. e ≢ PoolError.Checkers) }
     ensures beside { B.gives beside result.1 }
@@ -123,9 +118,12 @@ pub fn judge_window_beside<R: Threads + Wait + Sync, G: Gate, B: Beside>(
     let (outcome, output) = judge_round(rt, alloc, &segments, gate, judges, beside);
     match outcome {
         Ok(outcome) => {
-            let Outcome { verdicts, benches } = outcome;
-            let judges = benches;
-            (Ok(WindowJudged { verdicts, judges }), output)
+            let judged = WindowJudged {
+                round,
+                verdicts: outcome.verdicts,
+                judges: outcome.benches,
+            };
+            (Ok(judged), output)
         }
         Err(error) => (Err(error), output),
     }

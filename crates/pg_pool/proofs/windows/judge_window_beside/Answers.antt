@@ -11,16 +11,16 @@ judge_round-outcome-requires-clause-fits g c κs within =
     let may = c.requires.next in
     (with_window may.0 may.1 c.args.window.now, all_fit may.0 may.1 c.args.window.now c.args.judges.items may.2)
 
-pub returns-in-Ok-clause-verdicts : goal.returns-in-Ok-clause-verdicts
-returns-in-Ok-clause-verdicts g c = λ head before may.
+pub returns-in-Ok-clause-ok : goal.returns-in-Ok-clause-ok
+returns-in-Ok-clause-ok g c = λ head before may.
     let w = c.args.window.now in
-    let found = first_bad_of_segment (with_window head before w) in
-    let verdicts : c.in-Ok.outcome.verdicts.items ≡ verdicts_of found c.round_of-round.result =
-    rw c.in-Ok.is at (c.judge_round-outcome.ensures.verdicts (with_window head before w) (all_fit head before w c.args.judges.items may)) in
-    subst (λ (r : Round). c.in-Ok.outcome.verdicts.items ≡ verdicts_of found r) c.round_of-round.ensures verdicts
-
-pub returns-in-Ok-clause-judges : goal.returns-in-Ok-clause-judges
-returns-in-Ok-clause-judges g c = λ head before may.
-    let w = c.args.window.now in
-    let ends = rw c.in-Ok.is at (c.judge_round-outcome.ensures.ends (with_window head before w) (all_fit head before w c.args.judges.items may)) in
-    λ k d less. (ends k d less).1
+    let run = with_window head before w in
+    let fit = all_fit head before w c.args.judges.items may in
+    let verdicts : c.in-Ok.outcome.verdicts.items ≡ verdicts_of (first_bad_of_segment run) c.round_of-round.result =
+    rw c.in-Ok.is at (c.judge_round-outcome.ensures.verdicts run fit) in
+    let ends = rw c.in-Ok.is at (c.judge_round-outcome.ensures.ends run fit) in
+    record {
+      round = c.round_of-round.ensures;
+      verdicts = subst (λ (r : Round). c.in-Ok.outcome.verdicts.items ≡ verdicts_of (first_bad_of_segment run) r) c.round_of-round.ensures verdicts;
+      judges = λ k d less. (ends k d less).1;
+    }
