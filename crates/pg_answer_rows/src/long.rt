@@ -116,11 +116,13 @@ fn is_judged_by<T: AllocGlobal + Threads + Wait + Sync, G: Gate>(
     verdict == Ok::<Verdict, AuditError>(verdict_of(long))
 }
 
-/// Counts how often each segment enters and leaves.
+/// Counts how often each segment enters and leaves, and holds the first worker back for so many
+/// turns at each of its segments.
 #[derive(Drop)]
 struct Counted {
     entered: Vec<AtomicU64>,
     left: Vec<AtomicU64>,
+    turns: u32,
 }
 
 fn zeros(alloc: Global, count: u32) -> Result<Vec<AtomicU64>, AllocError> {
@@ -144,8 +146,13 @@ fn are_one(counts: &[AtomicU64]) -> bool {
 }
 
 impl Gate for Counted {
-    fn enter(&self, _worker: u32, number: u64) {
+    fn enter(&self, worker: u32, number: u64) {
         count(&self.entered, number);
+        if worker == 0 {
+            for _ in 0..self.turns {
+                thread::yield_now();
+            }
+        }
     }
 
     fn leave(&self, _worker: u32, number: u64) {
@@ -153,17 +160,20 @@ impl Gate for Counted {
     }
 }
 
-/// Whether each segment of a record goes through the gate of so many checkers once.
+/// Whether each segment of a record goes through the gate of so many checkers once, of which the
+/// first is held back for so many turns at each of its segments.
 fn goes_through_once<T: AllocGlobal + Threads + Wait + Sync>(
     rt: &T,
     long: &Long,
     bytes: &[u8],
     checkers: u32,
+    turns: u32,
 ) -> Result<bool, AllocError> {
     let segments = long.events.div_ceil(long.segment.max(1));
     let gate = Counted {
         entered: zeros(rt.alloc(), segments)?,
         left: zeros(rt.alloc(), segments)?,
+        turns,
     };
     let is_judged = is_judged_by(rt, long, bytes, checkers, &gate);
     Ok(is_judged && are_one(&gate.entered) && are_one(&gate.left))
@@ -191,9 +201,25 @@ fn each_segment_goes_through_the_gate_once(rt: HostRuntime) -> Result<(), Fail> 
         let bytes = record_of(rt.alloc(), &long)?;
         for checkers in [1, 2, 5, 64] {
             assert!(rt;
-                goes_through_once(&rt, &long, &bytes, checkers)?,
+                goes_through_once(&rt, &long, &bytes, checkers, 0)?,
                 "{segment} {checkers}"
             );
+        }
+    }
+    Ok(())
+}
+
+#[test]
+fn many_windows_by_checkers_of_which_one_is_slow(rt: HostRuntime) -> Result<(), Fail> {
+    for bad in [None, Some(69_999)] {
+        let long = Long {
+            events: 70_000,
+            segment: 1_000,
+            bad,
+        };
+        let bytes = record_of(rt.alloc(), &long)?;
+        for checkers in [2, 3] {
+            assert!(rt; goes_through_once(&rt, &long, &bytes, checkers, 1_000)?, "{checkers}");
         }
     }
     Ok(())

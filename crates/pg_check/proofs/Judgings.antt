@@ -1,5 +1,5 @@
 -- A run that is judged as it is read.
-use Rattle.std.proofs.Common.{◌≡◌, ℕ, ◌+◌, ◌^◌, ◌<◌, List, [], ◌∷◌, ◌++◌, length, length-append, Option, Some, None, refl, sym, ap, ◌∙◌, subst, arith, Result, Ok, Err, IfOk, OnOk, OnErr, take}
+use Rattle.std.proofs.Common.{◌≡◌, ℕ, ◌+◌, ◌<◌, List, [], ◌∷◌, ◌++◌, length, length-append, Option, None, sym, ap, ◌∙◌, arith, Result, Ok, Err, IfOk, OnOk, OnErr, take}
 use Rattle.std.specs.Option.{option_or}
 use Rattle.std.proofs.lemmas.List.{append_assoc, length-take, take-append-le}
 use Rattle.std.proofs.lemmas.Result.{on_ok_weaker, on_err_weaker}
@@ -10,7 +10,6 @@ use Rattle.pg_event.specs.Heads.{Head}
 use Rattle.pg_event.specs.Witness.{failing_event, first_some, first_bad_from}
 use Rattle.pg_event.proofs.Alike.{same_judged}
 use Rattle.pg_chain.specs.declared.past.Past.{Past}
-use Rattle.pg_chain.specs.Standing.{IsPast}
 use Rattle.pg_check.specs.Judging.{Noted, HasNoted, MayNote, Findings, IsJudged, MayFollow, Awaits, IsFound}
 use Rattle.pg_check.proofs.Firsts.{first_bad-found, first_bad_from-both, first_bad_from-past}
 

@@ -1,15 +1,20 @@
 //! A run that is judged at its tip: each event as it comes, by the events before it.
 
-ghost use Rattle.std.specs.Prelude.{◌≡◌, ◌<◌, ◌≤◌, ◌^◌, ◌++◌, ◌∷◌, List, [], length, None};
+ghost use Rattle.std.specs.Prelude.{◌≡◌, ◌+◌, ◌<◌, ◌≤◌, ◌^◌, ◌++◌, ◌∷◌, List, [], length, None};
 ghost use Rattle.std.specs.Prelude.{IfOk, OnOk, OnErr};
+ghost use Rattle.std.specs.List.{AllByRecursion};
 ghost use Rattle.std.specs.Option.{option_or};
 ghost use Rattle.pg_event.specs.declared.event.Event.{Event};
+ghost use Rattle.pg_event.specs.Form.{processor_of};
 ghost use Rattle.pg_event.specs.Heads.{Head};
 ghost use Rattle.pg_event.specs.Spelling.{IsHead};
 ghost use Rattle.pg_event.specs.Witness.{failing_event, first_bad_from, first_some};
+ghost use Rattle.pg_chain.specs.Standing.{processor_count};
 ghost use Rattle.pg_check.specs.Judging.{HasNoted, MayNote};
 
 use crate::ahead::{AHEAD, look_ahead};
+use crate::by_past::first_bad_of;
+use crate::memo::Memo;
 use crate::places::Kept;
 use crate::tip::failing_next;
 use pg_chain::Past;
@@ -18,7 +23,8 @@ use std::alloc::{AllocError, Global};
 use std::marker::Model;
 
 /// What is known of a run up to some event, and the walks that were made by the events that were
-/// judged. The events themselves are let go. Events may also be noted unjudged.
+/// judged. The events themselves are let go. Events may also be noted unjudged, and events that
+/// were noted may be judged afterwards, by the past.
 #[derive(Drop)]
 pub struct Judge {
     past: Past,
@@ -50,6 +56,13 @@ impl Judge {
             count: 0,
             kept: Kept::new(alloc),
         })
+    }
+
+    /// How many events were noted.
+    pub fn count(&self) -> u64
+        ensures { result ≡ self.now.count }
+    {
+        self.count
     }
 
     /// What the run did up to the last event that was noted.
@@ -102,6 +115,21 @@ impl Judge {
             }
         }
         Ok(found)
+    }
+
+    /// The first that is not witnessed of some events that were noted before, where the first of
+    /// them has this number: each is judged by the past, which may have gone further since.
+    pub fn judge_again(&mut self, first: u64, events: &[Event]) -> Option<(u64, Reason)>
+        requires processors { AllByRecursion
+            (λ e. processor_of e < processor_count self.old.past) events.now }
+        requires count { first + length events.now ≤ 2 ^ 32 }
+        ensures same { self.new ≡ self.old }
+        ensures found { (head : Head) (all : List Event) → HasNoted self.old head all →
+            result ≡ first_bad_from head all first events.now }
+    {
+        self.make_lists();
+        let mut memo = Memo::new(&self.past, events.len());
+        first_bad_of(&mut memo, first, events)
     }
 
     /// Makes all lists of what was dropped, for those who look up the past at many moments.

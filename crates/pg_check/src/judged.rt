@@ -16,6 +16,17 @@ use pg_event::{Event, Header, Reason};
 use std::alloc::{AllocError, Global};
 use std::marker::Model;
 
+/// What judging a run has come to, without what it goes on by.
+#[derive(Drop)]
+pub struct Tally {
+    /// The settings of the run.
+    pub header: Header,
+    /// How many events were judged.
+    pub count: u64,
+    /// The least event that is not witnessed, with the least reason that fails for it.
+    pub first_bad: Option<(u64, Reason)>,
+}
+
 /// What is known of a run so far, and its first bad event. The events themselves are let go once
 /// they are judged; those after a bad one are noted alone.
 #[derive(Drop)]
@@ -57,6 +68,55 @@ impl Judged {
             count: 0,
             first_bad: None,
         })
+    }
+
+    /// What it has come to, and what it goes on by, apart.
+    pub fn apart(self) -> (Tally, Judge)
+        ensures parts { self ≡ record {
+          head = result.0.header;
+          past = result.1.past;
+          noted = result.1.count;
+          count = result.0.count;
+          first_bad = result.0.first_bad;
+        } }
+        ensures head { IsHead result.0.header }
+    {
+        let Judged {
+            header,
+            judge,
+            count,
+            first_bad,
+        } = self;
+        let tally = Tally {
+            header,
+            count,
+            first_bad,
+        };
+        (tally, judge)
+    }
+
+    /// A run that has come to this, and goes on by this judge.
+    pub fn together(tally: Tally, judge: Judge) -> Judged
+        requires { IsHead tally.header }
+        ensures { result ≡ record {
+          head = tally.header;
+          past = judge.past;
+          noted = judge.count;
+          count = tally.count;
+          first_bad = tally.first_bad;
+        } }
+    {
+        let Tally {
+            header,
+            count,
+            first_bad,
+        } = tally;
+        Judged {
+            header,
+            judge,
+            count,
+            first_bad,
+        }
     }
 
     /// The settings of the run.

@@ -1,5 +1,5 @@
 -- What a checker has judged.
-use Rattle.std.proofs.Common.{All, Contains, ◌≡◌, ℕ, ◌==◌, ◌||◌, Bool, true, false, true≢false, List, [], ◌∷◌, ◌++◌, sym, refl, ap, ◌∙◌, subst}
+use Rattle.std.proofs.Common.{Contains, ◌≡◌, ℕ, ◌==◌, ◌||◌, Bool, true, false, true≢false, List, [], ◌∷◌, ◌++◌, sym, refl, ap, ◌∙◌, subst}
 use Rattle.std.proofs.lemmas.List.Elements.{All-nil, All-push, Contains-append_left, Contains-push}
 use Rattle.std.proofs.Math.Decide.{ℕ_discrete}
 use Rattle.pg_check.specs.declared.stretch.SegmentVerdict.{SegmentVerdict}
@@ -7,14 +7,14 @@ use Rattle.pg_pool.specs.declared.round.Round.{Round}
 use Rattle.pg_pool.specs.Rounds.{IsIn}
 use Rattle.pg_pool.specs.Seats.{Checker, has_taken}
 use Rattle.pg_pool.specs.Verdicts.{Found, verdict, IsVerdict}
-use Rattle.pg_pool.specs.Work.{IsFresh, HasJudged, HasWorked}
+use Rattle.pg_pool.specs.Work.{IsFresh, HasJudged}
 use Rattle.pg_pool.proofs.Times.{other_test}
 
 or_false : (b : Bool) → (b || false) ≡ b
 or_false true = refl
 or_false false = refl
 
-HasJudged-start : (found : Found) (c : Checker) → IsFresh c → HasJudged found c.round c []
+pub HasJudged-start : (found : Found) (c : Checker) → IsFresh c → HasJudged found c.round c []
 HasJudged-start found c fresh = record {
   round = refl;
   right = All-nil (IsVerdict found c.round);
@@ -22,7 +22,7 @@ HasJudged-start found c fresh = record {
 }
 
 -- one more was taken and judged
-HasJudged-more : (found : Found) (r : Round) (old new : Checker) (n : ℕ) (before room after : List SegmentVerdict) (v : SegmentVerdict) → HasJudged found r old before → new.round ≡ old.round → IsIn old.round n
+pub HasJudged-more : (found : Found) (r : Round) (old new : Checker) (n : ℕ) (before room after : List SegmentVerdict) (v : SegmentVerdict) → HasJudged found r old before → new.round ≡ old.round → IsIn old.round n
     → ((m : ℕ) → has_taken new m ≡ (has_taken old m || m == n)) → room ≡ before → v ≡ verdict found n → after ≡ room ++ v ∷ [] → HasJudged found r new after
 HasJudged-more found r old new n before room after v h same within marked kept is pushed =
     let grown : after ≡ before ++ verdict found n ∷ [] = pushed ∙ (λ i. kept i ++ is i ∷ []) in
@@ -36,21 +36,3 @@ HasJudged-more found r old new n before room after v h same within marked kept i
             Contains-append_left before (verdict found n ∷ []) (verdict found m) (h.whole m earlier)
       ];
     })
-
-pub HasWorked-start : (finds : Found → Type 0) (c : Checker) → IsFresh c → HasWorked finds c.round c []
-HasWorked-start finds c fresh = record {
-  round = refl;
-  within = All-nil (λ (v : SegmentVerdict). IsIn c.round v.number);
-  judged = λ found is. HasJudged-start found c fresh;
-}
-
-pub HasWorked-more : (finds : Found → Type 0) (r : Round) (old new : Checker) (n : ℕ) (before room after : List SegmentVerdict) (v : SegmentVerdict) → HasWorked finds r old before → new.round ≡ old.round → IsIn old.round n
-    → ((m : ℕ) → has_taken new m ≡ (has_taken old m || m == n)) → room ≡ before → v.number ≡ n → ((found : Found) → finds found → v ≡ verdict found n) → after ≡ room ++ v ∷ [] → HasWorked finds r new after
-HasWorked-more finds r old new n before room after v h same within marked kept number is pushed =
-    let grown : after ≡ before ++ v ∷ [] = pushed ∙ ap (λ (l : List SegmentVerdict). l ++ v ∷ []) kept in
-    let here : IsIn r v.number = subst (λ (m : ℕ). IsIn r m) (sym number) (subst (λ (q : Round). IsIn q n) h.round within) in
-    record {
-      round = same ∙ h.round;
-      within = subst (λ (l : List SegmentVerdict). All (λ u. IsIn r u.number) l) (sym grown) (All-push (λ (u : SegmentVerdict). IsIn r u.number) before v h.within here);
-      judged = λ found f. HasJudged-more found r old new n before room after v (h.judged found f) same within marked kept (is found f) pushed;
-    }

@@ -1,4 +1,6 @@
 pub mod Deals
+pub mod Fitting
+pub mod Joined
 pub mod Judged
 pub mod Placed
 pub mod Rules

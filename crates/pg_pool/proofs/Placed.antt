@@ -16,7 +16,7 @@ use Rattle.pg_pool.proofs.Deals.{none_taken}
 use Rattle.pg_pool.proofs.Seats.{times_taken-none}
 
 -- a checker has judged by these
-abbrev Judges : Found → Round → Done → Type 0
+abbrev pub Judges : {B : Type 0} → Found → Round → Done B → Type 0
 Judges found r d = HasJudged found r d.seat d.verdicts.items
 
 no_verdict : SegmentVerdict
@@ -71,13 +71,13 @@ module _ (found : Found) (r : Round) where
       ap (λ (k : ℕ). get_or verdicts k no_verdict) (sym e) ∙ (all (r.first + i) (omega arith, omega (arith, inside))).at
       ∙ sym (get_or-map-range_with_len (verdict found) r.first (r.last - r.first) i (r.first + i) no_verdict inside refl))
 
-  all_right : (done : List Done) → All (Judges found r) done → All (IsVerdict found r) (all_verdicts done)
+  all_right : {B : Type 0} (done : List (Done B)) → All (Judges found r) done → All (IsVerdict found r) (all_verdicts done)
   all_right [] all = All-nil (IsVerdict found r)
   all_right (d ∷ ds) all =
       All-append (IsVerdict found r) d.verdicts.items (all_verdicts ds) (All-head (Judges found r) d ds all).right (all_right ds (All-tail (Judges found r) d ds all))
 
   -- a number that was taken has its verdict
-  taken_has : (done : List Done) (n : ℕ) → All (Judges found r) done → is_taken (map (λ d. d.seat) done) n ≡ true → Contains (all_verdicts done) (verdict found n)
+  taken_has : {B : Type 0} (done : List (Done B)) (n : ℕ) → All (Judges found r) done → is_taken (map (λ d. d.seat) done) n ≡ true → Contains (all_verdicts done) (verdict found n)
   taken_has [] n all taken = absurd (true≢false (sym taken))
   taken_has (d ∷ ds) n all taken = go (has_taken d.seat n) refl (taken_has ds n (All-tail (Judges found r) d ds all))
     where
@@ -129,37 +129,37 @@ left_has found r seats n of free within =
     (contains_filter (λ m. not (is_taken seats m)) (numbers (round_of seats)) n (ap not free)
     (subst (λ (q : Round). Contains (numbers q) n) (sym of) (contains_range n r.first (r.last - r.first) within.0 (omega (arith, within.0, within.1)))))
 
-module _ (finds : Found → Type 0) (r : Round) where
-  round_of_done : (done : List Done) → 0 < length done → All (IsDone finds r) done → round_of (map (λ d. d.seat) done) ≡ r
-  round_of_done [] some all = absurd (omega arith)
-  round_of_done (d ∷ ds) some all = (All-head (IsDone finds r) d ds all).round
-
-  pub judged_within : (done : List Done) (seats : List Checker) (left : List ℕ) → 0 < length done → All (IsDone finds r) done → seats ≡ map (λ d. d.seat) done → left ≡ untaken seats → All (IsIn r) left
-  judged_within done seats left some all of is = left_within r seats left (ap round_of of ∙ round_of_done done some all) is
-
-  pub one_round : (done : List Done) → 0 < length done → All (IsDone finds r) done → AreOfOneRound (map (λ d. d.seat) done)
-  one_round done some all =
-      let first = round_of_done done some all in
-      let P : Checker → Type 0 = λ s. s.round ≡ round_of (map (λ d. d.seat) done) in
-      All-map P (λ (d : Done). d.seat) done (All-weaker (IsDone finds r) (λ (d : Done). P d.seat) (λ d is. is.round ∙ sym first) done all)
-
-  -- the verdicts of a checker are of the round
-  pub verdicts_within : (first size : ℕ) (done : List Done) → first ≡ r.first → size ≡ r.last - r.first → r.first ≤ r.last → All (IsDone finds r) done →
-      All (λ d. All (λ v. IsIn (round first (first + size)) v.number) d.verdicts.items) done
-  verdicts_within first size done low is ordered all =
-      All-weaker (IsDone finds r) (λ (d : Done). All (λ v. IsIn (round first (first + size)) v.number) d.verdicts.items)
-      (λ d worked. All-weaker (λ (v : SegmentVerdict). IsIn r v.number) (λ (v : SegmentVerdict). IsIn (round first (first + size)) v.number) (λ v within. (omega (arith, low, within.0), omega (arith, low, is, ordered, within.1))) d.verdicts.items worked.within)
-      done all
-
-  -- wherever these are the first bad events
-  pub judged_by : (found : Found) → finds found → (done : List Done) → All (IsDone finds r) done → All (Judges found r) done
-  judged_by found is done all = All-weaker (IsDone finds r) (Judges found r) (λ d worked. worked.judged found is) done all
-
-round_of_judges : (found : Found) (r : Round) (done : List Done) → 0 < length done → All (Judges found r) done → round_of (map (λ d. d.seat) done) ≡ r
+round_of_judges : {B : Type 0} (found : Found) (r : Round) (done : List (Done B)) → 0 < length done → All (Judges found r) done → round_of (map (λ d. d.seat) done) ≡ r
 round_of_judges found r [] some all = absurd (omega arith)
 round_of_judges found r (d ∷ ds) some all = (All-head (Judges found r) d ds all).round
 
-in_place : (found : Found) (r : Round) (done : List Done) (old : List SegmentVerdict) (left : List ℕ) → 0 < length done → All (Judges found r) done → length old ≡ r.last - r.first
+module _ {B : Type 0} (found : Found) (r : Round) where
+  pub judged_within : (done : List (Done B)) (seats : List Checker) (left : List ℕ) → 0 < length done → All (Judges found r) done → seats ≡ map (λ d. d.seat) done → left ≡ untaken seats → All (IsIn r) left
+  judged_within done seats left some all of is = left_within r seats left (ap round_of of ∙ round_of_judges found r done some all) is
+
+  pub one_round : (done : List (Done B)) → 0 < length done → All (Judges found r) done → AreOfOneRound (map (λ d. d.seat) done)
+  one_round done some all =
+      let first = round_of_judges found r done some all in
+      let P : Checker → Type 0 = λ s. s.round ≡ round_of (map (λ d. d.seat) done) in
+      All-map P (λ (d : Done B). d.seat) done (All-weaker (Judges found r) (λ (d : Done B). P d.seat) (λ d is. is.round ∙ sym first) done all)
+
+  -- the verdicts of a checker are of the round
+  pub verdicts_within : (first size : ℕ) (done : List (Done B)) → first ≡ r.first → size ≡ r.last - r.first → r.first ≤ r.last → All (Judges found r) done →
+      All (λ d. All (λ v. IsIn (round first (first + size)) v.number) d.verdicts.items) done
+  verdicts_within first size done low is ordered all =
+      All-weaker (Judges found r) (λ (d : Done B). All (λ v. IsIn (round first (first + size)) v.number) d.verdicts.items)
+      (λ d judged. All-weaker (IsVerdict found r) (λ (v : SegmentVerdict). IsIn (round first (first + size)) v.number) (λ v verdict. (omega (arith, low, verdict.0.0), omega (arith, low, is, ordered, verdict.0.1))) d.verdicts.items judged.right)
+      done all
+
+  -- what is done was judged
+  pub judged_by : (keeps : B → Type 0) (done : List (Done B)) → All (IsDone keeps found r) done → All (Judges found r) done
+  judged_by keeps done all = All-weaker (IsDone keeps found r) (Judges found r) (λ d is. is.judged) done all
+
+  -- and all keep what they should
+  pub kept_by : (keeps : B → Type 0) (done : List (Done B)) → All (IsDone keeps found r) done → All keeps (map (λ d. d.bench) done)
+  kept_by keeps done all = All-map keeps (λ (d : Done B). d.bench) done (All-weaker (IsDone keeps found r) (λ (d : Done B). keeps d.bench) (λ d is. is.kept) done all)
+
+in_place : {B : Type 0} (found : Found) (r : Round) (done : List (Done B)) (old : List SegmentVerdict) (left : List ℕ) → 0 < length done → All (Judges found r) done → length old ≡ r.last - r.first
     → left ≡ untaken (map (λ d. d.seat) done) → placed r.first (placed r.first old (all_verdicts done)) (map (verdict found) left) ≡ verdicts_of found r
 in_place found r done old left some all size is =
     let seats : List Checker = map (λ d. d.seat) done in
@@ -180,10 +180,10 @@ in_place found r done old left some all size is =
     either false P yes_true yes_false = yes_false refl
 
 -- all verdicts of a round, once those of its checkers and of the numbers left are at their places
-pub gathered : (found : Found) (r : Round) (done here : List Done) (seats : List Checker) (old mid new : List SegmentVerdict) (left there : List ℕ) → 0 < length done → All (Judges found r) done → length old ≡ r.last - r.first
+pub gathered : {B : Type 0} (found : Found) (r : Round) (done here : List (Done B)) (seats : List Checker) (old mid new : List SegmentVerdict) (left there : List ℕ) → 0 < length done → All (Judges found r) done → length old ≡ r.last - r.first
     → here ≡ done → mid ≡ placed r.first old (all_verdicts here) → seats ≡ map (λ d. d.seat) done → left ≡ untaken seats → there ≡ left → new ≡ placed r.first mid (map (verdict found) there) → new ≡ verdicts_of found r
 gathered found r done here seats old mid new left there some all room same first of is last second =
-    let before : mid ≡ placed r.first old (all_verdicts done) = first ∙ ap (λ (l : List Done). placed r.first old (all_verdicts l)) same in
+    let before : mid ≡ placed r.first old (all_verdicts done) = first ∙ ap (λ (l : List (Done _)). placed r.first old (all_verdicts l)) same in
     second
     ∙ (λ i. placed r.first (before i) (map (verdict found) (last i)))
     ∙ in_place found r done old left some all room (is ∙ ap untaken of)
@@ -205,3 +205,7 @@ all_fresh r size checkers seats (deques, is) =
   where
     fresh : (c : ℕ) → IsFreshIn r (seat_at_start deques r size checkers c)
     fresh c = (refl, λ n. ap (nat_lt 0) (times_taken-none n (map (part_at_start deques r size checkers) (visited checkers c)) (none_taken deques r size checkers (visited checkers c))))
+
+-- and there is one for each checker
+pub all_seats : (r : Round) (size checkers : ℕ) (seats : List Checker) → AreAtStart r size checkers seats → length seats ≡ checkers
+all_seats r size checkers seats (deques, is) = ap (λ (l : List Checker). length l) is ∙ length-map-range_with_len (seat_at_start deques r size checkers) 0 checkers

@@ -4,4 +4,5 @@ pub mod Seats
 pub mod Shares
 pub mod Verdicts
 pub mod Ways
+pub mod Windows
 pub mod Work

@@ -1,12 +1,11 @@
 -- What a checker does.
-use Rattle.std.specs.Prelude.{◌≡◌, ℕ, Bool, true, false, List, All, Contains}
-use Rattle.std.specs.List.{flat_map, list_any}
+use Rattle.std.specs.Prelude.{◌≡◌, ℕ, true, false, List, All, Contains}
+use Rattle.std.specs.List.{flat_map}
 use Rattle.pg_check.specs.declared.stretch.SegmentVerdict.{SegmentVerdict}
 use Rattle.pg_check.specs.declared.stretch.Stretch.{Stretch}
 use Rattle.pg_pool.specs.declared.round.Round.{Round}
 use Rattle.pg_pool.specs.declared.checker.Done.{Done}
 use Rattle.pg_pool.specs.Seats.{Checker, has_taken}
-use Rattle.pg_pool.specs.Rounds.{IsIn}
 use Rattle.pg_pool.specs.Verdicts.{Found, IsVerdict, verdict}
 
 -- nothing was taken yet
@@ -23,23 +22,14 @@ pub record HasJudged (found : Found) (r : Round) (c : Checker) (verdicts : List 
   pub right : All (IsVerdict found r) verdicts
   pub whole : (n : ℕ) → has_taken c n ≡ true → Contains verdicts (verdict found n)
 
--- what a checker did: it took numbers of the round and has verdicts of the round alone, and
--- wherever these are the first bad events of the segments, it has judged by them
-pub record HasWorked (finds : Found → Type 0) (r : Round) (c : Checker)
-    (verdicts : List SegmentVerdict) : Type 0 where
-  pub round : c.round ≡ r
-  pub within : All (λ v. IsIn r v.number) verdicts
-  pub judged : (found : Found) → finds found → HasJudged found r c verdicts
-
-abbrev pub IsDone : (Found → Type 0) → Round → Done → Type 0
-IsDone finds r d = HasWorked finds r d.seat d.verdicts.items
-
--- whether some checker was refused memory
-abbrev pub is_refused : List Done → Bool
-is_refused done = list_any (λ d. d.refused) done
+-- what a checker gives back: it has judged what it took, and keeps what it should
+pub record IsDone {B : Type 0} (keeps : B → Type 0) (found : Found) (r : Round) (d : Done B) :
+    Type 0 where
+  pub judged : HasJudged found r d.seat d.verdicts.items
+  pub kept : keeps d.bench
 
 -- the verdicts of all checkers
-abbrev pub all_verdicts : List Done → List SegmentVerdict
+abbrev pub all_verdicts : {B : Type 0} → List (Done B) → List SegmentVerdict
 all_verdicts done = flat_map (λ d. d.verdicts.items) done
 
 -- what a round asks: the segments of a stretch that belong to it

@@ -1,64 +1,56 @@
 //! The work of one checker.
-ghost use Rattle.std.specs.Prelude.{◌≡◌, ◌<◌, ℕ, false};
-ghost use Rattle.pg_pool.specs.Seats.{has_taken};
+ghost use Rattle.std.specs.Prelude.{◌≡◌, IfOk};
+ghost use Rattle.pg_event.specs.Spelling.{Recorded};
+ghost use Rattle.pg_check.specs.Segments.{first_bad_of_segment};
 ghost use Rattle.pg_pool.specs.Work.{IsDone, IsFresh};
 
 use crate::gate::Gate;
-use crate::judge::Judge;
 use crate::seat::Seat;
+use crate::segments::Segments;
 use pg_check::SegmentVerdict;
-use std::alloc::Global;
+use std::alloc::{AllocError, Global};
 
-/// What a checker gives back: its seat, the verdicts of the segments that it took, and whether it
-/// was refused memory for a further one.
+/// What a checker gives back: what it keeps, its seat, and the verdicts of the segments that it
+/// took.
 #[derive(Drop)]
-pub(crate) struct Done {
+pub(crate) struct Done<B> {
+    pub bench: B,
     pub seat: Seat,
     pub verdicts: Vec<SegmentVerdict>,
-    pub refused: bool,
 }
 
-impl Done {
-    pub(crate) fn into_seat(self) -> Seat
-        ensures { result ≡ self.seat }
-    {
-        let Done {
-            seat,
-            verdicts: _,
-            refused: _,
-        } = self;
-        seat
-    }
-}
-
-/// Takes segments and judges them, until none is found or memory is refused. Room for a verdict
-/// comes before its segment is taken.
-pub(crate) fn work<J: Judge, G: Gate>(alloc: Global, judge: &J, gate: &G, mut seat: Seat) -> Done
+/// Takes segments and judges them, until none is found, and goes through what is left of the run.
+/// Fails where memory is refused.
+pub(crate) fn work<J: Segments, G: Gate>(
+    alloc: Global,
+    segments: &J,
+    mut bench: J::Bench,
+    gate: &G,
+    mut seat: Seat,
+) -> Result<Done<J::Bench>, AllocError>
     requires fresh { IsFresh seat }
-    requires round { seat.round ≡ J.round judge.now }
-    ensures { IsDone (J.finds judge.now) seat.round result }
+    requires round { seat.round ≡ J.round segments.now }
+    requires fits { (run : Recorded) × J.fits segments.now run bench }
+    ensures { (run : Recorded) → J.fits segments.now run bench → IfOk result
+        (IsDone (J.ends segments.now run) (first_bad_of_segment run) seat.round) }
 {
     let worker = seat.number();
     let round = seat.round();
-    let mut memo = judge.memo();
     let mut verdicts = Vec::new(alloc);
-    let mut refused = false;
     // Each turn takes another number, so no more turns than numbers are needed.
     for _ in round.first..round.last {
-        if verdicts.reserve(1).is_err() {
-            refused = true;
-            break;
-        }
         let Some(number) = seat.take() else {
             break;
         };
         gate.enter(worker, number as u64);
-        verdicts.push_reserved(judge.judge(&mut memo, number));
+        let judged = segments.judge(&mut bench, number);
         gate.leave(worker, number as u64);
+        verdicts.push(judged?)?;
     }
-    Done {
+    segments.finish(&mut bench)?;
+    Ok(Done {
+        bench,
         seat,
         verdicts,
-        refused,
-    }
+    })
 }

@@ -1,110 +1,135 @@
 //! The checkers' threads.
-ghost use Rattle.std.specs.Prelude.{◌≡◌, ◌≢◌, ◌≤◌, ◌<◌, ℕ, true, false, All, IfOk, IfErr};
-ghost use Rattle.std.specs.Prelude.{vec_len};
-ghost use Rattle.pg_pool.specs.Work.{IsDone, IsFresh, IsFreshIn, is_refused};
+ghost use Rattle.std.specs.Prelude.{◌≡◌, ◌≢◌, ◌≤◌, ◌<◌, ℕ, All, Err, IfOk, IfErr, Ok, map, vec_len};
+ghost use Rattle.pg_event.specs.Spelling.{Recorded};
+ghost use Rattle.pg_check.specs.Segments.{first_bad_of_segment};
+ghost use Rattle.pg_pool.specs.Work.{IsDone, IsFresh, IsFreshIn};
 
 use crate::beside::Beside;
 use crate::checker::{Done, work};
 use crate::error::PoolError;
 use crate::gate::Gate;
-use crate::judge::Judge;
 use crate::round::Round;
 use crate::seat::Seat;
-use std::alloc::Global;
+use crate::segments::Segments;
+use std::alloc::{AllocError, Global};
+use std::snapshot::Snapshot;
 use std::sync::Wait;
 use std::thread;
 use std::thread::{Promise, Threads};
 
-/// What a checker's thread promises of what it gives back.
-pub(crate) struct Promised<'a, J> {
-    pub judge: &'a J,
+/// What a checker's thread promises of what it gives back, by what the checker began with.
+pub(crate) struct Promised<'a, J, B> {
+    pub segments: &'a J,
     pub round: Round,
+    pub began: Snapshot<B>,
 }
 
-// By hand, since a derive would ask it of the judge.
-impl<'a, J> Drop for Promised<'a, J> {
+// By hand, since a derive would ask it of the segments.
+impl<'a, J, B> Drop for Promised<'a, J, B> {
     fn drop(self) {
-        let Promised { judge: _, round: _ } = self;
+        let Promised {
+            segments: _,
+            round: _,
+            began: _,
+        } = self;
     }
 }
 
-impl<'a, J: Judge> Promise<Done> for Promised<'a, J> {
-    ghost kept_by = { λ p d. IsDone (J.finds p.judge.now) p.round d };
-}
+impl<'a, J: Segments> Promise<Result<Done<J::Bench>, AllocError>> for Promised<'a, J, J::Bench> {
+    ghost use Rattle.std.specs.Prelude.{IfOk};
+    ghost use Rattle.pg_event.specs.Spelling.{Recorded};
+    ghost use Rattle.pg_check.specs.Segments.{first_bad_of_segment};
+    ghost use Rattle.pg_pool.specs.Work.{IsDone};
 
-/// Whether one of these checkers was refused memory.
-fn is_refused(done: &[Done]) -> bool
-    ensures { result ≡ is_refused done.now }
-{
-    for one in done {
-        if one.refused {
-            return true;
-        }
-    }
-    false
+    ghost kept_by = { λ p done. (run : Recorded) → J.fits p.segments.now run p.began.value →
+        IfOk done (IsDone (J.ends p.segments.now run) (first_bad_of_segment run) p.round) };
 }
 
 /// What all threads did, if as many worked as were asked for and none was refused memory.
-fn settled(done: Vec<Done>, asked: usize) -> Result<Vec<Done>, PoolError>
-    ensures ok { IfOk result (λ all. (all.items ≡ done.items) × (asked ≤ vec_len all)) }
-    ensures memory { result ≡ Err PoolError.Memory → is_refused done.items ≡ true }
-    ensures thread { result ≡ Err PoolError.Thread →
-        (vec_len done < asked) × (is_refused done.items ≡ false) }
+fn settled<B: Drop>(
+    alloc: Global,
+    done: Vec<Result<Done<B>, AllocError>>,
+    asked: usize,
+) -> Result<Vec<Done<B>>, PoolError>
+    ensures len { IfOk result (λ all. asked ≤ vec_len all) }
+    ensures items { IfOk result (λ all. done.items ≡ map (λ d. Ok d) all.items) }
+    ensures thread { result ≡ Err PoolError.Thread → vec_len done < asked }
     ensures err { IfErr result (λ e. e ≢ PoolError.Checkers) }
 {
-    if is_refused(&done) {
-        return Err(PoolError::Memory);
+    let started = done.len();
+    let mut all = Vec::new(alloc);
+    for one in done {
+        if all.push(one?).is_err() {
+            return Err(PoolError::Memory);
+        }
     }
-    if done.len() < asked {
+    if started < asked {
         return Err(PoolError::Thread);
     }
-    Ok(done)
+    Ok(all)
 }
 
 /// Lets each seat's checker work in a thread of its own, and does a piece of work beside them. All
 /// that were started are joined before it answers, also where a thread was refused.
-pub(crate) fn run_checkers<R: Threads + Wait + Sync, J: Judge, G: Gate, B: Beside>(
+pub(crate) fn run_checkers<R: Threads + Wait + Sync, J: Segments, G: Gate, B: Beside>(
     rt: &R,
     alloc: Global,
-    judge: &J,
+    segments: &J,
     gate: &G,
     seats: Vec<Seat>,
+    benches: Vec<J::Bench>,
     beside: B,
-) -> (Result<Vec<Done>, PoolError>, B::Output)
-    requires fresh { All (IsFreshIn (J.round judge.now)) seats.items }
+) -> (Result<Vec<Done<J::Bench>>, PoolError>, B::Output)
+    requires fresh { All (IsFreshIn (J.round segments.now)) seats.items }
+    requires len { vec_len benches ≡ vec_len seats }
+    requires fits { (run : Recorded) × All (J.fits segments.now run) benches.items }
     requires beside { B.can_run beside }
-    ensures len { IfOk result.0 (λ done. vec_len seats ≤ vec_len done) }
-    ensures done { IfOk result.0
-        (λ done. All (IsDone (J.finds judge.now) (J.round judge.now)) done.items) }
+    ensures len { IfOk result.0 (λ done. vec_len done ≡ vec_len seats) }
+    ensures done { (run : Recorded) → All (J.fits segments.now run) benches.items →
+        IfOk result.0 (λ done. All (IsDone (J.ends segments.now run) (first_bad_of_segment run)
+        (J.round segments.now)) done.items) }
     ensures err { IfErr result.0 (λ e. e ≢ PoolError.Checkers) }
     ensures beside { B.gives beside result.1 }
 {
-    let round = judge.round();
+    let round = segments.round();
     thread::scope(
         thread::scope_env(),
         rt,
-        |scope| -> (Result<Vec<Done>, PoolError>, B::Output)
+        |scope| -> (Result<Vec<Done<J::Bench>>, PoolError>, B::Output)
             requires fresh { All (IsFreshIn round) seats.items }
-            requires round { round ≡ J.round judge.now }
+            requires len { vec_len benches ≡ vec_len seats }
+            requires round { round ≡ J.round segments.now }
+            requires fits { (run : Recorded) × All (J.fits segments.now run) benches.items }
             requires beside { B.can_run beside }
-            ensures len { IfOk result.0 (λ done. vec_len seats ≤ vec_len done) }
-            ensures done { IfOk result.0
-                (λ done. All (IsDone (J.finds judge.entry.now) round) done.items) }
+            ensures len { IfOk result.0 (λ done. vec_len done ≡ vec_len seats) }
+            ensures done { (run : Recorded) →
+                All (J.fits segments.entry.now run) benches.items → IfOk result.0 (λ done.
+                All (IsDone (J.ends segments.entry.now run) (first_bad_of_segment run) round)
+                done.items) }
             ensures err { IfErr result.0 (λ e. e ≢ PoolError.Checkers) }
             ensures beside { B.gives beside result.1 }
         {
             let asked = seats.len();
+            let mut waiting = benches;
             let Ok(mut handles) = Vec::with_capacity(alloc, asked) else {
                 return (Err(PoolError::Memory), beside.run());
             };
             for seat in seats {
-                let promised = Promised { judge, round };
+                let Some(bench) = waiting.pop() else {
+                    unreachable!()
+                };
+                let promised = Promised {
+                    segments,
+                    round,
+                    began: Snapshot::of(&bench),
+                };
                 let started = scope.spawn_with(
                     promised,
-                    move || -> Done
+                    move || -> Result<Done<J::Bench>, AllocError>
                         requires fresh { IsFresh seat }
-                        requires round { seat.round ≡ J.round judge.now }
-                    { work(alloc, judge, gate, seat) },
+                        requires round { seat.round ≡ J.round segments.now }
+                        requires some { (run : Recorded) × J.fits segments.now run bench }
+                    { work(alloc, segments, bench, gate, seat) },
                 );
                 match started {
                     Ok(handle) => handles.push_reserved(handle),
@@ -113,7 +138,7 @@ pub(crate) fn run_checkers<R: Threads + Wait + Sync, J: Judge, G: Gate, B: Besid
             }
             let output = beside.run();
             match thread::join_promised(rt, handles) {
-                Ok(done) => (settled(done, asked), output),
+                Ok(done) => (settled(alloc, done, asked), output),
                 Err(_) => (Err(PoolError::Memory), output),
             }
         },

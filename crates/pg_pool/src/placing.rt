@@ -1,13 +1,16 @@
 //! Verdicts at the places of their segments.
-ghost use Rattle.std.specs.Prelude.{◌≡◌, ◌+◌, ◌≤◌, ◌<◌, All, length, map};
+ghost use Rattle.std.specs.Prelude.{◌≡◌, ◌+◌, ◌≤◌, ◌<◌, All, OnOk, length, map};
+ghost use Rattle.pg_event.specs.Spelling.{Recorded};
+ghost use Rattle.pg_check.specs.Segments.{segment_verdict};
 ghost use Rattle.pg_pool.specs.Rounds.{IsIn, round};
-ghost use Rattle.pg_pool.specs.Verdicts.{Found, placed, verdict};
+ghost use Rattle.pg_pool.specs.Verdicts.{placed};
 ghost use Rattle.pg_pool.specs.Work.{all_verdicts};
 
 use crate::checker::Done;
 use crate::gate::Gate;
-use crate::judge::Judge;
+use crate::segments::Segments;
 use pg_check::SegmentVerdict;
+use std::alloc::AllocError;
 
 /// Puts verdicts to the places of their numbers.
 fn place_all(verdicts: &mut [SegmentVerdict], first: u32, more: &[SegmentVerdict])
@@ -20,7 +23,7 @@ fn place_all(verdicts: &mut [SegmentVerdict], first: u32, more: &[SegmentVerdict
 }
 
 /// Puts the verdicts of all checkers to the places of their numbers.
-pub(crate) fn place_done(verdicts: &mut [SegmentVerdict], first: u32, done: &[Done])
+pub(crate) fn place_done<B>(verdicts: &mut [SegmentVerdict], first: u32, done: &[Done<B>])
     requires { All (λ d. All (λ v. IsIn (round first (first + length verdicts.old)) v.number)
         d.verdicts.items) done.now }
     ensures { verdicts.new ≡ placed first verdicts.old (all_verdicts done.now) }
@@ -30,27 +33,30 @@ pub(crate) fn place_done(verdicts: &mut [SegmentVerdict], first: u32, done: &[Do
     }
 }
 
-/// Judges the segments that were left, and puts their verdicts to their places.
-pub(crate) fn judge_left<J: Judge, G: Gate>(
-    judge: &J,
+/// Judges the segments that were left, and puts their verdicts to their places. Fails where memory
+/// is refused.
+pub(crate) fn judge_left<J: Segments, G: Gate>(
+    segments: &J,
     gate: &G,
     worker: u32,
+    bench: &mut J::Bench,
     verdicts: &mut [SegmentVerdict],
     first: u32,
     left: &[u32],
-)
+) -> Result<(), AllocError>
     requires within { All (λ n. IsIn (round first (first + length verdicts.old)) n) left.now }
-    requires round { All (IsIn (J.round judge.now)) left.now }
-    ensures { (found : Found) → J.finds judge.now found →
-        verdicts.new ≡ placed first verdicts.old (map (verdict found) left.now) }
+    requires round { All (IsIn (J.round segments.now)) left.now }
+    requires fits { (run : Recorded) × J.fits segments.now run bench.old }
+    ensures fits { (run : Recorded) → J.fits segments.now run bench.old →
+        OnOk result (J.fits segments.now run bench.new) }
+    ensures placed { (run : Recorded) → J.fits segments.now run bench.old →
+        OnOk result (verdicts.new ≡ placed first verdicts.old (map (segment_verdict run) left.now)) }
 {
-    if left.is_empty() {
-        return;
-    }
-    let mut memo = judge.memo();
     for number in left {
         gate.enter(worker, *number as u64);
-        verdicts[(*number - first) as usize] = judge.judge(&mut memo, *number);
+        let judged = segments.judge(bench, *number);
         gate.leave(worker, *number as u64);
+        verdicts[(*number - first) as usize] = judged?;
     }
+    Ok(())
 }

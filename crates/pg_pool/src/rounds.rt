@@ -1,8 +1,10 @@
 //! A round from its start to its verdicts.
-ghost use Rattle.std.specs.Prelude.{◌≡◌, ◌≢◌, ◌-◌, ◌≤◌, ◌<◌, All, IfOk, IfErr, map};
+ghost use Rattle.std.specs.Prelude.{◌≡◌, ◌≢◌, ◌-◌, ◌≤◌, ◌<◌, ℕ, All, IfOk, IfErr, map};
 ghost use Rattle.std.specs.Prelude.{vec_len};
+ghost use Rattle.pg_event.specs.Spelling.{Recorded};
+ghost use Rattle.pg_check.specs.Segments.{first_bad_of_segment};
 ghost use Rattle.pg_pool.specs.Rounds.{AreCheckers};
-ghost use Rattle.pg_pool.specs.Verdicts.{Found, verdicts_of};
+ghost use Rattle.pg_pool.specs.Verdicts.{verdicts_of};
 ghost use Rattle.pg_pool.specs.Work.{IsDone};
 
 use crate::beside::Beside;
@@ -12,10 +14,10 @@ use crate::close::close_round;
 use crate::deal::open_blocks;
 use crate::error::PoolError;
 use crate::gate::Gate;
-use crate::judge::Judge;
 use crate::placing::{judge_left, place_done};
 use crate::round::Round;
 use crate::seat::Seat;
+use crate::segments::Segments;
 use pg_check::SegmentVerdict;
 use std::alloc::{AllocError, Global};
 use std::sync::Wait;
@@ -27,58 +29,72 @@ const NO_VERDICT: SegmentVerdict = SegmentVerdict {
     first_bad: None,
 };
 
-fn seats_of(alloc: Global, done: Vec<Done>) -> Result<Vec<Seat>, AllocError>
-    ensures { IfOk result (λ seats. seats.items ≡ map (λ d. d.seat) done.items) }
+/// What a round gives: the verdicts of its segments, in order, and what its checkers keep.
+#[derive(Drop)]
+pub(crate) struct Outcome<B> {
+    pub verdicts: Vec<SegmentVerdict>,
+    pub benches: Vec<B>,
+}
+
+/// The seats and what the checkers keep, apart.
+fn apart<B: Drop>(
+    alloc: Global,
+    done: Vec<Done<B>>,
+) -> Result<(Vec<Seat>, Vec<B>), AllocError>
+    ensures seats { IfOk result (λ r. r.0.items ≡ map (λ d. d.seat) done.items) }
+    ensures benches { IfOk result (λ r. r.1.items ≡ map (λ d. d.bench) done.items) }
 {
-    done.into_iter().map(|one| one.into_seat()).collect(alloc)
+    let mut seats = Vec::new(alloc);
+    let mut benches = Vec::new(alloc);
+    for one in done {
+        let Done {
+            bench,
+            seat,
+            verdicts: _,
+        } = one;
+        seats.push(seat)?;
+        benches.push(bench)?;
+    }
+    Ok((seats, benches))
 }
 
 /// All verdicts of a round at their places: those that its checkers gave, and those of the segments
 /// that none of them took, which it judges as the worker with the number given.
-fn gather<J: Judge, G: Gate>(
+fn gather<J: Segments, G: Gate>(
     alloc: Global,
-    judge: &J,
+    segments: &J,
     gate: &G,
     round: Round,
     worker: u32,
-    done: Vec<Done>,
-) -> Result<Vec<SegmentVerdict>, AllocError>
+    done: Vec<Done<J::Bench>>,
+) -> Result<Outcome<J::Bench>, AllocError>
     requires ordered { round.first ≤ round.last }
-    requires round { round ≡ J.round judge.now }
+    requires round { round ≡ J.round segments.now }
     requires some { 0 < vec_len done }
-    requires done { All (IsDone (J.finds judge.now) round) done.items }
-    ensures { (found : Found) → J.finds judge.now found →
-        IfOk result (λ verdicts. verdicts.items ≡ verdicts_of found round) }
+    requires done { (run : Recorded)
+        × All (IsDone (J.ends segments.now run) (first_bad_of_segment run) round) done.items }
+    ensures verdicts { (run : Recorded) →
+        All (IsDone (J.ends segments.now run) (first_bad_of_segment run) round) done.items →
+        IfOk result (λ outcome. outcome.verdicts.items
+        ≡ verdicts_of (first_bad_of_segment run) round) }
+    ensures ends { (run : Recorded) →
+        All (IsDone (J.ends segments.now run) (first_bad_of_segment run) round) done.items →
+        IfOk result (λ outcome. All (J.ends segments.now run) outcome.benches.items) }
+    ensures len { IfOk result (λ outcome. vec_len outcome.benches ≡ vec_len done) }
 {
     let count = (round.last - round.first) as usize;
     let mut verdicts = Vec::from_elem(alloc, NO_VERDICT, count)?;
     place_done(&mut verdicts, round.first, &done);
-    let left = close_round(alloc, seats_of(alloc, done)?)?;
-    judge_left(judge, gate, worker, &mut verdicts, round.first, &left);
-    Ok(verdicts)
-}
-
-/// The verdicts of a round by what its checkers did, if they did it.
-fn gather_done<J: Judge, G: Gate>(
-    alloc: Global,
-    judge: &J,
-    gate: &G,
-    worker: u32,
-    done: Result<Vec<Done>, PoolError>,
-) -> Result<Vec<SegmentVerdict>, PoolError>
-    requires ordered { (J.round judge.now).first ≤ (J.round judge.now).last }
-    requires some { IfOk done (λ all. 0 < vec_len all) }
-    requires done { IfOk done
-        (λ all. All (IsDone (J.finds judge.now) (J.round judge.now)) all.items) }
-    requires err { IfErr done (λ e. e ≢ PoolError.Checkers) }
-    ensures ok { (found : Found) → J.finds judge.now found →
-        IfOk result (λ verdicts. verdicts.items ≡ verdicts_of found (J.round judge.now)) }
-    ensures err { IfErr result (λ e. e ≢ PoolError.Checkers) }
-{
-    match done {
-        Ok(done) => Ok(gather(alloc, judge, gate, judge.round(), worker, done)?),
-        Err(error) => Err(error),
-    }
+    let (seats, mut benches) = apart(alloc, done)?;
+    let left = close_round(alloc, seats)?;
+    // Each has gone through the run, so any of them may judge what was left.
+    let Some(mut bench) = benches.pop() else {
+        unreachable!()
+    };
+    judge_left(segments, gate, worker, &mut bench, &mut verdicts, round.first, &left)?;
+    segments.finish(&mut bench)?;
+    benches.push_reserved(bench);
+    Ok(Outcome { verdicts, benches })
 }
 
 /// How many segments that follow each other are dealt to a checker: its whole share. They have most
@@ -91,31 +107,67 @@ fn block_of(round: Round, checkers: u32) -> u32
     (round.last - round.first).div_ceil(checkers).max(1)
 }
 
-/// The verdicts of a round's segments, in order, by so many checkers, and what the work beside them
+/// The outcome of a round by what its checkers did, if they did it.
+fn gather_done<J: Segments, G: Gate>(
+    alloc: Global,
+    segments: &J,
+    gate: &G,
+    worker: u32,
+    done: Result<Vec<Done<J::Bench>>, PoolError>,
+) -> Result<Outcome<J::Bench>, PoolError>
+    requires ordered { (J.round segments.now).first ≤ (J.round segments.now).last }
+    requires some { IfOk done (λ all. 0 < vec_len all) }
+    requires done { (run : Recorded) × IfOk done (λ all. All (IsDone (J.ends segments.now run)
+        (first_bad_of_segment run) (J.round segments.now)) all.items) }
+    requires err { IfErr done (λ e. e ≢ PoolError.Checkers) }
+    ensures verdicts { (run : Recorded) → IfOk done (λ all. All (IsDone (J.ends segments.now run)
+        (first_bad_of_segment run) (J.round segments.now)) all.items) →
+        IfOk result (λ outcome. outcome.verdicts.items
+        ≡ verdicts_of (first_bad_of_segment run) (J.round segments.now)) }
+    ensures ends { (run : Recorded) → IfOk done (λ all. All (IsDone (J.ends segments.now run)
+        (first_bad_of_segment run) (J.round segments.now)) all.items) →
+        IfOk result (λ outcome. All (J.ends segments.now run) outcome.benches.items) }
+    ensures len { (n : ℕ) → IfOk done (λ all. vec_len all ≡ n) →
+        IfOk result (λ outcome. vec_len outcome.benches ≡ n) }
+    ensures err { IfErr result (λ e. e ≢ PoolError.Checkers) }
+{
+    match done {
+        Ok(done) => Ok(gather(alloc, segments, gate, segments.round(), worker, done)?),
+        Err(error) => Err(error),
+    }
+}
+
+/// The outcome of a round by checkers that begin with what is given, and what the work beside them
 /// gives. The calling thread does that work while they judge, and then judges what they left, as
 /// the worker after the last of them.
-pub(crate) fn judge_round<R: Threads + Wait + Sync, J: Judge, G: Gate, B: Beside>(
+pub(crate) fn judge_round<R: Threads + Wait + Sync, J: Segments, G: Gate, B: Beside>(
     rt: &R,
     alloc: Global,
-    judge: &J,
+    segments: &J,
     gate: &G,
-    checkers: u32,
+    benches: Vec<J::Bench>,
     beside: B,
-) -> (Result<Vec<SegmentVerdict>, PoolError>, B::Output)
-    requires ordered { (J.round judge.now).first ≤ (J.round judge.now).last }
-    requires checkers { AreCheckers checkers }
+) -> (Result<Outcome<J::Bench>, PoolError>, B::Output)
+    requires ordered { (J.round segments.now).first ≤ (J.round segments.now).last }
+    requires checkers { AreCheckers (vec_len benches) }
+    requires fits { (run : Recorded) × All (J.fits segments.now run) benches.items }
     requires beside { B.can_run beside }
-    ensures ok { (found : Found) → J.finds judge.now found →
-        IfOk result.0 (λ verdicts. verdicts.items ≡ verdicts_of found (J.round judge.now)) }
+    ensures verdicts { (run : Recorded) → All (J.fits segments.now run) benches.items →
+        IfOk result.0 (λ outcome. outcome.verdicts.items
+        ≡ verdicts_of (first_bad_of_segment run) (J.round segments.now)) }
+    ensures ends { (run : Recorded) → All (J.fits segments.now run) benches.items →
+        IfOk result.0 (λ outcome. All (J.ends segments.now run) outcome.benches.items) }
+    ensures len { IfOk result.0 (λ outcome. vec_len outcome.benches ≡ vec_len benches) }
     ensures err { IfErr result.0 (λ e. e ≢ PoolError.Checkers) }
     ensures beside { B.gives beside result.1 }
 {
-    let round = judge.round();
+    let round = segments.round();
+    let checkers = benches.len() as u32;
     let block = block_of(round, checkers);
     let seats = match open_blocks(alloc, round, block, checkers) {
         Ok(seats) => seats,
         Err(_) => return (Err(PoolError::Memory), beside.run()),
     };
-    let (done, output) = run_checkers(rt, alloc, judge, gate, seats, beside);
-    (gather_done(alloc, judge, gate, checkers, done), output)
+    let (done, output) = run_checkers(rt, alloc, segments, gate, seats, benches, beside);
+    (gather_done(alloc, segments, gate, checkers, done), output)
 }

@@ -9,15 +9,17 @@ use Rattle.pg_codec.specs.declared.stream.Source.{Ghosts}
 use Rattle.pg_codec.specs.declared.stage.Stage.{Stage}
 use Rattle.pg_codec.specs.declared.error.ReadError.{ReadError}
 use Rattle.pg_codec.specs.Readers.{stage_after_chunk, PullsSegment, IsNext}
-use Rattle.pg_check.specs.Judging.{Findings, IsJudged, MayFollow}
+use Rattle.pg_check.specs.Judging.{Findings, IsJudged}
 use Rattle.pg_check.specs.Kept.{AreWellFormed}
 use Rattle.pg_check.proofs.Known.{AreWellFormed-append}
 use Rattle.pg_report.specs.declared.error.AuditError.{AuditError}
+use Rattle.pg_report.specs.declared.team.Team.{Team}
 use Rattle.pg_report.specs.declared.error.AuditError.TheVariants as errors
 use Rattle.pg_report.specs.Intake.{IsErrorOf}
 use Rattle.pg_report.specs.Judging.{BeginsSegment, StopsJudging}
 use Rattle.pg_report.specs.Going.{IsGoing}
-use Rattle.pg_report.specs.Windows.{GoesOn, IsAll, IsLast, IsWindow, ReadsWindow, with_more}
+use Rattle.pg_report.specs.Teams.{IsTeam, MayGoOn}
+use Rattle.pg_report.specs.Windows.{GoesOn, IsAll, IsTeamJudging, IsTeamLast, IsWindow, ReadsWindow, with_more}
 use Rattle.pg_report.proofs.Continuing.{next_fits, next_begins, going_on, going_ends, going_fails, end_counts, failure_counts}
 use Rattle.pg_report.proofs.Windows.{error_judges, stopped_judges, stopped_counts}
 
@@ -26,7 +28,7 @@ abbrev pub HasRead : {R : Type 0} → Ghosts R → Option (List ℕ) → ℕ →
 HasRead g start f r segments at stage window = IsWindow r window × IsGoing g Two start f at stage (with_more r window) segments
 
 -- a window that was read behind a run that was judged begins a segment
-pub begins : (judged : Findings) (head : Head) (events window : List Event) → IsJudged judged head events → IsWindow (record { head = head; events = events }) window → BeginsSegment judged window
+begins : (judged : Findings) (head : Head) (events window : List Event) → IsJudged judged head events → IsWindow (record { head = head; events = events }) window → BeginsSegment judged window
 begins judged head events window is w =
     let whole : length events % head.segment ≡ 0 → judged.count % judged.head.segment ≡ 0 = (λ h.
     ap (λ (n : ℕ). n % judged.head.segment) is.count ∙ ap (λ (k : Head). length events % k.segment) is.settings ∙ h) in
@@ -117,43 +119,84 @@ module _ {R : Type 0} (g : Ghosts R) (start : Option (List ℕ)) (f : ℕ) (r : 
 
 module _ {R : Type 0} (g : Ghosts R) (start : Option (List ℕ)) (f : ℕ) (at : List ℕ × R) (stage : Stage) (windows : ℕ) where
   -- the window was judged and the next was read
-  pub goes_on : (head : Head) (events next : List Event) (judged : Findings) → IsJudged judged head events → (more : Bool)
-      → ReadsWindow g start f (record { head = head; events = events }) windows at stage next (Ok more) → GoesOn g start f at stage judged next (windows + 1) (Ok more)
-  goes_on head events next judged is true reads =
-      let judges : IsJudged judged judged.head events = subst (λ (k : Head). IsJudged judged k events) (sym is.settings) is in
+  pub goes_on : (head : Head) (events next : List Event) (team : Team) → IsTeam team head events → (more : Bool) → ReadsWindow g start f (record { head = head; events = events }) windows at stage next (Ok more)
+      → GoesOn g start f at stage next (windows + 1) (Ok (team, more))
+  goes_on head events next team is true reads =
+      let settings : team.judged.head ≡ head = is.judged.settings in
+      let alike : IsTeam team team.judged.head events = subst (λ (k : Head). IsTeam team k events) (sym settings) is in
       record {
         waits = record {
-          before = events;
-          judges = judges;
-          well = subst (λ (k : Head). AreWellFormed k next) (sym is.settings) reads.fits.well;
-          whole = begins judged head events next is reads.fits;
-          going = subst (λ (k : Head). IsGoing g Two start f at stage (record { head = k; events = events ++ next }) (windows + 1)) (sym is.settings) reads.goes;
+          judging = record {
+            before = events;
+            judges = alike.judged;
+            well = subst (λ (k : Head). AreWellFormed k next) (sym settings) reads.fits.well;
+            whole = begins team.judged head events next is.judged reads.fits;
+            going = subst (λ (k : Head). IsGoing g Two start f at stage (record { head = k; events = events ++ next }) (windows + 1)) (sym settings) reads.goes;
+          };
+          alike = alike;
         };
         fails = tt;
         device = reads.device;
       }
-  goes_on head events next judged is false reads =
-      let judges : IsJudged judged judged.head events = subst (λ (k : Head). IsJudged judged k events) (sym is.settings) is in
+  goes_on head events next team is false reads =
+      let settings : team.judged.head ≡ head = is.judged.settings in
+      let alike : IsTeam team team.judged.head events = subst (λ (k : Head). IsTeam team k events) (sym settings) is in
       record {
         waits = record {
-          before = events;
-          judges = judges;
-          fits = subst (λ (k : Head). IsWindow (record { head = k; events = events }) next) (sym is.settings) reads.fits;
-          all = subst (λ (k : Head). IsAll start (record { head = k; events = events ++ next })) (sym is.settings) reads.goes;
+          last = record {
+            before = events;
+            judges = alike.judged;
+            fits = subst (λ (k : Head). IsWindow (record { head = k; events = events }) next) (sym settings) reads.fits;
+            all = subst (λ (k : Head). IsAll start (record { head = k; events = events ++ next })) (sym settings) reads.goes;
+          };
+          alike = alike;
         };
         fails = tt;
         device = reads.device;
       }
 
   -- judging stopped, and the next window was read
-  pub stops : (r : Recorded) (next : List Event) (judged : Findings) (more : Bool) → ReadsWindow g start f r windows at stage next (Ok more) → (e : AuditError) → StopsJudging e
-      → GoesOn g start f at stage judged next (windows + 1) (Err e)
-  stops r next judged more reads e stop = record { waits = tt; fails = stopped_judges start e stop; device = stopped_counts e f (g.failed at.1) stop reads.device }
+  pub stops : (r : Recorded) (next : List Event) (more : Bool) → ReadsWindow g start f r windows at stage next (Ok more) → (e : AuditError) → StopsJudging e → GoesOn g start f at stage next (windows + 1) (Err e)
+  stops r next more reads e stop = record { waits = tt; fails = stopped_judges start e stop; device = stopped_counts e f (g.failed at.1) stop reads.device }
 
   -- the next window was refused
-  pub next_fails : (r : Recorded) (next : List Event) (judged : Findings) (e : AuditError) → ReadsWindow g start f r windows at stage next (Err e) → GoesOn g start f at stage judged next (windows + 1) (Err e)
-  next_fails r next judged e reads = record { waits = tt; fails = reads.fails; device = reads.device }
+  pub next_fails : (r : Recorded) (next : List Event) (e : AuditError) → ReadsWindow g start f r windows at stage next (Err e) → GoesOn g start f at stage next (windows + 1) (Err e)
+  next_fails r next e reads = record { waits = tt; fails = reads.fails; device = reads.device }
+
+  -- the window that waits may be judged
+  pub may_go_on : (team : Team) (window : List Event) → IsTeamJudging g start f at stage team window windows → MayGoOn team window
+  may_go_on team window h =
+      let few : length (h.judging.before ++ window) < 2 ^ 32 = h.judging.going.few in
+      record {
+        before = h.judging.before;
+        team = h.alike;
+        well = h.judging.well;
+        limit = omega (arith, length-append h.judging.before window, few);
+        whole = h.judging.whole;
+      }
 
 -- the last window may be judged
-pub last_follows : (start : Option (List ℕ)) (judged : Findings) (window : List Event) → IsLast start judged window → MayFollow judged window
-last_follows start judged window h = record { before = h.before; judged = h.judges; well = h.fits.well; limit = h.fits.few }
+pub last_follows : (start : Option (List ℕ)) (team : Team) (window : List Event) → IsTeamLast start team window → MayGoOn team window
+last_follows start team window h = record {
+  before = h.last.before;
+  team = h.alike;
+  well = h.last.fits.well;
+  limit = h.last.fits.few;
+  whole = begins team.judged team.judged.head h.last.before window h.last.judges h.last.fits;
+}
+
+-- nothing was judged yet
+pub team_at_start : {R : Type 0} (g : Ghosts R) (start : Option (List ℕ)) (f : ℕ) (at : List ℕ × R) (stage : Stage) (team : Team) (head : Head) → IsTeam team head []
+    → IsGoing g Two start f at stage (record { head = head; events = [] }) 0 → IsTeamJudging g start f at stage team [] 0
+team_at_start g start f at stage team head is going =
+    let alike : IsTeam team team.judged.head [] = subst (λ (k : Head). IsTeam team k []) (sym is.judged.settings) is in
+    record {
+      judging = record {
+        before = [];
+        judges = alike.judged;
+        well = tt;
+        whole = inl refl;
+        going = subst (λ (k : Head). IsGoing g Two start f at stage (record { head = k; events = [] }) 0) (sym is.judged.settings) going;
+      };
+      alike = alike;
+    }

@@ -8,3 +8,4 @@ pub mod Windows
 pub mod Merged
 pub mod Rounds
 pub mod Ahead
+pub mod Teams

@@ -8,3 +8,4 @@ pub mod Merging
 pub mod Going
 pub mod Windows
 pub mod Rounds
+pub mod Teams

@@ -10,9 +10,11 @@ use Rattle.pg_codec.specs.Streams.{FailsWithDevice}
 use Rattle.pg_check.specs.Judging.{Findings, IsJudged}
 use Rattle.pg_check.specs.Kept.{AreWellFormed}
 use Rattle.pg_report.specs.declared.error.AuditError.{AuditError}
+use Rattle.pg_report.specs.declared.team.Team.{Team}
 use Rattle.pg_report.specs.Going.{IsGoing, IsJudging}
 use Rattle.pg_report.specs.Intake.{ReadsRecord, is_device}
 use Rattle.pg_report.specs.Judging.{JudgesRecord}
+use Rattle.pg_report.specs.Teams.{IsTeam}
 
 -- a record with more events
 abbrev pub with_more : Recorded → List Event → Recorded
@@ -48,12 +50,24 @@ pub record IsLast (start : Option (List ℕ)) (judged : Findings) (window : List
   pub fits : IsWindow (record { head = judged.head; events = before }) window
   pub all : IsAll start (record { head = judged.head; events = before ++ window })
 
+-- what was read was judged by a team, but for a window
+pub record IsTeamJudging {R : Type 0} (g : Ghosts R) (start : Option (List ℕ)) (f : ℕ)
+    (at : List ℕ × R) (stage : Stage) (team : Team) (window : List Event) (segments : ℕ) :
+    Type 0 where
+  pub judging : IsJudging g start f at stage team.judged window segments
+  pub alike : IsTeam team team.judged.head judging.before
+
+-- a record was read to its end, and judged by a team but for a window
+pub record IsTeamLast (start : Option (List ℕ)) (team : Team) (window : List Event) : Type 0 where
+  pub last : IsLast start team.judged window
+  pub alike : IsTeam team team.judged.head last.before
+
 -- A call judges the window that waits and reads the next: it answers whether there is more behind
--- that, or an error.
+-- that, with the team after it, or an error.
 pub record GoesOn {R : Type 0} (g : Ghosts R) (start : Option (List ℕ)) (f : ℕ) (at : List ℕ × R)
-    (stage : Stage) (judged : Findings) (next : List Event) (windows : ℕ)
-    (result : Result Bool AuditError) : Type 0 where
-  pub waits : IfOk result (λ more. MatchBool more
-      (IsJudging g start f at stage judged next windows) (IsLast start judged next))
+    (stage : Stage) (next : List Event) (windows : ℕ) (result : Result (Team × Bool) AuditError) :
+    Type 0 where
+  pub waits : IfOk result (λ r. MatchBool r.1
+      (IsTeamJudging g start f at stage r.0 next windows) (IsTeamLast start r.0 next))
   pub fails : IfErr result (λ e. JudgesRecord start (Err e))
   pub device : FailsWithDevice is_device f (g.failed at.1) result

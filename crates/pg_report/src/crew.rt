@@ -1,27 +1,30 @@
 //! Windows that are judged by checkers.
 
-ghost use Rattle.std.specs.Prelude.{◌≡◌, ◌≢◌, ◌≤◌, ◌++◌, List, length, IfOk, IfErr, OnOk};
+ghost use Rattle.std.specs.Prelude.{◌≡◌, ◌≢◌, ◌≤◌, ◌<◌, ◌++◌, [], List, IfOk, IfErr, vec_len};
 ghost use Rattle.pg_event.specs.declared.event.Event.{Event};
 ghost use Rattle.pg_event.specs.Heads.{Head};
-ghost use Rattle.pg_event.specs.Spelling.{Recorded};
-ghost use Rattle.pg_check.specs.Judging.{Awaits, IsFound, IsJudged, MayFollow};
+ghost use Rattle.pg_event.specs.Spelling.{IsHead, Recorded};
 ghost use Rattle.pg_pool.specs.Rounds.{AreCheckers};
-ghost use Rattle.pg_report.specs.Judging.{BeginsSegment, StopsJudging, waiting_round};
+ghost use Rattle.pg_report.specs.Judging.{StopsJudging};
 ghost use Rattle.pg_report.specs.Rounds.{IsFoundIn, round_verdicts};
+ghost use Rattle.pg_report.specs.Teams.{HasOutcome, IsTeam, MayGoOn};
 ghost use Rattle.pg_report.specs.Text.{verdict_of};
 
 use crate::error::{AuditError, MergeError};
 use crate::merger::merge;
 use crate::report::Verdict;
-use pg_check::{Judged, SegmentVerdict};
-use pg_event::{Event, Reason};
-use pg_pool::{Asked, Beside, Gate, NoWork, PoolError, Round, audit_round_beside};
-use std::alloc::Global;
+use crate::team::{Team, window_of};
+use pg_check::{Judged, SegmentVerdict, Tally, Window};
+use pg_event::{Event, Header, Reason};
+use pg_pool::{
+    Beside, Gate, NoWork, PoolError, Round, WindowJudged, judge_window_beside,
+};
+use std::alloc::{AllocError, Global};
 use std::sync::Wait;
 use std::thread::Threads;
 
-/// Judges by so many checkers, each in a thread of its own, which take the segments of a window
-/// and steal from one another.
+/// Judges by so many checkers, which take the segments of a window and steal from one another.
+/// Each has a thread of its own in each window, and goes on by what it knows of the run so far.
 pub struct Crew<'a, T, G> {
     pub rt: &'a T,
     pub alloc: Global,
@@ -85,121 +88,130 @@ fn merge_error(error: MergeError) -> AuditError
 /// The first bad event that the verdicts of a round's segments tell, if there are any.
 fn found_in(
     alloc: Global,
-    verdicts: Result<Vec<SegmentVerdict>, PoolError>,
+    verdicts: &[SegmentVerdict],
     round: Round,
 ) -> Result<Option<(u64, Reason)>, AuditError>
     requires ordered { round.first ≤ round.last }
-    requires each { (r : Recorded) × IfOk verdicts (λ v. v.items ≡ round_verdicts r round) }
-    requires known { IfErr verdicts (λ e. e ≢ PoolError.Checkers) }
-    ensures ok { (r : Recorded) → IfOk verdicts (λ v. v.items ≡ round_verdicts r round) →
+    requires each { (r : Recorded) × (verdicts.now ≡ round_verdicts r round) }
+    ensures ok { (r : Recorded) → verdicts.now ≡ round_verdicts r round →
         IfOk result (IsFoundIn r round) }
     ensures err { IfErr result StopsJudging }
 {
-    let verdicts = match verdicts {
-        Ok(verdicts) => verdicts,
-        Err(error) => return Err(pool_error(error)),
-    };
-    match merge(alloc, &verdicts, round) {
+    match merge(alloc, verdicts, round) {
         Ok(verdict) => Ok(bad_of(verdict)),
         Err(error) => Err(merge_error(error)),
     }
 }
 
-/// The segments of the events that wait.
-fn waiting_round(judged: &Judged, events: &[Event]) -> Round
-    requires { (head : Head) × (before : List Event) × Awaits judged.now head before events.now }
-    ensures { result ≡ waiting_round judged.now events.now }
+/// What judging has come to once a round over a window has ended.
+fn settled(
+    alloc: Global,
+    tally: Tally,
+    window: &Window<'_>,
+    judged: WindowJudged,
+) -> Result<Team, AuditError>
+    requires head { IsHead tally.header }
+    requires outcome { (head : Head) × (before : List Event)
+        × HasOutcome tally head before window.now judged }
+    requires few { AreCheckers (vec_len judged.judges) }
+    ensures ok { (head : Head) (before : List Event) →
+        HasOutcome tally head before window.now judged →
+        IfOk result (λ team. IsTeam team head (before ++ window.now.events.now)) }
+    ensures err { IfErr result StopsJudging }
 {
-    let size = judged.header().segment as u64;
-    let last = judged.len() + events.len() as u64;
-    Round {
-        first: judged.len().div_ceil(size) as u32,
-        last: last.div_ceil(size) as u32,
+    let WindowJudged {
+        round,
+        verdicts,
+        judges,
+    } = judged;
+    let mut others = judges;
+    let Some(judge) = others.pop() else {
+        unreachable!()
+    };
+    let mut judged = Judged::together(tally, judge);
+    match found_in(alloc, &verdicts, round) {
+        Ok(found) => {
+            judged.settle(window.events, found);
+            Ok(Team { judged, others })
+        }
+        Err(error) => Err(error),
+    }
+}
+
+/// What judging has come to once a round over a window has ended, unless it was refused.
+fn settled_if(
+    alloc: Global,
+    tally: Tally,
+    window: &Window<'_>,
+    judged: Result<WindowJudged, PoolError>,
+) -> Result<Team, AuditError>
+    requires head { IsHead tally.header }
+    requires outcome { (head : Head) × (before : List Event)
+        × IfOk judged (HasOutcome tally head before window.now) }
+    requires few { IfOk judged (λ j. AreCheckers (vec_len j.judges)) }
+    requires known { IfErr judged (λ e. e ≢ PoolError.Checkers) }
+    ensures ok { (head : Head) (before : List Event) →
+        IfOk judged (HasOutcome tally head before window.now) →
+        IfOk result (λ team. IsTeam team head (before ++ window.now.events.now)) }
+    ensures err { IfErr result StopsJudging }
+{
+    match judged {
+        Ok(judged) => settled(alloc, tally, window, judged),
+        Err(error) => Err(pool_error(error)),
     }
 }
 
 impl<'a, T, G> Crew<'a, T, G> {
-    /// So many checkers have something to do in a round: not more than there are segments.
-    fn workers(&self, round: Round) -> u32
-        ensures { AreCheckers result }
+    /// As many judges as there are checkers, of a run with no event yet. Fails where memory is
+    /// refused.
+    pub fn team(&self, header: Header) -> Result<Team, AllocError>
+        requires { IsHead header }
+        ensures { IfOk result (λ team. IsTeam team header []) }
     {
-        let segments = round.last.saturating_sub(round.first);
-        self.checkers.min(segments.max(1))
+        Team::new(self.alloc, header, self.checkers)
     }
 }
 
 impl<'a, T: Threads + Wait + Sync, G: Gate> Crew<'a, T, G> {
-    /// The first bad event of those that wait, segment by segment, and what the work beside gives.
-    /// Each segment is judged, also behind a bad one.
-    fn first_bad_of<B: Beside>(
+    /// Judges the events that come next, whole segments but for the last of the run, while the
+    /// calling thread does a piece of work; that is done once, also after an error. Each segment is
+    /// judged, also behind a bad one. After an error the team is gone.
+    pub(crate) fn judge_beside<B: Beside>(
         &self,
-        judged: &Judged,
+        team: Team,
         events: &[Event],
         beside: B,
-    ) -> (Result<Option<(u64, Reason)>, AuditError>, B::Output)
-        requires waits { (head : Head) × (before : List Event)
-            × Awaits judged.now head before events.now }
-        requires whole { BeginsSegment judged.now events.now }
+    ) -> (Result<Team, AuditError>, B::Output)
+        requires next { MayGoOn team events.now }
         requires beside { B.can_run beside }
-        ensures ok { (head : Head) (before : List Event) →
-            Awaits judged.now head before events.now →
-            IfOk result.0 (λ found. IsFound found head before events.now) }
+        ensures ok { (head : Head) (before : List Event) → IsTeam team head before →
+            IfOk result.0 (λ after. IsTeam after head (before ++ events.now)) }
         ensures err { IfErr result.0 StopsJudging }
         ensures beside { B.gives beside result.1 }
     {
         if events.is_empty() {
-            return (Ok(None), beside.run());
+            return (Ok(team), beside.run());
         }
-        let round = waiting_round(judged, events);
-        let stretch = judged.stretch(events);
-        let asked = Asked { stretch, round };
-        let workers = self.workers(round);
-        let (verdicts, output) = audit_round_beside(
-            self.rt, self.alloc, asked, workers, self.gate, beside,
+        let (tally, judges) = match team.apart() {
+            Ok(parts) => parts,
+            Err(_) => return (Err(AuditError::Memory), beside.run()),
+        };
+        let window = window_of(&tally, events);
+        let (judged, output) = judge_window_beside(
+            self.rt, self.alloc, &window, judges, self.gate, beside,
         );
-        (found_in(self.alloc, verdicts, round), output)
-    }
-
-    /// Judges the events that come next, whole segments but for the last of the run, while the
-    /// calling thread does a piece of work; that is done once, also after an error. After an error
-    /// `judged` may have noted events that it does not count, and is not to be used.
-    pub(crate) fn judge_beside<B: Beside>(
-        &self,
-        judged: &mut Judged,
-        events: &[Event],
-        beside: B,
-    ) -> (Result<(), AuditError>, B::Output)
-        requires next { MayFollow judged.old events.now }
-        requires whole { BeginsSegment judged.old events.now }
-        requires beside { B.can_run beside }
-        ensures ok { (head : Head) (before : List Event) → IsJudged judged.old head before →
-            OnOk result.0 (IsJudged judged.new head (before ++ events.now)) }
-        ensures err { IfErr result.0 StopsJudging }
-        ensures beside { B.gives beside result.1 }
-    {
-        if let Err(_) = judged.note(events) {
-            return (Err(AuditError::Memory), beside.run());
-        }
-        let (found, output) = self.first_bad_of(judged, events, beside);
-        match found {
-            Ok(found) => {
-                judged.settle(events, found);
-                (Ok(()), output)
-            }
-            Err(error) => (Err(error), output),
-        }
+        (settled_if(self.alloc, tally, &window, judged), output)
     }
 
     /// Judges the events that come next, whole segments but for the last of the run. After an error
-    /// `judged` may have noted events that it does not count, and is not to be used.
-    pub fn judge(&self, judged: &mut Judged, events: &[Event]) -> Result<(), AuditError>
-        requires next { MayFollow judged.old events.now }
-        requires whole { BeginsSegment judged.old events.now }
-        ensures ok { (head : Head) (before : List Event) → IsJudged judged.old head before →
-            OnOk result (IsJudged judged.new head (before ++ events.now)) }
+    /// the team is gone.
+    pub fn judge(&self, team: Team, events: &[Event]) -> Result<Team, AuditError>
+        requires next { MayGoOn team events.now }
+        ensures ok { (head : Head) (before : List Event) → IsTeam team head before →
+            IfOk result (λ after. IsTeam after head (before ++ events.now)) }
         ensures err { IfErr result StopsJudging }
     {
-        let (result, ()) = self.judge_beside(judged, events, NoWork);
+        let (result, ()) = self.judge_beside(team, events, NoWork);
         result
     }
 }

@@ -5,17 +5,17 @@ ghost use Rattle.pg_event.specs.Spelling.{Recorded};
 ghost use Rattle.pg_event.specs.declared.version.Version.TheVariants.{Two};
 ghost use Rattle.pg_report.specs.Changes.{drawn};
 ghost use Rattle.pg_codec.specs.Streams.{FailsWithDevice};
-ghost use Rattle.pg_report.specs.Going.{IsGoing, IsJudging};
+ghost use Rattle.pg_report.specs.Going.{IsGoing};
 ghost use Rattle.pg_report.specs.Intake.{TellsDevice, is_device};
 ghost use Rattle.pg_report.specs.Judging.{JudgesRecord};
-ghost use Rattle.pg_report.specs.Windows.{GoesOn, IsLast, ReadsWindow};
+ghost use Rattle.pg_report.specs.Windows.{GoesOn, IsTeamJudging, IsTeamLast, ReadsWindow};
 
 use crate::crew::Crew;
 use crate::error::AuditError;
 use crate::intake::{MOST_CHUNKS, audit_error, read_header_up_to};
 use crate::report::Report;
+use crate::team::Team;
 use crate::whole_record::report_of_judged;
-use pg_check::Judged;
 use pg_codec::{RecordReader, Source};
 use pg_event::{Event, Version};
 use pg_pool::{Beside, Gate};
@@ -26,10 +26,10 @@ use std::thread::Threads;
 
 /// The first window is full once it has so many events; the last segment of a window may bring
 /// more. Nothing is judged while the first is read, so it is short.
-const FIRST_WINDOW: usize = 1 << 13;
+const FIRST_WINDOW: usize = 1 << 12;
 
 /// No window asks for more events. To start threads takes time, so rounds are few and long.
-const MOST_WINDOW: usize = 1 << 17;
+const MOST_WINDOW: usize = 1 << 16;
 
 /// How many events the next window asks for: twice as many as the one that is judged meanwhile has.
 fn next_size(judged: usize) -> usize
@@ -140,18 +140,18 @@ fn judge_and_read<T: Threads + Wait + Sync, G: Gate, R: Source>(
     crew: &Crew<'_, T, G>,
     reader: &mut RecordReader,
     source: &mut R,
-    judged: &mut Judged,
+    team: Team,
     window: &[Event],
     next: &mut Vec<Event>,
-) -> Result<bool, AuditError>
+) -> Result<(Team, bool), AuditError>
     requires waits { (start : Option (List ℕ)) × (f : ℕ) × (windows : ℕ)
-        × IsJudging R.Source start f (reader.old.unread, source.old) reader.old.stage
-        judged.old window.now windows }
+        × IsTeamJudging R.Source start f (reader.old.unread, source.old) reader.old.stage
+        team window.now windows }
     ensures { (start : Option (List ℕ)) (f : ℕ) (windows : ℕ) →
-        IsJudging R.Source start f (reader.old.unread, source.old) reader.old.stage
-        judged.old window.now windows →
+        IsTeamJudging R.Source start f (reader.old.unread, source.old) reader.old.stage
+        team window.now windows →
         GoesOn R.Source start f (reader.new.unread, source.new) reader.new.stage
-        judged.new next.new.items (windows + 1) result }
+        next.new.items (windows + 1) result }
 {
     let work = Next {
         alloc: crew.alloc,
@@ -160,7 +160,7 @@ fn judge_and_read<T: Threads + Wait + Sync, G: Gate, R: Source>(
         window: next,
         size: next_size(window.len()),
     };
-    let (judging, (done, reading)) = crew.judge_beside(judged, window, work);
+    let (judging, (done, reading)) = crew.judge_beside(team, window, work);
     let Next {
         alloc: _,
         reader,
@@ -173,7 +173,7 @@ fn judge_and_read<T: Threads + Wait + Sync, G: Gate, R: Source>(
     take_back(window);
     match reading {
         Ok(more) => match judging {
-            Ok(()) => Ok(more),
+            Ok(team) => Ok((team, more)),
             Err(error) => Err(error),
         },
         Err(error) => Err(error),
@@ -183,18 +183,18 @@ fn judge_and_read<T: Threads + Wait + Sync, G: Gate, R: Source>(
 /// Judges the last window, and gives the report.
 fn judge_last<T: Threads + Wait + Sync, G: Gate>(
     crew: &Crew<'_, T, G>,
-    judged: &mut Judged,
+    team: Team,
     window: &[Event],
 ) -> Result<Report, AuditError>
-    requires last { (start : Option (List ℕ)) × IsLast start judged.old window.now }
-    ensures judges { (start : Option (List ℕ)) → IsLast start judged.old window.now →
+    requires last { (start : Option (List ℕ)) × IsTeamLast start team window.now }
+    ensures judges { (start : Option (List ℕ)) → IsTeamLast start team window.now →
         JudgesRecord start result }
     ensures device { (f : ℕ) → FailsWithDevice is_device f f result }
 {
-    if let Err(error) = crew.judge(judged, window) {
-        return Err(error);
+    match crew.judge(team, window) {
+        Ok(team) => Ok(report_of_judged(team.judged())),
+        Err(error) => Err(error),
     }
-    Ok(report_of_judged(judged))
 }
 
 /// Reads what is left of a record behind its header, and has it judged by checkers as it is read:
@@ -204,25 +204,27 @@ fn judge_rest<T: Threads + Wait + Sync, G: Gate, R: Source>(
     crew: &Crew<'_, T, G>,
     reader: &mut RecordReader,
     source: &mut R,
-    judged: &mut Judged,
+    team: Team,
 ) -> Result<Report, AuditError>
-    requires going { (start : Option (List ℕ)) × (f : ℕ) × IsJudging R.Source start f
-        (reader.old.unread, source.old) reader.old.stage judged.old [] 0 }
-    ensures judges { (start : Option (List ℕ)) (f : ℕ) → IsJudging R.Source start f
-        (reader.old.unread, source.old) reader.old.stage judged.old [] 0 →
+    requires going { (start : Option (List ℕ)) × (f : ℕ) × IsTeamJudging R.Source start f
+        (reader.old.unread, source.old) reader.old.stage team [] 0 }
+    ensures judges { (start : Option (List ℕ)) (f : ℕ) → IsTeamJudging R.Source start f
+        (reader.old.unread, source.old) reader.old.stage team [] 0 →
         JudgesRecord start result }
-    ensures device { (start : Option (List ℕ)) (f : ℕ) → IsJudging R.Source start f
-        (reader.old.unread, source.old) reader.old.stage judged.old [] 0 →
+    ensures device { (start : Option (List ℕ)) (f : ℕ) → IsTeamJudging R.Source start f
+        (reader.old.unread, source.old) reader.old.stage team [] 0 →
         FailsWithDevice is_device f (R.failed source.new) result }
 {
+    let mut team = team;
     let mut window = Vec::new(crew.alloc);
     let mut next = Vec::new(crew.alloc);
     for _ in 0..MOST_CHUNKS {
-        match judge_and_read(crew, reader, source, judged, window.as_slice(), &mut next) {
-            Ok(more) => {
+        match judge_and_read(crew, reader, source, team, window.as_slice(), &mut next) {
+            Ok((after, more)) => {
                 if !more {
-                    return judge_last(crew, judged, next.as_slice());
+                    return judge_last(crew, after, next.as_slice());
                 }
+                team = after;
             }
             Err(error) => return Err(error),
         }
@@ -245,6 +247,6 @@ pub fn judge_record_by<T: Threads + Wait + Sync, G: Gate, R: Source>(
         Ok(header) => header,
         Err(error) => return Err(audit_error(error)),
     };
-    let mut judged = Judged::new(alloc, header)?;
-    judge_rest(crew, &mut reader, source, &mut judged)
+    let team = crew.team(header)?;
+    judge_rest(crew, &mut reader, source, team)
 }

@@ -9,6 +9,7 @@ mod intake;
 mod judging_by;
 mod merger;
 mod report;
+mod team;
 mod whole_record;
 
 pub use auditor::{audit, audit_one, audit_watched, report_of, write_report, write_text};
@@ -17,4 +18,5 @@ pub use error::{AuditError, MergeError, rule_number};
 pub use intake::{MOST_CHUNKS, audit_error, read_old_record, read_record};
 pub use merger::merge;
 pub use report::{Report, Verdict, reason_name, reason_number};
+pub use team::Team;
 pub use whole_record::{judge_record, report_of_judged};

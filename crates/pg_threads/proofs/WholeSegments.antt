@@ -1,9 +1,8 @@
 -- Events of whole segments, and more of them.
-use Rattle.std.proofs.Common.{◌≡◌, ℕ, ◌+◌, ◌-◌, ◌%◌, ◌^◌, ◌<◌, List, [], ◌∷◌, ◌++◌, take, drop, length, false, Option, Some, None, IfSome, sym, ◌∙◌, ap, subst, arith, length-append}
+use Rattle.std.proofs.Common.{◌≡◌, ℕ, ◌+◌, ◌-◌, ◌%◌, ◌^◌, ◌<◌, List, [], ◌∷◌, ◌++◌, take, drop, length, false, Option, Some, None, IfSome, inr, sym, ◌∙◌, ap, subst, arith, length-append}
 use Rattle.std.proofs.Math.Nat.{mod-add-mod, add-mod_right}
 use Rattle.std.specs.List.{AllByRecursion}
 use Rattle.std.proofs.lemmas.List.{take_all, length-drop}
-use Rattle.pg_check.specs.Judging.{Findings, IsJudged, MayFollow}
 use Rattle.pg_check.specs.Kept.{AreWellFormed}
 use Rattle.std.specs.declared.alloc.Global.{Global}
 use Rattle.std.specs.declared.vec.Vec.{Vec}
@@ -13,6 +12,8 @@ use Rattle.pg_event.specs.declared.event.Event.{Event}
 use Rattle.pg_event.specs.Heads.{Head}
 use Rattle.pg_event.specs.Spelling.{Recorded, IsRecord}
 use Rattle.pg_report.specs.declared.report.Report.{Report}
+use Rattle.pg_report.specs.declared.team.Team.{Team}
+use Rattle.pg_report.specs.Teams.{IsTeam, MayGoOn}
 use Rattle.pg_report.specs.Judging.{IsReportOf}
 use Rattle.pg_report.specs.Text.{report_of}
 use Rattle.pg_world.specs.Kept.{IsSegment}
@@ -30,10 +31,20 @@ whole_more xs more size first next = ap (λ n. n % size) (length-append xs more)
 pub full_more : (xs segment : List Event) (size : ℕ) → length xs % size ≡ 0 → length segment ≡ size → length (xs ++ segment) % size ≡ 0
 full_more xs segment size first full = ap (λ n. n % size) (length-append xs segment ∙ ap (λ n. length xs + n) full) ∙ add-mod_right (length xs) size ∙ first
 
-pub watched_more : (old new : Findings) (events more : List Event) → IsWatched old events → IsJudged new old.head (events ++ more) → length more % old.head.segment ≡ 0 → IsWatched new (events ++ more)
-watched_more old new events more was judged whole = record {
-  judged = subst (λ (h : Head). IsJudged new h (events ++ more)) (sym judged.settings) judged;
-  whole = subst (λ (h : Head). length (events ++ more) % h.segment ≡ 0) (sym judged.settings) (whole_more events more old.head.segment was.whole whole);
+pub watched_more : (old new : Team) (events more : List Event) → IsWatched old events → IsTeam new old.judged.head (events ++ more) → length more % old.judged.head.segment ≡ 0 → IsWatched new (events ++ more)
+watched_more old new events more was team whole = record {
+  team = subst (λ (h : Head). IsTeam new h (events ++ more)) (sym team.judged.settings) team;
+  whole = subst (λ (h : Head). length (events ++ more) % h.segment ≡ 0) (sym team.judged.settings) (whole_more events more old.judged.head.segment was.whole whole);
+}
+
+-- whole segments may come next, behind whole segments
+pub more_follows : (t : Team) (events more : List Event) → IsWatched t events → AreWellFormed t.judged.head more → length events + length more < 2 ^ 32 → MayGoOn t more
+more_follows t events more was well limit = record {
+  before = events;
+  team = was.team;
+  well = well;
+  limit = limit;
+  whole = inr (ap (λ n. n % t.judged.head.segment) was.team.judged.count ∙ was.whole);
 }
 
 -- ---- the rest of a record
@@ -48,19 +59,19 @@ all_rest : {X : Type 0} (P : X → Type 0) (xs ys : List X) → AllByRecursion P
 all_rest P [] ys all = all
 all_rest P (x ∷ xs) ys all = all_rest P xs ys all.1
 
-pub rest_follows : (f : Findings) (all first : List Event) → IsWatched f first → all ≡ first ++ drop (length first) all → IsRecord (record { head = f.head; events = all }) → MayFollow f (rest_of all first)
-rest_follows f all first was begins is =
+pub rest_follows : (t : Team) (all first : List Event) → IsWatched t first → all ≡ first ++ drop (length first) all → IsRecord (record { head = t.judged.head; events = all }) → MayGoOn t (rest_of all first)
+rest_follows t all first was begins is =
     let rest : List Event = drop (length first) all in
-    let well : AreWellFormed f.head rest = all_rest _ first rest (subst (AreWellFormed f.head) begins is.well) in
+    let well : AreWellFormed t.judged.head rest = all_rest _ first rest (subst (AreWellFormed t.judged.head) begins is.well) in
     let count : length all ≡ length first + length rest = ap length begins ∙ length-append first rest in
     let limit : length first + length rest < 2 ^ 32 = omega (arith, count, is.count) in
-    subst (MayFollow f) (sym (rest_is all first)) (record { before = first; judged = was.judged; well = well; limit = limit })
+    subst (MayGoOn t) (sym (rest_is all first)) (more_follows t first rest was well limit)
 
-pub rest_reported : (f new : Findings) (all first : List Event) (report : Report) → all ≡ first ++ drop (length first) all → IsJudged new f.head (first ++ rest_of all first) → IsReportOf new report
-    → report ≡ report_of (record { head = f.head; events = all })
-rest_reported f new all first report begins judged told =
+pub rest_reported : (t new : Team) (all first : List Event) (report : Report) → all ≡ first ++ drop (length first) all → IsTeam new t.judged.head (first ++ rest_of all first) → IsReportOf new.judged report
+    → report ≡ report_of (record { head = t.judged.head; events = all })
+rest_reported t new all first report begins team told =
     let whole : first ++ rest_of all first ≡ all = ap (λ es. first ++ es) (rest_is all first) ∙ sym begins in
-    told f.head (first ++ rest_of all first) judged ∙ ap (λ (es : List Event). let r : Recorded = record { head = f.head; events = es } in report_of r) whole
+    told t.judged.head (first ++ rest_of all first) team.judged ∙ ap (λ (es : List Event). let r : Recorded = record { head = t.judged.head; events = es } in report_of r) whole
 
 -- ---- segments taken from a board
 

@@ -23,8 +23,11 @@ use std::sync::{Mutex, Wait};
 use std::thread::Threads;
 
 /// What is judged before anything is recorded.
-fn nothing_judged(alloc: Global, script: &Script) -> Result<LiveJudging, AllocError> {
-    LiveJudging::new(alloc, script.header().clone()?)
+fn nothing_judged<R, H>(
+    crew: &Crew<'_, R, H>,
+    script: &Script,
+) -> Result<LiveJudging, AllocError> {
+    LiveJudging::new(crew, script.header().clone()?)
 }
 
 /// The counts of a run at its start, with their publisher and their one reader.
@@ -99,7 +102,7 @@ pub fn run_guest_followed<R: Threads + Wait + Sync, G: Gate, H: Gate, O: Onlooke
     ensures formed { IfOk result (λ run. IsRecord (record_of run.trace)) }
     ensures err { IfErr result IsWant }
 {
-    let mut judging = nothing_judged(crew.alloc, script)?;
+    let mut judging = nothing_judged(crew, script)?;
     run_judged(crew, script, gate, onlooker, &mut judging)
 }
 

@@ -11,10 +11,9 @@ ghost use Rattle.pg_threads.specs.Live.{AreSegments, AreTakenIn, IsBeginning, Is
 ghost use Rattle.pg_threads.specs.Live.{IsTakenIn, IsWant, IsWatched};
 
 use crate::same::begins_with;
-use pg_check::Judged;
 use pg_event::{Event, Header, Record};
 use pg_pool::Gate;
-use pg_report::{AuditError, Crew, Report, report_of_judged};
+use pg_report::{AuditError, Crew, Report, Team, report_of_judged};
 use pg_runner::{RunError, report_from_bytes};
 use std::alloc::{AllocError, Global};
 use std::marker::Model;
@@ -28,7 +27,7 @@ const TOO_MANY: usize = 4_294_967_296;
 #[derive(Drop)]
 pub(crate) struct LiveJudging {
     /// None once a round was refused.
-    judged: Option<Judged>,
+    team: Option<Team>,
     events: Vec<Event>,
 }
 
@@ -38,9 +37,9 @@ impl Model for LiveJudging {
 
     ghost Value = { Watch };
 
-    ghost view = { λ w. record { judged = w.judged; events = w.events.items } };
+    ghost view = { λ w. record { team = w.team; events = w.events.items } };
 
-    ghost invariant = { λ w. IfSome w.judged (λ judged. IsWatched judged w.events.items) };
+    ghost invariant = { λ w. IfSome w.team (λ team. IsWatched team w.events.items) };
 }
 
 /// Why a round was not judged, as a run gives it.
@@ -56,67 +55,72 @@ fn run_error(error: AuditError) -> RunError
 }
 
 /// Judges a round of events more, whole segments. Where a record can't have so many, they are left
-/// out. After an error `judged` is not to be used.
+/// out.
 fn judge_more<T: Threads + Wait + Sync, H: Gate>(
     crew: &Crew<'_, T, H>,
-    judged: &mut Judged,
+    team: Team,
     events: &mut Vec<Event>,
     more: &[Event],
-) -> Result<(), RunError>
-    requires watched { IsWatched judged.old events.old.items }
-    requires well { AreWellFormed judged.old.head more.now }
-    requires whole { length more.now % judged.old.head.segment ≡ 0 }
-    ensures ok { OnOk result (IsWatched judged.new events.new.items) }
+) -> Result<Team, RunError>
+    requires watched { IsWatched team events.old.items }
+    requires well { AreWellFormed team.judged.head more.now }
+    requires whole { length more.now % team.judged.head.segment ≡ 0 }
+    ensures ok { IfOk result (λ after. IsWatched after events.new.items) }
     ensures taken { OnOk result (AreTakenIn more.now events.old.items events.new.items) }
     ensures err { IfErr result IsWant }
 {
     if more.len() >= TOO_MANY.saturating_sub(events.len()) {
-        return Ok(());
+        return Ok(team);
     }
-    if let Err(error) = crew.judge(judged, more) {
-        return Err(run_error(error));
+    match crew.judge(team, more) {
+        Ok(after) => {
+            events.extend_from_slice(more)?;
+            Ok(after)
+        }
+        Err(error) => Err(run_error(error)),
     }
-    events.extend_from_slice(more)?;
-    Ok(())
 }
 
 /// The report of a run whose first events were judged, once all are.
 fn judge_rest<T: Threads + Wait + Sync, H: Gate>(
     crew: &Crew<'_, T, H>,
-    judged: &mut Judged,
+    team: Team,
     all: &[Event],
     first: &[Event],
 ) -> Result<Report, RunError>
-    requires watched { IsWatched judged.old first.now }
+    requires watched { IsWatched team first.now }
     requires begins { all.now ≡ first.now ++ drop (length first.now) all.now }
-    requires record { IsRecord (record { head = judged.old.head; events = all.now }) }
+    requires record { IsRecord (record { head = team.judged.head; events = all.now }) }
     ensures ok { IfOk result (λ report.
-        report ≡ report_of (record { head = judged.old.head; events = all.now })) }
+        report ≡ report_of (record { head = team.judged.head; events = all.now })) }
     ensures err { IfErr result IsWant }
 {
-    match crew.judge(judged, &all[first.len()..]) {
-        Ok(()) => Ok(report_of_judged(judged)),
+    match crew.judge(team, &all[first.len()..]) {
+        Ok(after) => Ok(report_of_judged(after.judged())),
         Err(error) => Err(run_error(error)),
     }
 }
 
 /// Whether a record begins with events that were judged.
-fn begins(judged: &Judged, events: &[Event], trace: &Record) -> bool
-    ensures { IsTrue result ↔ (IsBeginning (record { head = judged.now.head; events = events.now })
-        (record_of trace.now)) }
+fn begins(team: &Team, events: &[Event], trace: &Record) -> bool
+    ensures { IsTrue result ↔ (IsBeginning
+        (record { head = team.now.judged.head; events = events.now }) (record_of trace.now)) }
 {
-    judged.header().is_same(&trace.header) && begins_with(&trace.events, events)
+    team.judged().header().is_same(&trace.header) && begins_with(&trace.events, events)
 }
 
 impl LiveJudging {
     /// No event yet.
-    pub(crate) fn new(alloc: Global, header: Header) -> Result<LiveJudging, AllocError>
+    pub(crate) fn new<T, H>(
+        crew: &Crew<'_, T, H>,
+        header: Header,
+    ) -> Result<LiveJudging, AllocError>
         requires { IsHead header }
     {
-        let judged = Judged::new(alloc, header)?;
+        let team = crew.team(header)?;
         Ok(LiveJudging {
-            judged: Some(judged),
-            events: Vec::new(alloc),
+            team: Some(team),
+            events: Vec::new(crew.alloc),
         })
     }
 
@@ -124,8 +128,8 @@ impl LiveJudging {
     pub(crate) fn header(&self) -> Option<&Header>
         ensures { IfSome result (λ header. IsHeadOf self.now header.now) }
     {
-        match &self.judged {
-            Some(judged) => Some(judged.header()),
+        match &self.team {
+            Some(team) => Some(team.judged().header()),
             None => None,
         }
     }
@@ -137,19 +141,21 @@ impl LiveJudging {
         crew: &Crew<'_, T, H>,
         more: &[Event],
     ) -> Result<(), RunError>
-        requires { IfSome self.old.judged (λ judged. AreSegments judged.head more.now) }
+        requires { IfSome self.old.team (λ team. AreSegments team.judged.head more.now) }
         ensures ok { OnOk result (IsTakenIn more.now self.old self.new) }
         ensures err { IfErr result IsWant }
-        ensures refused { OnErr result (self.new.judged ≡ None) }
+        ensures refused { OnErr result (self.new.team ≡ None) }
     {
-        let Some(judged) = &mut self.judged else {
+        let Some(team) = self.team.take() else {
             return Ok(());
         };
-        let answer = judge_more(crew, judged, &mut self.events, more);
-        if answer.is_err() {
-            self.judged = None;
+        match judge_more(crew, team, &mut self.events, more) {
+            Ok(after) => {
+                self.team = Some(after);
+                Ok(())
+            }
+            Err(error) => Err(error),
         }
-        answer
     }
 
     /// The report of a record. Where these events begin it, the rest is judged, else all of it
@@ -163,8 +169,8 @@ impl LiveJudging {
         ensures ok { IfOk result (λ report. report ≡ report_of (record_of trace.now)) }
         ensures err { IfErr result IsWant }
     {
-        match self.judged.take() {
-            Some(mut judged) => report_on(crew, &mut judged, &self.events, trace),
+        match self.team.take() {
+            Some(team) => report_on(crew, team, &self.events, trace),
             None => anew(crew.alloc, trace),
         }
     }
@@ -173,17 +179,17 @@ impl LiveJudging {
 /// The report of a record of which the first events may have been judged.
 fn report_on<T: Threads + Wait + Sync, H: Gate>(
     crew: &Crew<'_, T, H>,
-    judged: &mut Judged,
+    team: Team,
     events: &[Event],
     trace: &Record,
 ) -> Result<Report, RunError>
-    requires watched { IsWatched judged.old events.now }
+    requires watched { IsWatched team events.now }
     requires record { IsRecord (record_of trace.now) }
     ensures ok { IfOk result (λ report. report ≡ report_of (record_of trace.now)) }
     ensures err { IfErr result IsWant }
 {
-    if begins(judged, events, trace) {
-        judge_rest(crew, judged, &trace.events, events)
+    if begins(&team, events, trace) {
+        judge_rest(crew, team, &trace.events, events)
     } else {
         anew(crew.alloc, trace)
     }

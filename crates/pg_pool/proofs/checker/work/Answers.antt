@@ -1,20 +1,21 @@
-use Rattle.std.proofs.Common.{◌∙◌, subst}
-use Rattle.pg_pool.specs.declared.round.Round.{Round}
-use Rattle.pg_pool.specs.Rounds.{IsIn}
-use Rattle.pg_pool.proofs.Judged.{HasWorked-start, HasWorked-more}
+use Rattle.std.proofs.Common.{◌∙◌, refl}
+use Rattle.pg_check.specs.Segments.{first_bad_of_segment}
+use Rattle.pg_pool.proofs.Judged.{HasJudged-start, HasJudged-more}
 use Rattle.pg_pool.proofs.checker.work.Goals as goal
 
 pub loop-init : goal.loop-init
-loop-init g c = (rw c.new-verdicts.ensures.items (HasWorked-start (g.J.Judge.finds c.args.judge.now) c.args.seat c.requires.fresh), c.memo-memo.ensures)
-
-pub judge-requires-clause-round : goal.judge-requires-clause-round
-judge-requires-clause-round g c =
-    subst (λ (r : Round). IsIn r c.in-Some.number) (c.loop.invariant.0.round ∙ c.requires.round) c.in-Some.ensures.within
+loop-init g c = record {
+  fits = λ run at. at;
+  judged = λ run at. rw c.new-verdicts.ensures.items (HasJudged-start (first_bad_of_segment run) c.args.seat c.requires.fresh);
+  round = refl;
+}
 
 pub loop-preserved : goal.loop-preserved
 loop-preserved g c =
-    let took = c.in-Some.ensures in (
-      HasWorked-more (g.J.Judge.finds c.args.judge.now) c.args.seat.round c.loop.seat c.take.new.self c.in-Some.number c.loop.verdicts.items c.reserve.new.self.items c.push_reserved.new.self.items c.judge.result
-          c.loop.invariant.0 took.seat.1 took.within took.marked c.reserve.ensures.items c.judge.ensures.number c.judge.ensures.found c.push_reserved.ensures.items,
-      c.judge.ensures.memo ∙ c.loop.invariant.1,
-    )
+    let took = c.in-Some.ensures in record {
+      fits = λ run at. c.in_ok-judged.ensures.fits run (c.loop.invariant.fits run at);
+      judged = λ run at.
+          HasJudged-more (first_bad_of_segment run) c.args.seat.round c.loop.seat c.take.new.self c.in-Some.number c.loop.verdicts.items c.loop.verdicts.items c.push.new.self.items c.in_ok-judged.field-0
+          (c.loop.invariant.judged run at) took.seat.1 took.within took.marked refl (c.in_ok-judged.ensures.verdict run (c.loop.invariant.fits run at)) c.in_ok-push.ensures.items;
+      round = took.seat.1 ∙ c.loop.invariant.round;
+    }

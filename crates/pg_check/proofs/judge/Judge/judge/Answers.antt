@@ -1,9 +1,7 @@
-use Rattle.std.proofs.Common.{◌≡◌, ◌+◌, [], ◌∷◌, ◌++◌, List, length, take, None, Option, ℕ, sym, ap, subst, rules, ◌∙◌}
-use Rattle.std.specs.Option.{option_or}
+use Rattle.std.proofs.Common.{◌≡◌, ◌+◌, [], ◌∷◌, ◌++◌, List, length, take, None, sym, subst, rules, ◌∙◌}
 use Rattle.std.proofs.lemmas.List.{append_assoc, take_all, take_more}
 use Rattle.pg_event.specs.declared.event.Event.{Event}
-use Rattle.pg_event.specs.declared.event.Reason.{Reason}
-use Rattle.pg_event.specs.Witness.{failing_event, first_some, first_bad_from}
+use Rattle.pg_event.specs.Witness.{first_bad_from}
 use Rattle.pg_event.specs.Form.{broken_rule}
 use Rattle.pg_chain.proofs.Notes.{AllByRecursion-read}
 use Rattle.pg_check.specs.Judging.{Noted, HasNoted, MayNote}

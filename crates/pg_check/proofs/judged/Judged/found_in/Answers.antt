@@ -1,6 +1,6 @@
 use Rattle.std.proofs.Common.{sym, subst}
 use Rattle.pg_check.specs.Judging.{Findings, IsJudged, MayFollow}
-use Rattle.pg_check.proofs.Judgings.{findings, judged_noted, may_note, awaits, judged_alike, noted_ok, noted_err, found_ok, on_err}
+use Rattle.pg_check.proofs.Judgings.{findings, judged_noted, awaits, judged_alike, noted_ok, noted_err, found_ok, on_err}
 use Rattle.pg_check.proofs.judged.Judged.found_in.Goals as goal
 
 pub returns-then-is_none-clause-ok : goal.returns-then-is_none-clause-ok
