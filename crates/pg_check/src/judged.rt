@@ -7,10 +7,8 @@ ghost use Rattle.pg_event.specs.Heads.{Head};
 ghost use Rattle.pg_event.specs.Spelling.{IsHead, segment_count};
 ghost use Rattle.pg_event.specs.Witness.{first_bad};
 ghost use Rattle.pg_check.specs.Judging.{Awaits, IsFound, IsJudged, MayFollow};
-ghost use Rattle.pg_check.specs.Stretches.{IsStretch};
 
 use crate::judge::Judge;
-use crate::stretch::Stretch;
 use pg_chain::Past;
 use pg_event::{Event, Header, Reason};
 use std::alloc::{AllocError, Global};
@@ -139,35 +137,6 @@ impl Judged {
         ensures { self.new ≡ self.old }
     {
         self.judge.make_lists();
-    }
-
-    /// Notes the events that come next, which then wait to be judged. Fails where memory is
-    /// refused, and then they have not come.
-    pub fn note(&mut self, events: &[Event]) -> Result<(), AllocError>
-        requires { MayFollow self.old events.now }
-        ensures ok { (head : Head) (before : List Event) → IsJudged self.old head before →
-            OnOk result (Awaits self.new head before events.now) }
-        ensures err { (head : Head) (before : List Event) → IsJudged self.old head before →
-            OnErr result (IsJudged self.new head before) }
-    {
-        let noted = self.judge.note(events);
-        self.judge.make_lists();
-        noted
-    }
-
-    /// The events that wait, with what is known of all events up to their end.
-    pub fn stretch<'a>(&'a self, events: &'a [Event]) -> Stretch<'a>
-        ensures stretch { (head : Head) (before : List Event) →
-            Awaits self.now head before events.now →
-            IsStretch result (record { head = head; events = before ++ events.now }) }
-        ensures first { result.first ≡ self.now.count }
-    {
-        Stretch {
-            past: self.judge.past(),
-            segment: self.header.segment,
-            first: self.count,
-            events,
-        }
     }
 
     /// Takes the first bad event of those that wait. It is not asked for where one before them is
