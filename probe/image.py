@@ -10,6 +10,7 @@ import signal
 import struct
 import subprocess
 import sys
+import tempfile
 
 HERE = os.path.dirname(os.path.abspath(__file__))
 TOP = os.path.dirname(HERE)
@@ -49,7 +50,7 @@ UNDECIDED = 4  # of `certify`: it says nothing of the run, so it ranks between a
 KINDS = ["reserved", "large", "global", "user", "writes", "fetches", "implicit", "implicit-ac",
          "self-maps", "pcids", "bare-faults", "clear-flag-faults"]
 DOORBELL, SERIAL, LOADER_STARTS, LOADER_TURNS, REPLAY = 1, 2, 4, 8, 16
-AT_ONCE = 32
+AT_ONCE, CASE = 32, 64
 SCRIPTS = 9  # of guest/directed.c, from 1 on
 # How all processors act at once: the events of a burst, and the focus of guest/focus.c.
 MODES = {"free": (0, 0), "bursts": (8, 0), "tables": (0, 1), "page": (0, 2),
@@ -259,6 +260,18 @@ def flat_guest(settings):
         raise Stop("the guest has no settings at their place")
     struct.pack_into("<10Q", guest, SETTINGS + 8, *settings)
     return bytes(guest)
+
+
+def kernel(path, settings, replay=b""):
+    """Writes a kernel that starts the guest with these settings, by Multiboot or as a domain of Xen."""
+    with tempfile.TemporaryDirectory() as folder:
+        for name, data in (("guest", flat_guest(settings)), ("replay", replay)):
+            with open(os.path.join(folder, name), "wb") as file:
+                file.write(data)
+        made, sources_of = os.path.join(folder, "kernel.o"), os.path.join(HERE, "guest")
+        command("nasm", "-f", "elf32", f"-DREPLAY={REPLAY_ADDRESS}", "-I", folder + "/", "-I", sources_of + "/",
+                "-o", made, os.path.join(sources_of, "start.asm"))
+        command("ld", "-m", "elf_i386", *LINK[1:], "-T", os.path.join(sources_of, "start.ld"), "-o", path, made)
 
 
 def disk(path, settings, replay=b""):

@@ -1,8 +1,13 @@
 ; SPDX-License-Identifier: MIT OR Apache-2.0
-; A kernel that Xen boots as its first domain, in the mode PVH: protected mode, flat segments, no
-; paging. It puts the probe's guest to 0x10000, and a record that is carried out again to its place,
-; and starts the guest.
+; A kernel that boot loaders start by Multiboot, and Xen as its first domain in the mode PVH: both in
+; protected mode, with flat segments and no paging. It puts the probe's guest to 0x10000, and a
+; record that is carried out again to its place, and starts the guest.
         bits 32
+
+        section .multiboot align=4
+        dd 0x1BADB002           ; magic, flags, and what makes the sum 0
+        dd 0
+        dd -0x1BADB002
 
         section .note.Xen note align=4
         dd 4                    ; length of the name
