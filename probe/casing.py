@@ -293,38 +293,38 @@ def access_of(text):
         raise image.Stop(f"{text} is no access: `user-ac read 0x5123` is one, and `1 super implicit 0x5010`") from None
 
 
-def laid_out(asked, most=MOST_NODES):
-    """The bytes for the guest, the place of its frames, and the tree of a machine that has all."""
-    source = replay.Source(asked.record, asked.notes)
-    # (what the access itself got does not tell where frames are)
-    place = replay.Place(source, is_small=True)
-    roots = trees_of(asked, source, most)
-    data, _ = replay.laid_out_at(source, place, Writer(asked, place, roots).bytes())
-    return data, place, roots[0]
+class Case:
+    """A case that is made: the bytes for the guest, the place of its frames, and its trees."""
 
+    def __init__(self, asked, most=MOST_NODES):
+        self.asked = asked
+        self.source = source = replay.Source(asked.record, asked.notes)
+        self.place = replay.Place(source, is_small=True)
+        self.roots = trees_of(asked, source, most)
+        self.data, _ = replay.laid_out_at(source, self.place, Writer(asked, self.place, self.roots).bytes())
+        self.processors = len(asked.record.header.starts)
 
-def settings_of(asked, ways=0, number=0):
-    """The guest's settings for a case, which is the one of this number of those that are laid out."""
-    header = asked.record.header
-    kinds = ["clear-flag-faults"] if header.version == 2 else []
-    return image.settings_of(number, 1, 0, len(header.starts), header.version, kinds,
-                             ways | image.REPLAY | image.CASE)
+    def settings(self, ways=0, number=0):
+        """The guest's settings for it, which is the one of this number of those that are laid out."""
+        version = self.asked.record.header.version
+        kinds = ["clear-flag-faults"] if version == 2 else []
+        return image.settings_of(number, 1, 0, self.processors, version, kinds, ways | image.REPLAY | image.CASE)
 
+    def write(self, path, is_disk=False):
+        """Writes the kernel, or the disk."""
+        (image.disk if is_disk else image.kernel)(path, self.settings(), self.data)
 
-def command(asked, place, path):
-    """What boots the kernel in QEMU."""
-    return (f"qemu-system-x86_64 -cpu max -smp {len(asked.record.header.starts)} -m {128 if place.is_low() else 1152} "
-            f"-kernel {path} -device isa-debug-exit,iobase=0xf4,iosize=4 -nographic -no-reboot")
+    def command(self, path):
+        """What boots the kernel in QEMU."""
+        return (f"qemu-system-x86_64 -cpu max -smp {self.processors} -m {128 if self.place.is_low() else 1152} "
+                f"-kernel {path} -device isa-debug-exit,iobase=0xf4,iosize=4 -nographic -no-reboot")
 
+    def told(self):
+        """What is judged, and what is allowed there behind the record's own outcomes."""
+        node, last = self.roots[0], len(self.asked.record.events) - 1
+        while node.number != last:
+            node = next(edge for edge in node.edges
+                        if is_same(edge.outcome, self.asked.record.events[node.number])).next
+        return f"{text_of_access(self.asked, last)}, allowed: " + (
+            ", ".join(map(text_of_edge, node.edges)) or "nothing")
 
-def told(asked, place, root, is_disk):
-    """What a person wants to know of a case: what is judged, what is allowed there by the record's own way, and how it
-    is booted."""
-    node, last = root, len(asked.record.events) - 1
-    while node.number != last:
-        node = next(edge for edge in node.edges
-                    if is_same(edge.outcome, asked.record.events[node.number])).next
-    lines = [text_of_access(asked, last), "allowed: " + (", ".join(map(text_of_edge, node.edges)) or "nothing")]
-    if not is_disk:
-        lines.append("to boot it: " + command(asked, place, "case.elf"))
-    return "\n".join(lines)

@@ -137,6 +137,12 @@ def build():
         return ELF if is_built() else build_anew()
 
 
+def link(elf, flat, objects):
+    """Links a guest, as an ELF file and as the bytes that lie in memory."""
+    command(*LINK, "-T", os.path.join(HERE, "guest", "link.ld"), "-o", elf, *objects)
+    command("objcopy", "-O", "binary", "-j", ".guest", elf, flat)
+
+
 def build_anew():
     need(*BUILDERS)
     folder, objects = os.path.join(HERE, "guest"), []
@@ -150,9 +156,8 @@ def build_anew():
         else:
             continue
         objects.append(made)
-    command(*LINK, "-T", os.path.join(folder, "link.ld"), "-o", ELF, *objects)
     flat = os.path.join(OUT, "guest.bin")
-    command("objcopy", "-O", "binary", "-j", ".guest", ELF, flat)
+    link(ELF, flat, objects)
     parts = -(-os.path.getsize(flat) // (SECTOR * PART))
     command("nasm", "-f", "bin", f"-DSECTORS={parts * PART}", "-I", folder + "/", "-o",
             os.path.join(OUT, "boot.bin"), os.path.join(folder, "boot.asm"))
@@ -251,10 +256,11 @@ def guest_file(replay=b""):
     return (head + table).ljust((64 + len(table) + 4095) & ~4095, b"\0") + b"".join(bodies) + replay
 
 
-def flat_guest(settings):
-    """The guest's bytes as they lie in memory, with these settings filled in."""
+def flat_guest(settings, path=None):
+    """The guest's bytes as they lie in memory, with these settings filled in; or those of another
+    file."""
     build()
-    with open(os.path.join(OUT, "guest.bin"), "rb") as file:
+    with open(path or os.path.join(OUT, "guest.bin"), "rb") as file:
         guest = bytearray(file.read())
     if struct.unpack_from("<Q", guest, SETTINGS)[0] != MAGIC:
         raise Stop("the guest has no settings at their place")
@@ -262,10 +268,10 @@ def flat_guest(settings):
     return bytes(guest)
 
 
-def kernel(path, settings, replay=b""):
+def kernel(path, settings, replay=b"", guest=None):
     """Writes a kernel that starts the guest with these settings, by Multiboot or as a domain of Xen."""
     with tempfile.TemporaryDirectory() as folder:
-        for name, data in (("guest", flat_guest(settings)), ("replay", replay)):
+        for name, data in (("guest", flat_guest(settings, guest)), ("replay", replay)):
             with open(os.path.join(folder, name), "wb") as file:
                 file.write(data)
         made, sources_of = os.path.join(folder, "kernel.o"), os.path.join(HERE, "guest")
@@ -274,9 +280,9 @@ def kernel(path, settings, replay=b""):
         command("ld", "-m", "elf_i386", *LINK[1:], "-T", os.path.join(sources_of, "start.ld"), "-o", path, made)
 
 
-def disk(path, settings, replay=b""):
+def disk(path, settings, replay=b"", guest=None):
     """Writes a disk that boots the guest with these settings."""
-    guest = flat_guest(settings)
+    guest = flat_guest(settings, guest)
     with open(os.path.join(OUT, "boot.bin"), "rb") as file:
         sector = bytearray(file.read())
     part = SECTOR * PART

@@ -169,8 +169,11 @@ class Place:
         source = self.source
         if source.leaves.get(3):
             stop("a 1-GB page lies elsewhere than the guest's memory")
-        if any(len(levels) > 1 for levels in source.levels.values()):
-            stop("a table serves at several levels, and lies elsewhere than the guest's")
+        if any(len(levels) > 1 and any(value & PS for word in source.values if word & ~4095 == table
+                                       for value in source.values[word])
+               for table, levels in source.levels.items()):
+            stop("a table serves at several levels and has an entry with PS=1, and lies elsewhere "
+                 "than the guest's")
         pieces = {base: PLACE_OF_PIECES + PIECE * k
                   for k, base in enumerate(sorted(source.leaves.get(2, ())))}
         if any(table & -PIECE in pieces for table in self.tables):

@@ -77,7 +77,7 @@ extern struct rules rules;
 
 enum { MOST_PROCESSORS = 8, AREA = 16384, RING_3_STACK = 8192 };
 
-enum work { REST, BEGIN, ACCESS, MOV_CR3, INVLPG, INVPCID, SET_PGE, STORE, STREAM };
+enum work { REST, BEGIN, ACCESS, MOV_CR3, INVLPG, INVPCID, SET_PGE, STORE, STREAM, CALL };
 struct order {
     enum work work;
     uint64_t operand[6];
