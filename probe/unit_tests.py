@@ -10,7 +10,7 @@ from dataclasses import replace
 
 from checks.outcomes import enumeration
 from probe import auditor, casing, causes, image, keeping, replay
-from records.events import Answer, Assist, Fault, LoadRoot, Write
+from records.events import Assist, Fault, Write
 
 FOLDER = os.path.join(image.HERE, "kvm_unit_tests")
 HEADERS = ("libcflat.h", "processor.h", "desc.h", "vm.h", "vmalloc.h", "alloc_page.h", "smp.h")
@@ -19,6 +19,9 @@ KINDS = {replay.WRITE: "WRITE", replay.ACCESS_TAG: "ACCESS", replay.LOAD_ROOT: "
          replay.INVALIDATE_PAGE: "INVALIDATE_PAGE", replay.INVALIDATE_PCID: "INVALIDATE_PCID",
          replay.SET_GLOBAL_PAGES: "SET_PGE"}
 NONE = "NO_FRAME"
+# Of the tree's own Makefile, beside those of the guest.
+WARNINGS = ("-Wwrite-strings", "-Wempty-body", "-Wclobbered", "-Wtype-limits", "-Wignored-qualifiers",
+            "-Wmissing-prototypes", "-Wstrict-prototypes")
 HEAD = """\
 /* SPDX-License-Identifier: MIT OR Apache-2.0 */
 /*
@@ -73,7 +76,8 @@ class Writer:
     """Writes the data of a test."""
 
     def __init__(self, case):
-        self.case, self.place, self.source = case, case.place, case.source
+        # (the case's own steps have been moved)
+        self.case, self.place, self.source = case, case.place, replay.Source(case.asked.record, case.asked.notes)
         self.is_moved()
         self.numbers = {frame: number for number, frame in
                         enumerate([*sorted({*self.place.tables, *self.place.frames}), None])}
@@ -210,7 +214,7 @@ def build(source, folder):
             file.write('#include "stub.h"\n')
     made = {name: os.path.join(folder, name + ".o") for name in ("stub", "test")}
     image.command(*image.COMPILE, "-o", made["stub"], os.path.join(FOLDER, "stub.c"))
-    image.command(*(word for word in image.COMPILE if word not in ("-std=c99", "-Wpedantic")), "-std=gnu11",
+    image.command(*(word for word in image.COMPILE if word not in ("-std=c99", "-Wpedantic")), *WARNINGS, "-std=gnu11",
                   "-I", FOLDER, "-I", headers, "-o", made["test"], source)
     objects = [os.path.join(image.OUT, os.path.basename(path).rsplit(".", 1)[0] + ".o")
                for path in glob.glob(os.path.join(image.HERE, "guest", "*.c")) if not path.endswith("/replay.c")]

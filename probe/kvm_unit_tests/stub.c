@@ -54,15 +54,15 @@ handler handle_exception(uint8_t vector, handler chosen)
 
 /* ---- Reports */
 
-static void put_decimal(unsigned long number)
+static void put_number(unsigned long number, unsigned base)
 {
     char text[24];
     int at = 23;
 
     text[at] = 0;
     do {
-        text[--at] = (char)('0' + number % 10);
-        number /= 10;
+        text[--at] = "0123456789abcdef"[number % base];
+        number /= base;
     } while (number > 0);
     tell_text(&text[at]);
 }
@@ -79,10 +79,10 @@ static void put_form(const char *form, va_list words)
         } else if (*++form == 's') {
             tell_text(va_arg(words, const char *));
         } else if (*form == 'd') {
-            put_decimal((unsigned long)va_arg(words, int));
+            put_number((unsigned long)va_arg(words, int), 10);
         } else {
-            form++; /* %lx, behind 0x */
-            tell_number(va_arg(words, unsigned long));
+            form++; /* %lx */
+            put_number(va_arg(words, unsigned long), 16);
         }
     }
 }
@@ -126,11 +126,11 @@ void report_prefix_push(const char *prefix)
 int report_summary(void)
 {
     tell_text("SUMMARY: ");
-    put_decimal((unsigned long)(passed + failed + skipped));
+    put_number((unsigned long)(passed + failed + skipped), 10);
     tell_text(" tests, ");
-    put_decimal((unsigned long)failed);
+    put_number((unsigned long)failed, 10);
     tell_text(" unexpected failures, ");
-    put_decimal((unsigned long)skipped);
+    put_number((unsigned long)skipped, 10);
     tell_text(" skipped\n");
     return failed > 0 ? FAILED : passed > 0 ? PASSED : SKIPPED;
 }
