@@ -12,7 +12,7 @@ from dataclasses import dataclass, field, replace
 
 from checks.outcomes import enumeration
 from probe import auditor, image, keeping, replay
-from records.events import (ACCESSES, ALIGNMENT_CHECK, DIRTY, NO_FLUSH, OPERATION, USER, Answer, Assist, Fault,
+from records.events import (ACCESSES, ALIGNMENT_CHECK, NO_FLUSH, OPERATION, USER, Answer, Assist, Fault,
                             InvalidatePcid, LoadRoot, Write, has_spans)
 
 MAGIC = b"PCIDCASE"
@@ -110,9 +110,7 @@ class Grower:
 
     def set_flags(self, before, assist):
         """An assist whose access is not carried out again is a write of the flags."""
-        words = enumeration.memory_of(replace(self.record, events=before), len(before))
-        bits = enumeration.ACCESSED_BIT | (enumeration.DIRTY_BIT if assist.flags & DIRTY else 0)
-        word = words.get(assist.address, 0)
+        word, bits = enumeration.memory_of(before).get(assist.address, 0), enumeration.bits_of(assist)
         return [] if word | bits == word else [Write(assist.processor, assist.address, word | bits)]
 
     def fill(self, node):
@@ -121,7 +119,7 @@ class Grower:
         record = replace(self.record, events=[*node.before, access])
         for assists, outcomes in enumeration.allowed_with_assists(record, len(node.before), self.accepts,
                                                                   self.mapping):
-            changes = changes_of(record, assists)
+            changes = enumeration.changes_of(node.before, assists)
             for outcome in outcomes:
                 node.edges.append(Edge(outcome, changes))
                 yield node.edges[-1], [*node.before, *assists, outcome]
@@ -144,15 +142,6 @@ class Grower:
 
 def is_same(one, other):
     return type(one) is type(other) and text_of_outcome(one) == text_of_outcome(other)
-
-
-def changes_of(record, assists):
-    """The flags that assists set of each word."""
-    words, changes = enumeration.memory_of(record, len(record.events)), {}
-    for assist in assists:
-        bits = enumeration.ACCESSED_BIT | (enumeration.DIRTY_BIT if assist.flags & DIRTY else 0)
-        changes[assist.address] = (changes.get(assist.address, 0) | bits) & ~words.get(assist.address, 0)
-    return changes
 
 
 def accepts(data):

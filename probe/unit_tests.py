@@ -47,7 +47,7 @@ def without_assists(asked):
         if not isinstance(event, Assist):
             events.append(event)
         elif not source.is_served(number):
-            words = enumeration.memory_of(asked.record, number + 1)
+            words = enumeration.memory_of(asked.record.events[:number + 1])
             events.append(Write(event.processor, event.address, words[event.address]))
     header = replace(asked.record.header, version=1)
     return replace(asked, record=replace(asked.record, header=header, events=events), notes=notes)
@@ -192,10 +192,14 @@ def name_of(asked):
     return "pcid_" + re.sub(r"\W", "_", asked.name)
 
 
-def text_of(asked, most=casing.MOST_NODES):
-    """The C file of a case."""
-    asked = without_assists(asked)
-    case = casing.Case(asked, most)
+def case_of(asked, most=casing.MOST_NODES):
+    """The case that a C file has."""
+    return casing.Case(without_assists(asked), most)
+
+
+def text_of_case(case):
+    """The C file of a case without assists."""
+    asked = case.asked
     events = "\n".join(" *   " + line for line in shown(asked.record))
     head = HEAD.format(file=name_of(asked) + ".c", events=events, told=case.told(),
                        manual=manual_of(asked.record, asked.notes), processors=case.processors,
@@ -224,7 +228,7 @@ def build(source, folder):
     return flat
 
 
-def write_kernel(path, source, processors, is_disk=False):
+def write_image(path, source, processors, is_disk=False):
     """Writes the image of a C file: a kernel, or a disk."""
     with tempfile.TemporaryDirectory() as folder:
         flat = build(source, folder)

@@ -64,16 +64,27 @@ def allowed(record, number, accepts, mapping=map):
 
 # ---- Assists (version 2)
 
-def memory_of(record, number):
-    """Each word before this event, as writes and assists left it."""
+def memory_of(events):
+    """Each word behind events, as writes and assists left it."""
     words = {}
-    for event in record.events[:number]:
+    for event in events:
         if isinstance(event, Write):
             words[event.address] = event.value
         elif isinstance(event, Assist):
-            bits = ACCESSED_BIT | (DIRTY_BIT if event.flags & DIRTY else 0)
-            words[event.address] = words.get(event.address, 0) | bits
+            words[event.address] = words.get(event.address, 0) | bits_of(event)
     return words
+
+
+def bits_of(assist):
+    """The flags that an assist sets."""
+    return ACCESSED_BIT | (DIRTY_BIT if assist.flags & DIRTY else 0)
+
+
+def changes_of(before, assists):
+    """By its address, of each word that assists set flags of behind these events, the flags."""
+    words = memory_of(before)
+    after = memory_of([*before, *assists])
+    return {it.address: after[it.address] & ~words.get(it.address, 0) for it in assists}
 
 
 def served(record, number):
@@ -93,7 +104,7 @@ def served(record, number):
 def next_assists(record, access):
     """An assist for each word that lacks A, and of a write for each that lacks D, as the words are behind the events
     of a record."""
-    for address, value in sorted(memory_of(record, len(record.events)).items()):
+    for address, value in sorted(memory_of(record.events).items()):
         if value & 1 and not value & ACCESSED_BIT:
             yield Assist(access.processor, access.flags, access.linear, address, UNNAMED)
         if value & 1 and not value & DIRTY_BIT and access.flags & OPERATION == WRITE:
