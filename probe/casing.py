@@ -144,7 +144,7 @@ def is_same(one, other):
     return type(one) is type(other) and text_of_outcome(one) == text_of_outcome(other)
 
 
-def accepts(data):
+def is_accepted(data):
     """Whether certify says yes."""
     status, _, said = auditor.certify(data)
     if status not in (0, 1):
@@ -172,7 +172,7 @@ def trees_of(asked, source, most=MOST_NODES):
         for record in (asked.record, without_invpcid(asked.record), without_pcids(asked.record)):
             root = next((root for it, root in zip(found, roots) if it == record), None)
             found.append(record)
-            roots.append(root or Grower(record, source, accepts, pool.map, most).grow())
+            roots.append(root or Grower(record, source, is_accepted, pool.map, most).grow())
     need_own_path(asked.record, roots[0])
     return roots
 
@@ -184,7 +184,7 @@ class Writer:
 
     def __init__(self, asked, place, roots):
         self.asked, self.place, self.roots = asked, place, roots
-        self.places, self.texts, self.nodes = {}, {}, []
+        self.places, self.texts, self.nodes, self.end = {}, {}, [], 0
         frames = sorted({*place.frames, *place.tables})
         self.frames = [] if place.stays else [(place.frame(it), it) for it in frames]
 
@@ -316,4 +316,3 @@ class Case:
                         if is_same(edge.outcome, self.asked.record.events[node.number])).next
         return f"{text_of_access(self.asked, last)}, allowed: " + (
             ", ".join(map(text_of_edge, node.edges)) or "nothing")
-

@@ -31,7 +31,7 @@ COMPILE = ["gcc", "-std=c99", "-Wall", "-Wextra", "-Wpedantic", "-Werror", "-O1"
 LINK = ["ld", "-z", "noexecstack", "-nostdlib", "-static", "--no-warn-rwx-segments"]
 
 # Debian's packages by what is needed of them.
-PACKAGES = {"gcc": "gcc", "cc": "gcc", "ld": "binutils", "objcopy": "binutils", "nasm": "nasm",
+PACKAGES = {"gcc": "gcc", "cc": "gcc", "as": "binutils", "ld": "binutils", "objcopy": "binutils",
             "qemu-system-x86_64": "qemu-system-x86", "bochs": "bochs",
             "/usr/share/bochs/BIOS-bochs-latest": "bochsbios",
             "/usr/share/vgabios/vgabios.bin": "vgabios",
@@ -40,7 +40,7 @@ PACKAGES = {"gcc": "gcc", "cc": "gcc", "ld": "binutils", "objcopy": "binutils", 
             "apt-get": "apt", "dpkg-deb": "dpkg", "make": "make", "flex": "flex",
             "bison": "bison", "dpkg-source": "dpkg-dev", "patch": "patch", "zstd": "zstd"}
 EMULATORS = ("qemu-system-x86", "seabios", "bochs", "bochsbios", "vgabios")
-BUILDERS = ("gcc", "ld", "objcopy", "nasm")
+BUILDERS = ("gcc", "as", "ld", "objcopy")
 
 # Exit statuses beside those of `certify`, which are below 10.
 EARLY_END, HANG, USAGE, LACKING = 10, 11, 64, 70
@@ -152,15 +152,18 @@ def build_anew():
         if kind == ".c":
             command(*COMPILE, "-o", made, source)
         elif name == "entry":
-            command("nasm", "-f", "elf64", "-Wall", "-Werror", "-o", made, source)
+            command("as", "--64", "--fatal-warnings", "-o", made, source)
         else:
             continue
         objects.append(made)
     flat = os.path.join(OUT, "guest.bin")
     link(ELF, flat, objects)
     parts = -(-os.path.getsize(flat) // (SECTOR * PART))
-    command("nasm", "-f", "bin", f"-DSECTORS={parts * PART}", "-I", folder + "/", "-o",
-            os.path.join(OUT, "boot.bin"), os.path.join(folder, "boot.asm"))
+    boot = os.path.join(OUT, "boot.o")
+    command("as", "--32", "--fatal-warnings", "--defsym", f"SECTORS={parts * PART}", "-I", folder, "-o", boot,
+            os.path.join(folder, "boot.s"))
+    command("ld", "-m", "elf_i386", "-Ttext", "0x7C00", "-e", "start", "--oformat", "binary", "-o",
+            os.path.join(OUT, "boot.bin"), boot)
     return ELF
 
 
@@ -275,8 +278,8 @@ def kernel(path, settings, replay=b"", guest=None):
             with open(os.path.join(folder, name), "wb") as file:
                 file.write(data)
         made, sources_of = os.path.join(folder, "kernel.o"), os.path.join(HERE, "guest")
-        command("nasm", "-f", "elf32", f"-DREPLAY={REPLAY_ADDRESS}", "-I", folder + "/", "-I", sources_of + "/",
-                "-o", made, os.path.join(sources_of, "start.asm"))
+        command("as", "--32", "--fatal-warnings", "--defsym", f"REPLAY={REPLAY_ADDRESS}", "-I", folder, "-I",
+                sources_of, "-o", made, os.path.join(sources_of, "start.s"))
         command("ld", "-m", "elf_i386", *LINK[1:], "-T", os.path.join(sources_of, "start.ld"), "-o", path, made)
 
 

@@ -144,7 +144,7 @@ class Place:
     """Where the tables and frames of a record go."""
 
     def __init__(self, source, is_small=False):
-        self.source, self.moved = source, {}
+        self.source, self.moved, self.pieces = source, {}, {}
         self.tables = source.roots | {word & ~4095 for word in source.values}
         # (a frame that no word was written in may serve as a table too, of absent entries)
         self.frames = (source.answers | set(source.levels)) - self.tables

@@ -19,7 +19,7 @@ XEN = os.path.join(image.OUT, "xen", "xen")  # probe/xen/build writes it
 # What each needs beside what builds the guest.
 NEEDS = {"qemu": ("qemu-system-x86_64", "/usr/share/seabios/bios-256k.bin"),
          "bochs": ("bochs", BOCHS_BIOS, BOCHS_VGA_BIOS), "kvm": ()}
-NEEDS["xen"] = (*NEEDS["qemu"], "nasm", "ld")
+NEEDS["xen"] = (*NEEDS["qemu"], "as", "ld")
 
 
 def need(system, *more):

@@ -23,17 +23,17 @@ NONE = "NO_FRAME"
 WARNINGS = ("-Wwrite-strings", "-Wempty-body", "-Wclobbered", "-Wtype-limits", "-Wignored-qualifiers",
             "-Wmissing-prototypes", "-Wstrict-prototypes")
 HEAD = """\
-/* SPDX-License-Identifier: MIT OR Apache-2.0 */
 /*
- * {file}: a test of paging for the x86 tests of kvm-unit-tests, which pcid-audit's probe/case made of a record:
+ * {file}: a test of paging for the x86 tests of kvm-unit-tests. The probe/case of pcid-audit
+ * made it of a record:
  *
 {events}
  *
  * What is judged: {told}
  * Manual: Intel SDM, volume 3, {manual}.
  *
- * The tables lie where the test finds place, so addresses of the lines above are not those of the run. Needs
- * -smp {processors}{more}.
+ * The tables lie where the test finds place, so the addresses above are not those of the run.
+ * Needs -smp {processors}, and what the record has: -cpu max.
  */
 """
 
@@ -95,8 +95,8 @@ class Writer:
             base = None if frame is None else frame & -replay.PIECE
             piece, offset = (self.pieces[base], frame - base) if base in self.pieces else (NONE, 0)
             is_marked = frame is None or frame not in self.place.tables or frame in self.source.answers
-            yield (f"{{ {0 if frame is None else frame:#x}, {piece}, {offset:#x}, {number_of(frame in self.source.roots)}, "
-                   f"{number_of(is_marked)} }}")
+            yield (f"{{ {0 if frame is None else frame:#x}, {piece}, {offset:#x}, "
+                   f"{number_of(frame in self.source.roots)}, {number_of(is_marked)} }}")
 
     def steps(self):
         for step in self.source.steps:
@@ -202,10 +202,9 @@ def text_of_case(case):
     asked = case.asked
     events = "\n".join(" *   " + line for line in shown(asked.record))
     head = HEAD.format(file=name_of(asked) + ".c", events=events, told=case.told(),
-                       manual=manual_of(asked.record, asked.notes), processors=case.processors,
-                       more=" and a processor with what the record has, such as -cpu max")
+                       manual=manual_of(asked.record, asked.notes), processors=case.processors)
     with open(os.path.join(FOLDER, "test.c.in"), encoding="utf-8") as file:
-        return head + file.read().replace("@DATA@\n", Writer(case).data())
+        return file.read().replace("@HEAD@\n", head).replace("@DATA@\n", Writer(case).data())
 
 
 def build(source, folder):

@@ -41,8 +41,8 @@ class Candidates(unittest.TestCase):
         self.assertIn(Answer(0, USER, 0x5123, 0xB123, UNNAMED), enumeration.candidates(record, 4))
 
     def test_codes(self):
-        for flags, codes in ((0, [0, 1, 8, 9]), (USER, [4, 5, 12, 13]), (1, [2, 3, 10, 11]), (USER_WRITE, [6, 7, 14, 15]),
-                             (FETCH, [0, 1, 8, 9, 16, 17, 24, 25]), (8, [0, 1, 8, 9])):
+        for flags, codes in ((0, [0, 1, 8, 9]), (USER, [4, 5, 12, 13]), (1, [2, 3, 10, 11]),
+                             (USER_WRITE, [6, 7, 14, 15]), (FETCH, [0, 1, 8, 9, 16, 17, 24, 25]), (8, [0, 1, 8, 9])):
             self.assertEqual(enumeration.codes_of(flags), codes)
 
     def test_what_is_no_access(self):

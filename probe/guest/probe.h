@@ -26,7 +26,7 @@
 #define RING_3 0xFFFF808000000000u
 enum { MEMORY_SLOT = 256, RING_3_SLOT = 257 };
 
-/* Filled in by who loads the guest, at a fixed place (entry.asm). docs/PROBE.md lists the bits. */
+/* Filled in by who loads the guest, at a fixed place (entry.s). docs/PROBE.md lists the bits. */
 struct settings {
     uint64_t magic, seed, seeds, events, processors, version, left_out, ways, script, burst, focus;
     volatile uint64_t log_address, log_length;
@@ -83,7 +83,7 @@ struct order {
     uint64_t operand[6];
 };
 
-/* A processor: entry.asm knows the first ten fields. Its area holds its stacks too. */
+/* A processor: entry.s knows the first ten fields. Its area holds its stacks too. */
 struct processor {
     uint64_t saved_stack, vector, error, fault_address, rax, rip, flags;
     uint64_t begin, end; /* the stamps of an access */
@@ -109,7 +109,7 @@ static inline uint32_t own_number(void)
     return (uint32_t)((stack - (uint64_t)processors) / AREA);
 }
 
-/* entry.asm */
+/* entry.s */
 extern const uint64_t handlers[32];
 extern uint8_t stubs_begin[], stub_read[], stub_write[], stub_implicit[], stubs_end[];
 extern uint8_t stamped_read[], stamped_write[], stamped_fetch[], stamped_implicit[];
