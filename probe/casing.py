@@ -153,9 +153,11 @@ def is_accepted(data):
 
 
 def need_own_path(record, root):
-    """Stops where an access before the last has an outcome that is not allowed."""
+    """Stops where an access before the last has an outcome that is not allowed, or is not laid out."""
     node = root
     while True:
+        if node.before is None:
+            raise image.Stop("the record has more accesses than are laid out: --nodes N lays out N of them")
         own = record.events[node.number]
         edge = next((it for it in node.edges if is_same(it.outcome, own)), None)
         if node.number == len(record.events) - 1:
