@@ -19,7 +19,7 @@ KINDS = {replay.WRITE: "WRITE", replay.ACCESS_TAG: "ACCESS", replay.LOAD_ROOT: "
          replay.INVALIDATE_PAGE: "INVALIDATE_PAGE", replay.INVALIDATE_PCID: "INVALIDATE_PCID",
          replay.SET_GLOBAL_PAGES: "SET_PGE"}
 NONE = "NO_FRAME"
-# Of the tree's own Makefile, beside those of the guest.
+# Of the tree's own Makefile, as remembered, beside those of the guest.
 WARNINGS = ("-Wwrite-strings", "-Wempty-body", "-Wclobbered", "-Wtype-limits", "-Wignored-qualifiers",
             "-Wmissing-prototypes", "-Wstrict-prototypes")
 HEAD = """\
