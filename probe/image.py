@@ -10,6 +10,7 @@ import signal
 import struct
 import subprocess
 import sys
+import tempfile
 
 HERE = os.path.dirname(os.path.abspath(__file__))
 TOP = os.path.dirname(HERE)
@@ -30,7 +31,7 @@ COMPILE = ["gcc", "-std=c99", "-Wall", "-Wextra", "-Wpedantic", "-Werror", "-O1"
 LINK = ["ld", "-z", "noexecstack", "-nostdlib", "-static", "--no-warn-rwx-segments"]
 
 # Debian's packages by what is needed of them.
-PACKAGES = {"gcc": "gcc", "cc": "gcc", "ld": "binutils", "objcopy": "binutils", "nasm": "nasm",
+PACKAGES = {"gcc": "gcc", "cc": "gcc", "as": "binutils", "ld": "binutils", "objcopy": "binutils",
             "qemu-system-x86_64": "qemu-system-x86", "bochs": "bochs",
             "/usr/share/bochs/BIOS-bochs-latest": "bochsbios",
             "/usr/share/vgabios/vgabios.bin": "vgabios",
@@ -39,7 +40,7 @@ PACKAGES = {"gcc": "gcc", "cc": "gcc", "ld": "binutils", "objcopy": "binutils", 
             "apt-get": "apt", "dpkg-deb": "dpkg", "make": "make", "flex": "flex",
             "bison": "bison", "dpkg-source": "dpkg-dev", "patch": "patch", "zstd": "zstd"}
 EMULATORS = ("qemu-system-x86", "seabios", "bochs", "bochsbios", "vgabios")
-BUILDERS = ("gcc", "ld", "objcopy", "nasm")
+BUILDERS = ("gcc", "as", "ld", "objcopy")
 
 # Exit statuses beside those of `certify`, which are below 10.
 EARLY_END, HANG, USAGE, LACKING = 10, 11, 64, 70
@@ -49,7 +50,7 @@ UNDECIDED = 4  # of `certify`: it says nothing of the run, so it ranks between a
 KINDS = ["reserved", "large", "global", "user", "writes", "fetches", "implicit", "implicit-ac",
          "self-maps", "pcids", "bare-faults", "clear-flag-faults"]
 DOORBELL, SERIAL, LOADER_STARTS, LOADER_TURNS, REPLAY = 1, 2, 4, 8, 16
-AT_ONCE = 32
+AT_ONCE, CASE = 32, 64
 SCRIPTS = 9  # of guest/directed.c, from 1 on
 # How all processors act at once: the events of a burst, and the focus of guest/focus.c.
 MODES = {"free": (0, 0), "bursts": (8, 0), "tables": (0, 1), "page": (0, 2),
@@ -136,6 +137,12 @@ def build():
         return ELF if is_built() else build_anew()
 
 
+def link(elf, flat, objects):
+    """Links a guest, as an ELF file and as the bytes that lie in memory."""
+    command(*LINK, "-T", os.path.join(HERE, "guest", "link.ld"), "-o", elf, *objects)
+    command("objcopy", "-O", "binary", "-j", ".guest", elf, flat)
+
+
 def build_anew():
     need(*BUILDERS)
     folder, objects = os.path.join(HERE, "guest"), []
@@ -145,16 +152,18 @@ def build_anew():
         if kind == ".c":
             command(*COMPILE, "-o", made, source)
         elif name == "entry":
-            command("nasm", "-f", "elf64", "-Wall", "-Werror", "-o", made, source)
+            command("as", "--64", "--fatal-warnings", "-o", made, source)
         else:
             continue
         objects.append(made)
-    command(*LINK, "-T", os.path.join(folder, "link.ld"), "-o", ELF, *objects)
     flat = os.path.join(OUT, "guest.bin")
-    command("objcopy", "-O", "binary", "-j", ".guest", ELF, flat)
+    link(ELF, flat, objects)
     parts = -(-os.path.getsize(flat) // (SECTOR * PART))
-    command("nasm", "-f", "bin", f"-DSECTORS={parts * PART}", "-I", folder + "/", "-o",
-            os.path.join(OUT, "boot.bin"), os.path.join(folder, "boot.asm"))
+    boot = os.path.join(OUT, "boot.o")
+    command("as", "--32", "--fatal-warnings", "--defsym", f"SECTORS={parts * PART}", "-I", folder, "-o", boot,
+            os.path.join(folder, "boot.s"))
+    command("ld", "-m", "elf_i386", "-Ttext", "0x7C00", "-e", "start", "--oformat", "binary", "-o",
+            os.path.join(OUT, "boot.bin"), boot)
     return ELF
 
 
@@ -250,10 +259,11 @@ def guest_file(replay=b""):
     return (head + table).ljust((64 + len(table) + 4095) & ~4095, b"\0") + b"".join(bodies) + replay
 
 
-def flat_guest(settings):
-    """The guest's bytes as they lie in memory, with these settings filled in."""
+def flat_guest(settings, path=None):
+    """The guest's bytes as they lie in memory, with these settings filled in; or those of another
+    file."""
     build()
-    with open(os.path.join(OUT, "guest.bin"), "rb") as file:
+    with open(path or os.path.join(OUT, "guest.bin"), "rb") as file:
         guest = bytearray(file.read())
     if struct.unpack_from("<Q", guest, SETTINGS)[0] != MAGIC:
         raise Stop("the guest has no settings at their place")
@@ -261,9 +271,21 @@ def flat_guest(settings):
     return bytes(guest)
 
 
-def disk(path, settings, replay=b""):
+def kernel(path, settings, replay=b"", guest=None):
+    """Writes a kernel that starts the guest with these settings, by Multiboot or as a domain of Xen."""
+    with tempfile.TemporaryDirectory() as folder:
+        for name, data in (("guest", flat_guest(settings, guest)), ("replay", replay)):
+            with open(os.path.join(folder, name), "wb") as file:
+                file.write(data)
+        made, sources_of = os.path.join(folder, "kernel.o"), os.path.join(HERE, "guest")
+        command("as", "--32", "--fatal-warnings", "--defsym", f"REPLAY={REPLAY_ADDRESS}", "-I", folder, "-I",
+                sources_of, "-o", made, os.path.join(sources_of, "start.s"))
+        command("ld", "-m", "elf_i386", *LINK[1:], "-T", os.path.join(sources_of, "start.ld"), "-o", path, made)
+
+
+def disk(path, settings, replay=b"", guest=None):
     """Writes a disk that boots the guest with these settings."""
-    guest = flat_guest(settings)
+    guest = flat_guest(settings, guest)
     with open(os.path.join(OUT, "boot.bin"), "rb") as file:
         sector = bytearray(file.read())
     part = SECTOR * PART

@@ -92,6 +92,17 @@ class Replay:
                 f"processors: {self.processors} by {'threads' if self.has_threads else 'turns'}")
 
 
+class Judged:
+    """A case of probe/casing.py, the one of this number."""
+    has_threads = False
+
+    def __init__(self, case, number):
+        self.case, self.number, self.processors = case, number, case.processors
+
+    def settings(self):
+        return self.case.settings(image.LOADER_TURNS, self.number)
+
+
 def boot_qemu(folder, words, limit, processors, threads="single"):
     return systems.finish(
         ["qemu-system-x86_64", "-accel", f"tcg,thread={threads}", "-cpu", "max,+svm",

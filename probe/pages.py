@@ -5,6 +5,7 @@ import glob
 import html
 import os
 import re
+import shlex
 import subprocess
 
 from probe import auditor, hunting, image, keeping, spans
@@ -83,6 +84,14 @@ def told(folder, plan, first):
                        f"; the second, its control, is: {first['control']}. The events that "
                        "are left:")
     yield "lines", show(small).splitlines()
+    if not plan.at_once:
+        yield "text", "A test of it that boots by itself:"
+        yield "lines", [case_command(small)]
+
+
+def case_command(path):
+    """What makes a case of what is left of a record."""
+    return f"probe/case {shlex.quote(path)} > case.elf"
 
 
 def markdown(pieces):

@@ -20,7 +20,8 @@ GIGABYTE_PAGES, PCIDS = 1, 2
 P, A, D, PS, XD = 1, 1 << 5, 1 << 6, 1 << 7, 1 << 63
 # Where frames may be: those that the guest's random runs have, and what else it leaves alone.
 LOW_FRAMES = (0, 0x1000, 0x7000, 0x64000, 0x102000, 0x1FF000)
-FREE = ((POOL, 0x600000), (0x1000000, 0x8000000), (GIGABYTE, GIGABYTE + 0x8000000))
+LOW_END = 0x8000000
+FREE = ((POOL, 0x600000), (0x1000000, LOW_END), (GIGABYTE, GIGABYTE + LOW_END))
 PLACE_OF_FRAMES, PLACE_OF_PIECES = 0x1000000, 0x2000000
 NOWHERE = 0x1FFF000  # for frames that no access of the record can reach
 OFFSETS = {0: 0, 1: 24, 2: 8, IMPLICIT: 16}
@@ -142,25 +143,37 @@ class Source:
 class Place:
     """Where the tables and frames of a record go."""
 
-    def __init__(self, source):
-        self.source, self.moved = source, {}
+    def __init__(self, source, is_small=False):
+        self.source, self.moved, self.pieces = source, {}, {}
         self.tables = source.roots | {word & ~4095 for word in source.values}
         # (a frame that no word was written in may serve as a table too, of absent entries)
         self.frames = (source.answers | set(source.levels)) - self.tables
         self.stays = all(POOL <= it < POOL + 4096 * MOST_TABLES for it in self.tables) and all(
             it in LOW_FRAMES or any(low <= it < high for low, high in FREE) for it in self.frames)
-        if not self.stays:
-            self.move()
+        if is_small or not self.stays:
+            self.try_to_move()
         if len(self.tables) > MOST_TABLES or len(self.frames) > MOST_FRAMES:
             stop(f"it has {len(self.tables)} tables and {len(self.frames)} frames, of which the "
                  f"guest takes {MOST_TABLES} and {MOST_FRAMES}")
+
+    def try_to_move(self):
+        """Moves all to the first 128 MB, or leaves it where it was if that is a place too."""
+        try:
+            self.move()
+            self.stays = False
+        except image.Stop:
+            if not self.stays:
+                raise
 
     def move(self):
         source = self.source
         if source.leaves.get(3):
             stop("a 1-GB page lies elsewhere than the guest's memory")
-        if any(len(levels) > 1 for levels in source.levels.values()):
-            stop("a table serves at several levels, and lies elsewhere than the guest's")
+        if any(len(levels) > 1 and any(value & PS for word in source.values if word & ~4095 == table
+                                       for value in source.values[word])
+               for table, levels in source.levels.items()):
+            stop("a table serves at several levels and has an entry with PS=1, and lies elsewhere "
+                 "than the guest's")
         pieces = {base: PLACE_OF_PIECES + PIECE * k
                   for k, base in enumerate(sorted(source.leaves.get(2, ())))}
         if any(table & -PIECE in pieces for table in self.tables):
@@ -172,6 +185,10 @@ class Place:
             self.moved[frame] = (pieces[frame & -PIECE] | frame & PIECE - 1
                                  if frame & -PIECE in pieces else PLACE_OF_FRAMES + 4096 * k)
         self.pieces = pieces
+
+    def is_low(self):
+        """Whether all lies in the first 128 MB."""
+        return not self.stays or all(frame < LOW_END for frame in self.frames)
 
     def frame(self, address):
         """Where a frame is."""
@@ -234,7 +251,11 @@ def needs_of(source, steps):
 def laid_out(record, notes):
     """The bytes for the guest, and a line that says where all is."""
     source = Source(record, notes)
-    place = Place(source)
+    return laid_out_at(source, Place(source))
+
+
+def laid_out_at(source, place, behind=b""):
+    """The same for a place that is chosen, with what is to stand behind the steps."""
     for page in source.pages:
         if page >> 39 & 511 in OWN_SLOTS:
             stop(f"it has an access to {page:#x}, where the guest itself is")
@@ -250,7 +271,7 @@ def laid_out(record, notes):
     tables = max((place.frame(it) - POOL) // 4096 + 1 for it in place.tables)
     body = b"".join([*(struct.pack("<QQ", *start) for start in starts),
                      *(struct.pack("<Q", frame) for frame in frames),
-                     *(step.bytes() for step in steps)])
+                     *(step.bytes() for step in steps), behind])
     head = struct.pack("<8s9Q", MAGIC, 80 + len(body), len(source.starts), source.rules, source.m,
                        needs_of(source, steps), slot, tables, len(frames), len(steps))
     said = (f"{len(source.steps)} events, {len(place.tables)} tables, {len(frames)} frames, " +

@@ -19,7 +19,7 @@ XEN = os.path.join(image.OUT, "xen", "xen")  # probe/xen/build writes it
 # What each needs beside what builds the guest.
 NEEDS = {"qemu": ("qemu-system-x86_64", "/usr/share/seabios/bios-256k.bin"),
          "bochs": ("bochs", BOCHS_BIOS, BOCHS_VGA_BIOS), "kvm": ()}
-NEEDS["xen"] = (*NEEDS["qemu"], "nasm", "ld")
+NEEDS["xen"] = (*NEEDS["qemu"], "as", "ld")
 
 
 def need(system, *more):
@@ -144,15 +144,20 @@ def write_bochsrc(folder, **values):
 def bochs(settings, limit, replay=b""):
     with tempfile.TemporaryDirectory() as folder:
         image.disk(os.path.join(folder, "disk"), settings, replay)
-        # Few instructions a second, as the BIOS waits for seconds of the machine's time.
-        write_bochsrc(folder, processors=settings[3], memory=MEMORY, ips=1000000, boot="disk",
-                      drive=f"type=disk, path=disk, mode=flat, cylinders={image.CYLINDERS}, "
-                            f"heads={image.HEADS}, spt={image.SECTORS}")
-        with open(os.path.join(folder, "output"), "wb") as output:
-            hung = finish(["bochs", "-q", "-f", "bochsrc", "-rc", "commands"], limit, folder,
-                          stdout=output)
-        return Run(read(os.path.join(folder, "output")), read(os.path.join(folder, "said")),
-                   read(os.path.join(folder, "system")) + read(os.path.join(folder, "log")), hung)
+        return bochs_of_disk(folder, settings[3], limit)
+
+
+def bochs_of_disk(folder, processors, limit):
+    """Boots the disk of a folder."""
+    # Few instructions a second, as the BIOS waits for seconds of the machine's time.
+    write_bochsrc(folder, processors=processors, memory=MEMORY, ips=1000000, boot="disk",
+                  drive=f"type=disk, path=disk, mode=flat, cylinders={image.CYLINDERS}, "
+                        f"heads={image.HEADS}, spt={image.SECTORS}")
+    with open(os.path.join(folder, "output"), "wb") as output:
+        hung = finish(["bochs", "-q", "-f", "bochsrc", "-rc", "commands"], limit, folder,
+                      stdout=output)
+    return Run(read(os.path.join(folder, "output")), read(os.path.join(folder, "said")),
+               read(os.path.join(folder, "system")) + read(os.path.join(folder, "log")), hung)
 
 
 LOADER, LOADER_SOURCE = (os.path.join(image.OUT, "loader"),

@@ -134,6 +134,8 @@ static void record_change(const struct change *change, unsigned level, uint32_t 
                          (change->last == level ? change->set & DIRTY : 0);
 
     held[change->frame][change->index] |= set;
+    if (set != 0 && settings.version == 2 && is_case())
+        note_change(POOL_FRAME(change->frame) + 8 * change->index, set);
     if (set != 0 && settings.version == 2)
         taken(pcid_record_assist_unnamed(&record, acting,
                                          flags | (set & DIRTY ? PCID_RECORD_DIRTY : 0), linear,
@@ -171,6 +173,8 @@ static void record_answer(const struct access *access, uint64_t answer)
 
     taken(pcid_record_answer(&record, acting, flags_of(access), linear_of(access), answer, marks,
                              count));
+    if (is_case())
+        judge(0, answer & ~4095ull);
 }
 
 static void record_fault(const struct access *access, const struct processor *processor)
@@ -185,6 +189,8 @@ static void record_fault(const struct access *access, const struct processor *pr
     }
     taken(pcid_record_fault(&record, acting, flags_of(access), linear, (uint32_t)processor->error,
                             marks, count));
+    if (is_case())
+        judge(1, processor->error);
 }
 
 /* Each processor reads the page of ring 3's code as ring 3, which is in no record. The first time,

@@ -2,6 +2,7 @@
 /*
  * Where the record goes: to port 0xE9, or to the first serial line, or to memory, from where a
  * loader takes it at the doorbell. Lines for a person go to the serial line, where no record does.
+ * A case has no record.
  */
 #include "machine.h"
 #include "probe.h"
@@ -16,6 +17,7 @@ enum {
 };
 #define LOG_ADDRESS 0x800000u
 #define LOG_SIZE 0x800000u
+static enum exit_status exit_status;
 
 /* The serial line at 115,200 baud, 8 bits, no parity. */
 void begin_output(void)
@@ -51,6 +53,8 @@ int put(void *context, const uint8_t *bytes, size_t count)
     size_t k;
 
     (void)context;
+    if (is_case())
+        return 0; /* nobody judges the record */
     if (settings.ways & SERIAL) {
         send_serial(bytes, count);
     } else if (settings.ways & DOORBELL) {
@@ -66,26 +70,42 @@ int put(void *context, const uint8_t *bytes, size_t count)
     return 0;
 }
 
-void say(const char *text, uint64_t number)
+/* Lines for a person. Those of a case go to the port too. */
+void tell_text(const char *text)
+{
+    const uint8_t *const bytes = (const uint8_t *)text;
+    size_t count = 0;
+
+    if ((settings.ways & SERIAL) && !is_case())
+        return; /* the record goes there */
+    while (text[count] != 0)
+        count++;
+    send_serial(bytes, count);
+    if (is_case() && !(settings.ways & DOORBELL))
+        out_bytes(RECORD_PORT, bytes, count);
+}
+
+void tell_number(uint64_t number)
 {
     static const char digits[] = "0123456789abcdef";
-    uint8_t line[200];
-    size_t used = 0;
+    char text[19] = "0x";
+    size_t used = 2;
     int shift = 60;
 
-    if (settings.ways & SERIAL)
-        return;
-    while (*text != 0 && used < 160)
-        line[used++] = (uint8_t)*text++;
-    line[used++] = ' ';
-    line[used++] = '0';
-    line[used++] = 'x';
     while (shift > 0 && number >> shift == 0)
         shift -= 4;
     for (; shift >= 0; shift -= 4)
-        line[used++] = (uint8_t)digits[number >> shift & 15];
-    line[used++] = '\n';
-    send_serial(line, used);
+        text[used++] = digits[number >> shift & 15];
+    text[used] = 0;
+    tell_text(text);
+}
+
+void say(const char *text, uint64_t number)
+{
+    tell_text(text);
+    tell_text(" ");
+    tell_number(number);
+    tell_text("\n");
 }
 
 void shut_down(void)
@@ -95,11 +115,17 @@ void shut_down(void)
     hand_over();
     while (!(settings.ways & DOORBELL) && (in_byte(SERIAL_STATUS) & 0x40) == 0)
         pause(); /* the last byte is still on its way */
-    out_byte(EXIT_PORT, 0);
+    out_byte(EXIT_PORT, exit_status);
     while (*word != 0)
         out_byte(BOCHS_EXIT_PORT, (uint8_t)*word++);
     for (;;)
         __asm__ volatile("cli; hlt");
+}
+
+void shut_down_with(enum exit_status status)
+{
+    exit_status = status;
+    shut_down();
 }
 
 void stop(const char *why, uint64_t number)
@@ -110,7 +136,7 @@ void stop(const char *why, uint64_t number)
         pcid_record_end(&record);
     hand_over();
     say(why, number);
-    shut_down();
+    shut_down_with(is_case() ? STOPPED : PASSED);
 }
 
 /* An exception that no access gave: a slip of the guest, or of the machine. */

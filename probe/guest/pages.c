@@ -119,16 +119,16 @@ void begin_frames(void)
 {
     unsigned k, word;
 
-    for (k = 0; k < frames.count; k++) {
-        clear_frame(frames.address[k]);
-        for (word = 0; word < 4; word++)
-            *word_at(frames.address[k] + slot_offset() + 8 * word) =
-                slot_word(frames.address[k] + slot_offset(), word);
-    }
     for (k = 0; k < count_of_tables; k++) {
         clear_frame(POOL_FRAME(k));
         for (word = 0; word < 512; word++)
             held[k][word] = 0;
+    }
+    for (k = 0; k < frames.count; k++) { /* of a replay some may lie between the tables */
+        clear_frame(frames.address[k]);
+        for (word = 0; word < 4; word++)
+            *word_at(frames.address[k] + slot_offset() + 8 * word) =
+                slot_word(frames.address[k] + slot_offset(), word);
     }
 }
 

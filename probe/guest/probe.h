@@ -26,7 +26,7 @@
 #define RING_3 0xFFFF808000000000u
 enum { MEMORY_SLOT = 256, RING_3_SLOT = 257 };
 
-/* Filled in by who loads the guest, at a fixed place (entry.asm). docs/PROBE.md lists the bits. */
+/* Filled in by who loads the guest, at a fixed place (entry.s). docs/PROBE.md lists the bits. */
 struct settings {
     uint64_t magic, seed, seeds, events, processors, version, left_out, ways, script, burst, focus;
     volatile uint64_t log_address, log_length;
@@ -51,14 +51,15 @@ enum {
 
 /* Ways: of the log, of the start of other processors, of turns; whether records are carried out
  * again (replay.c), whose numbers then stand in the place of seeds; whether all processors act at
- * once (streams.c). */
+ * once (streams.c); whether what is answered is judged, instead of recorded (case.c). */
 enum {
     DOORBELL = 1 << 0,
     SERIAL = 1 << 1,
     LOADER_STARTS = 1 << 2,
     LOADER_TURNS = 1 << 3,
     REPLAY = 1 << 4,
-    AT_ONCE = 1 << 5
+    AT_ONCE = 1 << 5,
+    CASE = 1 << 6
 };
 
 /* What the machine offers. */
@@ -76,13 +77,13 @@ extern struct rules rules;
 
 enum { MOST_PROCESSORS = 8, AREA = 16384, RING_3_STACK = 8192 };
 
-enum work { REST, BEGIN, ACCESS, MOV_CR3, INVLPG, INVPCID, SET_PGE, STORE, STREAM };
+enum work { REST, BEGIN, ACCESS, MOV_CR3, INVLPG, INVPCID, SET_PGE, STORE, STREAM, CALL };
 struct order {
     enum work work;
     uint64_t operand[6];
 };
 
-/* A processor: entry.asm knows the first ten fields. Its area holds its stacks too. */
+/* A processor: entry.s knows the first ten fields. Its area holds its stacks too. */
 struct processor {
     uint64_t saved_stack, vector, error, fault_address, rax, rip, flags;
     uint64_t begin, end; /* the stamps of an access */
@@ -108,7 +109,7 @@ static inline uint32_t own_number(void)
     return (uint32_t)((stack - (uint64_t)processors) / AREA);
 }
 
-/* entry.asm */
+/* entry.s */
 extern const uint64_t handlers[32];
 extern uint8_t stubs_begin[], stub_read[], stub_write[], stub_implicit[], stubs_end[];
 extern uint8_t stamped_read[], stamped_write[], stamped_fetch[], stamped_implicit[];
@@ -123,7 +124,12 @@ int put(void *context, const uint8_t *bytes, size_t count);
 void hand_over(void); /* the log, where it is kept in memory */
 void say(const char *text, uint64_t number);
 void stop(const char *why, uint64_t number); /* ends the record, says why, and shuts down */
+void tell_text(const char *text); /* of a case's verdict */
+void tell_number(uint64_t number);
+/* As kvm-unit-tests has them. QEMU ends with twice the status, and one more. */
+enum exit_status { PASSED = 0, FAILED = 1, SKIPPED = 77, STOPPED = 127 };
 void shut_down(void);
+void shut_down_with(enum exit_status status);
 void stray(uint64_t vector, uint64_t error, uint64_t rip, uint64_t address);
 
 /* main.c */
@@ -247,6 +253,16 @@ void begin_header(void);
 void begin_all(void);
 void begin_record(uint64_t seed);
 void run_replay(uint64_t number);
+
+/* case.c */
+static inline int is_case(void)
+{
+    return (settings.ways & CASE) != 0;
+}
+void begin_case(const void *place, uint64_t left);
+void note_change(uint64_t address, uint64_t bits);
+void judge(int is_fault, uint64_t value);
+void skip_case(const char *why, uint64_t number);
 void choose_rules(uint64_t seed);
 
 /* logs.c: a log for each processor that acts at once */

@@ -142,6 +142,9 @@ static void follow(struct processor *processor)
     case STREAM:
         follow_stream();
         break;
+    case CALL:
+        ((void (*)(void *))operand[0])((void *)operand[1]);
+        break;
     }
 }
 

@@ -2,7 +2,8 @@
 /*
  * Carries out the events of a record again, one at a time, and records what is answered now.
  * probe/replay.py lays them out at 0x700000: for each record a head, the addresses of its frames of
- * data, and its steps. What the machine lacks ends the run, but for PCIDs, which are left out.
+ * data, and its steps; behind them may stand what the accesses may return (case.c). What the
+ * machine lacks ends the run, but for PCIDs, which are left out.
  */
 #include "machine.h"
 #include "probe.h"
@@ -45,6 +46,13 @@ static const struct replay *find(uint64_t number)
     return replay;
 }
 
+/* Of a machine that the record does not fit. */
+static void lack(const char *why, uint64_t number)
+{
+    tell_text(is_case() ? "SKIP: " : "stopped: ");
+    (is_case() ? skip_case : stop)(why, number);
+}
+
 static void take_rules(const struct replay *replay)
 {
     rules.wp = replay->rules & 1;
@@ -54,10 +62,9 @@ static void take_rules(const struct replay *replay)
     rules.pcide = machine.pcid && allows(PCIDS);
     rules.invpcid = rules.pcide && machine.invpcid;
     if ((rules.smep && !machine.smep) || (rules.smap && !machine.smap))
-        stop("stopped: the record has SMEP or SMAP, a machine without it; its settings",
-             replay->rules);
+        lack("the record has SMEP or SMAP, a machine without it; its settings", replay->rules);
     if ((replay->needs & NEEDS_GIGABYTE_PAGES) && !machine.gigabyte_pages)
-        stop("stopped: the record has 1-GB pages, a machine without them", 0);
+        lack("the record has 1-GB pages, a machine without them", 0);
     if (replay->processors < 1 || replay->processors > settings.processors)
         stop("stopped: processors of the record", replay->processors);
     if ((replay->needs & NEEDS_PCIDS) && !rules.invpcid)
@@ -84,6 +91,19 @@ static void take_memory(const struct replay *replay)
     for (k = 0; k < count_of_processors; k++) {
         processors[k].processor.cr3 = root_of(replay->start[k].cr3);
         processors[k].processor.pge = replay->start[k].pge;
+    }
+}
+
+/* A machine may have less memory than the frames take. */
+static void look_for_frames(void)
+{
+    uint64_t slot;
+    uint32_t k;
+
+    for (k = 0; k < frames.count; k++) {
+        slot = frames.address[k] + slot_offset();
+        if (*word_at(slot) != slot_word(slot, 0))
+            lack("the machine has no memory at", frames.address[k]);
     }
 }
 
@@ -116,7 +136,7 @@ static void write_again(const struct replay *replay, const struct step *step)
 
     if ((step->flags & HIGH_RESERVED) && replay->m != machine.m) { /* what is reserved here */
         if (machine.m >= 52)
-            stop("stopped: no bit is reserved for MAXPHYADDR", machine.m);
+            lack("no bit is reserved for MAXPHYADDR", machine.m);
         value = (value & ~((1ull << 52) - (1ull << replay->m))) | 1ull << machine.m;
     }
     write_word(frame_of(step->address), (step->address & 4095) / 8, value);
@@ -141,6 +161,8 @@ static void access_again(const struct step *step)
         !faults_at_clear_flag(processors[acting].processor.cr3, access.page + slot_offset(),
                               flags_of(&access)))
         access_page(&access);
+    else if (is_case())
+        lack("a fault whose walk meets A=0 is not judged, of the page", access.page);
 }
 
 static void carry_out_again(const struct replay *replay, const struct step *step)
@@ -185,6 +207,8 @@ void run_replay(uint64_t number)
     take_memory(replay);
     set_slot(replay->slot);
     begin_frames();
+    if (is_case())
+        look_for_frames();
     begin_words();
     acting = 0;
     begin_header();
@@ -192,6 +216,9 @@ void run_replay(uint64_t number)
         prepare(&step[k]);
     begin_all();
     visit_ring_3();
+    if (is_case())
+        begin_case(&step[replay->steps], (uint64_t)replay + replay->size -
+                                             (uint64_t)&step[replay->steps]);
     for (; k < replay->steps; k++)
         carry_out_again(replay, &step[k]);
 }

@@ -6,23 +6,9 @@ import tempfile
 
 from probe import image, systems
 
-HERE = os.path.dirname(os.path.abspath(__file__))
 SHADOW = "dom0=pvh,shadow"
 MEMORY, DOMAIN_MEMORY = 3072, 1400  # MB
 WAYS = 7  # the place of the ways in the settings
-
-
-def write_kernel(folder, settings, replay):
-    """The kernel that Xen boots: the guest with its settings behind a start for the mode PVH."""
-    for name, data in (("guest", image.flat_guest(settings)), ("replay", replay)):
-        with open(os.path.join(folder, name), "wb") as file:
-            file.write(data)
-    made = os.path.join(folder, "kernel")
-    image.command("nasm", "-f", "elf32", f"-DREPLAY={image.REPLAY_ADDRESS}", "-I", folder + "/",
-                  "-I", os.path.join(image.HERE, "guest") + "/", "-o", made + ".o",
-                  os.path.join(HERE, "start.asm"))
-    image.command("ld", "-m", "elf_i386", *image.LINK[1:], "-T", os.path.join(HERE, "link.ld"),
-                  "-o", made, made + ".o")
 
 
 def run(settings, limit, replay=b"", parameters=None):
@@ -30,7 +16,7 @@ def run(settings, limit, replay=b"", parameters=None):
     lines to the second."""
     before, after = settings[:WAYS - 1], settings[WAYS:]
     with tempfile.TemporaryDirectory() as folder:
-        write_kernel(folder, (*before, settings[WAYS - 1] | image.SERIAL, *after), replay)
+        image.kernel(os.path.join(folder, "kernel"), (*before, settings[WAYS - 1] | image.SERIAL, *after), replay)
         shutil.copy(systems.XEN, os.path.join(folder, "xen"))
         hung = systems.finish(
             ["qemu-system-x86_64", "-accel", "tcg,thread=single", "-cpu", "max,+svm",

@@ -9,6 +9,6 @@ PHDRS
 SECTIONS
 {
     . = 0x1800000;
-    .text : { *(.text) } :text
+    .text : { *(.multiboot) *(.text) } :text
     .note.Xen : { *(.note.Xen) } :text :note
 }
