@@ -65,7 +65,8 @@ def prepare_qemu(chosen, folder):
     # levels and no keys, which no record has.
     return ["-accel", "tcg,thread=single", "-machine", "pc,smm=off,vmport=off",
             "-cpu", "max,la57=off,pku=off,pks=off,svm=off", "-smp", str(chosen.processors),
-            "-m", str(MEMORY), "-bios", bios, "-L", folder, "-nodefaults", "-display", "none",
+            "-m", str(MEMORY), "-bios", bios, "-L", folder, "-nodefaults",
+            "-global", "apic-common.vapic=off", "-display", "none",
             "-no-reboot", "-serial", "file:said",
             "-drive", "if=ide,media=cdrom,format=raw,readonly=on,file=disc"]
 
