@@ -160,7 +160,7 @@ def run_recorded(words, folder, variables, limit, is_terminal, auditor, keep):
     told, chain, tee = Told(emulator.stderr, is_terminal), Chain(source), None
     chain.add(parts.close_program(), stderr=subprocess.DEVNULL)
     if keep:
-        tee = chain.add("tee", "--output-error=warn", keep)
+        tee = chain.add("tee", "--output-error=warn-nopipe", keep)  # also where certify dies
     judge = chain.add(auditor, "certify")
     try:
         is_stopped = wait(emulator, limit)
