@@ -1,10 +1,9 @@
 # SPDX-License-Identifier: MIT OR Apache-2.0
 """What a run is made of, each part fetched or built where it is missing and kept in CACHE: a
-kernel, the guest's files and their disc, the emulator and its firmware, and emit/close.c."""
+kernel, the guest's files and their disc, and emit/close.c."""
 import hashlib
 import os
 import shutil
-import subprocess
 import tempfile
 
 HERE = os.path.dirname(os.path.abspath(__file__))
@@ -14,7 +13,11 @@ CACHE = os.path.join(os.environ.get("XDG_CACHE_HOME") or os.path.expanduser("~/.
 from probe import image
 
 image.OUT = CACHE  # of all that the probe's modules fetch
-image.PACKAGES.update({"g++": "g++", "tar": "tar", "xz": "xz-utils", "tee": "coreutils"})
+image.PACKAGES.update({"g++": "g++", "tar": "tar", "xz": "xz-utils", "tee": "coreutils",
+                       "ninja": "ninja-build", "pkg-config": "pkgconf",
+                       "/usr/bin/python3": "python3", "/usr/include/zlib.h": "zlib1g-dev",
+                       "/usr/include/glib-2.0": "libglib2.0-dev",
+                       "/usr/include/libfdt.h": "libfdt-dev"})
 # (what these fetch goes there)
 from probe import debian, kernels, nesting
 
@@ -116,22 +119,3 @@ def make_disc(path, kernel_image, words):
             file.write(f"set timeout=0\nmenuentry guest {{\n linux /boot/vmlinuz {WORDS} {words}\n"
                        " initrd /boot/initramfs\n}\n")
         image.command("grub-mkrescue", "-o", path, tree)
-
-
-def bochs():
-    """The path of the emulator, which record/bochs/build builds where it is missing."""
-    done = subprocess.run([os.path.join(HERE, "bochs", "build")], stdout=subprocess.PIPE, text=True, check=False)
-    if done.returncode != 0:
-        raise image.Stop("record/bochs/build failed")
-    return done.stdout.strip()
-
-
-def firmware():
-    """The BIOS and the VGA BIOS that Bochs boots with."""
-    folder = packages("bochsbios", "vgabios")
-    found = [os.path.join(folder, name) for name in ("usr/share/bochs/BIOS-bochs-latest",
-                                                     "usr/share/vgabios/vgabios.bin")]
-    for path in found:
-        if not os.path.exists(path):
-            raise image.Stop(f"the packages bochsbios and vgabios have no {path}")
-    return found

@@ -15,7 +15,7 @@ from probe import image
 
 # Statuses beside those of `certify` and of the probe.
 EMULATOR_DIED, STOPPED = image.EARLY_END, image.HANG
-FILE_NOT_WRITTEN, AUDITOR_DIED, RECORDER_WRONG = 12, 13, 14
+NOT_WRITTEN, AUDITOR_DIED, RECORDER_WRONG = 12, 13, 14
 LEAVE_TO_END = 20  # seconds that an emulator has to close its record when it is told to
 FORGOT = re.compile(r"forgot (\d+) (\w+) (\d+) (\d+) (0x\w+) (0x\w+)")
 END = re.compile(r"end ([^:]+): (.*)")
@@ -104,9 +104,9 @@ class Outcome:
     """The report and the status of `certify`, how the emulator ended, and whether the file that was
     asked for was written."""
 
-    def __init__(self, report, verdict, emulator, is_stopped, is_written):
+    def __init__(self, report, verdict, emulator, is_stopped, is_kept):
         self.report, self.verdict, self.emulator = report, verdict, emulator
-        self.is_stopped, self.is_written = is_stopped, is_written
+        self.is_stopped, self.is_kept = is_stopped, is_kept
         self.is_judged = verdict in (0, 1, 2, 3, image.UNDECIDED)
 
 
@@ -160,7 +160,7 @@ def run_recorded(words, folder, variables, limit, is_terminal, auditor, keep):
     told, chain, tee = Told(emulator.stderr, is_terminal), Chain(source), None
     chain.add(parts.close_program(), stderr=subprocess.DEVNULL)
     if keep:
-        tee = chain.add("tee", "--output-error=warn", keep)
+        tee = chain.add("tee", "--output-error=warn-nopipe", keep)  # also where certify dies
     judge = chain.add(auditor, "certify")
     try:
         is_stopped = wait(emulator, limit)
@@ -168,21 +168,34 @@ def run_recorded(words, folder, variables, limit, is_terminal, auditor, keep):
         end(emulator)
     told.finish()
     report = chain.output()
-    is_written = tee is None or tee.returncode == 0
-    return Outcome(report, judge.returncode, emulator.returncode, is_stopped, is_written), told
+    is_kept = tee is None or tee.returncode == 0
+    return Outcome(report, judge.returncode, emulator.returncode, is_stopped, is_kept), told
 
 
-def status_of(outcome, told):
-    """The status that tells most of a run: the greatest of those that apply."""
+def status_of(outcome, told, is_written=True):
+    """The status that tells most of a run, whose report was written or not: the greatest of those
+    that apply."""
     if any(told.counts.get(name, "0") != "0" for name in ("unseen stores", "refused")):
         return RECORDER_WRONG
     if not outcome.is_judged:
         return AUDITOR_DIED
-    if not outcome.is_written:
-        return FILE_NOT_WRITTEN
+    if not (outcome.is_kept and is_written):
+        return NOT_WRITTEN
     if outcome.is_stopped:
         return STOPPED
     return EMULATOR_DIED if outcome.emulator != 0 else outcome.verdict
+
+
+def write(report, stream):
+    """Whether standard output took the report: its reader may have ended, or its disk be full."""
+    try:
+        stream.buffer.write(report)
+        stream.flush()
+        return True
+    except OSError:
+        # What is left of it is not to be written again when Python ends.
+        os.dup2(os.open(os.devnull, os.O_WRONLY), stream.fileno())
+        return False
 
 
 def culprit(told, report):

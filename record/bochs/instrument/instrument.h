@@ -3,17 +3,11 @@
  * Records the paging of the guest for pcid-audit: what Bochs calls. Bochs includes this file
  * wherever it has a hook; record/bochs/bochs-3.0.patch adds the calls that Bochs has no hook for.
  *
- * The record begins when the guest writes R to port 0xE9, and ends when it writes S, when a setting
- * of the header changes, or when Bochs ends. Each environment variable is optional:
+ * record/recorder.h has the environment variables of all recorders; two are Bochs's own:
  *
- *     PCID_RECORD_FD=N          the open file that takes the record; without it nothing is recorded
- *     PCID_RECORD_VERSION=1|2   2 records A and D too
- *     PCID_RECORD_REGION=N      the region_bits of emit/pcid_seen.h
  *     PCID_RECORD_BANKS=1       keep a TLB for each of the last 16 PCIDs, as processors do. Bochs
  *                               has one TLB, and flushes it at each MOV to CR3
  *     PCID_RECORD_MARK=1        a walk sets A of the leaf also where the access is denied
- *     PCID_RECORD_BREAK=KIND:N  each Nth time forget what the event is to invalidate; KIND is
- *                               invlpg, invpcid, cr3 or fault
  */
 #if BX_INSTRUMENTATION
 
