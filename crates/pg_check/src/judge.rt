@@ -59,7 +59,7 @@ impl Judge {
     }
 
     /// How many events were noted.
-    pub fn count(&self) -> u64
+    pub(crate) fn count(&self) -> u64
         ensures { result ≡ self.now.count }
     {
         self.count
@@ -74,7 +74,7 @@ impl Judge {
 
     /// Notes the events that come next, unjudged. Fails where memory is refused, and then they
     /// have not come.
-    pub fn note(&mut self, events: &[Event]) -> Result<(), AllocError>
+    pub(crate) fn note(&mut self, events: &[Event]) -> Result<(), AllocError>
         requires { MayNote self.old events.now }
         ensures ok { (head : Head) (before : List Event) → HasNoted self.old head before →
             OnOk result (HasNoted self.new head (before ++ events.now)) }
@@ -94,7 +94,7 @@ impl Judge {
     /// Judges the events that come next, each by those before it, up to the first that is not
     /// witnessed, and notes them all. Tells that one. Fails where memory is refused, and then they
     /// have not come.
-    pub fn judge(&mut self, events: &[Event]) -> Result<Option<(u64, Reason)>, AllocError>
+    pub(crate) fn judge(&mut self, events: &[Event]) -> Result<Option<(u64, Reason)>, AllocError>
         requires { MayNote self.old events.now }
         ensures ok { (head : Head) (before : List Event) → HasNoted self.old head before →
             OnOk result (HasNoted self.new head (before ++ events.now)) }
@@ -119,7 +119,7 @@ impl Judge {
 
     /// The first that is not witnessed of some events that were noted before, where the first of
     /// them has this number: each is judged by the past, which may have gone further since.
-    pub fn judge_again(&mut self, first: u64, events: &[Event]) -> Option<(u64, Reason)>
+    pub(crate) fn judge_again(&mut self, first: u64, events: &[Event]) -> Option<(u64, Reason)>
         requires processors { AllByRecursion
             (λ e. processor_of e < processor_count self.old.past) events.now }
         requires count { first + length events.now ≤ 2 ^ 32 }

@@ -53,7 +53,8 @@ fn settled<B: Drop>(
 ) -> Result<Vec<Done<B>>, PoolError>
     ensures len { IfOk result (λ all. asked ≤ vec_len all) }
     ensures items { IfOk result (λ all. done.items ≡ map (λ d. Ok d) all.items) }
-    ensures thread { result ≡ Err PoolError.Thread → vec_len done < asked }
+    ensures thread { result ≡ Err PoolError.Thread →
+        (vec_len done < asked) × All (λ d. IfErr d (λ _. ⊥)) done.items }
     ensures err { IfErr result (λ e. e ≢ PoolError.Checkers) }
 {
     let started = done.len();
@@ -114,6 +115,7 @@ pub(crate) fn run_checkers<R: Threads + Wait + Sync, J: Segments, G: Gate, B: Be
             let Ok(mut handles) = Vec::with_capacity(alloc, asked) else {
                 return (Err(PoolError::Memory), beside.run());
             };
+            // Any bench does for any seat. The last comes first, as it was used last.
             for seat in seats {
                 let Some(bench) = waiting.pop() else {
                     unreachable!()

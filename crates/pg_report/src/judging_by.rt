@@ -33,7 +33,8 @@ const MOST_WINDOW: usize = 1 << 16;
 
 /// How many events the next window asks for: twice as many as the one that is judged meanwhile has.
 fn next_size(judged: usize) -> usize
-    ensures { 0 < result }
+    ensures some { 0 < result }
+    ensures most { result ≤ 65536 }
 {
     judged.saturating_mul(2).max(FIRST_WINDOW).min(MOST_WINDOW)
 }
