@@ -7,7 +7,7 @@ use Rattle.pg_check.specs.declared.window.Window.{Window}
 use Rattle.pg_check.specs.Judging.{Noted, HasNoted}
 use Rattle.pg_check.specs.Kept.{AreWellFormed}
 
--- the window is what comes behind these events, which are whole segments, of a run under this
+-- the window is what comes after these events, which are whole segments, of a run under this
 -- header
 pub record IsNextWindow (head : Head) (before : List Event) (w : Window) : Type 0 where
   pub valid : IsHead head

@@ -58,9 +58,9 @@ impl Judge {
         Ok(())
     }
 
-    /// Judges one segment of a window: by the events before it where they were noted so far, and
-    /// else, where later ones were, by the past. Fails where memory is refused, and then the judge
-    /// is not to be used.
+    /// Judges one segment of a window. If no event of the segment, or after it, was noted, those
+    /// before it are noted and it is judged at the tip; else it is judged by the past. Fails where
+    /// memory is refused, and then the judge is not to be used.
     pub fn judge_segment(
         &mut self,
         window: &Window<'_>,

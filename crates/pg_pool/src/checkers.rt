@@ -114,6 +114,7 @@ pub(crate) fn run_checkers<R: Threads + Wait + Sync, J: Segments, G: Gate, B: Be
             let Ok(mut handles) = Vec::with_capacity(alloc, asked) else {
                 return (Err(PoolError::Memory), beside.run());
             };
+            // Any bench does for any seat. The last comes first, as it was used last.
             for seat in seats {
                 let Some(bench) = waiting.pop() else {
                     unreachable!()

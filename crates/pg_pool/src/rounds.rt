@@ -92,6 +92,7 @@ fn gather<J: Segments, G: Gate>(
         unreachable!()
     };
     judge_left(segments, gate, worker, &mut bench, &mut verdicts, round.first, &left)?;
+    // Nothing is left to go through, but only this says that the bench is at the end still.
     segments.finish(&mut bench)?;
     benches.push_reserved(bench);
     Ok(Outcome { verdicts, benches })

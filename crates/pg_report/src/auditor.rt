@@ -81,10 +81,9 @@ pub fn audit_one<R: Source, W: Sink>(
 }
 
 /// Reads the record that the reader has left, has it judged by so many checkers, and writes its
-/// report, as `audit_one` does. Each checker has a thread of its own, but for those that would find
-/// no segment: they take the segments of a window of events from one another, and each segment
-/// goes through the gate with the number of the checker that judges it. Windows after one with a
-/// bad event are read, and not judged.
+/// report, as `audit_one` does. Each checker has a thread of its own in each window of events: they
+/// take its segments from one another, and each segment goes through the gate with the number of
+/// the checker that judges it. Each segment is judged, also after a bad one.
 ///
 /// Where the number of checkers is none of 1 to 64 nothing is read. Where a thread is refused the
 /// audit stops by that. The calling thread reads the next window meanwhile. The threads of a window

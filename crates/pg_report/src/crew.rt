@@ -175,7 +175,7 @@ impl<'a, T, G> Crew<'a, T, G> {
 impl<'a, T: Threads + Wait + Sync, G: Gate> Crew<'a, T, G> {
     /// Judges the events that come next, whole segments but for the last of the run, while the
     /// calling thread does a piece of work; that is done once, also after an error. Each segment is
-    /// judged, also behind a bad one. After an error the team is gone.
+    /// judged, also after a bad one. After an error the team is gone.
     pub(crate) fn judge_beside<B: Beside>(
         &self,
         team: Team,

@@ -17,7 +17,7 @@ use std::alloc::{AllocError, Global};
 #[derive(Drop)]
 pub struct Team {
     pub(crate) judged: Judged,
-    /// The judges but the first.
+    /// The judges but that of `judged`.
     pub(crate) others: Vec<Judge>,
 }
 
