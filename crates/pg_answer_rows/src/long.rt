@@ -219,7 +219,10 @@ fn many_windows_by_checkers_of_which_one_is_slow(rt: HostRuntime) -> Result<(), 
         };
         let bytes = record_of(rt.alloc(), &long)?;
         for checkers in [2, 3] {
-            assert!(rt; goes_through_once(&rt, &long, &bytes, checkers, 1_000)?, "{checkers}");
+            assert!(rt;
+                goes_through_once(&rt, &long, &bytes, checkers, 1_000)?,
+                "{checkers}"
+            );
         }
     }
     Ok(())

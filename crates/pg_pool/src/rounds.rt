@@ -37,10 +37,7 @@ pub(crate) struct Outcome<B> {
 }
 
 /// The seats and what the checkers keep, apart.
-fn apart<B: Drop>(
-    alloc: Global,
-    done: Vec<Done<B>>,
-) -> Result<(Vec<Seat>, Vec<B>), AllocError>
+fn apart<B: Drop>(alloc: Global, done: Vec<Done<B>>) -> Result<(Vec<Seat>, Vec<B>), AllocError>
     ensures seats { IfOk result (λ r. r.0.items ≡ map (λ d. d.seat) done.items) }
     ensures benches { IfOk result (λ r. r.1.items ≡ map (λ d. d.bench) done.items) }
 {
@@ -91,7 +88,15 @@ fn gather<J: Segments, G: Gate>(
     let Some(mut bench) = benches.pop() else {
         unreachable!()
     };
-    judge_left(segments, gate, worker, &mut bench, &mut verdicts, round.first, &left)?;
+    judge_left(
+        segments,
+        gate,
+        worker,
+        &mut bench,
+        &mut verdicts,
+        round.first,
+        &left,
+    )?;
     // Nothing is left to go through, but only this says that the bench is at the end still.
     segments.finish(&mut bench)?;
     benches.push_reserved(bench);

@@ -33,11 +33,7 @@ pub(crate) trait Segments: Sync {
         ensures { result ≡ round self.now };
 
     /// The verdict of one segment. Fails where memory is refused.
-    fn judge(
-        &self,
-        bench: &mut Self::Bench,
-        number: u32,
-    ) -> Result<SegmentVerdict, AllocError>
+    fn judge(&self, bench: &mut Self::Bench, number: u32) -> Result<SegmentVerdict, AllocError>
         requires round { IsIn (round self.now) number }
         requires fits { (run : Recorded) × fits self.now run bench.old }
         ensures fits { (run : Recorded) → fits self.now run bench.old →

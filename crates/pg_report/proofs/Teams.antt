@@ -19,7 +19,6 @@ use Rattle.pg_report.specs.Teams.{HasOutcome, IsTeam, MayGoOn}
 -- ---- behind a round
 
 module _ (t : Tally) (n : Noted) (head : Head) (before : List Event) (w : Window) (j : WindowJudged) (h : HasOutcome t head before w j) where
-
   pub awaits_in : HasNoted n head (before ++ w.events.now) → Awaits (findings t.header n t.count t.first_bad) head before w.events.now
   awaits_in noted = record {
     settings = h.settings;

@@ -17,9 +17,7 @@ use crate::report::Verdict;
 use crate::team::{Team, window_of};
 use pg_check::{Judged, SegmentVerdict, Tally, Window};
 use pg_event::{Event, Header, Reason};
-use pg_pool::{
-    Beside, Gate, NoWork, PoolError, Round, WindowJudged, judge_window_beside,
-};
+use pg_pool::{Beside, Gate, NoWork, PoolError, Round, WindowJudged, judge_window_beside};
 use std::alloc::{AllocError, Global};
 use std::sync::Wait;
 use std::thread::Threads;

@@ -23,10 +23,7 @@ use std::sync::{Mutex, Wait};
 use std::thread::Threads;
 
 /// What is judged before anything is recorded.
-fn nothing_judged<R, H>(
-    crew: &Crew<'_, R, H>,
-    script: &Script,
-) -> Result<LiveJudging, AllocError> {
+fn nothing_judged<R, H>(crew: &Crew<'_, R, H>, script: &Script) -> Result<LiveJudging, AllocError> {
     LiveJudging::new(crew, script.header().clone()?)
 }
 

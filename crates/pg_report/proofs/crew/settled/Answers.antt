@@ -40,8 +40,7 @@ found_in-requires-clause-each c =
 pub settle-requires : goal.settle-requires
 settle-requires c =
     let at : In-Some = (goal.at.settle-requires c).In-Some in
-    let was = c.requires.outcome in
-    (
+    let was = c.requires.outcome in (
       was.0,
       was.1,
       subst (λ (f : Findings). Awaits f was.0 was.1 c.args.window.now.events.now) (sym c.together-judged.ensures)

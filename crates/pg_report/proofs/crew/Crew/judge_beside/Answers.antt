@@ -34,8 +34,7 @@ settled_if-requires-clause-outcome g c =
     let head = c.args.team.judged.head in
     let may = c.requires.next in
     let next = next_there g at head may.before may.team in
-    let tally = c.in-Ok.ensures.tally in
-    (
+    let tally = c.in-Ok.ensures.tally in (
       head,
       may.before,
       IfOk-weaker c.judge_window_beside-judged.result.0 (IsWindowJudged head may.before c.window_of-window.result) (HasOutcome c.in-Ok.parts.0 head may.before c.window_of-window.result)
