@@ -26,8 +26,7 @@ impl Team {
     pub(crate) fn new(alloc: Global, header: Header, checkers: u32) -> Result<Team, AllocError>
         requires head { IsHead header }
         requires checkers { AreCheckers checkers }
-        ensures team { IfOk result (λ team. IsTeam team header []) }
-        ensures len { IfOk result (λ team. vec_len team.others + 1 ≡ checkers) }
+        ensures { IfOk result (λ team. IsTeam team header []) }
     {
         let mut others = Vec::new(alloc);
         for _ in 1..checkers {
