@@ -31,7 +31,7 @@ fn deal(
     ensures dealt { IfOk result (λ deque.
         worker_view deque ≡ hand true (dealt round size checkers number) []) }
 {
-    // Room for all comes at once, so that a push is refused for want of memory alone.
+    // Room for all comes at once, so that a push is refused only where memory is.
     let blocks = (round.last - round.first).div_ceil(size).div_ceil(checkers);
     let mut deque = new_deque(alloc, blocks.saturating_mul(size) as usize)?;
     for n in round.first..round.last {

@@ -50,7 +50,8 @@ pub(crate) fn judge_left<J: Segments, G: Gate>(
     ensures fits { (run : Recorded) → J.fits segments.now run bench.old →
         OnOk result (J.fits segments.now run bench.new) }
     ensures placed { (run : Recorded) → J.fits segments.now run bench.old →
-        OnOk result (verdicts.new ≡ placed first verdicts.old (map (segment_verdict run) left.now)) }
+        OnOk result (verdicts.new
+        ≡ placed first verdicts.old (map (segment_verdict run) left.now)) }
 {
     for number in left {
         gate.enter(worker, *number as u64);

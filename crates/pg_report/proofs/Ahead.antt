@@ -94,7 +94,7 @@ module _ {R : Type 0} (g : Ghosts R) (start : Option (List ℕ)) (f : ℕ) (r : 
       device = h.1.failed;
     }
 
-    -- want of memory says nothing
+    -- an answer that memory is refused says nothing of the bytes
     pub window_refused : (windows : ℕ) (window' : List Event) → ReadsWindow g start f r windows at stage window' (Err errors.Memory)
     window_refused windows window' = record { fits = tt; goes = tt; fails = tt; device = h.1.failed }
 

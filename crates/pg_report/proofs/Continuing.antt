@@ -135,7 +135,7 @@ both : (newest : Version) (start : Option (List ℕ)) (r : Recorded) → IfSome 
 both newest None r old spelled = tt
 both newest (Some bytes) r old spelled = (spelled, old)
 
--- want of memory says nothing of the bytes
+-- an answer that memory is refused says nothing of the bytes
 pub memory_reads : (newest : Version) (start : Option (List ℕ)) → IfSome start (λ bytes. ReadsRecord newest bytes (Err errors.Memory))
 memory_reads newest None = tt
 memory_reads newest (Some bytes) = tt
