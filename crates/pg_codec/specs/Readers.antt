@@ -95,9 +95,11 @@ PullsSegment g Start old new result = Unit {0}
 PullsSegment g Ended old new result = Unit {0}
 PullsSegment g Refused old new result = Unit {0}
 
--- a segment that may come next: some well-formed events, and not too many
+-- a segment that may come next: some well-formed events, no more than a segment holds, and not too
+-- many with those before
 pub record IsSegment (p : Progress) (events : List Event) : Type 0 where
   pub some : 1 ≤ length events
+  pub fits : length events ≤ p.header.segment
   pub limit : p.before + length events < 2 ^ 32
   pub well : AllByRecursion (λ e. broken_rule p.header e ≡ None) events
 

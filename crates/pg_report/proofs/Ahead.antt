@@ -78,7 +78,11 @@ module _ {R : Type 0} (g : Ghosts R) (start : Option (List ℕ)) (f : ℕ) (r : 
           subst (λ (es : List Event). IsGoing g Two start f after later (record { head = r.head; events = es }) (segments + 1)) (append_assoc r.events window items) on,
         )
 
-    -- the same, of a list that has what was read
+    -- and brings no more events than a segment holds
+    pub segment_fits : (items : List Event) → IsNext stage (Some items) → length items ≤ r.head.segment
+    segment_fits items next = (next_fits g Two start f at stage (with_more r window) segments h.1 items next).fits
+
+    -- it is read further, of a list that has what was read
     pub read_further : (after : List ℕ × R) (items : List Event) (later : Stage) → PullsSegment g stage at after (Ok (Some items)) → IsNext stage (Some items)
         → later ≡ stage_after_chunk stage (Ok (Some items)) → (all : List Event) → all ≡ window ++ items → (count : ℕ) → count ≡ segments + 1 → HasRead g start f r count after later all
     read_further after items later pulls next e all is count so =

@@ -156,7 +156,7 @@ module _ {R : Type 0} (g : Ghosts R) (newest : Version) (start : Option (List �
   next_fits at stage r segments h items n =
       let P : Stage → Type 0 = λ s. IsNext s (Some items) in
       let here = (subst P h.stage_is n).1 in
-      record { some = here.some; limit = here.limit; well = here.well }
+      record { some = here.some; fits = here.fits; limit = here.limit; well = here.well }
 
   -- behind the events that were read a segment may begin
   pub next_begins : (at : List ℕ × R) (stage : Stage) (r : Recorded) (segments : ℕ) → IsGoing g newest start f at stage r segments → (items : List Event) → IsNext stage (Some items)

@@ -37,12 +37,12 @@ WritesText output text (Err (errors.Refused e)) = ⊥
 WritesText output text (Err errors.Thread) = ⊥
 WritesText output text (Err errors.Checkers) = ⊥
 
--- Of these bytes the audit answers so, and leaves the writer so: a verdict is that of the one
--- record that the bytes spell, the text of its report was written and nothing else, and where the
--- verdict is yes some run of the manual's machine has exactly its events in that order; a refusal
--- is the first of the bytes, which spell no record, and nothing was written; nor was it for want of
--- memory or a thread, for a number of checkers that can't be, nor where the reader failed; where
--- the writer failed a beginning of the report was.
+-- The audit gives this answer for these bytes, and leaves the writer so. A verdict is that of the
+-- one record that the bytes spell, and the text of its report was written and nothing else; if it
+-- is yes, some run of the manual's machine has exactly the record's events in that order. A refusal
+-- is the first of the bytes, which spell no record. Nothing was written then, nor if memory ran out
+-- or a thread could not be created, nor for a number of checkers that is none of 1 to 64, nor if
+-- the reader failed. If the writer failed, a beginning of the report was written.
 abbrev pub Audits : List ℕ → Change → Change → Result Verdict AuditError → Type 0
 Audits bytes input output (Ok verdict) =
     (r : Recorded) × SpellsOne bytes r × (verdict ≡ (report_of r).verdict)
@@ -85,7 +85,7 @@ HasWritten input output (Err errors.Device) =
     (ReaderFails input output × AddsNothing output)
     ⊎ (WriterFails input output × (report : Report) × AddsSome output (report_text report))
 
--- a failed device is answered exactly where the failures of the reader or of the writer rose
+-- an I/O error is answered exactly where the failures of the reader or of the writer rose
 abbrev pub TellsFailures : {A : Type 0} → Change → Change → Result A AuditError → Type 0
 TellsFailures input output (Ok x) = NoneFails input output
 TellsFailures input output (Err errors.Device) =

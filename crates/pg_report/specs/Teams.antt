@@ -2,6 +2,7 @@
 use Rattle.std.specs.Prelude.{◌≡◌, ◌+◌, ◌<◌, ◌^◌, List, All, length, vec_len}
 use Rattle.pg_event.specs.declared.event.Event.{Event}
 use Rattle.pg_event.specs.Heads.{Head}
+use Rattle.pg_event.specs.Spelling.{IsHead}
 use Rattle.pg_event.specs.Witness.{first_bad}
 use Rattle.pg_check.specs.declared.judged.Tally.{Tally}
 use Rattle.pg_check.specs.declared.window.Window.{Window}
@@ -15,6 +16,7 @@ use Rattle.pg_report.specs.Judging.{BeginsSegment}
 
 -- the events of a run were judged, and each of at most 64 judges has noted them
 pub record IsTeam (t : Team) (head : Head) (events : List Event) : Type 0 where
+  pub valid : IsHead head
   pub judged : IsJudged t.judged head events
   pub others : All (λ judge. HasNoted judge head events) t.others.items
   pub few : vec_len t.others < 64

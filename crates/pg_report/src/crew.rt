@@ -1,6 +1,6 @@
 //! Windows that are judged by checkers.
 
-ghost use Rattle.std.specs.Prelude.{◌≡◌, ◌≢◌, ◌≤◌, ◌<◌, ◌++◌, [], List, IfOk, IfErr, vec_len};
+ghost use Rattle.std.specs.Prelude.{◌≡◌, ◌≢◌, ◌+◌, ◌≤◌, ◌<◌, ◌++◌, [], ℕ, List, IfOk, IfErr, vec_len};
 ghost use Rattle.pg_event.specs.declared.event.Event.{Event};
 ghost use Rattle.pg_event.specs.Heads.{Head};
 ghost use Rattle.pg_event.specs.Spelling.{IsHead, Recorded};
@@ -115,6 +115,7 @@ fn settled(
     ensures ok { (head : Head) (before : List Event) →
         HasOutcome tally head before window.now judged →
         IfOk result (λ team. IsTeam team head (before ++ window.now.events.now)) }
+    ensures len { IfOk result (λ team. vec_len team.others + 1 ≡ vec_len judged.judges) }
     ensures err { IfErr result StopsJudging }
 {
     let WindowJudged {
@@ -151,6 +152,8 @@ fn settled_if(
     ensures ok { (head : Head) (before : List Event) →
         IfOk judged (HasOutcome tally head before window.now) →
         IfOk result (λ team. IsTeam team head (before ++ window.now.events.now)) }
+    ensures len { (n : ℕ) → IfOk judged (λ j. vec_len j.judges ≡ n) →
+        IfOk result (λ team. vec_len team.others + 1 ≡ n) }
     ensures err { IfErr result StopsJudging }
 {
     match judged {
@@ -164,7 +167,8 @@ impl<'a, T, G> Crew<'a, T, G> {
     /// refused.
     pub fn team(&self, header: Header) -> Result<Team, AllocError>
         requires { IsHead header }
-        ensures { IfOk result (λ team. IsTeam team header []) }
+        ensures team { IfOk result (λ team. IsTeam team header []) }
+        ensures len { IfOk result (λ team. vec_len team.others + 1 ≡ self.now.checkers) }
     {
         Team::new(self.alloc, header, self.checkers)
     }
@@ -184,6 +188,7 @@ impl<'a, T: Threads + Wait + Sync, G: Gate> Crew<'a, T, G> {
         requires beside { B.can_run beside }
         ensures ok { (head : Head) (before : List Event) → IsTeam team head before →
             IfOk result.0 (λ after. IsTeam after head (before ++ events.now)) }
+        ensures len { IfOk result.0 (λ after. vec_len after.others ≡ vec_len team.others) }
         ensures err { IfErr result.0 StopsJudging }
         ensures beside { B.gives beside result.1 }
     {
@@ -207,6 +212,7 @@ impl<'a, T: Threads + Wait + Sync, G: Gate> Crew<'a, T, G> {
         requires next { MayGoOn team events.now }
         ensures ok { (head : Head) (before : List Event) → IsTeam team head before →
             IfOk result (λ after. IsTeam after head (before ++ events.now)) }
+        ensures len { IfOk result (λ after. vec_len after.others ≡ vec_len team.others) }
         ensures err { IfErr result StopsJudging }
     {
         let (result, ()) = self.judge_beside(team, events, NoWork);

@@ -1,6 +1,6 @@
 //! Whole records, judged by checkers as they are read.
 
-ghost use Rattle.std.specs.Prelude.{◌≡◌, ℕ, ◌+◌, ◌<◌, [], List, Option};
+ghost use Rattle.std.specs.Prelude.{◌≡◌, ℕ, ◌+◌, ◌≤◌, ◌<◌, ◌^◌, [], List, Option, IfOk, length};
 ghost use Rattle.pg_event.specs.Spelling.{Recorded};
 ghost use Rattle.pg_event.specs.declared.version.Version.TheVariants.{Two};
 ghost use Rattle.pg_report.specs.Changes.{drawn};
@@ -33,7 +33,8 @@ const MOST_WINDOW: usize = 1 << 16;
 
 /// How many events the next window asks for: twice as many as the one that is judged meanwhile has.
 fn next_size(judged: usize) -> usize
-    ensures { 0 < result }
+    ensures some { 0 < result }
+    ensures most { result ≤ 2 ^ 16 }
 {
     judged.saturating_mul(2).max(FIRST_WINDOW).min(MOST_WINDOW)
 }
@@ -50,10 +51,13 @@ fn read_window<R: Source>(
     requires some { 0 < size }
     requires going { (start : Option (List ℕ)) × (f : ℕ) × (r : Recorded) × (windows : ℕ)
         × IsGoing R.Source Two start f (reader.old.unread, source.old) reader.old.stage r windows }
-    ensures { (start : Option (List ℕ)) (f : ℕ) (r : Recorded) (windows : ℕ) →
+    ensures reads { (start : Option (List ℕ)) (f : ℕ) (r : Recorded) (windows : ℕ) →
         IsGoing R.Source Two start f (reader.old.unread, source.old) reader.old.stage r windows →
         ReadsWindow R.Source start f r windows
         (reader.new.unread, source.new) reader.new.stage window.new.items result }
+    ensures few { (start : Option (List ℕ)) (f : ℕ) (r : Recorded) (windows : ℕ) →
+        IsGoing R.Source Two start f (reader.old.unread, source.old) reader.old.stage r windows →
+        IfOk result (λ _. length window.new.items < size + r.head.segment) }
 {
     window.clear();
     let mut room = Vec::new(alloc);
@@ -88,7 +92,7 @@ struct Next<'a, 'b, 'c, R> {
 }
 
 impl<'a, 'b, 'c, R: Source> Beside for Next<'a, 'b, 'c, R> {
-    ghost use Rattle.std.specs.Prelude.{◌≡◌, ◌<◌, ℕ, List, Option};
+    ghost use Rattle.std.specs.Prelude.{◌≡◌, ◌+◌, ◌<◌, ℕ, List, Option, IfOk, length};
     ghost use Rattle.pg_event.specs.Spelling.{Recorded};
     ghost use Rattle.pg_event.specs.declared.version.Version.TheVariants.{Two};
     ghost use Rattle.pg_report.specs.Going.{IsGoing};
@@ -108,7 +112,11 @@ impl<'a, 'b, 'c, R: Source> Beside for Next<'a, 'b, 'c, R> {
         IsGoing R.Source Two start f (n.reader.now.unread, n.source.now) n.reader.now.stage
         r windows → ReadsWindow R.Source start f r windows
         (out.0.reader.now.unread, out.0.source.now) out.0.reader.now.stage
-        out.0.window.now.items out.1) };
+        out.0.window.now.items out.1)
+        × ((start : Option (List ℕ)) (f : ℕ) (r : Recorded) (windows : ℕ) →
+        IsGoing R.Source Two start f (n.reader.now.unread, n.source.now) n.reader.now.stage
+        r windows →
+        IfOk out.1 (λ _. length out.0.window.now.items < n.size + r.head.segment)) };
 
     fn run(self) -> (Next<'a, 'b, 'c, R>, Result<bool, AuditError>) {
         let Next {
@@ -135,7 +143,8 @@ fn take_back<T>(lent: &mut T)
     ensures { lent.new ≡ lent.old }
 {}
 
-/// Judges the window that waits, and reads the next beside.
+/// Judges the window that waits, and reads the next beside: a window asks for at most 65,536 events,
+/// and its last segment may bring as many more.
 fn judge_and_read<T: Threads + Wait + Sync, G: Gate, R: Source>(
     crew: &Crew<'_, T, G>,
     reader: &mut RecordReader,
@@ -147,11 +156,12 @@ fn judge_and_read<T: Threads + Wait + Sync, G: Gate, R: Source>(
     requires waits { (start : Option (List ℕ)) × (f : ℕ) × (windows : ℕ)
         × IsTeamJudging R.Source start f (reader.old.unread, source.old) reader.old.stage
         team window.now windows }
-    ensures { (start : Option (List ℕ)) (f : ℕ) (windows : ℕ) →
+    ensures goes { (start : Option (List ℕ)) (f : ℕ) (windows : ℕ) →
         IsTeamJudging R.Source start f (reader.old.unread, source.old) reader.old.stage
         team window.now windows →
         GoesOn R.Source start f (reader.new.unread, source.new) reader.new.stage
         next.new.items (windows + 1) result }
+    ensures few { IfOk result (λ _. length next.new.items < 2 ^ 17) }
 {
     let work = Next {
         alloc: crew.alloc,

@@ -26,7 +26,8 @@ impl Team {
     pub(crate) fn new(alloc: Global, header: Header, checkers: u32) -> Result<Team, AllocError>
         requires head { IsHead header }
         requires checkers { AreCheckers checkers }
-        ensures { IfOk result (λ team. IsTeam team header []) }
+        ensures team { IfOk result (λ team. IsTeam team header []) }
+        ensures len { IfOk result (λ team. vec_len team.others + 1 ≡ checkers) }
     {
         let mut others = Vec::new(alloc);
         for _ in 1..checkers {

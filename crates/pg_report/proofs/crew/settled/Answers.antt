@@ -59,6 +59,7 @@ returns-in-Ok-clause-ok c = λ head before h.
     let round = round_there t n head before w c.args.judged h in
     let merged : IsFoundIn run c.args.judged.round c.in-Ok.found = c.in-Ok.ensures.ok run (c.deref.ensures.value ∙ h.is.verdicts ∙ ap (λ (r : Round). round_verdicts run r) (sym h.is.round)) in
     record {
+      valid = h.next.valid;
       judged = c.settle.ensures head before (subst (λ (f : Findings). Awaits f head before w.events.now) (sym c.together-judged.ensures) a)
           (λ none.
           first_found (findings t.header n t.count t.first_bad) head before w.events.now a h.next.valid.size (round_verdicts run (waiting_round (findings t.header n t.count t.first_bad) w.events.now)) refl c.in-Ok.found (begins_in t n head before w c.args.judged h)

@@ -17,7 +17,7 @@ judge_rest-requires-clause-going g c κs within =
     let r : Recorded = record { head = c.in-Ok.header; events = [] } in (
       g.R.Source.left c.args.source.now,
       g.R.Source.failed c.args.source.now,
-      team_at_start g.R.Source _ _ _ _ c.in_ok-team.team c.in-Ok.header c.in_ok-team.ensures
+      team_at_start g.R.Source _ _ _ _ c.in_ok-team.team c.in-Ok.header c.in_ok-team.ensures.team
           (going_from_fresh g.R.Source Two c.in_ok-reader.reader _ _ c.in_ok-reader.ensures c.in-Ok.header _ read.pulls read.stage r refl),
     )
 
@@ -25,12 +25,12 @@ pub returns-clause-judges : goal.returns-clause-judges
 returns-clause-judges g c =
     let read = c.in-Ok.ensures in
     let r : Recorded = record { head = c.in-Ok.header; events = [] } in
-    c.judge_rest.ensures.judges (g.R.Source.left c.args.source.now) (g.R.Source.failed c.args.source.now) (team_at_start g.R.Source _ _ _ _ c.in_ok-team.team c.in-Ok.header c.in_ok-team.ensures
+    c.judge_rest.ensures.judges (g.R.Source.left c.args.source.now) (g.R.Source.failed c.args.source.now) (team_at_start g.R.Source _ _ _ _ c.in_ok-team.team c.in-Ok.header c.in_ok-team.ensures.team
     (going_from_fresh g.R.Source Two c.in_ok-reader.reader _ _ c.in_ok-reader.ensures c.in-Ok.header _ read.pulls read.stage r refl))
 
 pub returns-clause-device : goal.returns-clause-device
 returns-clause-device g c =
     let read = c.in-Ok.ensures in
     let r : Recorded = record { head = c.in-Ok.header; events = [] } in
-    c.judge_rest.ensures.device (g.R.Source.left c.args.source.now) (g.R.Source.failed c.args.source.now) (team_at_start g.R.Source _ _ _ _ c.in_ok-team.team c.in-Ok.header c.in_ok-team.ensures
+    c.judge_rest.ensures.device (g.R.Source.left c.args.source.now) (g.R.Source.failed c.args.source.now) (team_at_start g.R.Source _ _ _ _ c.in_ok-team.team c.in-Ok.header c.in_ok-team.ensures.team
     (going_from_fresh g.R.Source Two c.in_ok-reader.reader _ _ c.in_ok-reader.ensures c.in-Ok.header _ read.pulls read.stage r refl))

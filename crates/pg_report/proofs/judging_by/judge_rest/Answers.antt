@@ -6,7 +6,7 @@ pub judge_last-requires-clause-last : goal.judge_last-requires-clause-last
 judge_last-requires-clause-last g c κs within =
     let was = c.loop.invariant.0 in
     let h : IsTeamJudging g.R.Source was.0 was.1 (c.loop.reader.unread, c.loop.source) c.loop.reader.stage c.loop.team c.as_slice.result.now c.loop.counter = rw c.as_slice.ensures.value was.2 in
-    let on = c.in-Ok.ensures was.0 was.1 c.loop.counter h in
+    let on = c.in-Ok.ensures.goes was.0 was.1 c.loop.counter h in
     let no : c.in-Ok.more ≡ false = search rules in
     let last : IsTeamLast was.0 c.in-Ok.after c.judge_and_read.new.next.items = rw no at on.waits in
     (was.0, rw c.as_slice-then-not-more.ensures.value last)
@@ -15,7 +15,7 @@ pub returns-then-not-more-clause-judges : goal.returns-then-not-more-clause-judg
 returns-then-not-more-clause-judges g c = λ start f at.
     let was = c.loop.invariant.1 start f at in
     let h : IsTeamJudging g.R.Source start f (c.loop.reader.unread, c.loop.source) c.loop.reader.stage c.loop.team c.as_slice.result.now c.loop.counter = rw c.as_slice.ensures.value was in
-    let on = c.in-Ok.ensures start f c.loop.counter h in
+    let on = c.in-Ok.ensures.goes start f c.loop.counter h in
     let no : c.in-Ok.more ≡ false = search rules in
     let last : IsTeamLast start c.in-Ok.after c.judge_and_read.new.next.items = rw no at on.waits in
     c.judge_last.ensures.judges start (rw c.as_slice-then-not-more.ensures.value last)
@@ -24,20 +24,20 @@ pub returns-then-not-more-clause-device : goal.returns-then-not-more-clause-devi
 returns-then-not-more-clause-device g c = λ start f at.
     let was = c.loop.invariant.1 start f at in
     let h : IsTeamJudging g.R.Source start f (c.loop.reader.unread, c.loop.source) c.loop.reader.stage c.loop.team c.as_slice.result.now c.loop.counter = rw c.as_slice.ensures.value was in
-    let on = c.in-Ok.ensures start f c.loop.counter h in
+    let on = c.in-Ok.ensures.goes start f c.loop.counter h in
     rw on.device (c.judge_last.ensures.device f)
 
 pub returns-in-Err-clause-judges : goal.returns-in-Err-clause-judges
 returns-in-Err-clause-judges g c = λ start f at.
     let was = c.loop.invariant.1 start f at in
     let h : IsTeamJudging g.R.Source start f (c.loop.reader.unread, c.loop.source) c.loop.reader.stage c.loop.team c.as_slice.result.now c.loop.counter = rw c.as_slice.ensures.value was in
-    (c.in-Err.ensures start f c.loop.counter h).fails
+    (c.in-Err.ensures.goes start f c.loop.counter h).fails
 
 pub returns-in-Err-clause-device : goal.returns-in-Err-clause-device
 returns-in-Err-clause-device g c = λ start f at.
     let was = c.loop.invariant.1 start f at in
     let h : IsTeamJudging g.R.Source start f (c.loop.reader.unread, c.loop.source) c.loop.reader.stage c.loop.team c.as_slice.result.now c.loop.counter = rw c.as_slice.ensures.value was in
-    (c.in-Err.ensures start f c.loop.counter h).device
+    (c.in-Err.ensures.goes start f c.loop.counter h).device
 
 pub loop-preserved : goal.loop-preserved
 loop-preserved g c =
@@ -46,7 +46,7 @@ loop-preserved g c =
     → IsTeamJudging g.R.Source start f (c.judge_and_read.new.reader.unread, c.judge_and_read.new.source) c.judge_and_read.new.reader.stage c.in-Ok.after c.swap.new.x.items (c.loop.counter + 1) =
     (λ start f was.
     let h : IsTeamJudging g.R.Source start f (c.loop.reader.unread, c.loop.source) c.loop.reader.stage c.loop.team c.as_slice.result.now c.loop.counter = rw c.as_slice.ensures.value was in
-    let on = c.in-Ok.ensures start f c.loop.counter h in
+    let on = c.in-Ok.ensures.goes start f c.loop.counter h in
     let next : IsTeamJudging g.R.Source start f (c.judge_and_read.new.reader.unread, c.judge_and_read.new.source) c.judge_and_read.new.reader.stage c.in-Ok.after c.judge_and_read.new.next.items (c.loop.counter + 1) = rw yes at on.waits in
     rw c.swap.ensures.x_after next) in
     let was = c.loop.invariant in

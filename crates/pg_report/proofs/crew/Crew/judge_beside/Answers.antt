@@ -1,4 +1,4 @@
-use Rattle.std.proofs.Common.{◌≡◌, ◌∙◌, ◌==◌, ◌++◌, true≢false, List, length, ap, sym, subst, arith}
+use Rattle.std.proofs.Common.{◌≡◌, ◌∙◌, ◌==◌, ◌++◌, true≢false, List, length, vec_len, ap, sym, subst, arith}
 use Rattle.std.proofs.lemmas.Result.{IfOk-weaker}
 use Rattle.pg_event.specs.declared.event.Event.{Event}
 use Rattle.pg_event.specs.Heads.{Head}
@@ -59,3 +59,8 @@ returns-clause-ok g c = λ head before is.
     IfOk-weaker c.settled_if.result (λ after. IsTeam after head (before ++ c.window_of-window.result.events.now)) (λ after. IsTeam after head (before ++ c.args.events.now))
     (λ after there. subst (λ (es : List Event). IsTeam after head (before ++ es)) events there)
     (c.settled_if.ensures.ok head before outcome)
+
+pub returns-clause-len : goal.returns-clause-len
+returns-clause-len g c =
+    IfOk-weaker c.settled_if.result _ _ (λ after is. omega (arith, is, c.in-Ok.ensures.len))
+    (c.settled_if.ensures.len (vec_len c.in-Ok.parts.1) c.judge_window_beside-judged.ensures.len)
