@@ -9,7 +9,7 @@ mod single;
 mod turns;
 
 pub use error::RunError;
-pub use record_report::report_from_bytes;
+pub use record_report::report_of_record;
 pub use result::RunResult;
 pub use single::{run_single, transcripts_of};
 pub use turns::turn;

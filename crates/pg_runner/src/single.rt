@@ -8,7 +8,7 @@ ghost use Rattle.pg_runner.specs.Lines.{AreCarriedOut, IsSingleRun};
 ghost use Rattle.pg_runner.specs.Runs.{record_of};
 
 use crate::error::RunError;
-use crate::record_report::report_from_bytes;
+use crate::record_report::report_of_record;
 use crate::result::RunResult;
 use crate::turns::turn;
 use pg_guest::{Processor, processors};
@@ -80,9 +80,8 @@ pub fn transcripts_of(
     Ok(all)
 }
 
-/// Runs a script on the calling thread alone, its lines in their order, each to its end, and has
-/// the record judged from its bytes. It fails where memory is refused alone, and then nothing is
-/// handed out.
+/// Runs a script on the calling thread alone, its lines in their order, each to its end, and then
+/// judges the record. It fails where memory is refused alone, and then nothing is handed out.
 pub fn run_single(alloc: Global, script: &Script) -> Result<RunResult, RunError>
     ensures ok { IfOk result (λ run. IsSingleRun script.now run) }
     ensures formed { IfOk result (λ run. IsRecord (record_of run.trace)) }
@@ -93,7 +92,7 @@ pub fn run_single(alloc: Global, script: &Script) -> Result<RunResult, RunError>
     carry_out_all(script, &mut world, &mut guests)?;
     world.finish();
     let trace = world.into_record();
-    let report = report_from_bytes(alloc, &trace)?;
+    let report = report_of_record(alloc, &trace)?;
     let transcripts = transcripts_of(alloc, guests)?;
     Ok(RunResult {
         trace,

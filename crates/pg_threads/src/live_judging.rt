@@ -14,7 +14,7 @@ use crate::same::begins_with;
 use pg_event::{Event, Header, Record};
 use pg_pool::Gate;
 use pg_report::{AuditError, Crew, Report, Team, report_of_judged};
-use pg_runner::{RunError, report_from_bytes};
+use pg_runner::{RunError, report_of_record};
 use std::alloc::{AllocError, Global};
 use std::marker::Model;
 use std::sync::Wait;
@@ -159,7 +159,7 @@ impl LiveJudging {
     }
 
     /// The report of a record. Where these events begin it, the rest is judged, else all of it
-    /// anew, from its bytes: nothing ties what was seen under a lock to what is found later.
+    /// anew: nothing ties what was seen under a lock to what is found later.
     pub(crate) fn report<T: Threads + Wait + Sync, H: Gate>(
         &mut self,
         crew: &Crew<'_, T, H>,
@@ -200,5 +200,5 @@ fn anew(alloc: Global, trace: &Record) -> Result<Report, RunError>
     ensures ok { IfOk result (λ report. report ≡ report_of (record_of trace.now)) }
     ensures err { IfErr result IsWant }
 {
-    report_from_bytes(alloc, trace)
+    report_of_record(alloc, trace)
 }
