@@ -1,6 +1,6 @@
 //! Logs of single processors, and the runs that they make.
 
-use pg_event::processor_of;
+use pg_event::Event;
 use pg_merge::{Log, merge_logs, read_log};
 use pg_spanned::SpannedRun;
 use std::alloc::{AllocError, AllocGlobal, Global};
@@ -178,17 +178,17 @@ fn first_refusal_of_bytes_is_told(rt: HostRuntime) -> Result<(), Fail> {
     Ok(())
 }
 
-/// A log of a run of two processors: MAXPHYADDR, its processor, and its events, each an INVLPG of
-/// page 0 between two stamps.
+/// A log of a run of two processors: MAXPHYADDR, its processor, and its events, each an INVLPG
+/// between two stamps, whose address is its begin stamp.
 type Spans = (u8, u8, &'static [(u8, u8)]);
 
-/// Logs, by how many ticks their spans are longer, and what they make: the processor and the span
-/// of each event, or the number of a refusal.
+/// Logs, by how many ticks their spans are longer, and what they make: the processor, the address
+/// and the span of each event, or the number of a refusal.
 struct Case {
     name: &'static str,
     logs: &'static [Spans],
     error: u64,
-    events: &'static [(u16, u32)],
+    events: &'static [(u16, u64, u32)],
     told: u8,
 }
 
@@ -197,56 +197,56 @@ const CASES: [Case; 12] = [
         name: "no event overlaps another",
         logs: &[(40, 0, &[(1, 2), (5, 6)]), (40, 1, &[(3, 4)])],
         error: 0,
-        events: &[(0, 0), (1, 0), (0, 0)],
+        events: &[(0, 1, 0), (1, 3, 0), (0, 5, 0)],
         told: 0,
     },
     Case {
         name: "the first to begin ends last",
         logs: &[(40, 0, &[(1, 6)]), (40, 1, &[(2, 3), (4, 5)])],
         error: 0,
-        events: &[(1, 0), (1, 0), (0, 2)],
+        events: &[(1, 2, 0), (1, 4, 0), (0, 1, 2)],
         told: 0,
     },
     Case {
         name: "the order of the logs is of no account",
         logs: &[(40, 1, &[(2, 3), (4, 5)]), (40, 0, &[(1, 6)])],
         error: 0,
-        events: &[(1, 0), (1, 0), (0, 2)],
+        events: &[(1, 2, 0), (1, 4, 0), (0, 1, 2)],
         told: 0,
     },
     Case {
         name: "spans of one tick more overlap",
         logs: &[(40, 0, &[(1, 2)]), (40, 1, &[(3, 4)])],
         error: 1,
-        events: &[(0, 0), (1, 1)],
+        events: &[(0, 1, 0), (1, 3, 1)],
         told: 0,
     },
     Case {
         name: "spans that touch overlap",
         logs: &[(40, 0, &[(1, 2)]), (40, 1, &[(4, 5)])],
         error: 1,
-        events: &[(0, 0), (1, 1)],
+        events: &[(0, 1, 0), (1, 4, 1)],
         told: 0,
     },
     Case {
         name: "spans that are a tick apart do not",
         logs: &[(40, 0, &[(1, 2)]), (40, 1, &[(5, 6)])],
         error: 1,
-        events: &[(0, 0), (1, 0)],
+        events: &[(0, 1, 0), (1, 5, 0)],
         told: 0,
     },
     Case {
         name: "more ticks than any stamp has",
         logs: &[(40, 0, &[(1, 2), (5, 6)]), (40, 1, &[(3, 4)])],
         error: u64::MAX,
-        events: &[(0, 0), (1, 1), (0, 2)],
+        events: &[(0, 1, 0), (1, 3, 1), (0, 5, 2)],
         told: 0,
     },
     Case {
         name: "of two that end at once that of the lower processor is first",
         logs: &[(40, 1, &[(1, 4)]), (40, 0, &[(2, 4)])],
         error: 0,
-        events: &[(0, 0), (1, 1)],
+        events: &[(0, 2, 0), (1, 1, 1)],
         told: 0,
     },
     Case {
@@ -298,7 +298,7 @@ fn bytes_of(alloc: Global, log: &Spans) -> Result<Vec<u8>, AllocError> {
         add(&mut bytes, *begin, 7)?;
         add(&mut bytes, *end, 7)?;
         bytes.extend_from_slice(&[0x13, log.1])?;
-        add(&mut bytes, 0, 7)?;
+        add(&mut bytes, *begin, 7)?;
     }
     bytes.extend_from_slice(&[0xff; 8])?;
     bytes.extend_from_slice(&(log.2.len() as u64).to_le_bytes())?;
@@ -321,8 +321,8 @@ fn is_run(run: &SpannedRun, case: &Case) -> bool {
     if run.len() != case.events.len() {
         return false;
     }
-    for (i, (p, back)) in case.events.iter().enumerate() {
-        if processor_of(&run.events()[i]) != *p || run.backs()[i] != *back {
+    for (i, &(p, la, back)) in case.events.iter().enumerate() {
+        if run.events()[i] != (Event::Invlpg { p, la }) || run.backs()[i] != back {
             return false;
         }
     }

@@ -50,40 +50,40 @@ fn the_example_is_read_and_spelled(rt: HostRuntime) -> Result<(), Fail> {
 }
 
 /// Changed bytes of the example, and the refusal that they get.
-struct Bent {
+struct Changed {
     name: &'static str,
     /// Places and the bytes that stand there.
     bytes: &'static [(usize, u8)],
     refusal: SpannedRefusal,
 }
 
-const BENT: [Bent; 10] = [
-    Bent {
+const CHANGED: [Changed; 10] = [
+    Changed {
         name: "another magic",
         bytes: &[(7, 0x45)],
         refusal: SpannedRefusal::Plain(Refusal::Magic),
     },
-    Bent {
+    Changed {
         name: "version 2",
         bytes: &[(8, 2)],
         refusal: SpannedRefusal::Plain(Refusal::Version),
     },
-    Bent {
+    Changed {
         name: "MAXPHYADDR of 35",
         bytes: &[(10, 35)],
         refusal: SpannedRefusal::Plain(Refusal::HeaderField),
     },
-    Bent {
+    Changed {
         name: "segment 1",
         bytes: &[(36, 1)],
         refusal: SpannedRefusal::Plain(Refusal::SegmentNumber),
     },
-    Bent {
+    Changed {
         name: "an assist in version 3",
         bytes: &[(44, 0x16)],
         refusal: SpannedRefusal::Plain(Refusal::Tag),
     },
-    Bent {
+    Changed {
         name: "an event of processor 2",
         bytes: &[(45, 2)],
         refusal: SpannedRefusal::Plain(Refusal::Malformed {
@@ -91,12 +91,12 @@ const BENT: [Bent; 10] = [
             rule: Malformed::Processor,
         }),
     },
-    Bent {
+    Changed {
         name: "a span before the first event",
         bytes: &[(134, 5)],
         refusal: SpannedRefusal::Back { event: 4 },
     },
-    Bent {
+    Changed {
         name: "the same at an address that is not canonical",
         bytes: &[(134, 5), (145, 0x80)],
         refusal: SpannedRefusal::Plain(Refusal::Malformed {
@@ -104,12 +104,12 @@ const BENT: [Bent; 10] = [
             rule: Malformed::LinearAddress,
         }),
     },
-    Bent {
+    Changed {
         name: "a total of 7",
         bytes: &[(171, 7)],
         refusal: SpannedRefusal::Plain(Refusal::Total),
     },
-    Bent {
+    Changed {
         name: "a third kind of outcome",
         bytes: &[(161, 2)],
         refusal: SpannedRefusal::Plain(Refusal::Tag),
@@ -125,20 +125,20 @@ fn refusal_of(alloc: Global, bytes: &[u8]) -> Result<Option<SpannedRefusal>, Fai
     }
 }
 
-fn is_refused(alloc: Global, bent: &Bent) -> Result<bool, Fail> {
+fn is_refused(alloc: Global, changed: &Changed) -> Result<bool, Fail> {
     let mut bytes = RECORD;
-    for (place, byte) in bent.bytes {
+    for (place, byte) in changed.bytes {
         if *place < bytes.len() {
             bytes[*place] = *byte;
         }
     }
-    Ok(refusal_of(alloc, bytes.as_slice())? == Some(bent.refusal))
+    Ok(refusal_of(alloc, bytes.as_slice())? == Some(changed.refusal))
 }
 
 #[test]
-fn bent_bytes_are_refused(rt: HostRuntime) -> Result<(), Fail> {
-    for bent in BENT.iter() {
-        assert!(rt; is_refused(rt.alloc(), bent)?, "{}", bent.name);
+fn changed_bytes_are_refused(rt: HostRuntime) -> Result<(), Fail> {
+    for changed in CHANGED.iter() {
+        assert!(rt; is_refused(rt.alloc(), changed)?, "{}", changed.name);
     }
     Ok(())
 }

@@ -7,3 +7,4 @@ pub mod Readings
 pub mod Runs
 pub mod Whole
 pub mod Kept
+pub mod Read

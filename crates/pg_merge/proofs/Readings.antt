@@ -1,5 +1,5 @@
 -- Reading events one by one.
-use Rattle.std.proofs.Common.{◌≡◌, ℕ, suc, ◌+◌, List, [], ◌∷◌, ◌++◌, refl, sym, ap, subst, append_assoc, Some, None, Ok, Err}
+use Rattle.std.proofs.Common.{◌≡◌, ℕ, suc, ◌+◌, List, [], ◌∷◌, ◌++◌, refl, sym, ap, append_assoc, Some, None, Ok, Err}
 use Rattle.std.proofs.lemmas.List.{append-nil}
 use Rattle.pg_event.specs.Heads.{Head}
 use Rattle.pg_event.specs.Reading.{◌>>=◌}
@@ -7,7 +7,6 @@ use Rattle.pg_merge.specs.declared.log.Stamped.{Stamped}
 use Rattle.pg_merge.specs.declared.error.LogRefusal.{LogRefusal}
 use Rattle.pg_merge.specs.declared.error.LogRefusal.TheVariants.{Field}
 use Rattle.pg_event.specs.declared.refusal.Refusal.TheVariants.{Truncated}
-use Rattle.pg_merge.specs.Logs.{StandsAbove, Rise}
 use Rattle.pg_merge.specs.Reading.{LogPart, next_at, events_at}
 
 -- events that were read, and what is still read
@@ -38,16 +37,3 @@ read_refused front n m head own i last bytes fault e h = rw (e, h) refl
 pub read_none : (front : List Stamped) (n : ℕ) (head : Head) (own i last : ℕ) (bytes : List ℕ) → n ≡ 0 → followed front (events_at n head own i last bytes) ≡ Err (Field Truncated)
 unfolding events_at
 read_none front n head own i last bytes e = rw e refl
-
--- spans that rise from one stamp to another
-abbrev pub RisesTo : ℕ → List Stamped → ℕ → Type 0
-RisesTo last [] to = last ≡ to
-RisesTo last (x ∷ xs) to = StandsAbove last x × RisesTo x.end xs to
-
-pub rises_more : (last : ℕ) (xs : List Stamped) (to : ℕ) (x : Stamped) → RisesTo last xs to → StandsAbove to x → RisesTo last (xs ++ x ∷ []) x.end
-rises_more last [] to x h above = (subst (λ n. StandsAbove n x) (sym h) above, refl)
-rises_more last (y ∷ ys) to x h above = (h.0, rises_more y.end ys to x h.1 above)
-
-pub rises_said : (last : ℕ) (xs : List Stamped) (to : ℕ) → RisesTo last xs to → Rise last xs
-rises_said last [] to h = tt
-rises_said last (x ∷ xs) to h = (h.0, rises_said x.end xs to h.1)

@@ -1,11 +1,14 @@
 -- The events of all logs.
-use Rattle.std.proofs.Common.{◌≡◌, ℕ, suc, ◌≤◌, true, false, List, [], ◌∷◌, ◌++◌, length, refl, sym, ap, ◌∙◌, arith, eq-eqb, None}
+use Rattle.std.proofs.Common.{◌≡◌, ℕ, suc, ◌≤◌, true, false, List, [], ◌∷◌, ◌++◌, length, map, refl, sym, ap, ◌∙◌, arith, eq-eqb, None}
 use Rattle.std.specs.List.{All, AllByRecursion, AllPairs, AllAdjacentBelow, filter}
 use Rattle.std.proofs.lemmas.Bool.{ne_eqb}
 use Rattle.std.proofs.lemmas.List.{append-nil, length-replicate}
 use Rattle.std.proofs.lemmas.List.Elements.{All-from_recursion, recursion_from_All, filter-append}
 use Rattle.pg_event.specs.Heads.{Head}
+use Rattle.pg_event.specs.declared.event.Event.{Event}
 use Rattle.pg_event.specs.Form.{processor_of, broken_rule}
+use Rattle.pg_event.specs.Spelling.{FitsEvent}
+use Rattle.pg_span_codec.specs.Spelling.{IsBare}
 use Rattle.pg_merge.specs.declared.log.Stamped.{Stamped}
 use Rattle.pg_merge.specs.Logs.{Logged, alone, IsOwn, IsLog}
 use Rattle.pg_merge.specs.Runs.{IsPartOf, events_of}
@@ -37,6 +40,23 @@ pub all_spans : (logs : List Logged) → All IsLog logs → All (λ x. x.begin �
 all_spans logs are =
     All-from_recursion (λ (x : Stamped). x.begin ≤ x.end) (events_of logs)
     (each_event (λ x. x.begin ≤ x.end) logs (each_weaker IsLog (λ log. AllByRecursion (λ x. x.begin ≤ x.end) log.events) (λ log is. spans_rise 0 log.events is.rises) logs (recursion_from_All IsLog logs are)))
+
+-- an event has a spelling
+abbrev pub HasSpelling : Stamped → Type 0
+HasSpelling x = FitsEvent x.event × IsBare x.event
+
+pub all_spelled : (logs : List Logged) → All IsLog logs → All HasSpelling (events_of logs)
+all_spelled logs are =
+    All-from_recursion HasSpelling (events_of logs)
+    (
+    each_event HasSpelling logs
+    (each_weaker IsLog (λ log. AllByRecursion HasSpelling log.events) (λ log is. each_weaker (IsOwn (alone log.head) log.head.own) HasSpelling (λ x own. (own.fits, own.bare)) log.events is.own) logs (recursion_from_All IsLog logs are))
+    )
+
+-- what holds of events with their stamps holds of them without
+pub each_plain : (P : Event → Type 0) (all : List Stamped) → AllByRecursion (λ x. P x.event) all → AllByRecursion P (map (λ (x : Stamped). x.event) all)
+each_plain P [] are = tt
+each_plain P (x ∷ xs) are = (are.0, each_plain P xs are.1)
 
 own_all : (log : Logged) → IsLog log → filter (is_of log.head.own) log.events ≡ log.events
 own_all log is =

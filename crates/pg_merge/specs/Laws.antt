@@ -1,11 +1,18 @@
 -- Laws of merged logs.
-use Rattle.std.specs.Prelude.{◌≡◌, ℕ, ◌+◌, ◌-◌, ◌<◌, ◌↔◌, ◌==◌, List, map, Some, slice_get}
+use Rattle.std.specs.Prelude.{◌≡◌, ℕ, ◌+◌, ◌-◌, ◌<◌, ◌↔◌, ◌==◌, List, map, Some, Ok, slice_get}
 use Rattle.std.specs.List.{All, filter}
 use Rattle.pg_event.specs.Form.{processor_of}
 use Rattle.pg_spanned.specs.Orders.{Spanned, ended_before}
 use Rattle.pg_merge.specs.declared.log.Stamped.{Stamped}
 use Rattle.pg_merge.specs.Logs.{Logged, IsLog}
+use Rattle.pg_event.specs.Laws.{AreBytes}
 use Rattle.pg_merge.specs.Merged.{IsMerged}
+use Rattle.pg_merge.specs.Reading.{log_reading}
+
+-- what was read as a log is one
+abbrev pub ReadLogsAreLogs : Type 0
+ReadLogsAreLogs =
+    (bytes : List ℕ) (log : Logged) → AreBytes bytes → log_reading bytes ≡ Ok log → IsLog log
 
 -- the events of a processor are those of its log, in its order
 abbrev pub MergedLogsKeepPrograms : Type 0

@@ -4,6 +4,8 @@ use Rattle.std.specs.List.{AllByRecursion}
 use Rattle.pg_event.specs.Heads.{Head, most_processors, least_maxphyaddr, most_maxphyaddr}
 use Rattle.pg_event.specs.Heads.{most_segment}
 use Rattle.pg_event.specs.Form.{processor_of, broken_rule}
+use Rattle.pg_event.specs.Spelling.{FitsEvent}
+use Rattle.pg_span_codec.specs.Spelling.{IsBare}
 use Rattle.pg_merge.specs.declared.log.LogHeader.{LogHeader}
 use Rattle.pg_merge.specs.declared.log.Stamped.{Stamped}
 
@@ -35,10 +37,12 @@ pub record AreLogSettings (head : LogHeader) : Type 0 where
   pub own : head.own < head.processors
   pub start : head.start.0 < 2 ^ head.cfg.m
 
--- an event that the processor may have logged
+-- an event that the processor may have logged: it has a spelling
 pub record IsOwn (head : Head) (own : ℕ) (x : Stamped) : Type 0 where
   pub processor : processor_of x.event ≡ own
   pub well : broken_rule head x.event ≡ None
+  pub fits : FitsEvent x.event
+  pub bare : IsBare x.event
 
 -- its span lies above a stamp
 pub record StandsAbove (last : ℕ) (x : Stamped) : Type 0 where

@@ -1,7 +1,6 @@
 //! Events of a log at the front of a slice.
 
-ghost use Rattle.std.specs.Prelude.{◌≡◌, ◌≤◌, None, IfOk};
-ghost use Rattle.pg_event.specs.Form.{broken_rule};
+ghost use Rattle.std.specs.Prelude.{◌≤◌};
 ghost use Rattle.pg_codec.specs.Reads.{Gives};
 ghost use Rattle.pg_merge.specs.Reading.{bare_event_at};
 
@@ -16,8 +15,7 @@ pub(crate) fn event_of<'a>(
     bytes: &'a [u8],
 ) -> Result<(Event, &'a [u8]), Refusal>
     requires { header.now.cfg.m ≤ 52 }
-    ensures value { Gives (λ x. (x.0, x.1.now)) result (bare_event_at header.now i bytes.now) }
-    ensures well { IfOk result (λ x. broken_rule header.now x.0 ≡ None) }
+    ensures { Gives (λ x. (x.0, x.1.now)) result (bare_event_at header.now i bytes.now) }
 {
     let (tag, rest) = byte_of(bytes)?;
     if tag < 0x10 || tag > last_tag(header.version) {

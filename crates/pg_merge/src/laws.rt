@@ -1,6 +1,12 @@
 //! Laws of merged logs. Each function does nothing: its contract is the law.
 
-ghost use Rattle.pg_merge.specs.Laws.{MergedLogsKeepPrograms, SpansAreAsStamped};
+ghost use Rattle.pg_merge.specs.Laws.{ReadLogsAreLogs, MergedLogsKeepPrograms};
+ghost use Rattle.pg_merge.specs.Laws.{SpansAreAsStamped};
+
+/// What bytes are read as keeps true what a log keeps true.
+pub fn read_logs_are_logs()
+    ensures { ReadLogsAreLogs }
+{}
 
 /// In the record of merged logs the events of a processor are those of its log, in its order.
 pub fn merged_logs_keep_programs()

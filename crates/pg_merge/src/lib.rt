@@ -15,7 +15,7 @@ mod reader;
 mod united;
 
 pub use error::{LogError, LogRefusal, MergeError, Setting};
-pub use laws::{merged_logs_keep_programs, spans_are_as_stamped};
+pub use laws::{merged_logs_keep_programs, read_logs_are_logs, spans_are_as_stamped};
 pub use log::{Log, LogHeader, Stamped};
 pub use merger::merge_logs;
 pub use reader::read_log;

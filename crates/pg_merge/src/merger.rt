@@ -5,6 +5,8 @@ ghost use Rattle.std.specs.Prelude.{[], Err, IfOk, MatchResult};
 ghost use Rattle.std.specs.List.{All, AllAdjacentBelow};
 ghost use Rattle.pg_event.specs.Form.{broken_rule};
 ghost use Rattle.pg_event.specs.Spelling.{IsHead};
+ghost use Rattle.pg_spanned.specs.Spanned.{IsSpanned};
+ghost use Rattle.pg_span_codec.specs.Spelling.{IsSpelled};
 ghost use Rattle.pg_merge.specs.declared.error.MergeError.TheVariants.{NoLogs};
 ghost use Rattle.pg_merge.specs.Logs.{IsLog};
 ghost use Rattle.pg_merge.specs.Runs.{AreOfOneRun, Explains};
@@ -49,6 +51,7 @@ fn spanned(
     requires rises { AllAdjacentBelow EndsFirst all.now (length all.now) }
     ensures head { IfOk result (λ run. run.head ≡ header) }
     ensures run { IfOk result (λ run. IsSpelledBy all.now error run) }
+    ensures kept { IfOk result (λ run. IsSpanned run) }
 {
     let mut run = SpannedRun::new(alloc, header);
     for (i, x) in all.iter().enumerate() {
@@ -56,6 +59,7 @@ fn spanned(
         let back = i - ended;
         run.push(&x.event, back as u32)?;
     }
+    let _events = run.events();
     Ok(run)
 }
 
@@ -63,7 +67,7 @@ fn spanned(
 /// each once and no others, and for each how many of those before it had not ended when it began.
 /// Each span is longer than its stamps say by `error` ticks on both sides, for clocks that differ
 /// by so much. Where end stamps are the same, the event of the processor with the least number
-/// comes first.
+/// comes first. The run has a spelling in bytes.
 ///
 /// Fails where the logs are not those of one run, where there are 2 to the power of 32 events or
 /// more, and where memory is refused.
@@ -71,6 +75,7 @@ pub fn merge_logs(alloc: Global, logs: &[Log], error: u64) -> Result<SpannedRun,
     ensures run { MatchResult result
         (λ run. AreOfOneRun logs.now run.head × IsMerged logs.now error run)
         (λ e. Explains logs.now e) }
+    ensures spelled { IfOk result (λ run. IsSpelled run) }
     ensures logs { IfOk result (λ _. All IsLog logs.now) }
     ensures none { logs.now ≡ [] → result ≡ Err NoLogs }
 {

@@ -1,13 +1,11 @@
 //! The log that bytes are.
 
-ghost use Rattle.std.specs.Prelude.{◌≡◌, ◌-◌, ◌<◌, ◌^◌, ◌≤◌, IfOk, IfSome, OnOk, None, length};
-ghost use Rattle.std.specs.Prelude.{[], ◌∷◌, ◌++◌, Err};
-ghost use Rattle.std.specs.List.{AllByRecursion};
+ghost use Rattle.std.specs.Prelude.{◌≡◌, ◌≤◌, IfOk, OnOk, length, [], ◌∷◌, ◌++◌, Err};
 ghost use Rattle.pg_event.specs.declared.refusal.Refusal.{Refusal};
 ghost use Rattle.pg_merge.specs.declared.error.LogRefusal.TheVariants.{Field};
 ghost use Rattle.pg_merge.specs.declared.error.LogError.TheVariants.{Refused};
 ghost use Rattle.pg_merge.specs.Answers.{Gives, Answers};
-ghost use Rattle.pg_merge.specs.Logs.{alone, IsOwn, StandsAbove, Rise};
+ghost use Rattle.pg_merge.specs.Logs.{alone};
 ghost use Rattle.pg_merge.specs.Reading.{log_header_at, stamped_at, end_at, next_at, events_at};
 ghost use Rattle.pg_merge.specs.Reading.{log_reading};
 
@@ -44,11 +42,8 @@ fn stamped_of<'a>(
     bytes: &'a [u8],
 ) -> Result<(Stamped, &'a [u8]), LogRefusal>
     requires { header.now.cfg.m ≤ 52 }
-    ensures value { Gives (λ x. (x.0, x.1.now)) result
+    ensures { Gives (λ x. (x.0, x.1.now)) result
         (stamped_at header.now own i begin bytes.now) }
-    ensures own { IfOk result (λ x. IsOwn header.now own x.0) }
-    ensures begins { IfOk result (λ x. x.0.begin ≡ begin) }
-    ensures rises { IfOk result (λ x. (begin < x.0.end) × (x.0.end < 2 ^ 64 - 1)) }
 {
     let (end, rest) = match u64_of(bytes) {
         Err(refusal) => return Err(LogRefusal::Field(refusal)),
@@ -71,8 +66,7 @@ fn stamped_of<'a>(
 /// The end mark, after its first field, of a log with so many events.
 #[tactic(auto, unfolding(crate::specs::Reading::end_at))]
 fn end_of(total: u64, bytes: &[u8]) -> Result<(Option<Stamped>, &[u8]), LogRefusal>
-    ensures value { Gives (λ x. (x.0, x.1.now)) result (end_at total bytes.now) }
-    ensures none { IfOk result (λ x. x.0 ≡ None) }
+    ensures { Gives (λ x. (x.0, x.1.now)) result (end_at total bytes.now) }
 {
     match u64_of(bytes) {
         Err(refusal) => Err(LogRefusal::Field(refusal)),
@@ -95,10 +89,8 @@ fn next_of<'a>(
     bytes: &'a [u8],
 ) -> Result<(Option<Stamped>, &'a [u8]), LogRefusal>
     requires { header.now.cfg.m ≤ 52 }
-    ensures value { Gives (λ x. (x.0, x.1.now)) result
+    ensures { Gives (λ x. (x.0, x.1.now)) result
         (next_at header.now own i last bytes.now) }
-    ensures own { IfOk result (λ x. IfSome x.0 (λ e. IsOwn header.now own e)) }
-    ensures rises { IfOk result (λ x. IfSome x.0 (λ e. StandsAbove last e)) }
 {
     let (begin, rest) = match u64_of(bytes) {
         Err(refusal) => return Err(LogRefusal::Field(refusal)),
@@ -131,10 +123,8 @@ fn events_of<'a>(
     bytes: &'a [u8],
 ) -> Result<(Vec<Stamped>, &'a [u8]), LogError>
     requires { header.now.cfg.m ≤ 52 }
-    ensures value { Answers (λ x. (x.0.items, x.1.now)) result
+    ensures { Answers (λ x. (x.0.items, x.1.now)) result
         (events_at (length bytes.now) header.now own 0 0 bytes.now) }
-    ensures own { IfOk result (λ x. AllByRecursion (IsOwn header.now own) x.0.items) }
-    ensures rises { IfOk result (λ x. Rise 0 x.0.items) }
 {
     let mut events = Vec::new(alloc);
     let mut last = 0;

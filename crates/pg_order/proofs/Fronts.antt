@@ -11,6 +11,7 @@ use Rattle.pg_run_of.specs.Converse.{without_moments}
 use Rattle.pg_search.specs.Law.{RunBeginsWith}
 use Rattle.pg_certify.specs.Certified.{IsDenied, HasRunButMoments, DeniedEventsHaveNoRun}
 use Rattle.pg_spanned.specs.Orders.{Spanned, MustPrecede, StandsBefore, IsOrder, ordered}
+use Rattle.pg_spanned.specs.Laws.{EachPrecedesNext}
 use Rattle.pg_spanned.specs.Spanned.{IsSpanned}
 use Rattle.pg_spanned.proofs.Orders.{are_all, order_within}
 use Rattle.pg_spanned.proofs.Places.{stands_once}
@@ -18,9 +19,13 @@ use Rattle.pg_order.specs.Runs.{HasOrderedRun}
 use Rattle.pg_order.specs.Trying.{AreNumbers, Lacks, LacksEarlier, NoneBegins, NoneBelow, AreTried}
 use Rattle.pg_order.proofs.Meaning.{begins, ordered-well, length-ordered}
 
-joined : (front rest : List ℕ) (i : ℕ) → (front ++ i ∷ []) ++ rest ≡ front ++ i ∷ rest
+pub joined : (front rest : List ℕ) (i : ℕ) → (front ++ i ∷ []) ++ rest ≡ front ++ i ∷ rest
 joined [] rest i = refl
 joined (x ∷ xs) rest i = ap (λ ys. x ∷ ys) (joined xs rest i)
+
+pub no_end : (xs : List ℕ) → xs ++ [] ≡ xs
+no_end [] = refl
+no_end (x ∷ xs) = ap (λ ys. x ∷ ys) (no_end xs)
 
 front_at : (front rest : List ℕ) (k : ℕ) → k < length front → slice_get (front ++ rest) k ≡ slice_get front k
 front_at [] rest k lt = absurd (omega (arith, lt))
@@ -70,6 +75,11 @@ none_begins_denied law s front n spanned numbers denied rest is run =
     let same = sym (ap (map without_moments) (take_front (n + 1) xs ys (omega (arith, within)))) ∙ whole.2 in
     (law s.head xs n (ordered-well s.head s.events front spanned.well) (omega (arith, length-ordered s.events front, numbers.count, spanned.count)) denied).0 (whole.0, whole.1, same)
 
+-- none begins with as many numbers as there are events that are no order
+pub none_begins_whole : (s : Spanned) (front : List ℕ) → length front ≡ length s.events → (IsOrder s front → ⊥) → NoneBegins s front
+none_begins_whole s front long other [] is run = other (subst (IsOrder s) (no_end front) is)
+none_begins_whole s front long other (x ∷ xs) is run = absurd (omega (arith, is.count, length-append front (x ∷ xs), long))
+
 -- none begins with numbers that no order with a run goes on
 exhausted : (s : Spanned) (front : List ℕ) (bound : ℕ) → length front < length s.events → length s.events ≤ bound → NoneBelow s front bound → NoneBegins s front
 exhausted s front bound short all none [] is run = absurd (omega (arith, is.count, length-append front [], short))
@@ -91,10 +101,6 @@ one_more s front i none here k lt = elim (cases_lt k i) [
 pub nothing_tried : (s : Spanned) → AreTried s [] [] 0
 unfolding AreTried
 nothing_tried s i lt = absurd (omega (arith, lt))
-
-no_end : (xs : List ℕ) → xs ++ [] ≡ xs
-no_end [] = refl
-no_end (x ∷ xs) = ap (λ ys. x ∷ ys) (no_end xs)
 
 -- past a number that no order with a run goes on with
 pub tried_past : (s : Spanned) (done is : List ℕ) (i : ℕ) → AreTried s done is i → NoneBegins s ((done ++ is) ++ i ∷ []) → AreTried s done is (i + 1)
@@ -150,3 +156,10 @@ last_within s front i numbers = numbers.within (length front) i (end_at front []
 
 pub nothing_below : (s : Spanned) (front : List ℕ) → NoneBelow s front 0
 nothing_below s front i lt = absurd (omega (arith, lt))
+
+-- where there are several orders there are events
+pub some_events : (s : Spanned) → (EachPrecedesNext s → ⊥) → 0 < length s.events
+some_events s several = elim (cases_lt 0 (length s.events)) [
+  | inl some ↦ some
+  | inr none ↦ absurd (several (λ i lt. absurd (omega (arith, lt, none))))
+]

@@ -2,3 +2,4 @@ pub mod Ordered
 pub mod Meaning
 pub mod Numbers
 pub mod Fronts
+pub mod Steps

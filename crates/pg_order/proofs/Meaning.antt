@@ -20,7 +20,7 @@ use Rattle.pg_spanned.specs.Laws.{ends, EachPrecedesNext, NoOtherOrder}
 use Rattle.pg_spanned.proofs.Places.{AllByRecursion-at, some_same}
 use Rattle.pg_spanned.specs.Orders.{ordered}
 use Rattle.pg_relaxed.specs.declared.edge.Edge.{Edge}
-use Rattle.pg_relaxed.specs.Supposed.{AreDeduced}
+use Rattle.pg_relaxed.specs.Supposed.{AreDeduced, AreOfEarlier}
 use Rattle.pg_relaxed.specs.Orders.{RunComesTo, NeverComes}
 use Rattle.pg_order.specs.Runs.{HasOrderedRun, OrderedEventsRun, OrderedExactlyWhereARunExists}
 
@@ -45,7 +45,7 @@ pub ordered_within : (s : Spanned) → length (ordered s.events (ends s)) ≤ le
 ordered_within s = omega (arith, length-ordered s.events (ends s), length-range_with_len 0 (length s.events))
 
 pub ordered_events_run : CertifiedEventsRun → OrderedEventsRun
-ordered_events_run law s order found well is h = (order, is, law s.head (ordered s.events order) found (ordered-well s.head s.events order well) h)
+ordered_events_run law s order found well is h = law s.head (ordered s.events order) found (ordered-well s.head s.events order well) h
 
 pub ordered_exactly_where_a_run_exists : CertifiedExactlyWhereARunExists → OrderedExactlyWhereARunExists
 ordered_exactly_where_a_run_exists law s well few =
@@ -84,3 +84,13 @@ never_comes_none_runs s i within never run =
 -- of no edges all are deduced
 pub none_are_deduced : (s : Spanned) (edges : List Edge) → edges ≡ [] → AreDeduced s edges
 none_are_deduced s edges none = subst (AreDeduced s) (sym none) (λ edge h. absurd h)
+
+pub none_of_earlier : (s : Spanned) (edges : List Edge) (i : ℕ) → edges ≡ [] → AreOfEarlier s edges i
+none_of_earlier s edges i none = subst (λ (es : List Edge). AreOfEarlier s es i) (sym none) (λ edge h. absurd h)
+
+-- what is denied in an order has no run in it
+pub denied_has_no_run : DeniedEventsHaveNoRun → (s : Spanned) (order : List ℕ) (i : ℕ) → IsSpanned s → length order ≤ length s.events → IsDenied s.head (ordered s.events order) i → HasRunButMoments s.head (ordered s.events order) → ⊥
+denied_has_no_run law s order i spanned few denied run =
+    let events : List Event = ordered s.events order in
+    let count : length events ≤ 2 ^ 32 - 1 = omega (arith, length-ordered s.events order, few, spanned.count) in
+    (law s.head events i (ordered-well s.head s.events order spanned.well) count denied).0 (begins s.head events i run)

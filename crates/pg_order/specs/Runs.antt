@@ -24,17 +24,18 @@ IsToldOf s order Certified = IsOrder s order × CanBeCertified s.head (ordered s
 IsToldOf s order (Denied place) = IsOrder s order × IsDenied s.head (ordered s.events order) place
 IsToldOf s order NoOrder = IsOrder s order → ⊥
 
--- where they are certified, they have a run
-abbrev pub HasRunIfCertified : Spanned → InOrder → Type 0
-HasRunIfCertified s Certified = HasOrderedRun s
-HasRunIfCertified s (Denied place) = Unit {0}
-HasRunIfCertified s NoOrder = Unit {0}
+-- where they are certified in an order, they are those of a run in this order
+abbrev pub HasRunIfCertified : Spanned → List ℕ → InOrder → Type 0
+HasRunIfCertified s order Certified = HasRunButMoments s.head (ordered s.events order)
+HasRunIfCertified s order (Denied place) = Unit {0}
+HasRunIfCertified s order NoOrder = Unit {0}
 
--- well-formed events that moments certify in one of their orders have a run
+-- well-formed events that moments certify in one of their orders are those of a run in this order
 abbrev pub OrderedEventsRun : Type 0
 OrderedEventsRun = (s : Spanned) (order : List ℕ) (found : List Event) →
     AreWellFormed s.head s.events → IsOrder s order →
-    IsCertified s.head (ordered s.events order) found → HasOrderedRun s
+    IsCertified s.head (ordered s.events order) found →
+    HasRunButMoments s.head (ordered s.events order)
 
 -- so many well-formed events have an order with a run exactly where they have one in which moments
 -- certify them

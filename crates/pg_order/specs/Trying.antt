@@ -1,9 +1,11 @@
 -- All orders tried one after another, those with lesser numbers first.
-use Rattle.std.specs.Prelude.{◌≡◌, ℕ, ◌<◌, ◌≤◌, List, [], ◌∷◌, ◌++◌, length, Some, slice_get}
+use Rattle.std.specs.Prelude.{◌≡◌, ℕ, ◌+◌, ◌<◌, ◌≤◌, List, [], ◌∷◌, ◌++◌, length, Some, slice_get}
 use Rattle.std.specs.Prelude.{slice_index}
 use Rattle.pg_certify.specs.Certified.{HasRunButMoments}
 use Rattle.pg_spanned.specs.Orders.{Spanned, MustPrecede, IsOrder, ordered}
 use Rattle.pg_order.specs.Runs.{HasOrderedRun}
+use Rattle.pg_order.specs.Steps.{HasRoom, left}
+use Rattle.pg_order.specs.Verdicts.{IsOrderedRun}
 use Rattle.pg_order.specs.declared.trying.Trying.{Trying}
 use Rattle.pg_order.specs.declared.trying.Tried.{Tried}
 use Rattle.pg_order.specs.declared.trying.Tried.TheVariants.{Whole, NoOrder, Spent}
@@ -43,9 +45,18 @@ pub record IsTrying (s : Spanned) (t : Trying) : Type 0 where
   pub numbers : AreNumbers s t.front.items
   pub next : t.next ≤ length s.events
   pub tried : AreTried s [] t.front.items t.next
+  pub whole : length t.front.items ≡ length s.events → IsOrderedRun s t.front.items
+  pub room : HasRoom (length s.events) t.front.items
 
--- where no order is left, none has a run
+-- a step was made: there are fewer left
+abbrev pub GoesOn : Spanned → Trying → Trying → Type 0
+GoesOn s t u =
+    left (length s.events) [] u.front.items u.next + 1
+    ≤ left (length s.events) [] t.front.items t.next
+
+-- an order that was found has a run; where none is left, none has; and of eight events or fewer all
+-- orders are tried
 abbrev pub IsTried : Spanned → Tried → Type 0
-IsTried s (Whole order) = Unit {0}
+IsTried s (Whole order) = IsOrderedRun s order.items
 IsTried s NoOrder = HasOrderedRun s → ⊥
-IsTried s Spent = Unit {0}
+IsTried s Spent = 8 < length s.events

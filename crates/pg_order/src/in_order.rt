@@ -101,8 +101,8 @@ pub(crate) fn first_denied_in(
 }
 
 /// Whether some moments witness all events of a run in an order, or the least place whose event
-/// none witness there. Where some do, the run has an order in which some run of the machine has its
-/// events (Intel SDM, vol. 3, 4.10).
+/// none witness there. Where some do, some run of the machine has the events in this order (Intel
+/// SDM, vol. 3, 4.10).
 ///
 /// It fails only where memory is refused.
 pub fn certify_in_order(
@@ -111,7 +111,7 @@ pub fn certify_in_order(
     order: &[u32],
 ) -> Result<InOrder, AllocError>
     ensures told { IfOk result (IsToldOf run.now order.now) }
-    ensures run { IfOk result (HasRunIfCertified run.now) }
+    ensures run { IfOk result (HasRunIfCertified run.now order.now) }
 {
     ordered_events_run();
     let _events = run.events();

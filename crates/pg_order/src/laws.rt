@@ -4,8 +4,8 @@ ghost use Rattle.pg_order.specs.Runs.{OrderedEventsRun, OrderedExactlyWhereARunE
 
 use pg_certify::{certified_events_run, certified_exactly_where_a_run_exists};
 
-/// Well-formed events that some moments certify in one of their orders have an order in which they
-/// are those of a run of the machine.
+/// Well-formed events that some moments certify in one of their orders are those of a run of the
+/// machine in this order.
 pub fn ordered_events_run()
     ensures { OrderedEventsRun }
 {

@@ -3,11 +3,13 @@
 
 ghost use Rattle.std.specs.Prelude.{◌≡◌, ℕ, ◌<◌, ◌≤◌, ◌^◌, ◌↔◌, [], ◌∷◌, ◌++◌, length, IfOk, OnOk};
 ghost use Rattle.std.specs.Prelude.{IsTrue, IsFalse, slice_index};
+ghost use Rattle.pg_spanned.specs.Laws.{EachPrecedesNext};
 ghost use Rattle.pg_order.specs.Runs.{HasOrderedRun};
 ghost use Rattle.pg_order.specs.Trying.{AreNumbers, Lacks, LacksEarlier, NoneBegins};
-ghost use Rattle.pg_order.specs.Trying.{NoneBelow, IsTrying, IsTried};
+ghost use Rattle.pg_order.specs.Trying.{NoneBelow, IsTrying, GoesOn, IsTried};
+ghost use Rattle.pg_order.specs.Verdicts.{IsOrderedRun};
 
-use crate::in_order::first_denied_in;
+use crate::in_order::{InOrder, certify_in_order, first_denied_in};
 use pg_certify::denied_events_have_no_run;
 use pg_event::processor_of;
 use pg_search::names_moments;
@@ -17,11 +19,11 @@ use std::alloc::{AllocError, Global};
 /// What trying all orders came to.
 #[derive(Drop)]
 pub(crate) enum Tried {
-    /// An order in which some moments witness each event, as far as this search sees.
+    /// An order in which some moments witness each event.
     Whole(Vec<u32>),
     /// No order has a run.
     NoOrder,
-    /// So many beginnings were looked at that it gave up.
+    /// So many steps were made that it gave up.
     Spent,
 }
 
@@ -98,11 +100,48 @@ fn is_last_denied(
     Ok(names_moments(&events[last as usize]) && are_denied(alloc, run, numbers)?)
 }
 
+/// Whether these numbers, as many as there are events, are an order with a run.
+fn is_ordered_run(alloc: Global, run: &SpannedRun, numbers: &[u32]) -> Result<bool, AllocError>
+    requires { length numbers.now ≡ length run.now.events }
+    ensures yes { IfOk result (λ has_run. IsTrue has_run → IsOrderedRun run.now numbers.now) }
+    ensures no { IfOk result (λ has_run. IsFalse has_run → NoneBegins run.now numbers.now) }
+{
+    denied_events_have_no_run();
+    let _events = run.events();
+    match certify_in_order(alloc, run, numbers)? {
+        InOrder::Certified => Ok(true),
+        InOrder::Denied(_) => Ok(false),
+        InOrder::NoOrder => Ok(false),
+    }
+}
+
+/// Whether no order with a run begins with these numbers, of which the last is told once more. What
+/// is as long as an order is looked at whole.
+fn leads_nowhere(
+    alloc: Global,
+    run: &SpannedRun,
+    numbers: &[u32],
+    last: u32,
+) -> Result<bool, AllocError>
+    requires numbers { AreNumbers run.now numbers.now }
+    requires last { last < length run.now.events }
+    ensures none { IfOk result (λ nowhere. IsTrue nowhere → NoneBegins run.now numbers.now) }
+    ensures whole { IfOk result (λ nowhere. IsFalse nowhere →
+        length numbers.now ≡ length run.now.events → IsOrderedRun run.now numbers.now) }
+{
+    if numbers.len() == run.len() {
+        return Ok(!is_ordered_run(alloc, run, numbers)?);
+    }
+    is_last_denied(alloc, run, numbers, last)
+}
+
 impl Trying {
     /// Whether the next number may go on what the order begins with, by what must precede it.
     fn may_follow(&self, run: &SpannedRun) -> bool
         requires { self.now.next < length run.now.events }
-        ensures { IsFalse result → NoneBegins run.now (self.now.front.items ++ self.now.next ∷ []) }
+        ensures none { IsFalse result →
+            NoneBegins run.now (self.now.front.items ++ self.now.next ∷ []) }
+        ensures lacks { IsTrue result → Lacks self.now.front.items self.now.next }
     {
         lacks(&self.front, self.next)
             && !lacks_ended(run, &self.front, self.next)
@@ -115,12 +154,13 @@ impl Trying {
         requires count { length run.now.events < 2 ^ 32 }
         requires short { length self.old.front.items < length run.now.events }
         requires next { self.old.next < length run.now.events }
-        ensures { OnOk result (IsTrying run.now self.new) }
+        ensures trying { OnOk result (IsTrying run.now self.new) }
+        ensures fewer { OnOk result (GoesOn run.now self.old self.new) }
     {
         if self.may_follow(run) {
             let last = self.next;
             self.front.push(last)?;
-            if is_last_denied(alloc, run, &self.front, last)? {
+            if leads_nowhere(alloc, run, &self.front, last)? {
                 self.front.pop();
                 self.next += 1;
             } else {
@@ -139,6 +179,7 @@ impl Trying {
         requires short { length self.old.front.items < length run.now.events }
         requires all { length run.now.events ≤ self.old.next }
         ensures back { IsTrue result → IsTrying run.now self.new }
+        ensures fewer { IsTrue result → GoesOn run.now self.old self.new }
         ensures none { IsFalse result → HasOrderedRun run.now → ⊥ }
     {
         match self.front.pop() {
@@ -151,11 +192,13 @@ impl Trying {
     }
 }
 
-/// So many beginnings of orders are looked at, times the events.
+/// So many steps are made, divided by one more than there are events. All orders of eight events
+/// take 623,529 at most.
 const MOST_LOOKS: u64 = 10_000_000;
 
 /// Tries all orders of a run, until one is found or too much was looked at.
 pub(crate) fn try_orders(alloc: Global, run: &SpannedRun) -> Result<Tried, AllocError>
+    requires { EachPrecedesNext run.now → ⊥ }
     ensures { IfOk result (IsTried run.now) }
 {
     let count = run.len();

@@ -1,9 +1,11 @@
 //! Whether the events of a run have an order with a run of the machine.
 
-ghost use Rattle.std.specs.Prelude.{◌≡◌, ◌<◌, length, IfOk, IfSome};
+ghost use Rattle.std.specs.Prelude.{◌≡◌, ◌<◌, ◌≤◌, length, IfOk, IfSome, IfNone};
 ghost use Rattle.std.specs.List.{range_with_len};
-ghost use Rattle.pg_spanned.specs.Laws.{EachPrecedesNext};
-ghost use Rattle.pg_order.specs.Verdicts.{IsVerdict};
+ghost use Rattle.pg_certify.specs.Certified.{HasRunButMoments};
+ghost use Rattle.pg_spanned.specs.Laws.{ends, EachPrecedesNext};
+ghost use Rattle.pg_spanned.specs.Orders.{ordered};
+ghost use Rattle.pg_order.specs.Verdicts.{IsVerdict, NeedsSearch};
 
 use crate::in_order::{InOrder, certify_in_order};
 use crate::trying::{Tried, try_orders};
@@ -64,12 +66,18 @@ fn verdict_in_only_order(alloc: Global, run: &SpannedRun) -> Result<Verdict, All
 
 /// A yes in the order in which the events ended, where moments witness them in it.
 fn yes_in_ends(alloc: Global, run: &SpannedRun) -> Result<Option<Verdict>, AllocError>
-    ensures { IfOk result (λ found. IfSome found (IsVerdict run.now)) }
+    ensures yes { IfOk result (λ found. IfSome found (IsVerdict run.now)) }
+    ensures none { IfOk result (λ found. IfNone found
+        (HasRunButMoments run.now.head (ordered run.now.events (ends run.now)) → ⊥)) }
 {
+    ends_are_an_order();
+    denied_events_have_no_run();
+    let _events = run.events();
     let order = numbers_below(alloc, run.len() as u32)?;
     match certify_in_order(alloc, run, &order)? {
         InOrder::Certified => Ok(Some(Verdict::Yes(order))),
-        InOrder::Denied(_) | InOrder::NoOrder => Ok(None),
+        InOrder::Denied(_) => Ok(None),
+        InOrder::NoOrder => unreachable!(),
     }
 }
 
@@ -90,28 +98,11 @@ fn number_at(run: &SpannedRun, numbers: &[u32], place: u64) -> u32
     }
 }
 
-/// The verdict in an order that trying all of them came to. The event is told where it is not what
-/// it seems.
-fn verdict_in_whole(
-    alloc: Global,
-    run: &SpannedRun,
-    order: Vec<u32>,
-    number: u32,
-) -> Result<Verdict, AllocError>
-    requires several { EachPrecedesNext run.now → ⊥ }
-    requires within { number < length run.now.events }
-    ensures { IfOk result (IsVerdict run.now) }
-{
-    match certify_in_order(alloc, run, &order)? {
-        InOrder::Certified => Ok(Verdict::Yes(order)),
-        InOrder::Denied(_) | InOrder::NoOrder => Ok(Verdict::Undecided(number as u64)),
-    }
-}
-
 /// The verdict by what is sure of the orders near an event, which is told where that is not enough.
 fn verdict_near(alloc: Global, run: &SpannedRun, number: u32) -> Result<Verdict, AllocError>
-    requires several { EachPrecedesNext run.now → ⊥ }
+    requires search { NeedsSearch run.now }
     requires within { number < length run.now.events }
+    requires many { 8 < length run.now.events }
     ensures { IfOk result (IsVerdict run.now) }
 {
     match refute_near(alloc, run, number)? {
@@ -122,12 +113,13 @@ fn verdict_near(alloc: Global, run: &SpannedRun, number: u32) -> Result<Verdict,
 
 /// The verdict by all orders of few events. The event is told of a no.
 fn verdict_of_all(alloc: Global, run: &SpannedRun, number: u32) -> Result<Verdict, AllocError>
-    requires several { EachPrecedesNext run.now → ⊥ }
+    requires search { NeedsSearch run.now }
     requires within { number < length run.now.events }
+    requires few { length run.now.events ≤ 64 }
     ensures { IfOk result (IsVerdict run.now) }
 {
     match try_orders(alloc, run)? {
-        Tried::Whole(order) => verdict_in_whole(alloc, run, order, number),
+        Tried::Whole(order) => Ok(Verdict::Yes(order)),
         Tried::NoOrder => Ok(Verdict::NoneOfAll(number as u64)),
         Tried::Spent => Ok(Verdict::Undecided(number as u64)),
     }
@@ -141,7 +133,7 @@ fn verdict_of_waiting(
     run: &SpannedRun,
     waiting: &[u32],
 ) -> Result<Verdict, AllocError>
-    requires { EachPrecedesNext run.now → ⊥ }
+    requires { NeedsSearch run.now }
     ensures { IfOk result (IsVerdict run.now) }
 {
     for number in waiting {
@@ -159,7 +151,7 @@ fn verdict_of_waiting(
 
 /// The verdict in an order that a search came to.
 fn verdict_in(alloc: Global, run: &SpannedRun, order: Vec<u32>) -> Result<Verdict, AllocError>
-    requires { EachPrecedesNext run.now → ⊥ }
+    requires { NeedsSearch run.now }
     ensures { IfOk result (IsVerdict run.now) }
 {
     match certify_in_order(alloc, run, &order)? {
@@ -174,11 +166,11 @@ fn verdict_in(alloc: Global, run: &SpannedRun, order: Vec<u32>) -> Result<Verdic
 
 /// Looks for an order of the events of a run in which some run of the machine has them. A yes has
 /// the order, in which `moments_in_order` names the moments. Where the events have one order alone
-/// the answer is a yes or a no. Else the order in which the events ended is tried first, then a
-/// search. It is a no where in no order a run comes to an event that waits when the search gives
-/// up, as far as `refute` of `pg_relaxed` tells; where a run of at most 64 events has no order with
-/// a run; or where a run of more events has an access near the first that waits to which no run
-/// comes, as far as `refute_near` tells.
+/// the answer is a yes or a no, and so it is where there are at most eight events. Else the order
+/// in which the events ended is tried first, then a search. It is a no where in no order a run
+/// comes to an event that waits when the search gives up, as far as `refute` of `pg_relaxed` tells;
+/// where a run of at most 64 events has no order with a run; or where a run of more events has an
+/// access near the first that waits to which no run comes, as far as `refute_near` tells.
 ///
 /// It fails only where memory is refused.
 pub fn find_ordered_run(alloc: Global, run: &SpannedRun) -> Result<Verdict, AllocError>

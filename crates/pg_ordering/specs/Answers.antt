@@ -3,7 +3,7 @@ use Rattle.std.specs.Prelude.{◌≡◌, ◌⊎◌, ℕ, List, Result, Ok, Err}
 use Rattle.pg_event.specs.declared.event.Event.{Event}
 use Rattle.pg_event.specs.Spelling.{Recorded, record_bytes}
 use Rattle.pg_run_of.specs.Law.{HasRun}
-use Rattle.pg_certify.specs.Certified.{IsCertified}
+use Rattle.pg_certify.specs.Certified.{IsCertified, HasRunButMoments}
 use Rattle.pg_spanned.specs.Orders.{Spanned, IsOrder, ordered}
 use Rattle.pg_span_codec.specs.Spelling.{IsSpelled}
 use Rattle.pg_order.specs.Runs.{HasOrderedRun}
@@ -77,10 +77,12 @@ abbrev pub GivesOrder : List ℕ → Change → Change → ℕ → Type 0
 GivesOrder order output errors status =
     GivesOut (order_text order) 0 output errors status ⊎ WantsMemory output errors status
 
--- an order of the events, and moments for them in it that witness each
+-- an order of the events in which some run of the machine has them, and moments for them in it that
+-- witness each
 pub record IsCertifiedIn (s : Spanned) (order : List ℕ) (found : List Event) : Type 0 where
   pub order_of : IsOrder s order
   pub certified : IsCertified s.head (ordered s.events order) found
+  pub run : HasRunButMoments s.head (ordered s.events order)
 
 -- the record in such an order, with such moments: some run of the machine has exactly its events,
 -- so that `check` accepts it, and its bytes spell it alone

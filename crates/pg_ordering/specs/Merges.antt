@@ -16,7 +16,8 @@ use Rattle.pg_report.specs.declared.error.AuditError.TheVariants as audits
 use Rattle.pg_report.specs.Changes.{Change, Fails}
 use Rattle.pg_report.specs.Numbers.{error_number, error_name}
 use Rattle.pg_spanned.specs.Orders.{Spanned}
-use Rattle.pg_span_codec.specs.Spelling.{spanned_bytes}
+use Rattle.pg_span_codec.specs.Reading.{spanned_reading}
+use Rattle.pg_span_codec.specs.Spelling.{spanned_bytes, SpellsSpanned}
 use Rattle.pg_auditing.specs.Refusals.{StaysSame, Tells, refusal_line, refusal_text, place_text}
 use Rattle.pg_auditing.specs.Refusals.{unopened_line}
 use Rattle.pg_ordering.specs.declared.logs.Stop.{Stop}
@@ -148,10 +149,12 @@ abbrev pub GivesRun : Spanned → Change → Change → ℕ → Type 0
 GivesRun s output errors status =
     GivesOut (spanned_bytes s) 0 output errors status ⊎ WantsMemory output errors status
 
--- what is answered of logs that were read: the record of the run that they make
+-- what is answered of logs that were read: the record of the run that they make, whose bytes spell
+-- it, so that reading them gives it
 abbrev pub AnswersLogs : List Logged → ℕ → Change → Change → ℕ → Type 0
 AnswersLogs logs error output errors status =
     ((s : Spanned) × AreOfOneRun logs s.head × IsMerged logs error s
+    × SpellsSpanned (spanned_bytes s) s × (spanned_reading (spanned_bytes s) ≡ Ok s)
     × GivesRun s output errors status)
     ⊎ RefusesLogs logs output errors status
 

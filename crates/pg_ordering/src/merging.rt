@@ -22,7 +22,7 @@ use pg_auditing::{
 use pg_codec::{Failed, Sink, Source, put_all};
 use pg_merge::{Log, LogRefusal, MergeError, Setting, merge_logs};
 use pg_report::AuditError;
-use pg_span_codec::spell_spanned;
+use pg_span_codec::{reading_of_spanned_spelling, spell_spanned};
 use pg_spanned::SpannedRun;
 use std::alloc::Global;
 
@@ -155,6 +155,7 @@ fn answer_logs<O: Sink, E: Sink>(
     ensures { AnswersLogs logs.now error
         (filled O.Sink output.old output.new) (filled E.Sink errors.old errors.new) result }
 {
+    reading_of_spanned_spelling();
     match merge_logs(alloc, logs, error as u64) {
         Ok(run) => give_run(alloc, &run, output, errors),
         Err(why) => {

@@ -4,16 +4,36 @@ use Rattle.std.specs.Prelude.{slice_get}
 use Rattle.std.specs.List.{Contains}
 use Rattle.std.proofs.lemmas.Bool.{cases_lt}
 use Rattle.std.proofs.lemmas.List.{take-take, take-map}
-use Rattle.std.proofs.lemmas.Option.{slice_get-get_or}
+use Rattle.std.proofs.lemmas.Option.{slice_get-get_or, slice_get_within}
 use Rattle.pg_event.specs.declared.event.Event.{Event}
+use Rattle.pg_event.specs.declared.event.Event.TheVariants.{Write, Access}
 use Rattle.pg_machine.specs.Machine.{visible}
 use Rattle.pg_run_of.specs.Converse.{without_moments}
 use Rattle.pg_spanned.specs.Orders.{Spanned, IsOrder, StandsBefore, ordered}
 use Rattle.pg_spanned.proofs.Orders.{are_all}
 use Rattle.pg_spanned.proofs.Places.{stands_once, some_same}
 use Rattle.pg_relaxed.specs.declared.edge.Edge.{Edge}
-use Rattle.pg_relaxed.specs.Orders.{RunComesTo, NeverComes}
-use Rattle.pg_relaxed.specs.Supposed.{Keeps, NeverComesSo, AreSure, IsUpTo, AreApart, IsDeduced, AreDeduced}
+use Rattle.pg_relaxed.specs.Memory.{IsWrite}
+use Rattle.pg_relaxed.specs.Orders.{RunComesTo, NeverComes, IsSomeAccess}
+use Rattle.pg_relaxed.specs.Supposed.{Keeps, NeverComesSo, AreSure, IsUpTo, IsRace, IsDeduced, AreDeduced, AddsEdgesOf}
+
+-- both are events, and not the same
+record AreApart (s : Spanned) (edge : Edge) : Type 0 where
+  first : edge.first < length s.events
+  second : edge.second < length s.events
+  other : edge.first ≡ edge.second → ⊥
+
+no_write_is_an_access : (events : List Event) (i : ℕ) → IsWrite events i → IsSomeAccess events i → ⊥
+no_write_is_an_access events i write access =
+    let both : Some (Write write.1.1.0 write.0 write.1.0) ≡ Some (Access access.0 access.1 access.2 access.3 access.4.0) = sym write.1.1.1 ∙ access.4.1 in
+    absurd (cc)
+
+apart : (s : Spanned) (edge : Edge) → IsRace s edge → AreApart s edge
+apart s edge race = record {
+  first = slice_get_within s.events edge.first _ race.write.1.1.1;
+  second = slice_get_within s.events edge.second _ race.access.4.1;
+  other = λ same. no_write_is_an_access s.events edge.second (subst (IsWrite s.events) same race.write) race.access;
+}
 
 -- a run that comes to a place of an order comes to the places before it
 comes_earlier : (s : Spanned) (order : List ℕ) (a b : ℕ) → a ≤ b → RunComesTo s order b → RunComesTo s order a
@@ -52,11 +72,12 @@ comes_not s order is edges access never i (inr must) place at run keeps =
     never order b.place is keeps b.first (comes_earlier s order b.place place (omega (arith, b.rises, later)) run)
 
 -- so the other of two events comes first
-pub deduced : (s : Spanned) (edges : List Edge) (edge other : Edge) → other.first ≡ edge.second → other.second ≡ edge.first → AreApart s edge → (access : ℕ) →
+pub deduced : (s : Spanned) (edges : List Edge) (edge other : Edge) → other.first ≡ edge.second → other.second ≡ edge.first → IsRace s edge → (access : ℕ) →
     NeverComesSo s (edges ++ other ∷ []) access → (i : ℕ) → IsUpTo s access i → AreSure s edges i → AreSure s (edges ++ edge ∷ []) i
-deduced s edges edge other first second apart access never i up sure order place is at run =
+deduced s edges edge other first second race access never i up sure order place is at run =
     let keeps : Keeps order edges = sure order place is at run in
-    keeps_more order edges edge keeps (elim (either_first s order is edge.first edge.second apart.first apart.second apart.other) [
+    let two : AreApart s edge = apart s edge race in
+    keeps_more order edges edge keeps (elim (either_first s order is edge.first edge.second two.first two.second two.other) [
       | inl b ↦ b
       | inr b ↦
           let turned : StandsBefore order other.first other.second =
@@ -65,13 +86,26 @@ deduced s edges edge other first second apart access never i up sure order place
     ])
 
 -- what was added is deduced
-pub more_deduced : (s : Spanned) (edges : List Edge) (edge : Edge) → AreApart s edge → AreSure s (edges ++ edge ∷ []) edge.second → AreDeduced s edges → AreDeduced s (edges ++ edge ∷ [])
-more_deduced s [] edge apart sure are e (inl same) =
-    subst (IsDeduced s) same (record { apart = apart; first = λ order place is at run. sure order place is at run edge (inl refl) })
-more_deduced s [] edge apart sure are e (inr h) = absurd h
-more_deduced s (x ∷ xs) edge apart sure are e (inl same) = are e (inl same)
-more_deduced s (x ∷ xs) edge apart sure are e (inr h) =
-    more_deduced s xs edge apart (λ order place is at run y i. sure order place is at run y (inr i)) (λ y i. are y (inr i)) e h
+pub more_deduced : (s : Spanned) (edges : List Edge) (edge : Edge) → IsRace s edge → AreSure s (edges ++ edge ∷ []) edge.second → AreDeduced s edges → AreDeduced s (edges ++ edge ∷ [])
+more_deduced s [] edge race sure are e (inl same) =
+    subst (IsDeduced s) same (record { race = race; first = λ order place is at run. sure order place is at run edge (inl refl) })
+more_deduced s [] edge race sure are e (inr h) = absurd h
+more_deduced s (x ∷ xs) edge race sure are e (inl same) = are e (inl same)
+more_deduced s (x ∷ xs) edge race sure are e (inr h) =
+    more_deduced s xs edge race (λ order place is at run y i. sure order place is at run y (inr i)) (λ y i. are y (inr i)) e h
+
+-- what was added is of its access
+pub adds_one : (edges : List Edge) (edge : Edge) → AddsEdgesOf edge.second edges (edges ++ edge ∷ [])
+adds_one [] edge e (inl same) = inr (ap (λ (x : Edge). x.second) (sym same))
+adds_one [] edge e (inr h) = absurd h
+adds_one (x ∷ xs) edge e (inl same) = inl (inl same)
+adds_one (x ∷ xs) edge e (inr h) = elim (adds_one xs edge e h) [ inl old ↦ inl (inr old) | inr own ↦ inr own ]
+
+pub adds_none : (edges : List Edge) (access : ℕ) → AddsEdgesOf access edges edges
+adds_none edges access e h = inl h
+
+pub adds_on : (access : ℕ) (a b c : List Edge) → AddsEdgesOf access a b → AddsEdgesOf access b c → AddsEdgesOf access a c
+adds_on access a b c first second e h = elim (second e h) [ inl old ↦ first e old | inr own ↦ inr own ]
 
 -- nothing is supposed at first
 pub sure_of_none : (s : Spanned) (i : ℕ) → AreSure s [] i

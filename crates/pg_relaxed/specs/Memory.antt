@@ -18,6 +18,10 @@ Writes events a v j = (q : ℕ) × (slice_get events j ≡ Some (Write q a v))
 abbrev pub WritesTo : List Event → ℕ → ℕ → Type 0
 WritesTo events a j = (v : ℕ) × Writes events a v j
 
+-- event j is a write
+abbrev pub IsWrite : List Event → ℕ → Type 0
+IsWrite events j = (a : ℕ) × WritesTo events a j
+
 -- event j is of processor p
 abbrev pub IsOwn : List Event → ℕ → ℕ → Type 0
 IsOwn events p j = option_map processor_of (slice_get events j) ≡ Some p

@@ -25,3 +25,8 @@ NeverComes s i = (order : List ℕ) (place : ℕ) → IsOrder s order →
 abbrev pub IsAccess : List Event → ℕ → ℕ → ℕ → ℕ → Outcome → Type 0
 IsAccess events i p flags la outcome =
     (moments : List ℕ) × (slice_get events i ≡ Some (Access p flags la outcome moments))
+
+-- event i is an access
+abbrev pub IsSomeAccess : List Event → ℕ → Type 0
+IsSomeAccess events i =
+    (p flags la : ℕ) × (outcome : Outcome) × IsAccess events i p flags la outcome

@@ -2,9 +2,11 @@
 use Rattle.std.specs.Prelude.{◌≡◌, ℕ, ◌<◌, ◌⊎◌, List, length, Some, slice_get}
 use Rattle.pg_machine.specs.Machine.{IsIn}
 use Rattle.pg_spanned.specs.Orders.{Spanned, IsOrder, StandsBefore, MustPrecede}
+use Rattle.pg_spanned.specs.Orders.{AreOfOneProcessor}
 use Rattle.pg_relaxed.specs.declared.deduced.Refuted.{Refuted}
 use Rattle.pg_relaxed.specs.declared.edge.Edge.{Edge}
-use Rattle.pg_relaxed.specs.Orders.{RunComesTo, NeverComes}
+use Rattle.pg_relaxed.specs.Memory.{IsWrite}
+use Rattle.pg_relaxed.specs.Orders.{RunComesTo, NeverComes, IsSomeAccess}
 
 -- an order is as supposed
 abbrev pub Keeps : List ℕ → List Edge → Type 0
@@ -24,15 +26,16 @@ AreSure s edges i = (order : List ℕ) (place : ℕ) → IsOrder s order →
 abbrev pub IsUpTo : Spanned → ℕ → ℕ → Type 0
 IsUpTo s j i = (j ≡ i) ⊎ MustPrecede s j i
 
--- both are events, and not the same
-pub record AreApart (s : Spanned) (edge : Edge) : Type 0 where
-  pub first : edge.first < length s.events
-  pub second : edge.second < length s.events
-  pub other : edge.first ≡ edge.second → ⊥
+-- a write and an access, each of which may come first
+pub record IsRace (s : Spanned) (edge : Edge) : Type 0 where
+  pub write : IsWrite s.events edge.first
+  pub access : IsSomeAccess s.events edge.second
+  pub before : MustPrecede s edge.first edge.second → ⊥
+  pub behind : MustPrecede s edge.second edge.first → ⊥
 
--- the first comes first in each order in which a run comes to the second
+-- they do, and the write comes first in each order in which a run comes to the access
 pub record IsDeduced (s : Spanned) (edge : Edge) : Type 0 where
-  pub apart : AreApart s edge
+  pub race : IsRace s edge
   pub first : (order : List ℕ) (place : ℕ) → IsOrder s order →
       slice_get order place ≡ Some edge.second → RunComesTo s order place →
       StandsBefore order edge.first edge.second
@@ -40,8 +43,19 @@ pub record IsDeduced (s : Spanned) (edge : Edge) : Type 0 where
 abbrev pub AreDeduced : Spanned → List Edge → Type 0
 AreDeduced s edges = (edge : Edge) → IsIn edge edges → IsDeduced s edge
 
+-- what was added to edges is of this access
+abbrev pub AddsEdgesOf : ℕ → List Edge → List Edge → Type 0
+AddsEdgesOf access old new =
+    (edge : Edge) → IsIn edge new → IsIn edge old ⊎ (edge.second ≡ access)
+
+-- each edge is of an earlier event of the processor of event i
+abbrev pub AreOfEarlier : Spanned → List Edge → ℕ → Type 0
+AreOfEarlier s edges i = (edge : Edge) → IsIn edge edges →
+    (edge.second < i) × AreOfOneProcessor s.events edge.second i
+
 -- in no order a run comes to the event, as follows from what was deduced
 pub record IsRefuted (s : Spanned) (found : Refuted) : Type 0 where
   pub within : found.number < length s.events
   pub never : NeverComes s found.number
   pub deduced : AreDeduced s found.edges.items
+  pub earlier : AreOfEarlier s found.edges.items found.number

@@ -2,8 +2,10 @@
 //! stands, where no run comes to the access on the other side.
 
 ghost use Rattle.std.specs.Prelude.{◌≡◌, ℕ, ◌<◌, ◌≤◌, length, IfOk, OnOk, IfSome, IsTrue};
-ghost use Rattle.pg_relaxed.specs.Memory.{IsOwn};
-ghost use Rattle.pg_relaxed.specs.Supposed.{AreSure, IsUpTo, AreApart, AreDeduced, IsRefuted};
+ghost use Rattle.pg_relaxed.specs.Memory.{IsOwn, IsWrite};
+ghost use Rattle.pg_relaxed.specs.Orders.{IsSomeAccess};
+ghost use Rattle.pg_relaxed.specs.Supposed.{AreSure, IsUpTo, IsRace, AreDeduced, IsRefuted};
+ghost use Rattle.pg_relaxed.specs.Supposed.{AddsEdgesOf};
 ghost use Rattle.pg_relaxed.specs.Words.{AreWordsOf};
 
 use crate::edge::Edge;
@@ -36,13 +38,14 @@ fn deduce(
     edges: &mut Vec<Edge>,
     edge: Edge,
 ) -> Result<(), AllocError>
-    requires apart { AreApart run.now edge }
+    requires race { IsRace run.now edge }
     requires words { AreWordsOf run.now.events words.old.words.items }
     ensures words { OnOk result (AreWordsOf run.now.events words.new.words.items) }
     ensures sure { OnOk result ((i : ℕ) → IsUpTo run.now edge.second i →
         AreSure run.now edges.old.items i → AreSure run.now edges.new.items i) }
     ensures deduced { OnOk result (AreSure run.now edges.old.items edge.second →
         AreDeduced run.now edges.old.items → AreDeduced run.now edges.new.items) }
+    ensures more { OnOk result (AddsEdgesOf edge.second edges.old.items edges.new.items) }
 {
     edges.push(Edge {
         first: edge.second,
@@ -56,16 +59,28 @@ fn deduce(
     Ok(())
 }
 
+fn is_write(run: &SpannedRun, number: u32) -> bool
+    requires { number < length run.now.events }
+    ensures { IsTrue result → IsWrite run.now.events number }
+{
+    matches!(run.events()[number as usize], Event::Write { .. })
+}
+
+fn is_access(run: &SpannedRun, number: u32) -> bool
+    requires { number < length run.now.events }
+    ensures { IsTrue result → IsSomeAccess run.now.events number }
+{
+    matches!(run.events()[number as usize], Event::Access { .. })
+}
+
 /// Whether an event is a write that may come on both sides of an access.
 fn may_come_on_both_sides(run: &SpannedRun, access: u32, write: u32) -> bool
     requires access { access < length run.now.events }
+    requires is_access { IsSomeAccess run.now.events access }
     requires write { write < length run.now.events }
-    ensures { IsTrue result → AreApart run.now (record { first = write; second = access }) }
+    ensures { IsTrue result → IsRace run.now (record { first = write; second = access }) }
 {
-    write != access
-        && matches!(run.events()[write as usize], Event::Write { .. })
-        && !must_precede(run, write, access)
-        && !must_precede(run, access, write)
+    is_write(run, write) && !must_precede(run, write, access) && !must_precede(run, access, write)
 }
 
 /// Adds what is sure of the writes around an access.
@@ -76,12 +91,14 @@ fn deduce_around(
     access: u32,
 ) -> Result<(), AllocError>
     requires access { access < length run.now.events }
+    requires is_access { IsSomeAccess run.now.events access }
     requires words { AreWordsOf run.now.events words.old.words.items }
     ensures words { OnOk result (AreWordsOf run.now.events words.new.words.items) }
     ensures sure { OnOk result ((i : ℕ) → IsUpTo run.now access i →
         AreSure run.now edges.old.items i → AreSure run.now edges.new.items i) }
     ensures deduced { OnOk result (AreSure run.now edges.old.items access →
         AreDeduced run.now edges.old.items → AreDeduced run.now edges.new.items) }
+    ensures more { OnOk result (AddsEdgesOf access edges.old.items edges.new.items) }
 {
     let end = (access as usize + MOST_NEAR).min(run.len()) as u32;
     for write in ended_before(run, access)..end {
@@ -99,9 +116,10 @@ fn deduce_around(
 /// Whether an event is an access of a processor.
 fn is_own_access(run: &SpannedRun, p: u16, number: u32) -> bool
     requires { number < length run.now.events }
-    ensures { IsTrue result → IsOwn run.now.events p number }
+    ensures own { IsTrue result → IsOwn run.now.events p number }
+    ensures access { IsTrue result → IsSomeAccess run.now.events number }
 {
-    matches!(run.events()[number as usize], Event::Access { .. }) && is_own(run.events(), p, number)
+    is_access(run, number) && is_own(run.events(), p, number)
 }
 
 /// The first access of a processor among these events to which no run comes, as far as is seen.

@@ -2,12 +2,17 @@ use Rattle.std.proofs.Common.{◌≡◌, ◌≤◌, List, length, sym, ap, subst
 use Rattle.std.specs.List.{All, AllAdjacentBelow}
 use Rattle.std.specs.List.Sorted.{IsPermutation}
 use Rattle.std.proofs.lemmas.List.Sorted.{All-permutation, length_permutation}
+use Rattle.std.specs.List.{AllByRecursion}
+use Rattle.std.proofs.lemmas.List.Elements.{recursion_from_All}
 use Rattle.pg_event.specs.Form.{broken_rule}
+use Rattle.pg_event.specs.Spelling.{FitsEvent}
+use Rattle.pg_span_codec.specs.Spelling.{IsBare}
+use Rattle.pg_merge.proofs.Lists.{each_weaker}
 use Rattle.pg_merge.specs.declared.log.Stamped.{Stamped}
 use Rattle.pg_merge.specs.Runs.{AreOfOneRun, events_of}
 use Rattle.pg_merge.specs.Merged.{EndsFirst}
 use Rattle.pg_merge.specs.Parts.{KeepsTies}
-use Rattle.pg_merge.proofs.Whole.{all_well, all_spans, own_kept}
+use Rattle.pg_merge.proofs.Whole.{all_well, all_spans, HasSpelling, all_spelled, each_plain, own_kept}
 use Rattle.pg_merge.proofs.merger.merge_logs.Goals as goal
 
 pub spanned-requires-clause-count : goal.spanned-requires-clause-count
@@ -42,3 +47,16 @@ returns-clause-run c =
         spelled = c.in-Ok-spanned.ensures.run;
       },
     )
+
+pub returns-clause-spelled : goal.returns-clause-spelled
+returns-clause-spelled c =
+    let all : List Stamped = c.deref.result.now in
+    let here : All HasSpelling c.in-Ok-gathered.all.items = subst (All HasSpelling) (sym c.in-Ok-gathered.ensures.events) (all_spelled c.args.logs.now c.in-Ok.ensures.logs) in
+    let are : All HasSpelling all = subst (All HasSpelling) (sym c.deref.ensures.value) (All-permutation HasSpelling c.in-Ok-gathered.all.items c.order.new.all.items c.in_ok-order.ensures.same here) in
+    let each : AllByRecursion HasSpelling all = recursion_from_All HasSpelling all are in
+    let events = sym c.in-Ok-spanned.ensures.run.events in
+    record {
+      spanned = c.in-Ok-spanned.ensures.kept;
+      fits = subst (AllByRecursion FitsEvent) events (each_plain FitsEvent all (each_weaker HasSpelling (λ x. FitsEvent x.event) (λ x h. h.0) all each));
+      bare = subst (AllByRecursion IsBare) events (each_plain IsBare all (each_weaker HasSpelling (λ x. IsBare x.event) (λ x h. h.1) all each));
+    }

@@ -5,7 +5,7 @@ use Rattle.pg_spanned.specs.Orders.{Spanned, ordered}
 use Rattle.pg_relaxed.specs.Orders.{NeverComes}
 use Rattle.pg_order.specs.declared.in_order.InOrder.TheVariants.{Denied}
 use Rattle.pg_order.specs.Runs.{IsToldOf}
-use Rattle.pg_order.proofs.Meaning.{denied_never_comes, never_comes_none_runs, none_are_deduced, ordered_within}
+use Rattle.pg_order.proofs.Meaning.{denied_never_comes, never_comes_none_runs, none_are_deduced, none_of_earlier, ordered_within}
 use Rattle.pg_order.proofs.verdict.verdict_in_only_order.Goals as goal
 
 pub returns-in-Denied : goal.returns-in-Denied
@@ -22,6 +22,7 @@ returns-in-Denied c =
       within = within;
       never = never;
       deduced = none_are_deduced s _ c.new.ensures.items;
+      earlier = none_of_earlier s _ place c.new.ensures.items;
       only = λ none. denied;
       run = never_comes_none_runs s place within never;
     }

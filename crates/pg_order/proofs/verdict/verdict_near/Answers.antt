@@ -14,6 +14,7 @@ returns-in-Some c =
       within = found.within;
       never = found.never;
       deduced = found.deduced;
-      only = λ none. absurd (c.requires.several none);
+      earlier = found.earlier;
+      only = λ none. absurd (c.requires.search.several none);
       run = never_comes_none_runs s c.in-Some.field-0.number found.within found.never;
     }

@@ -1,5 +1,5 @@
 use Rattle.pg_spanned.specs.Orders.{Spanned}
-use Rattle.pg_order.proofs.Meaning.{never_comes_none_runs, none_are_deduced}
+use Rattle.pg_order.proofs.Meaning.{never_comes_none_runs, none_are_deduced, none_of_earlier}
 use Rattle.pg_order.proofs.verdict.verdict_of_waiting.Goals as goal
 
 pub returns-then-branch : goal.returns-then-branch
@@ -11,6 +11,7 @@ returns-then-branch c =
       within = within;
       never = never;
       deduced = none_are_deduced s _ c.new.ensures.items;
-      only = λ none. absurd (c.requires none);
+      earlier = none_of_earlier s _ _ c.new.ensures.items;
+      only = λ none. absurd (c.requires.several none);
       run = never_comes_none_runs s _ within never;
     }

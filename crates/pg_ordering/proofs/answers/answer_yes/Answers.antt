@@ -12,7 +12,7 @@ returns-in-Record g c =
     let output = filled g.O.Sink c.args.output.now c.give_named.new.output in
     let errors = filled g.E.Sink c.args.errors.now c.give_named.new.errors in
     let P : Asked → Type 0 = λ asked. GivesYes asked s output errors c.give_named.result in
-    inl (Yes, c.requires.run, subst P (sym c.in-Record.is) c.give_named.ensures)
+    inl (Yes, (c.args.order.now, c.requires.order_of, c.requires.run), subst P (sym c.in-Record.is) c.give_named.ensures)
 
 pub returns-in-Order : goal.returns-in-Order
 returns-in-Order g c =
@@ -22,4 +22,4 @@ returns-in-Order g c =
     let errors = filled g.E.Sink c.args.errors.now c.give_order.new.errors in
     let P : Asked → Type 0 = λ asked. GivesYes asked s output errors c.give_order.result in
     let can = c.requires.certified in
-    inl (Yes, c.requires.run, subst P (sym c.in-Order.is) (order, can.0, record { order_of = c.requires.order_of; certified = can.1 }, c.give_order.ensures))
+    inl (Yes, (order, c.requires.order_of, c.requires.run), subst P (sym c.in-Order.is) (order, can.0, record { order_of = c.requires.order_of; certified = can.1; run = c.requires.run }, c.give_order.ensures))

@@ -1,4 +1,5 @@
-use Rattle.std.proofs.Common.{ℕ, ◌<◌, length, sym, subst, arith, inr, Vec, Global}
+use Rattle.std.proofs.Common.{ℕ, ◌<◌, length, sym, subst, ◌∙◌, arith, inl, inr, Vec, Global}
+use Rattle.pg_machine.specs.Machine.{IsIn}
 use Rattle.pg_spanned.specs.Orders.{Spanned}
 use Rattle.pg_relaxed.specs.declared.edge.Edge.{Edge}
 use Rattle.pg_relaxed.specs.declared.words.Words.{Words}
@@ -15,9 +16,15 @@ returns-then-branch-clause-refuted c =
     let s : Spanned = c.args.run.now in
     let n : ℕ = c.loop-number.number in
     let within : n < length s.events = omega (arith, c.loop-number-test.true, c.requires.within) in
-    let sure : AreSure s c.loop-number.edges.items n = c.loop-number.invariant.sure n (omega arith) within (c.is_own_access.ensures c.if-is_own_access.true) in
+    let sure : AreSure s c.loop-number.edges.items n = c.loop-number.invariant.sure n (omega arith) within (c.is_own_access.ensures.own c.if-is_own_access.true) in
     let never : NeverComesSo s c.loop-number.edges.items n = subst (λ es. NeverComesSo s es n) c.deref.ensures.value (c.in_ok-refute_so.ensures.never c.if-branch.true) in
-    record { within = within; never = never_so s c.loop-number.edges.items n sure never; deduced = c.loop-number.invariant.deduced }
+    let own : IsOwn s.events c.args.p n = c.is_own_access.ensures.own c.if-is_own_access.true in
+    record {
+      within = within;
+      never = never_so s c.loop-number.edges.items n sure never;
+      deduced = c.loop-number.invariant.deduced;
+      earlier = λ edge h. let is = c.loop-number.invariant.earlier edge h in (is.0, is.1 ∙ sym own);
+    }
 
 pub loop-number-preserved : goal.loop-number-preserved
 loop-number-preserved c =
@@ -27,17 +34,22 @@ loop-number-preserved c =
       | then-is_own_access+in_ok-refute_so+else-branch+in_ok-deduce_around w ↦ record {
         words = subst (λ (v : Words). AreWordsOf s.events v.words.items) (sym w.words-is) w.in_ok-deduce_around.ensures.words;
         sure = λ i later within own. subst (λ (v : Vec Edge Global). AreSure s v.items i) (sym w.edges-is)
-            (w.in_ok-deduce_around.ensures.sure i (inr (own_precedes s c.args.p n i (omega (arith, later)) within (c.is_own_access.ensures w.if-is_own_access.true) own))
+            (w.in_ok-deduce_around.ensures.sure i (inr (own_precedes s c.args.p n i (omega (arith, later)) within (c.is_own_access.ensures.own w.if-is_own_access.true) own))
             (c.loop-number.invariant.sure i (omega (arith, later)) within own));
         deduced =
-            let own : IsOwn s.events c.args.p n = c.is_own_access.ensures w.if-is_own_access.true in
+            let own : IsOwn s.events c.args.p n = c.is_own_access.ensures.own w.if-is_own_access.true in
             let within : n < length s.events = omega (arith, c.loop-number-test.true, c.requires.within) in
             subst (λ (v : Vec Edge Global). AreDeduced s v.items) (sym w.edges-is)
             (w.in_ok-deduce_around.ensures.deduced (c.loop-number.invariant.sure n (omega arith) within own) c.loop-number.invariant.deduced);
+        earlier = λ edge h. elim (w.in_ok-deduce_around.ensures.more edge (subst (λ (v : Vec Edge Global). IsIn edge v.items) w.edges-is h)) [
+          | inl old ↦ let is = c.loop-number.invariant.earlier edge old in (omega (arith, is.0), is.1)
+          | inr same ↦ (omega (arith, same), subst (IsOwn s.events c.args.p) (sym same) (c.is_own_access.ensures.own w.if-is_own_access.true))
+        ];
       }
       | else-is_own_access w ↦ record {
         words = subst (λ (v : Words). AreWordsOf s.events v.words.items) (sym w.words-is) c.loop-number.invariant.words;
         sure = λ i later within own. subst (λ (v : Vec Edge Global). AreSure s v.items i) (sym w.edges-is) (c.loop-number.invariant.sure i (omega (arith, later)) within own);
         deduced = subst (λ (v : Vec Edge Global). AreDeduced s v.items) (sym w.edges-is) c.loop-number.invariant.deduced;
+        earlier = λ edge h. let is = c.loop-number.invariant.earlier edge (subst (λ (v : Vec Edge Global). IsIn edge v.items) w.edges-is h) in (omega (arith, is.0), is.1);
       }
     ]

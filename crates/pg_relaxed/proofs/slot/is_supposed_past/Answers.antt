@@ -9,5 +9,5 @@ returns-then-is_own c = λ yes. record {
   there = in_get c.args.slot.edges.now c.loop-edge.edge-index (record { first = 0; second = 0 }) c.loop-edge-test.true;
   first = c.if-edge-j.true;
   came = c.if-edge-slot.true;
-  own = subst (λ es. IsOwn es c.args.slot.p (get_or c.args.slot.edges.now c.loop-edge.edge-index (record { first = 0; second = 0 })).second) c.events.ensures.events (c.is_own.ensures c.if-is_own.true);
+  own = subst (λ es. IsOwn es c.args.slot.p (get_or c.args.slot.edges.now c.loop-edge.edge-index (record { first = 0; second = 0 })).second) c.events.ensures.events (c.is_own.ensures.0 c.if-is_own.true);
 }

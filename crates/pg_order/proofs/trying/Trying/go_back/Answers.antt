@@ -1,9 +1,11 @@
-use Rattle.std.proofs.Common.{◌≡◌, ℕ, ◌<◌, [], ◌∷◌, ◌++◌, List, length, ap, subst, arith, refl, Vec, Global}
+use Rattle.std.proofs.Common.{◌≡◌, ℕ, ◌+◌, ◌<◌, ◌≤◌, [], ◌∷◌, ◌++◌, List, length, ap, sym, subst, arith, refl, Vec, Global}
 use Rattle.std.proofs.lemmas.List.{length-append}
 use Rattle.std.specs.Vec.{vec_len}
 use Rattle.pg_spanned.specs.Orders.{Spanned}
+use Rattle.pg_order.specs.Steps.{HasRoom, left}
 use Rattle.pg_order.specs.Trying.{AreNumbers, AreTried}
 use Rattle.pg_order.proofs.Fronts.{none_left, tried_back, numbers_back, last_within}
+use Rattle.pg_order.proofs.Steps.{room_back, left_back}
 use Rattle.pg_order.proofs.trying.Trying.go_back.Goals as goal
 
 empty : (xs : List ℕ) → length xs ≡ 0 → xs ≡ []
@@ -33,7 +35,18 @@ returns-in-Some-clause-back c =
       next = omega (arith, low);
       tried = tried_back s [] front last c.args.self.now.next (omega (arith, ap length is, length-append front (last ∷ []), c.requires.short)) c.requires.all
           (subst (λ (xs : List ℕ). AreTried s [] xs c.args.self.now.next) is c.requires.trying.tried);
+      whole = λ long. absurd (omega (arith, long, ap length is, length-append front (last ∷ []), c.requires.short));
+      room = room_back (length s.events) front last (subst (HasRoom (length s.events)) is c.requires.trying.room);
     }
+
+pub returns-in-Some-clause-fewer : goal.returns-in-Some-clause-fewer
+returns-in-Some-clause-fewer c =
+    let n : ℕ = length c.args.run.now.events in
+    let front : List ℕ = c.pop.new.self.items in
+    let last : ℕ = c.in-Some.last in
+    let is : c.args.self.now.front.items ≡ front ++ last ∷ [] = c.in-Some.ensures.items in
+    λ yes. subst (λ (xs : List ℕ). left n [] front (last + 1) + 1 ≤ left n [] xs c.args.self.now.next) (sym is)
+    (left_back n [] front last c.args.self.now.next (omega (arith, ap length is, length-append front (last ∷ []), c.requires.short)) c.requires.all)
 
 pub returns-in-None-clause-none : goal.returns-in-None-clause-none
 returns-in-None-clause-none c =

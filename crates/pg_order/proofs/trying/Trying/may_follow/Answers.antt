@@ -13,16 +13,16 @@ not_false false h = absurd (cc)
 both : (b : Bool) → b ≡ true → b ≡ false → ⊥
 both b t f = let no : true ≡ false = sym t ∙ f in absurd (cc)
 
-pub returns-then-not-lacks_ended : goal.returns-then-not-lacks_ended
-returns-then-not-lacks_ended c =
+pub returns-then-not-lacks_ended-clause-none : goal.returns-then-not-lacks_ended-clause-none
+returns-then-not-lacks_ended-clause-none c =
     let s : Spanned = c.args.run.now in
     let front : List ℕ = c.args.self.now.front.items in
     let i : ℕ = c.args.self.now.next in
     λ no. none_begins_early s front i
     (subst (λ (xs : List ℕ). LacksEarlier s xs i) c.deref-then-not-lacks_ended.ensures.value (c.lacks_own.ensures (not_false c.lacks_own.result no)))
 
-pub returns-else-not-lacks_ended : goal.returns-else-not-lacks_ended
-returns-else-not-lacks_ended c =
+pub returns-else-not-lacks_ended-clause-none : goal.returns-else-not-lacks_ended-clause-none
+returns-else-not-lacks_ended-clause-none c =
     let s : Spanned = c.args.run.now in
     let front : List ℕ = c.args.self.now.front.items in
     let i : ℕ = c.args.self.now.next in
