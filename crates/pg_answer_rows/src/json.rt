@@ -21,19 +21,21 @@ pub const ROWS: &str = r#"
 == a_yes
 $ check --json
 < @fresh_walk
-> {"events":5,"segments":1,"verdict":"yes"}
+> {"events":5,"format":1,"segments":1,"verdict":"yes"}
 ? 0
 
 == a_no
 $ check --json
 < @stale_leaf
-> {"event":6,"events":7,"reason":5,"reason_name":"translation dropped","segments":1,"verdict":"no"}
+>+ {"event":6,"events":7,"format":1,"reason":5,"reason_name":"translation dropped","segments":1,
+> "verdict":"no"}
 ? 1
 
 == all_rejections
 $ check --all --json
 < @stale_leaf
->+ {"bad_events":1,"event":6,"events":7,"reason":5,"reason_name":"translation dropped","segments":1,
+>+ {"bad_events":1,"event":6,"events":7,"format":1,"reason":5,"reason_name":"translation dropped",
+>+ "segments":1,
 >+ "tallies":[{"count":1,"cpus":[0],"first":6,"pages":["0x5000"],"reason":5,
 > "reason_name":"translation dropped"}],"verdict":"no"}
 ? 1
@@ -49,7 +51,7 @@ $ explain --json
 >+ "value":"0x2007","word":"0x1000","written_by":0},{"is":"table","level":3,"moment":4,"pcid":"0x1",
 >+ "value":"0x3007","word":"0x2000","written_by":1},{"is":"table","level":2,"moment":4,"pcid":"0x1",
 >+ "value":"0x4007","word":"0x3000","written_by":2},{"is":"leaf","level":1,"moment":4,"pcid":"0x1",
->+ "value":"0x9007","word":"0x4028","written_by":3}]},"event":6,"events":7,"reason":5,
+>+ "value":"0x9007","word":"0x4028","written_by":3}]},"event":6,"events":7,"format":1,"reason":5,
 > "reason_name":"translation dropped","segments":1,"verdict":"no"}
 ? 1
 
@@ -65,7 +67,8 @@ $ explain --all --json
 >+ "level":3,"moment":4,"pcid":"0x1","value":"0x3007","word":"0x2000","written_by":1},{"is":"table",
 >+ "level":2,"moment":4,"pcid":"0x1","value":"0x4007","word":"0x3000","written_by":2},{"is":"leaf",
 >+ "level":1,"moment":4,"pcid":"0x1","value":"0x9007","word":"0x4028","written_by":3}]}],"event":6,
->+ "events":7,"reason":5,"reason_name":"translation dropped","segments":1,"tallies":[{"count":1,
+>+ "events":7,"format":1,"reason":5,"reason_name":"translation dropped","segments":1,
+>+ "tallies":[{"count":1,
 >+ "cpus":[0],"first":6,"pages":["0x5000"],"reason":5,"reason_name":"translation dropped"}],
 > "verdict":"no"}
 ? 1
@@ -73,7 +76,7 @@ $ explain --all --json
 == certified
 $ certify --json
 < @fresh_walk
-> {"events":5,"segments":1,"verdict":"yes"}
+> {"events":5,"format":1,"segments":1,"verdict":"yes"}
 ? 0
 
 == denied
@@ -87,26 +90,27 @@ $ certify --json
 >+ "level":3,"moment":6,"pcid":"0x1","value":"0x3007","word":"0x2000","written_by":1},{"is":"table",
 >+ "level":2,"moment":6,"pcid":"0x1","value":"0x4007","word":"0x3000","written_by":2},
 >+ {"is":"absent","level":1,"moment":6,"pcid":"0x1","value":"0x0","word":"0x4028","written_by":4}]},
-> "event":6,"events":7,"reason":14,"reason_name":"no moments","segments":1,"verdict":"no"}
+>+ "event":6,"events":7,"format":1,"reason":14,"reason_name":"no moments","segments":1,
+> "verdict":"no"}
 ? 1
 
 == shown
 $ show --json --from 5
 < @stale_leaf
-> {"address":"0x5000","cpu":0,"event":5,"kind":"invlpg"}
->+ {"ac":false,"address":"0x5123","cpu":0,"event":6,"kind":"access","moments":[4,4,4,4],
+> {"address":"0x5000","cpu":0,"event":5,"format":1,"kind":"invlpg"}
+>+ {"ac":false,"address":"0x5123","cpu":0,"event":6,"format":1,"kind":"access","moments":[4,4,4,4],
 > "operation":"read","outcome":{"page":"0x9123"},"user":true}
-? 1
+? 0
 
 == truncated
 $ show --json
 < 50475245434f5244
-! {"number":8,"text":"truncated"}
+! {"format":1,"number":8,"text":"truncated"}
 ? 2
 
 == spans
 $ check --json
 < 50475245434f52440300
-! {"number":2,"text":"version: certify judges records with spans"}
+! {"format":1,"number":2,"text":"version: certify judges records with spans"}
 ? 2
 "#;

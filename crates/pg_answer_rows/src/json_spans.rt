@@ -31,7 +31,7 @@ pub const ROWS: &str = r#"
 == spans_with_an_order
 $ certify --json
 < @walk
-> {"events":6,"segments":1,"verdict":"yes"}
+> {"events":6,"format":1,"segments":1,"verdict":"yes"}
 ? 0
 
 == spans_of_a_no
@@ -45,7 +45,7 @@ $ certify --json
 >+ "written_by":1},{"is":"table","level":2,"value":"0x4007","word":"0x3000","written_by":2},
 >+ {"is":"leaf","level":1,"page":"0xa000","value":"0xa007","word":"0x4028","written_by":4}],
 >+ "read_after":{"address":"0x5000","began":5,"cpu":1,"event":5,"kind":"invlpg"}},"deduced":[],
-> "event":6,"events":7,"reason":15,"reason_name":"no order","segments":1,"verdict":"no"}
+> "event":6,"events":7,"format":1,"reason":15,"reason_name":"no order","segments":1,"verdict":"no"}
 ? 1
 
 == spans_of_a_no_explained
@@ -59,7 +59,7 @@ $ explain --all --json
 >+ "written_by":1},{"is":"table","level":2,"value":"0x4007","word":"0x3000","written_by":2},
 >+ {"is":"leaf","level":1,"page":"0xa000","value":"0xa007","word":"0x4028","written_by":4}],
 >+ "read_after":{"address":"0x5000","began":5,"cpu":1,"event":5,"kind":"invlpg"}},"deduced":[],
-> "event":6,"events":7,"reason":15,"reason_name":"no order","segments":1,"verdict":"no"}
+> "event":6,"events":7,"format":1,"reason":15,"reason_name":"no order","segments":1,"verdict":"no"}
 ? 1
 
 == spans_of_a_no_where_global_ones_may_stay
@@ -73,7 +73,7 @@ $ certify --json
 >+ "written_by":1},{"is":"table","level":2,"value":"0x4027","word":"0x3000","written_by":2},
 >+ {"is":"leaf","level":1,"page":"0xa000","value":"0xa067","word":"0x4028","written_by":4}],
 >+ "read_after":{"began":5,"cpu":1,"event":5,"kind":"cr3","operand":"0x1001"}},"deduced":[],
-> "event":6,"events":7,"reason":15,"reason_name":"no order","segments":1,"verdict":"no"}
+> "event":6,"events":7,"format":1,"reason":15,"reason_name":"no order","segments":1,"verdict":"no"}
 ? 1
 
 == spans_of_a_no_behind_no_event
@@ -86,14 +86,15 @@ $ explain --json
 >+ "value":"0x0","word":"0x8000","written_by":null},{"is":"table","level":3,"value":"0x3007",
 >+ "word":"0x2000","written_by":1},{"is":"table","level":2,"value":"0x4007","word":"0x3000",
 >+ "written_by":2},{"is":"leaf","level":1,"page":"0x9000","value":"0x9007","word":"0x4028",
->+ "written_by":3}],"read_after":null},"deduced":[],"event":5,"events":6,"reason":15,
+>+ "written_by":3}],"read_after":null},"deduced":[],"event":5,"events":6,"format":1,"reason":15,
 > "reason_name":"no order","segments":1,"verdict":"no"}
 ? 1
 
 == all_orders_tried
 $ certify --json
 < @new_then_old
->+ {"all_orders":true,"cause":null,"event":6,"events":8,"reason":15,"reason_name":"no order",
+>+ {"all_orders":true,"cause":null,"event":6,"events":8,"format":1,"reason":15,
+>+ "reason_name":"no order",
 > "segments":1,"verdict":"no"}
 ? 1
 
@@ -108,33 +109,35 @@ $ certify --json
 >+ "word":"0x3000","written_by":2},{"is":"leaf","level":1,"page":"0x9000","value":"0x9007",
 >+ "word":"0x4028","written_by":3},{"is":"leaf","level":1,"page":"0xa000","value":"0xa007",
 >+ "word":"0x4028","written_by":70}],"read_after":{"address":"0x5000","began":68,"cpu":1,"event":68,
->+ "kind":"invlpg"}},"deduced":[{"first":70,"second":67}],"event":69,"events":71,"reason":15,
+>+ "kind":"invlpg"}},"deduced":[{"first":70,"second":67}],"event":69,"events":71,"format":1,
+>+ "reason":15,
 > "reason_name":"no order","segments":1,"verdict":"no"}
 ? 1
 
 == spans_shown
 $ show --json --from 4
 < @walk
-> {"address":"0x5000","began":3,"cpu":1,"event":4,"kind":"invlpg"}
->+ {"ac":false,"address":"0x5123","began":5,"cpu":1,"event":5,"kind":"access","operation":"read",
+> {"address":"0x5000","began":3,"cpu":1,"event":4,"format":1,"kind":"invlpg"}
+>+ {"ac":false,"address":"0x5123","began":5,"cpu":1,"event":5,"format":1,"kind":"access",
+>+ "operation":"read",
 > "outcome":{"page":"0x9123"},"user":true}
 ? 0
 
 == spans_refused
 $ check --all --json
 < @walk
-! {"number":2,"text":"version: certify judges records with spans"}
+! {"format":1,"number":2,"text":"version: certify judges records with spans"}
 ? 2
 
 == spans_of_a_span_too_long
 $ certify --json
 < @back
-! {"event":0,"number":7,"rule":7,"text":"malformed"}
+! {"event":0,"format":1,"number":7,"rule":7,"text":"malformed"}
 ? 2
 
 == spans_truncated
 $ show --json
 < 50475245434f52440300
-! {"number":8,"text":"truncated"}
+! {"format":1,"number":8,"text":"truncated"}
 ? 2
 "#;

@@ -6,10 +6,6 @@
 #[cfg(test)]
 mod all_rejections;
 #[cfg(test)]
-mod bent;
-#[cfg(test)]
-mod bent_scripts;
-#[cfg(test)]
 mod crews;
 #[cfg(test)]
 mod explanations;
@@ -25,6 +21,10 @@ mod lines;
 mod long;
 #[cfg(test)]
 mod many_lines;
+#[cfg(test)]
+mod mutated;
+#[cfg(test)]
+mod mutated_scripts;
 #[cfg(test)]
 mod pictures;
 #[cfg(test)]

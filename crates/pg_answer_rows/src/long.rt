@@ -194,7 +194,7 @@ fn expect_once<T: AllocGlobal + Threads + Wait + Sync>(
         bad,
     };
     let bytes = record_of(rt.alloc(), &long)?;
-    for checkers in [1, 2, 5] {
+    for checkers in [1, 2, 4, 5] {
         if !goes_through_once(rt, &long, &bytes, checkers, 0)? {
             return Err(Fail::from("a segment, or the verdict"));
         }

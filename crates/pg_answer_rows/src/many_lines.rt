@@ -33,23 +33,23 @@ pub const ROWS: &str = "
 $ show --from 13 --to 13
 < @events
 > 13 cpu 0 write [0x7008] = 0x74b000000000b61f
-? 1
+? 0
 
 == event_76_of_91
 $ show --from 76 --to 76
 < @events
 > 76 cpu 2 invlpg 0x40001f00
-? 1
+? 0
 
 == event_85_of_91
 $ show --from 85 --to 85
 < @events
 > 85 cpu 2 user fetch 0x40200f38 -> 0x1034f38 moments 44 44 44 85
-? 1
+? 0
 
 == event_90_of_91
 $ show --from 90 --to 90
 < @events
 > 90 cpu 1 user write 0x5000 -> fault 0x7 (present write user) moments 9 9 9 9
-? 1
+? 0
 ";

@@ -31,16 +31,16 @@ const HELP: &str =
 /// Of `check`.
 const CHECK_HELP: &str = "Check whether the moments of a record justify its events\n\
     \n\
-    Usage: check [OPTIONS] [FILE]\n\
+    Usage: pcid-audit check [OPTIONS] [FILE]\n\
     \n\
     Arguments:\n\
     \x20 [FILE]  The file to read; standard input by default, or for -\n\
     \n\
     Options:\n\
-    \x20     --checkers <N>  Number of checkers that judge the record, 1 to 64 (default 1)\n\
+    \x20 -j, --checkers <N>  Number of checkers that judge the record, 1 to 64 (default 1)\n\
     \x20     --all           Judge every event, and write a summary after the report\n\
     \x20     --json          Write JSON instead of text\n\
-    \x20     --progress      Report each million events read, on standard error\n\
+    \x20     --progress      Report each second how many events were read, on standard error\n\
     \x20 -h, --help          Print help\n";
 
 /// Of what is no number, address or page.
@@ -54,6 +54,13 @@ const NO_NUMBER: &str =
 /// Of what `explain` is not asked.
 const NO_TELLING: &str =
     "error: --most goes with --all alone, by digits alone, and --svg goes without --all\n\
+    \n\
+    For more information, try '--help'.\n";
+
+/// Of two options of which one has no effect.
+const CONFLICT: &str = "error: --json, --bytes, --order, --svg and --first exclude one another, \
+    and so do --first and\n\
+    \x20 --checkers, and --single and --progress\n\
     \n\
     For more information, try '--help'.\n";
 
@@ -79,25 +86,26 @@ pub const TEXTS: [Told; 12] = [
         words: &["help", "certify"],
         text: "Find out whether any run has the events of a record, whatever its moments\n\
         \n\
-        Usage: certify [OPTIONS] [FILE]\n\
+        Usage: pcid-audit certify [OPTIONS] [FILE]\n\
         \n\
         Arguments:\n\
         \x20 [FILE]  The file to read; standard input by default, or for -\n\
         \n\
         Options:\n\
-        \x20     --checkers <N>  Number of checkers that judge the record, 1 to 64 (default 1)\n\
+        \x20 -j, --checkers <N>  Number of checkers that judge the record, 1 to 64 (default 1)\n\
         \x20     --bytes         Write the record with the moments found, instead of the report\n\
         \x20     --order         For a record with spans, write the order found, one event number \
         a line\n\
+        \x20     --first         Answer at the first event that is rejected, and read no further\n\
         \x20     --json          Write JSON instead of text\n\
-        \x20     --progress      Report each million events read, on standard error\n\
+        \x20     --progress      Report each second how many events were read, on standard error\n\
         \x20 -h, --help          Print help\n",
     },
     Told {
         words: &["help", "merge"],
         text: "Merge the logs of single processors into a record with spans\n\
         \n\
-        Usage: merge [OPTIONS] <LOG>...\n\
+        Usage: pcid-audit merge [OPTIONS] <LOG>...\n\
         \n\
         Arguments:\n\
         \x20 <LOG>...  The logs, one for each processor\n\
@@ -111,13 +119,13 @@ pub const TEXTS: [Told; 12] = [
         words: &["help", "run"],
         text: "Run a guest script, and write the report of its record\n\
         \n\
-        Usage: run [OPTIONS] [FILE]\n\
+        Usage: pcid-audit run [OPTIONS] [FILE]\n\
         \n\
         Arguments:\n\
         \x20 [FILE]  The file to read; standard input by default, or for -\n\
         \n\
         Options:\n\
-        \x20     --checkers <N>  Number of checkers that judge the record, 1 to 64 (default 1)\n\
+        \x20 -j, --checkers <N>  Number of checkers that judge the record, 1 to 64 (default 1)\n\
         \x20     --single        Execute the script's lines in order, on one thread\n\
         \x20     --bytes         Write the record instead of its report\n\
         \x20     --progress      Report each million events recorded, on standard error; \
@@ -128,20 +136,20 @@ pub const TEXTS: [Told; 12] = [
         words: &["help", "run-of"],
         text: "Write a run that has the events of an accepted record\n\
         \n\
-        Usage: run-of [OPTIONS] [FILE]\n\
+        Usage: pcid-audit run-of [OPTIONS] [FILE]\n\
         \n\
         Arguments:\n\
         \x20 [FILE]  The file to read; standard input by default, or for -\n\
         \n\
         Options:\n\
-        \x20     --progress  Report each million events read, on standard error\n\
+        \x20     --progress  Report each second how many events were read, on standard error\n\
         \x20 -h, --help      Print help\n",
     },
     Told {
         words: &["help", "explain"],
         text: "Write the report of a record, and the cause of a rejection\n\
         \n\
-        Usage: explain [OPTIONS] [FILE]\n\
+        Usage: pcid-audit explain [OPTIONS] [FILE]\n\
         \n\
         Arguments:\n\
         \x20 [FILE]  The file to read; standard input by default, or for -\n\
@@ -149,17 +157,17 @@ pub const TEXTS: [Told; 12] = [
         Options:\n\
         \x20     --all       Explain every bad event, and write a summary\n\
         \x20     --most <N>  With --all, explain at most this many bad events, 1 to \
-        1000000 (default 100)\n\
+        1000000 (default 100) [alias: --limit]\n\
         \x20     --svg       Draw the first bad event as an SVG, instead of writing text\n\
         \x20     --json      Write JSON instead of text\n\
-        \x20     --progress  Report each million events read, on standard error\n\
+        \x20     --progress  Report each second how many events were read, on standard error\n\
         \x20 -h, --help      Print help\n",
     },
     Told {
         words: &["help", "show"],
         text: "Write the events of a record, one a line\n\
         \n\
-        Usage: show [OPTIONS] [FILE]\n\
+        Usage: pcid-audit show [OPTIONS] [FILE]\n\
         \n\
         Arguments:\n\
         \x20 [FILE]  The file to read; standard input by default, or for -\n\
@@ -178,13 +186,13 @@ pub const TEXTS: [Told; 12] = [
         words: &["help", "upgrade"],
         text: "Write a version 1 record as version 2\n\
         \n\
-        Usage: upgrade [OPTIONS] [FILE]\n\
+        Usage: pcid-audit upgrade [OPTIONS] [FILE]\n\
         \n\
         Arguments:\n\
         \x20 [FILE]  The file to read; standard input by default, or for -\n\
         \n\
         Options:\n\
-        \x20     --progress  Report each million events read, on standard error\n\
+        \x20     --progress  Report each second how many events were read, on standard error\n\
         \x20 -h, --help      Print help\n",
     },
     Told {
@@ -194,14 +202,14 @@ pub const TEXTS: [Told; 12] = [
 ];
 
 /// What is wrong goes to standard error, and the status is 64.
-pub const FAULTS: [Told; 19] = [
+pub const FAULTS: [Told; 21] = [
     Told {
         words: &["check", "--version"],
         text: "error: unexpected argument '--version' found\n\
         \n\
         \x20 tip: to pass '--version' as a value, use '-- --version'\n\
         \n\
-        Usage: check [OPTIONS] [FILE]\n\
+        Usage: pcid-audit check [OPTIONS] [FILE]\n\
         \n\
         For more information, try '--help'.\n",
     },
@@ -238,7 +246,7 @@ pub const FAULTS: [Told; 19] = [
         \n\
         \x20 tip: to pass '--single' as a value, use '-- --single'\n\
         \n\
-        Usage: check [OPTIONS] [FILE]\n\
+        Usage: pcid-audit check [OPTIONS] [FILE]\n\
         \n\
         For more information, try '--help'.\n",
     },
@@ -248,7 +256,7 @@ pub const FAULTS: [Told; 19] = [
         \n\
         \x20 tip: a similar argument exists: '--checkers'\n\
         \n\
-        Usage: check --checkers <N> [FILE]\n\
+        Usage: pcid-audit check --checkers <N> [FILE]\n\
         \n\
         For more information, try '--help'.\n",
     },
@@ -278,7 +286,7 @@ pub const FAULTS: [Told; 19] = [
         words: &["check", "--checkers", "2", "--checkers", "2"],
         text: "error: the argument '--checkers <N>' cannot be used multiple times\n\
         \n\
-        Usage: check [OPTIONS] [FILE]\n\
+        Usage: pcid-audit check [OPTIONS] [FILE]\n\
         \n\
         For more information, try '--help'.\n",
     },
@@ -286,7 +294,7 @@ pub const FAULTS: [Told; 19] = [
         words: &["check", "--all=yes"],
         text: "error: unexpected value 'yes' for '--all' found; no more were expected\n\
         \n\
-        Usage: check --all [FILE]\n\
+        Usage: pcid-audit check --all [FILE]\n\
         \n\
         For more information, try '--help'.\n",
     },
@@ -296,7 +304,7 @@ pub const FAULTS: [Told; 19] = [
         \n\
         \x20 tip: to pass '--checkers' as a value, use '-- --checkers'\n\
         \n\
-        Usage: run-of [OPTIONS] [FILE]\n\
+        Usage: pcid-audit run-of [OPTIONS] [FILE]\n\
         \n\
         For more information, try '--help'.\n",
     },
@@ -308,7 +316,7 @@ pub const FAULTS: [Told; 19] = [
         words: &["show", "3", "4"],
         text: "error: unexpected argument '4' found\n\
         \n\
-        Usage: show [OPTIONS] [FILE]\n\
+        Usage: pcid-audit show [OPTIONS] [FILE]\n\
         \n\
         For more information, try '--help'.\n",
     },
@@ -322,7 +330,7 @@ pub const FAULTS: [Told; 19] = [
         \n\
         \x20 tip: to pass '--from' as a value, use '-- --from'\n\
         \n\
-        Usage: explain [OPTIONS] [FILE]\n\
+        Usage: pcid-audit explain [OPTIONS] [FILE]\n\
         \n\
         For more information, try '--help'.\n",
     },
@@ -333,5 +341,13 @@ pub const FAULTS: [Told; 19] = [
     Told {
         words: &["explain", "--all", "--svg"],
         text: NO_TELLING,
+    },
+    Told {
+        words: &["certify", "--order", "--bytes"],
+        text: CONFLICT,
+    },
+    Told {
+        words: &["run", "--progress", "--single"],
+        text: CONFLICT,
     },
 ];

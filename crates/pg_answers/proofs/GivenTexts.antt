@@ -48,7 +48,7 @@ module _ {A : Type 0} (T : Recorded → A → List ℕ → Type 0) (checkers : �
       tells errors.Thread read = (read, worked)
       tells errors.Checkers read = (read, worked)
 
-  -- want of memory before anything is written
+  -- memory ran out before anything is written
   pub memory_fails : (r : Recorded) → TellsDevice {A = Recorded} input (Ok r) → AddsNothing output → Works output → IsTextGivenBy T checkers input output (Err errors.Memory)
   memory_fails r read kept worked = record { gives = gives input.old.bytes; written = kept; failures = (read, worked) }
     where

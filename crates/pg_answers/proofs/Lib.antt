@@ -8,3 +8,4 @@ pub mod Accounted
 pub mod Told
 pub mod OneDenial
 pub mod OneCertificate
+pub mod GivenFirsts

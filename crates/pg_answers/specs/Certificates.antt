@@ -1,5 +1,5 @@
 -- What `certify` answers: whether some run of the machine has a record's events, whatever moments
--- they name, and what stands behind a no.
+-- they name, and the cause of a rejection.
 use Rattle.std.specs.Prelude.{◌≡◌, ℕ, List, ◌++◌, length, take, Option, Some, None, Result, Ok, Err}
 use Rattle.std.specs.Prelude.{codes, decimal, IfSome}
 use Rattle.pg_event.specs.Spelling.{Recorded, segment_count}

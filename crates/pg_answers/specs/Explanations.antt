@@ -1,4 +1,4 @@
--- What `explain` answers: a record's report, and what stands behind a no.
+-- What `explain` answers: a record's report, and the cause of a rejection.
 use Rattle.std.specs.Prelude.{◌≡◌, ℕ, List, ◌++◌, Some, None, Result}
 use Rattle.pg_event.specs.Spelling.{Recorded}
 use Rattle.pg_event.specs.Witness.{first_bad}
@@ -14,7 +14,7 @@ use Rattle.pg_auditing.specs.Status.{status_of}
 use Rattle.pg_auditing.specs.Streams.{Streams}
 use Rattle.pg_answers.specs.Texts.{IsTextGiven}
 
--- the report of a record, and where it is no what stands behind the reason of its first bad event
+-- the report of a record, and if it is rejected the cause of its first bad event
 abbrev pub IsExplanationOf : Recorded → Verdict → List ℕ → Type 0
 IsExplanationOf r Yes text =
     (first_bad r.head r.events ≡ None) × (text ≡ report_text (report_of r))

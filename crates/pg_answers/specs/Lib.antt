@@ -8,4 +8,5 @@ pub mod Explanations
 pub mod Summaries
 pub mod Accounts
 pub mod Certificates
+pub mod Firsts
 pub mod Naming

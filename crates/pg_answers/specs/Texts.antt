@@ -19,9 +19,9 @@ module _ {A : Type 0} (IsTextOf : Recorded → A → List ℕ → Type 0) where
 
   -- Asked for the text of the record that these bytes spell, the program answers so by so many
   -- checkers, and leaves the writer so: the text was written and nothing else; or the bytes spell
-  -- no record, and nothing was written; nor was it for want of memory or of a thread, of which one
-  -- checker wants none, nor where the reader failed; where the writer failed a beginning of the
-  -- text was.
+  -- no record, and nothing was written; nor was it if memory ran out, or a thread failed, of which
+  -- one checker wants none, nor where the reader failed; where the writer failed a beginning of
+  -- the text was.
   abbrev pub GivesText : ℕ → List ℕ → Change → Change → Result A AuditError → Type 0
   GivesText checkers bytes input output (Ok x) = HasText bytes x (Adds output)
   GivesText checkers bytes input output (Err (Refused e)) =

@@ -35,7 +35,7 @@ HasUpgrade bytes P =
 -- spell is of version 1, the spelling of its upgrade was written and nothing else, and the report
 -- is that of the upgrade, which has a run of the manual's machine where its verdict is yes; a
 -- refusal is the first of bytes that spell no version 1 record, and nothing was written; nor was it
--- for want of memory, nor where the reader failed; where the writer failed a beginning of that
+-- if memory ran out, nor where the reader failed; where the writer failed a beginning of that
 -- spelling was.
 abbrev pub GivesUpgrade : List ℕ → Change → Change → Result Report AuditError → Type 0
 GivesUpgrade bytes input output (Ok report) =

@@ -131,13 +131,14 @@ fn denied_text(
 }
 
 /// What certifying a record came to, by what is known of it, with its text.
-fn certificate_by(
+pub(crate) fn certificate_by(
     alloc: Global,
     account: &StreamingCertifier,
 ) -> Result<CertificateText, AllocError>
     requires { (r : Recorded) × IsAccount account.now r.head r.events }
-    ensures { (r : Recorded) → IsAccount account.now r.head r.events →
+    ensures told { (r : Recorded) → IsAccount account.now r.head r.events →
         IfOk result (λ told. IsCertificateOf r told.denied (string_bytes told.text)) }
+    ensures denied { IfOk result (λ told. told.denied ≡ account.now.findings.denied) }
 {
     certified_events_run();
     denied_events_have_no_run();
@@ -160,7 +161,7 @@ fn certificate_by(
 }
 
 /// Writes what is told of a record, and gives the event of a no.
-fn give_certificate<O: Sink>(
+pub(crate) fn give_certificate<O: Sink>(
     output: &mut O,
     told: CertificateText,
 ) -> Result<Option<u64>, AuditError>
@@ -260,7 +261,7 @@ fn write_certificate<T: AllocGlobal + Threads + Wait + Sync, R: Source, O: Sink>
     }
 }
 
-fn certificate_status(answer: Result<Option<u64>, AuditError>) -> u8
+pub(crate) fn certificate_status(answer: Result<Option<u64>, AuditError>) -> u8
     ensures { result ≡ certificate_status answer }
 {
     match answer {
@@ -271,7 +272,7 @@ fn certificate_status(answer: Result<Option<u64>, AuditError>) -> u8
 }
 
 /// Writes whether some run of the machine has the events of the record on `input`, whatever moments
-/// they name: a report, and behind a no what stands behind it: the least event that no moments
+/// they name: a report, and after a rejection its cause: the least event that no moments
 /// witness, what its processor would have read then, and when the event would last have been
 /// witnessed. So many checkers judge, and the answer is the same for each number of them. It gives
 /// the exit status: 0 yes, 1 no, 2 refused, 3 memory or a thread.

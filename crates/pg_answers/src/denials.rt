@@ -1,4 +1,4 @@
-//! What stands behind a no of a record that was certified as it was read.
+//! The cause of the rejection of a record that was certified as it was read.
 
 ghost use Rattle.std.specs.Prelude.{◌≡◌, ◌<◌, List, length, IfOk, IfSome, string_bytes};
 ghost use Rattle.pg_event.specs.declared.event.Event.{Event};

@@ -1,4 +1,4 @@
-//! A record's report, and what stands behind a no.
+//! A record's report, and the cause of a rejection.
 
 ghost use Rattle.std.specs.Prelude.{IfOk, string_bytes};
 ghost use Rattle.pg_report.specs.Changes.{drawn, filled};
@@ -14,7 +14,7 @@ use pg_explain::push_explanation;
 use pg_report::{AuditError, Verdict, read_record, report_of};
 use std::alloc::{AllocError, Global};
 
-/// The report of a history, and where it is no what stands behind it.
+/// The report of a history, and the cause if it is rejected.
 fn explained(alloc: Global, history: &History) -> Result<ToldText, AllocError>
     ensures { IfOk result (λ told. IsExplanationOf history.now told.verdict
         (string_bytes told.text)) }
@@ -31,7 +31,7 @@ fn explained(alloc: Global, history: &History) -> Result<ToldText, AllocError>
     }
 }
 
-/// Reads a record, and writes its report and what stands behind a no. Nothing is written before
+/// Reads a record, and writes its report and the cause of a rejection. Nothing is written before
 /// both are ready.
 fn write_explanation<R: Source, O: Sink>(
     alloc: Global,
@@ -49,7 +49,7 @@ fn write_explanation<R: Source, O: Sink>(
     give(output, told)
 }
 
-/// Writes the report of the record on `input` and, where it is no, what stands behind it: the first
+/// Writes the report of the record on `input` and, if it is rejected, the cause: the first
 /// bad event, what its moments read, what the reason found, and whether other moments would do. It
 /// gives the exit status: 0 yes, 1 no, 2 refused, 3 memory.
 pub fn explain<R: Source, O: Sink, E: Sink>(

@@ -6,6 +6,7 @@ mod accounts;
 mod certificates;
 mod denials;
 mod explanations;
+mod firsts;
 mod lines;
 mod naming;
 mod replayer;
@@ -16,6 +17,7 @@ mod upgrader;
 
 pub use certificates::certify;
 pub use explanations::explain;
+pub use firsts::certify_first;
 pub use lines::show;
 pub use naming::name_moments;
 pub use replayer::run_of;

@@ -2,29 +2,23 @@
 
 ghost use Rattle.std.specs.Prelude.{◌≡◌, IfOk, string_bytes};
 ghost use Rattle.pg_report.specs.Changes.{drawn, filled};
-ghost use Rattle.pg_answers.specs.Lines.{AreLinesOf, ShowsRecord};
+ghost use Rattle.pg_answers.specs.Lines.{AreLinesOf, ShowsRecord, shown_status};
 ghost use Rattle.pg_auditing.specs.Streams.{streams};
 ghost use Rattle.pg_answers.specs.Texts.{IsTextGiven};
 
-use crate::shown::{ToldText, give};
-use pg_auditing::{status_of, tell_error};
+use pg_auditing::{YES, error_status, tell_error};
 use pg_check::History;
 use pg_codec::{Sink, Source};
 use pg_event::Selection;
 use pg_explain::shown_text;
-use pg_report::{AuditError, Verdict, read_record, report_of};
+use pg_report::{AuditError, read_record, write_text};
 use std::alloc::{AllocError, Global};
 
 /// The lines of the events of a history that a selection asks for.
-fn shown(alloc: Global, history: &History, selection: Selection) -> Result<ToldText, AllocError>
-    ensures { IfOk result (λ told. AreLinesOf selection history.now told.verdict
-        (string_bytes told.text)) }
+fn shown(alloc: Global, history: &History, selection: Selection) -> Result<String, AllocError>
+    ensures { IfOk result (λ t. AreLinesOf selection history.now tt (string_bytes t)) }
 {
-    let text = shown_text(alloc, selection, history.events())?;
-    Ok(ToldText {
-        verdict: report_of(history).verdict,
-        text,
-    })
+    shown_text(alloc, selection, history.events())
 }
 
 /// Reads a record, and writes the lines of the events that are asked for. Nothing is written before
@@ -34,7 +28,7 @@ fn write_lines<R: Source, O: Sink>(
     selection: Selection,
     input: &mut R,
     output: &mut O,
-) -> Result<Verdict, AuditError>
+) -> Result<(), AuditError>
     ensures { IsTextGiven (AreLinesOf selection)
         (drawn R.Source input.old input.new) (filled O.Sink output.old output.new) result }
 {
@@ -42,13 +36,21 @@ fn write_lines<R: Source, O: Sink>(
         Ok(history) => history,
         Err(error) => return Err(error),
     };
-    let told = shown(alloc, &history, selection)?;
-    give(output, told)
+    let text = shown(alloc, &history, selection)?;
+    write_text(output, text.as_str())
+}
+
+fn shown_status(answer: Result<(), AuditError>) -> u8
+    ensures { result ≡ shown_status answer }
+{
+    match answer {
+        Ok(()) => YES,
+        Err(error) => error_status(error),
+    }
 }
 
 /// Writes the events of the record on `input` that a selection asks for, a line each, which may be
-/// none. It gives the exit status, which is the record's by `check`: 0 yes, 1 no, 2 refused, 3
-/// memory.
+/// none. It gives the exit status: 0 shown, whatever the record's verdict is, 2 refused, 3 memory.
 pub fn show<R: Source, O: Sink, E: Sink>(
     alloc: Global,
     selection: Selection,
@@ -61,5 +63,5 @@ pub fn show<R: Source, O: Sink, E: Sink>(
 {
     let answer = write_lines(alloc, selection, input, output);
     tell_error(errors, &answer);
-    status_of(answer)
+    shown_status(answer)
 }

@@ -70,7 +70,7 @@ fn next_number(number: u64, step: &Step) -> u64
     }
 }
 
-/// The lines of a run, in their order. Its events are counted from 0. `Err` is for want of memory
+/// The lines of a run, in their order. Its events are counted from 0. `Err` is out of memory
 /// alone.
 pub fn run_text(alloc: Global, steps: &[Step]) -> Result<String, AllocError>
     ensures { IfOk result (λ t. string_bytes t ≡ run_text steps.now) }

@@ -3,52 +3,85 @@
 ghost use Rattle.std.specs.Prelude.{◌≡◌};
 
 use crate::counter::Counter;
-use crate::line::{is_due, put_line};
+use crate::line::put_read;
 use pg_codec::{Failed, Sink, Source};
 use std::cell::Cell;
+use std::time::{Clock, Instant};
 
-/// A source that gives what another gives and, while it is asked to, tells a sink of each million
-/// events of the record that have been pulled. Whether the sink takes the line changes nothing.
+/// So many seconds it is between two lines, at least.
+const PAUSE: u64 = 1;
+
+/// A source that gives what another gives and, while it is asked to, tells a sink each second or so
+/// how many events of the record have been pulled. Whether the sink takes the line, and whether the
+/// clock answers, changes nothing.
 #[derive(Drop)]
-pub struct Followed<'a, R, E> {
+pub struct Followed<'a, R, E, C> {
     pub source: R,
     errors: E,
+    clock: C,
+    /// How many bytes there are to pull, if that is known.
+    size: Option<u64>,
     /// Whether it tells.
     tells: &'a Cell<bool>,
     counter: Counter,
+    /// When a line was told last, or the first bytes were pulled.
+    last: Option<Instant>,
 }
 
-/// Counts on, and tells of each million events.
-fn follow<E: Sink>(counter: &mut Counter, errors: &mut E, bytes: &[u8]) {
+/// Counts on.
+fn count(counter: &mut Counter, bytes: &[u8]) {
     let mut at = 0;
     for _ in 0..bytes.len() {
         if at >= bytes.len() {
             return;
         }
-        let before = counter.events();
         at += counter.take(&bytes[at..]);
-        let events = counter.events();
-        if is_due(before, events) {
-            let _ = put_line(errors, events, counter.bytes(), b"bytes");
+    }
+}
+
+/// Whether a second has gone by since a line was told. It is told then, and the second begins anew.
+fn is_time<C: Clock>(clock: &C, last: &mut Option<Instant>) -> bool {
+    let Ok(now) = Instant::now(clock) else {
+        return false;
+    };
+    match *last {
+        Some(before) if now.duration_since(before).as_secs() < PAUSE => false,
+        Some(_) => {
+            *last = Some(now);
+            true
+        }
+        None => {
+            *last = Some(now);
+            false
         }
     }
 }
 
-impl<'a, R: Source, E: Sink> Followed<'a, R, E> {
-    /// Of a source of which nothing was pulled. It tells once the cell is set.
-    pub fn new(source: R, errors: E, tells: &'a Cell<bool>) -> Followed<'a, R, E>
+impl<'a, R: Source, E: Sink, C: Clock> Followed<'a, R, E, C> {
+    /// Of a source of which nothing was pulled, and which has so many bytes, if that is known. It
+    /// tells once the cell is set.
+    pub fn new(
+        source: R,
+        errors: E,
+        clock: C,
+        size: Option<u64>,
+        tells: &'a Cell<bool>,
+    ) -> Followed<'a, R, E, C>
         ensures source { result.source ≡ source }
     {
         Followed {
             source,
             errors,
+            clock,
+            size,
             tells,
             counter: Counter::new(),
+            last: None,
         }
     }
 }
 
-impl<'a, R: Source, E: Sink> Source for Followed<'a, R, E> {
+impl<'a, R: Source, E: Sink, C: Clock> Source for Followed<'a, R, E, C> {
     ghost left = { λ f. R.left f.source };
 
     ghost failed = { λ f. R.failed f.source };
@@ -57,7 +90,10 @@ impl<'a, R: Source, E: Sink> Source for Followed<'a, R, E> {
         match self.source.pull(out) {
             Ok(n) => {
                 if self.tells.get() {
-                    follow(&mut self.counter, &mut self.errors, &out[..n]);
+                    count(&mut self.counter, &out[..n]);
+                    if is_time(&self.clock, &mut self.last) {
+                        let _ = put_read(&mut self.errors, &self.counter, self.size);
+                    }
                 }
                 Ok(n)
             }

@@ -42,7 +42,7 @@ impl<E: Sink> Onlooker for Teller<E> {
         self.last = counts;
         if is_due(before, events) {
             let segments = counts.segments as u64;
-            let _ = put_line(&mut self.errors, events, segments, b"segments");
+            let _ = put_line(&mut self.errors, events, segments);
         }
     }
 }

@@ -114,9 +114,12 @@ with_moments (Invlpg p la) others = others
 with_moments (Invpcid p kind pcid la) others = others
 with_moments (MovCr4Pge p on) others = others
 
+abbrev pub event_fields : ℕ → Event → Fields
+event_fields number e = with_moments e (claim_fields number e)
+
 abbrev pub event_json : ℕ → Event → Json
-event_json number e = object (with_moments e (claim_fields number e))
+event_json number e = object (event_fields number e)
 
 -- an event that began when so many had ended
-abbrev pub began_json : ℕ → ℕ → Event → Json
-began_json began number e = object (field (codes "began") (count began) (claim_fields number e))
+abbrev pub began_fields : ℕ → ℕ → Event → Fields
+began_fields began number e = field (codes "began") (count began) (claim_fields number e)

@@ -1,5 +1,5 @@
 -- Answers as JSON: a tree without fractions, the library's data for it, and its text.
-use Rattle.std.specs.Prelude.{ℕ, Bool, true, false, List, [], ◌∷◌, ◌++◌, map, codes}
+use Rattle.std.specs.Prelude.{ℕ, Bool, false, List, [], ◌∷◌, ◌++◌, map, codes}
 use Rattle.std.specs.Fmt.{digits}
 use Rattle.serde_json.specs.Data as json
 use Rattle.serde_json.specs.Data.{Data, Items, Members}
@@ -48,9 +48,22 @@ abbrev mutual
 abbrev pub json_text : Json → List ℕ
 json_text j = compact_text (data_of j)
 
--- the same as a line
+-- the version of the form of answers
+abbrev pub format : ℕ
+format = 1
+
+-- an object with that version among its fields
+abbrev pub with_format : Json → Json
+with_format nothing = nothing
+with_format (flag b) = flag b
+with_format (count n) = count n
+with_format (text s) = text s
+with_format (list es) = list es
+with_format (object fs) = object (field (codes "format") (count format) fs)
+
+-- the line of an answer, which is an object
 abbrev pub json_line : Json → List ℕ
-json_line j = json_text j ++ codes "\n"
+json_line j = json_text (with_format j) ++ codes "\n"
 
 -- trees as the elements of a list
 abbrev pub elements : List Json → Elements

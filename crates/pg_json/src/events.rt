@@ -8,7 +8,7 @@ ghost use Rattle.pg_json.specs.Events.{op_name, code_fields, outcome_json, asked
 ghost use Rattle.pg_json.specs.Events.{write_fields, access_fields, assist_fields, root_fields};
 ghost use Rattle.pg_json.specs.Events.{page_drop_fields, pcid_drop_fields, switch_fields};
 ghost use Rattle.pg_json.specs.Events.{deed_fields, claim_fields, claim_json, with_moments};
-ghost use Rattle.pg_json.specs.Events.{event_json, began_json};
+ghost use Rattle.pg_json.specs.Events.{event_fields, event_json, began_fields};
 
 use crate::fields::{Fields, numbers_json, put_count, put_flag, put_hex, put_text};
 use pg_entry::{Op, has_bit};
@@ -207,25 +207,34 @@ fn put_named(fields: &mut Fields, alloc: Global, event: &Event) -> Result<(), Al
     }
 }
 
-/// An event with its number, and with the moments that it names.
-pub fn event_json(alloc: Global, number: u64, event: &Event) -> Result<Value, AllocError>
-    ensures { IfOk result (λ v. view v ≡ data_of (event_json number event.now)) }
+/// The fields of an event with its number, and with the moments that it names.
+pub fn event_fields(alloc: Global, number: u64, event: &Event) -> Result<Fields, AllocError>
+    ensures { IfOk result (λ m. members_view m.entries
+        ≡ members_of (event_fields number event.now)) }
 {
     let mut fields = claim_fields(alloc, number, event)?;
     put_named(&mut fields, alloc, event)?;
-    Ok(Value::Object(fields))
+    Ok(fields)
 }
 
-/// An event with its number, and with how many events had ended when it began.
-pub fn began_json(
+/// The object of these.
+pub fn event_json(alloc: Global, number: u64, event: &Event) -> Result<Value, AllocError>
+    ensures { IfOk result (λ v. view v ≡ data_of (event_json number event.now)) }
+{
+    Ok(Value::Object(event_fields(alloc, number, event)?))
+}
+
+/// The fields of an event with its number, and with how many events had ended when it began.
+pub fn began_fields(
     alloc: Global,
     began: u64,
     number: u64,
     event: &Event,
-) -> Result<Value, AllocError>
-    ensures { IfOk result (λ v. view v ≡ data_of (began_json began number event.now)) }
+) -> Result<Fields, AllocError>
+    ensures { IfOk result (λ m. members_view m.entries
+        ≡ members_of (began_fields began number event.now)) }
 {
     let mut fields = claim_fields(alloc, number, event)?;
     put_count(&mut fields, alloc, "began", began)?;
-    Ok(Value::Object(fields))
+    Ok(fields)
 }

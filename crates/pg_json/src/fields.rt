@@ -1,13 +1,17 @@
 //! Fields of an object, put in one after another.
 
-ghost use Rattle.std.specs.Prelude.{◌≡◌, List, map, IfOk, OnOk, string_bytes};
+ghost use Rattle.std.specs.Prelude.{◌≡◌, ◌++◌, List, map, IfOk, OnOk, codes, string_bytes};
 ghost use Rattle.serde_json.specs.Data.{put};
 ghost use Rattle.serde_json.specs.View.{view, members_view};
 ghost use Rattle.pg_json.specs.Tree.{Json, Fields as Told, data_of, members_of, flag, count, text};
-ghost use Rattle.pg_json.specs.Tree.{hex, list, elements, counts, object, json_line};
+ghost use Rattle.pg_json.specs.Tree.{hex, list, elements, counts, object, json_text, json_line};
 
 use serde_json::{Map, Value};
 use std::alloc::{AllocError, Global};
+
+/// The version of the form of answers. It rises where a field changes its name, its type or its
+/// meaning, or goes.
+const FORMAT: u64 = 1;
 
 /// The fields of an object.
 pub type Fields = Map<String, Value>;
@@ -103,12 +107,22 @@ pub fn object_of(fields: Fields) -> Value
     Value::Object(fields)
 }
 
-/// The text of a value as a line.
-pub fn line_of(alloc: Global, value: &Value) -> Result<String, AllocError>
+/// The text of a value, and the end of its line.
+fn text_line(alloc: Global, value: &Value) -> Result<String, AllocError>
     ensures { (told : Json) → view value.now ≡ data_of told →
-        IfOk result (λ t. string_bytes t ≡ json_line told) }
+        IfOk result (λ t. string_bytes t ≡ json_text told ++ codes "\n") }
 {
     let mut text = value.to_string(alloc)?;
     text.push_str("\n")?;
     Ok(text)
+}
+
+/// The line of an answer that has these fields: an object of them and the version of the form.
+pub fn line_of(alloc: Global, fields: Fields) -> Result<String, AllocError>
+    ensures { (told : Told) → members_view fields.entries ≡ members_of told →
+        IfOk result (λ t. string_bytes t ≡ json_line (object told)) }
+{
+    let mut fields = fields;
+    put_count(&mut fields, alloc, "format", FORMAT)?;
+    text_line(alloc, &Value::Object(fields))
 }

@@ -1,14 +1,12 @@
 //! Reports as JSON.
 
-ghost use Rattle.std.specs.Prelude.{◌≡◌, IfOk, OnOk};
-ghost use Rattle.serde_json.specs.View.{view, members_view};
-ghost use Rattle.pg_json.specs.Tree.{data_of, members_of, Fields as Told};
+ghost use Rattle.std.specs.Prelude.{◌≡◌, OnOk};
+ghost use Rattle.serde_json.specs.View.{members_view};
+ghost use Rattle.pg_json.specs.Tree.{members_of, Fields as Told};
 ghost use Rattle.pg_json.specs.Reports.{with_counts, with_yes, with_no, with_verdict, with_report};
-ghost use Rattle.pg_json.specs.Reports.{report_json};
 
 use crate::fields::{Fields, put_count, put_text};
 use pg_report::{Report, Verdict, reason_name, reason_number};
-use serde_json::{Map, Value};
 use std::alloc::{AllocError, Global};
 
 /// Puts how many events and segments there are.
@@ -75,13 +73,4 @@ pub fn put_report(fields: &mut Fields, alloc: Global, report: Report) -> Result<
 {
     put_counts(fields, alloc, report.events, report.segments)?;
     put_verdict(fields, alloc, report.verdict)
-}
-
-/// A report.
-pub fn report_json(alloc: Global, report: Report) -> Result<Value, AllocError>
-    ensures { IfOk result (λ v. view v ≡ data_of (report_json report)) }
-{
-    let mut fields = Map::new(alloc);
-    put_report(&mut fields, alloc, report)?;
-    Ok(Value::Object(fields))
 }

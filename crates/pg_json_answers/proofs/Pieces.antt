@@ -16,7 +16,7 @@ abbrev pub event_piece : ℕ → List ℕ
 event_piece event = codes "{\"event\":" ++ decimal event
 
 abbrev pub rule_piece : ℕ → List ℕ
-rule_piece rule = codes ",\"number\":7,\"rule\":" ++ decimal rule
+rule_piece rule = codes ",\"format\":1,\"number\":7,\"rule\":" ++ decimal rule
 
 abbrev pub last_piece : List ℕ
 last_piece = codes ",\"text\":\"malformed\"}\n"
@@ -24,4 +24,4 @@ last_piece = codes ",\"text\":\"malformed\"}\n"
 pub malformed_line : (event rule : ℕ) → json_line (malformed_json event rule) ≡ event_piece event ++ (rule_piece rule ++ last_piece)
 unfolding objects_on_literals
 malformed_line event rule =
-    joined (codes "{\"event\":") (decimal event) (codes ",\"number\":7,\"rule\":") (decimal rule) (codes ",\"text\":\"malformed\"}") (codes "\n")
+    joined (codes "{\"event\":") (decimal event) (codes ",\"format\":1,\"number\":7,\"rule\":") (decimal rule) (codes ",\"text\":\"malformed\"}") (codes "\n")

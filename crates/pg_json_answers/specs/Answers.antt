@@ -103,8 +103,8 @@ IsExplanationJson r (Some n) text =
     × (x : Explanation) × IsExplained r.head r.events n x
     × (text ≡ json_line (told_json r (with_cause (explanation_json r.events x))))
 
--- the answer of a question of a record: its first bad event, or the one that is denied, and the
--- text
+-- The answer of a question of a record: its first bad event, or the one that is denied, and the
+-- text. (Events that are shown are no verdict.)
 abbrev pub IsJsonOf : Question → Recorded → Option ℕ → List ℕ → Type 0
 IsJsonOf Check r bad text =
     (bad ≡ bad_of r) × (text ≡ json_line (report_json (report_of r)))
@@ -121,4 +121,4 @@ IsJsonOf (ExplainAll most) r bad text =
     × (text ≡ json_line (told_json r (with_causes r.events told
     (summary_fields (bads r.head r.events) ts))))
 IsJsonOf (Show selection) r bad text =
-    (bad ≡ bad_of r) × (text ≡ shown_json selection r.events)
+    (bad ≡ None) × (text ≡ shown_json selection r.events)

@@ -10,7 +10,7 @@ use Rattle.pg_json_answers.specs.declared.question.Question.{Question}
 use Rattle.pg_json_answers.specs.Answers.{IsJsonOf}
 use Rattle.pg_json_answers.specs.Refusals.{TellsJson}
 
--- why a record that was read may have no answer: want of memory, or of a thread, of which one
+-- why a record that was read may have no answer: memory ran out, or a thread failed, of which one
 -- checker wants none
 abbrev pub MayFail : ℕ → AuditError → Type 0
 MayFail checkers Memory = Unit {0}

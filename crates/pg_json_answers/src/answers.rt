@@ -24,7 +24,7 @@ use pg_certify::{CertifyError, certified_events_run, denied_events_have_no_run, 
 use pg_check::History;
 use pg_event::Selection;
 use pg_explain::{Bad, bads, tallies};
-use pg_json::{Fields, line_of, list_of, put_count, put_counts, put_no, put_report, report_json};
+use pg_json::{Fields, line_of, list_of, put_count, put_counts, put_no, put_report};
 use pg_json_causes::tallies_json;
 use pg_plan::Checkers;
 use pg_report::{AuditError, Report, Verdict, report_of};
@@ -33,7 +33,8 @@ use std::alloc::{AllocError, AllocGlobal, Global};
 use std::sync::Wait;
 use std::thread::Threads;
 
-/// The first bad event of a record, or the one that is denied, and what is written.
+/// The first bad event of a record, or the one that is denied, where its verdict was asked for, and
+/// what is written.
 #[derive(Drop)]
 pub(crate) struct Told {
     pub(crate) bad: Option<u64>,
@@ -52,8 +53,9 @@ fn event_of(verdict: Verdict) -> Option<u64>
 fn report_line(alloc: Global, report: Report) -> Result<String, AllocError>
     ensures { IfOk result (λ t. string_bytes t ≡ json_line (report_json report)) }
 {
-    let value = report_json(alloc, report)?;
-    line_of(alloc, &value)
+    let mut fields = Map::new(alloc);
+    put_report(&mut fields, alloc, report)?;
+    line_of(alloc, fields)
 }
 
 /// The line of a history's report, with more of it.
@@ -63,7 +65,7 @@ fn told_line(alloc: Global, history: &History, more: Fields) -> Result<String, A
 {
     let mut fields = more;
     put_report(&mut fields, alloc, report_of(history))?;
-    line_of(alloc, &Value::Object(fields))
+    line_of(alloc, fields)
 }
 
 fn checked(alloc: Global, history: &History) -> Result<Told, AllocError>
@@ -161,7 +163,7 @@ fn denied_line(alloc: Global, history: &History, event: u64) -> Result<String, A
     let mut fields = with_cause(alloc, cause)?;
     put_counts(&mut fields, alloc, history.len(), history.segments())?;
     put_no(&mut fields, alloc, event, 14, "no moments")?;
-    line_of(alloc, &Value::Object(fields))
+    line_of(alloc, fields)
 }
 
 /// What certifying a record came to.
@@ -217,10 +219,7 @@ fn shown(alloc: Global, history: &History, selection: Selection) -> Result<Told,
         (string_bytes told.text)) }
 {
     let text = shown_json(alloc, selection, history.events())?;
-    Ok(Told {
-        bad: event_of(report_of(history).verdict),
-        text,
-    })
+    Ok(Told { bad: None, text })
 }
 
 /// The answer of a question, by so many checkers where it is whether some run has the events.

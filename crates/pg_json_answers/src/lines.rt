@@ -5,7 +5,7 @@ ghost use Rattle.pg_json_answers.specs.Answers.{shown_line, shown_json};
 
 use pg_event::{Event, Selection, processor_of};
 use pg_explain::{fits, is_marked, marks_of};
-use pg_json::{event_json, line_of};
+use pg_json::{event_fields, line_of};
 use std::alloc::{AllocError, Global};
 
 /// Appends the line of an event, if it is shown.
@@ -20,8 +20,8 @@ fn push_shown(
         (string_bytes text.new ≡ string_bytes text.old ++ shown_line is_shown number event.now) }
 {
     if is_shown {
-        let value = event_json(alloc, number, event)?;
-        let line = line_of(alloc, &value)?;
+        let fields = event_fields(alloc, number, event)?;
+        let line = line_of(alloc, fields)?;
         text.push_str(line.as_str())?;
     }
     Ok(())

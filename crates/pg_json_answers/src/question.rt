@@ -9,9 +9,9 @@ pub enum Question {
     CheckAll,
     /// Whether some run of the machine has its events.
     Certify,
-    /// Its report, and what stands behind a no.
+    /// Its report, and the cause of a rejection.
     Explain,
-    /// Its report, what stands behind so many bad events at most, and the summary.
+    /// Its report, the causes of so many bad events at most, and the summary.
     ExplainAll(u32),
     /// The events that a selection asks for, an object a line.
     Show(Selection),

@@ -17,7 +17,7 @@ fn put_malformed<W: Sink>(errors: &mut W, event: u64, rule: u8) -> Result<(), Fa
     ensures { Puts W.Sink (json_line (malformed_json event rule)) errors.old errors.new result }
 {
     put_number(errors, b"{\"event\":", event)?;
-    put_number(errors, b",\"number\":7,\"rule\":", rule as u64)?;
+    put_number(errors, b",\"format\":1,\"number\":7,\"rule\":", rule as u64)?;
     put_all(errors, b",\"text\":\"malformed\"}\n")
 }
 
@@ -26,21 +26,38 @@ fn put_refusal_json<W: Sink>(errors: &mut W, refusal: Refusal) -> Result<(), Fai
         errors.old errors.new result }
 {
     match refusal {
-        Refusal::Magic => put_all(errors, b"{\"number\":1,\"text\":\"magic\"}\n"),
-        Refusal::Version => put_all(errors, b"{\"number\":2,\"text\":\"version\"}\n"),
-        Refusal::HeaderField => put_all(errors, b"{\"number\":3,\"text\":\"header field\"}\n"),
+        Refusal::Magic => put_all(errors, b"{\"format\":1,\"number\":1,\"text\":\"magic\"}\n"),
+        Refusal::Version => put_all(
+            errors,
+            b"{\"format\":1,\"number\":2,\"text\":\"version\"}\n",
+        ),
+        Refusal::HeaderField => put_all(
+            errors,
+            b"{\"format\":1,\"number\":3,\"text\":\"header field\"}\n",
+        ),
         Refusal::SegmentNumber => {
-            put_all(errors, b"{\"number\":4,\"text\":\"segment number\"}\n")
+            put_all(
+                errors,
+                b"{\"format\":1,\"number\":4,\"text\":\"segment number\"}\n",
+            )
         }
-        Refusal::SegmentCount => { put_all(errors, b"{\"number\":5,\"text\":\"segment count\"}\n") }
-        Refusal::Tag => put_all(errors, b"{\"number\":6,\"text\":\"tag\"}\n"),
+        Refusal::SegmentCount => {
+            put_all(
+                errors,
+                b"{\"format\":1,\"number\":5,\"text\":\"segment count\"}\n",
+            )
+        }
+        Refusal::Tag => put_all(errors, b"{\"format\":1,\"number\":6,\"text\":\"tag\"}\n"),
         Refusal::Malformed { event, rule } => put_malformed(errors, event, rule_number(rule)),
-        Refusal::Truncated => put_all(errors, b"{\"number\":8,\"text\":\"truncated\"}\n"),
-        Refusal::Total => put_all(errors, b"{\"number\":9,\"text\":\"total\"}\n"),
+        Refusal::Truncated => put_all(
+            errors,
+            b"{\"format\":1,\"number\":8,\"text\":\"truncated\"}\n",
+        ),
+        Refusal::Total => put_all(errors, b"{\"format\":1,\"number\":9,\"text\":\"total\"}\n"),
         Refusal::Trailing => {
             put_all(
                 errors,
-                b"{\"number\":10,\"text\":\"bytes after the end\"}\n",
+                b"{\"format\":1,\"number\":10,\"text\":\"bytes after the end\"}\n",
             )
         }
     }
@@ -51,10 +68,22 @@ fn put_error_json<W: Sink>(errors: &mut W, error: AuditError) -> Result<(), Fail
 {
     match error {
         AuditError::Refused(refusal) => put_refusal_json(errors, refusal),
-        AuditError::Device => put_all(errors, b"{\"number\":11,\"text\":\"device\"}\n"),
-        AuditError::Memory => put_all(errors, b"{\"number\":12,\"text\":\"memory\"}\n"),
-        AuditError::Thread => put_all(errors, b"{\"number\":14,\"text\":\"thread\"}\n"),
-        AuditError::Checkers => put_all(errors, b"{\"number\":15,\"text\":\"checkers\"}\n"),
+        AuditError::Device => put_all(
+            errors,
+            b"{\"format\":1,\"number\":11,\"text\":\"device\"}\n",
+        ),
+        AuditError::Memory => put_all(
+            errors,
+            b"{\"format\":1,\"number\":12,\"text\":\"memory\"}\n",
+        ),
+        AuditError::Thread => put_all(
+            errors,
+            b"{\"format\":1,\"number\":14,\"text\":\"thread\"}\n",
+        ),
+        AuditError::Checkers => put_all(
+            errors,
+            b"{\"format\":1,\"number\":15,\"text\":\"checkers\"}\n",
+        ),
     }
 }
 
@@ -72,7 +101,7 @@ pub fn tell_spans_json<W: Sink>(errors: &mut W)
 {
     let _ = put_all(
         errors,
-        b"{\"number\":2,\"text\":\"version: certify judges records with spans\"}\n",
+        b"{\"format\":1,\"number\":2,\"text\":\"version: certify judges records with spans\"}\n",
     );
 }
 

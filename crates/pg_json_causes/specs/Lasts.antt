@@ -2,7 +2,7 @@
 --
 --     moment, by           its number then, and the moments that would have witnessed it
 --     taken_by             the event behind which it never was
-use Rattle.std.specs.Prelude.{ℕ, List, Option, Some, None, codes}
+use Rattle.std.specs.Prelude.{ℕ, Option, Some, None, codes}
 use Rattle.pg_event.specs.declared.event.Event.{Event}
 use Rattle.pg_search.specs.declared.last.Last.{Last}
 use Rattle.pg_json.specs.Tree.{Json, nothing, count, counts, object, no_fields, field}

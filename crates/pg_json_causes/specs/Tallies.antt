@@ -3,7 +3,7 @@
 --     reason, reason_name  its number and its name
 --     count, first         how many bad events have it, and the first of them
 --     cpus, pages          all their processors and pages
-use Rattle.std.specs.Prelude.{ℕ, List, map, codes}
+use Rattle.std.specs.Prelude.{List, map, codes}
 use Rattle.pg_explain.specs.declared.tallier.Tally.{Tally}
 use Rattle.pg_report.specs.Text.{reason_number, reason_name}
 use Rattle.pg_json.specs.Tree.{Json, count, counts, text, list, hexes, object, elements}

@@ -7,12 +7,15 @@ use Rattle.pg_event.specs.declared.event.Event.{Event}
 use Rattle.pg_event.specs.declared.selection.Selection.{Selection}
 use Rattle.pg_explain.specs.Filters.{is_shown}
 use Rattle.pg_spanned.specs.Orders.{Spanned, ended_before}
-use Rattle.pg_json.specs.Tree.{Json, json_line}
-use Rattle.pg_json.specs.Events.{began_json}
+use Rattle.pg_json.specs.Tree.{Json, Fields, object, json_line}
+use Rattle.pg_json.specs.Events.{began_fields}
 
 -- an event with its span
+abbrev pub event_fields : Spanned → ℕ → Event → Fields
+event_fields s number e = began_fields (ended_before s number) number e
+
 abbrev pub event_json : Spanned → ℕ → Event → Json
-event_json s number e = began_json (ended_before s number) number e
+event_json s number e = object (event_fields s number e)
 
 -- the line of an event, if it is shown
 abbrev pub spanned_line : Bool → Spanned → ℕ → Event → List ℕ

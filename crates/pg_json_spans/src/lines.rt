@@ -1,17 +1,33 @@
 //! The events of a record with no one order, an object a line.
 
 ghost use Rattle.std.specs.Prelude.{◌≡◌, ◌++◌, ◌<◌, IfOk, OnOk, length, string_bytes};
-ghost use Rattle.serde_json.specs.View.{view};
-ghost use Rattle.pg_json.specs.Tree.{data_of};
-ghost use Rattle.pg_json_spans.specs.Lines.{event_json, spanned_line, spanned_json_lines};
+ghost use Rattle.serde_json.specs.View.{view, members_view};
+ghost use Rattle.pg_json.specs.Tree.{data_of, members_of};
+ghost use Rattle.pg_json_spans.specs.Lines.{event_fields, event_json, spanned_line};
+ghost use Rattle.pg_json_spans.specs.Lines.{spanned_json_lines};
 
 use pg_event::{Event, Selection, processor_of};
 use pg_explain::{fits, is_marked, marks_of};
-use pg_json::{began_json, line_of};
+use pg_json::{Fields, began_fields, line_of};
 use pg_spanned::SpannedRun;
 use pg_spanned_text::ended_before;
 use serde_json::Value;
 use std::alloc::{AllocError, Global};
+
+/// The fields of an event with its span.
+fn event_fields(
+    alloc: Global,
+    run: &SpannedRun,
+    number: u32,
+    event: &Event,
+) -> Result<Fields, AllocError>
+    requires { number < length run.now.events }
+    ensures { IfOk result (λ m. members_view m.entries
+        ≡ members_of (event_fields run.now number event.now)) }
+{
+    let began = ended_before(run, number);
+    began_fields(alloc, began as u64, number as u64, event)
+}
 
 /// An event with its span.
 pub(crate) fn event_json(
@@ -23,8 +39,7 @@ pub(crate) fn event_json(
     requires { number < length run.now.events }
     ensures { IfOk result (λ v. view v ≡ data_of (event_json run.now number event.now)) }
 {
-    let began = ended_before(run, number);
-    began_json(alloc, began as u64, number as u64, event)
+    Ok(Value::Object(event_fields(alloc, run, number, event)?))
 }
 
 /// Appends the line of an event, if it is shown.
@@ -41,8 +56,8 @@ fn push_shown(
         ≡ string_bytes text.old ++ spanned_line is_shown run.now number event.now) }
 {
     if is_shown {
-        let value = event_json(alloc, run, number, event)?;
-        let line = line_of(alloc, &value)?;
+        let fields = event_fields(alloc, run, number, event)?;
+        let line = line_of(alloc, fields)?;
         text.push_str(line.as_str())?;
     }
     Ok(())

@@ -99,5 +99,5 @@ pub(crate) fn told_line(alloc: Global, run: &SpannedRun, told: &Told) -> Result<
     let mut fields = cause_fields(alloc, run, told)?;
     put_counts(&mut fields, alloc, run.len() as u64, segments_of(run))?;
     put_told(&mut fields, alloc, told)?;
-    line_of(alloc, &Value::Object(fields))
+    line_of(alloc, fields)
 }

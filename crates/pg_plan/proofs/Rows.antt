@@ -1,12 +1,12 @@
 -- Which kinds `clap` gives these lines: none where it takes them; and what lines ask for.
-use Rattle.std.proofs.Common.{◌≡◌, true, false, List, [], ◌∷◌, codes, Option, Some, None, refl, sym, subst, arith}
+use Rattle.std.proofs.Common.{◌≡◌, Bool, true, false, List, [], ◌∷◌, codes, Option, Some, None, refl, sym, subst, arith}
 use Rattle.clap.specs.Faults.{fault_of}
 use Rattle.clap.specs.Simple.{subcommand_of}
 use Rattle.clap.specs.Walk.{Row, Text, first_of}
 use Rattle.clap.specs.Kinds.{Kinds}
 use Rattle.clap.specs.declared.error.kind.ErrorKind.TheVariants.{DisplayHelp, DisplayVersion, InvalidSubcommand, MissingSubcommand, UnknownArgument, ValueValidation, ArgumentConflict}
 use Rattle.clap.proofs.OnLiterals.{clap_on_literals}
-use Rattle.pg_plan.specs.Commands.{AreAsked, Asks, IsAsked, command_line}
+use Rattle.pg_plan.specs.Commands.{AreAsked, Asks, IsAsked, command_line, has_conflict}
 use Rattle.pg_plan.specs.Values.{IsCpuIn, IsOptional, IsPageIn}
 use Rattle.pg_plan.specs.declared.request.CheckOptions.{CheckOptions}
 use Rattle.pg_plan.specs.declared.request.Command.{Command}
@@ -49,9 +49,18 @@ certify_bytes : Gives (codes "certify" ∷ codes "--bytes" ∷ []) []
 unfolding clap_on_literals
 certify_bytes = refl
 
-asks_certify : Asks (codes "certify" ∷ codes "--bytes" ∷ []) (quiet (Certify (record { checkers = 1; bytes = true; order = false; json = false }))) None
+-- the short form of `--checkers`, with its value in the same word or in the next
+certify_short : Gives (codes "certify" ∷ codes "-j4" ∷ []) []
 unfolding clap_on_literals
-asks_certify = (refl, ((refl, record { checkers = refl; bytes = refl; order = refl; json = refl }), refl), refl)
+certify_short = refl
+
+check_short : Gives (codes "check" ∷ codes "-j" ∷ codes "65" ∷ []) (ValueValidation ∷ [])
+unfolding clap_on_literals
+check_short = refl
+
+asks_certify : Asks (codes "certify" ∷ codes "--bytes" ∷ []) (quiet (Certify (record { checkers = 1; bytes = true; order = false; first = false; json = false }))) None
+unfolding clap_on_literals
+asks_certify = (refl, ((refl, record { checkers = refl; bytes = refl; order = refl; first = refl; json = refl }), refl, refl), refl)
 
 certify_single : Gives (codes "certify" ∷ codes "--single" ∷ []) (UnknownArgument ∷ [])
 unfolding clap_on_literals
@@ -154,7 +163,7 @@ checkers_of_run_of = refl
 
 asks_one : Asks (codes "check" ∷ []) (quiet (Check bare)) None
 unfolding clap_on_literals
-asks_one = (refl, ((refl, record { checkers = refl; all = refl; json = refl }), refl), refl)
+asks_one = (refl, ((refl, record { checkers = refl; all = refl; json = refl }), refl, refl), refl)
 
 -- ---- the switches of `run`
 
@@ -178,7 +187,7 @@ two = refl
 
 asks_run : Asks run_words (quiet (Run (record { checkers = 2; single = true; bytes = true }))) None
 unfolding clap_on_literals
-asks_run = (refl, ((refl, record { checkers = subst (λ o. AreAsked o 2) (sym two) (((omega arith, (omega arith, tt)), refl, omega arith), (omega arith, omega arith)); single = refl; bytes = refl }), refl), refl)
+asks_run = (refl, ((refl, record { checkers = subst (λ o. AreAsked o 2) (sym two) (((omega arith, (omega arith, tt)), refl, omega arith), (omega arith, omega arith)); single = refl; bytes = refl }), refl, refl), refl)
 
 -- ---- the event numbers of `show`
 
@@ -210,7 +219,7 @@ seven = refl
 
 asks_show : Asks show_words (quiet (Show (record { selection = record every { from = 5; to = 7 }; json = false }))) None
 unfolding clap_on_literals
-asks_show = (refl, ((refl, record { selection = record { from = subst (λ o. IsAsked 0 o 5) (sym five) ((omega arith, (omega arith, tt)), refl, omega arith); to = subst (λ o. IsAsked 4294967295 o 7) (sym seven) ((omega arith, (omega arith, tt)), refl, omega arith); cpu = tt; page = tt; word = tt }; json = refl }), refl), refl)
+asks_show = (refl, ((refl, record { selection = record { from = subst (λ o. IsAsked 0 o 5) (sym five) ((omega arith, (omega arith, tt)), refl, omega arith); to = subst (λ o. IsAsked 4294967295 o 7) (sym seven) ((omega arith, (omega arith, tt)), refl, omega arith); cpu = tt; page = tt; word = tt }; json = refl }), refl, refl), refl)
 
 -- ---- what is asked of the events themselves
 
@@ -249,7 +258,7 @@ is_5f0 = ((codes "5F0", refl, (omega arith, (omega arith, (omega arith, (omega a
 
 asks_filter : Asks filter_words (quiet (Show (record { selection = record every { cpu = Some 3; page = Some 1520 }; json = false }))) None
 unfolding clap_on_literals
-asks_filter = (refl, ((refl, record { selection = record { from = refl; to = refl; cpu = subst (λ o. IsOptional IsCpuIn o (Some 3)) (sym third) is_3; page = subst (λ o. IsOptional IsPageIn o (Some 1520)) (sym paged) is_5f0; word = tt }; json = refl }), refl), refl)
+asks_filter = (refl, ((refl, record { selection = record { from = refl; to = refl; cpu = subst (λ o. IsOptional IsCpuIn o (Some 3)) (sym third) is_3; page = subst (λ o. IsOptional IsPageIn o (Some 1520)) (sym paged) is_5f0; word = tt }; json = refl }), refl, refl), refl)
 
 -- ---- what is told of bad events
 
@@ -263,11 +272,11 @@ none_at_most = refl
 
 asks_all : Asks (codes "explain" ∷ codes "--all" ∷ []) (quiet (Explain (record { telling = All 100; json = false }))) None
 unfolding clap_on_literals
-asks_all = (refl, ((refl, record { telling = (refl, refl, refl); json = refl }), refl), refl)
+asks_all = (refl, ((refl, record { telling = (refl, refl, refl); json = refl }), refl, refl), refl)
 
 asks_picture : Asks (codes "explain" ∷ codes "--svg" ∷ []) (quiet (Explain (record { telling = Picture; json = false }))) None
 unfolding clap_on_literals
-asks_picture = (refl, ((refl, record { telling = (refl, refl, refl); json = refl }), refl), refl)
+asks_picture = (refl, ((refl, record { telling = (refl, refl, refl); json = refl }), refl, refl), refl)
 
 picture_of_certify : Gives (codes "certify" ∷ codes "--svg" ∷ []) (UnknownArgument ∷ [])
 unfolding clap_on_literals
@@ -281,6 +290,48 @@ most_alone : Gives most_words []
 unfolding clap_on_literals
 most_alone = refl
 
+-- its other name is taken
+limit_is_most : Gives (codes "explain" ∷ codes "--all" ∷ codes "--limit" ∷ codes "3" ∷ []) []
+unfolding clap_on_literals
+limit_is_most = refl
+
+limit_and_most : Gives (codes "explain" ∷ codes "--most" ∷ codes "3" ∷ codes "--limit" ∷ codes "3" ∷ []) (ArgumentConflict ∷ [])
+unfolding clap_on_literals
+limit_and_most = refl
+
+-- ---- two options of which one has no effect
+
+abbrev conflicts : List Text → Bool
+conflicts words = has_conflict (options (subcommand_of command_line words))
+
+order_and_bytes : conflicts (codes "certify" ∷ codes "--order" ∷ codes "--bytes" ∷ []) ≡ true
+unfolding clap_on_literals
+order_and_bytes = refl
+
+json_and_bytes : conflicts (codes "certify" ∷ codes "--json" ∷ codes "--bytes" ∷ []) ≡ true
+unfolding clap_on_literals
+json_and_bytes = refl
+
+json_and_picture : conflicts (codes "explain" ∷ codes "--json" ∷ codes "--svg" ∷ []) ≡ true
+unfolding clap_on_literals
+json_and_picture = refl
+
+first_and_bytes : conflicts (codes "certify" ∷ codes "--first" ∷ codes "--bytes" ∷ []) ≡ true
+unfolding clap_on_literals
+first_and_bytes = refl
+
+first_of_two_checkers : conflicts (codes "certify" ∷ codes "--first" ∷ codes "-j2" ∷ []) ≡ true
+unfolding clap_on_literals
+first_of_two_checkers = refl
+
+progress_of_a_single_thread : conflicts (codes "run" ∷ codes "--single" ∷ codes "--progress" ∷ []) ≡ true
+unfolding clap_on_literals
+progress_of_a_single_thread = refl
+
+record_of_a_single_thread : conflicts (codes "run" ∷ codes "--single" ∷ codes "--bytes" ∷ []) ≡ false
+unfolding clap_on_literals
+record_of_a_single_thread = refl
+
 -- and all are not drawn
 abbrev drawn_words : List Text
 drawn_words = codes "explain" ∷ codes "--all" ∷ codes "--svg" ∷ []
@@ -293,15 +344,15 @@ all_drawn = refl
 
 asks_progress : Asks (codes "check" ∷ codes "--progress" ∷ []) (telling (Check bare)) None
 unfolding clap_on_literals
-asks_progress = (refl, ((refl, record { checkers = refl; all = refl; json = refl }), refl), refl)
+asks_progress = (refl, ((refl, record { checkers = refl; all = refl; json = refl }), refl, refl), refl)
 
 asks_progress_of_run : Asks (codes "run" ∷ codes "--progress" ∷ []) (telling (Run (record { checkers = 1; single = false; bytes = false }))) None
 unfolding clap_on_literals
-asks_progress_of_run = (refl, ((refl, record { checkers = refl; single = refl; bytes = refl }), refl), refl)
+asks_progress_of_run = (refl, ((refl, record { checkers = refl; single = refl; bytes = refl }), refl, refl), refl)
 
 asks_json : Asks (codes "show" ∷ codes "--json" ∷ []) (quiet (Show (record { selection = every; json = true }))) None
 unfolding clap_on_literals
-asks_json = (refl, ((refl, record { selection = record { from = refl; to = refl; cpu = tt; page = tt; word = tt }; json = refl }), refl), refl)
+asks_json = (refl, ((refl, record { selection = record { from = refl; to = refl; cpu = tt; page = tt; word = tt }; json = refl }), refl, refl), refl)
 
 json_of_run : Gives (codes "run" ∷ codes "--json" ∷ []) (UnknownArgument ∷ [])
 unfolding clap_on_literals
@@ -315,16 +366,16 @@ progress_of_show = refl
 
 file : Asks (codes "check" ∷ codes "a.record" ∷ []) (quiet (Check bare)) (Some (codes "a.record"))
 unfolding clap_on_literals
-file = (refl, ((refl, record { checkers = refl; all = refl; json = refl }), refl), refl)
+file = (refl, ((refl, record { checkers = refl; all = refl; json = refl }), refl, refl), refl)
 
 dash : Asks (codes "check" ∷ codes "-" ∷ []) (quiet (Check bare)) None
 unfolding clap_on_literals
-dash = (refl, ((refl, record { checkers = refl; all = refl; json = refl }), refl), refl)
+dash = (refl, ((refl, record { checkers = refl; all = refl; json = refl }), refl, refl), refl)
 
 -- after `--` each word is a name
 dashes : Asks (codes "check" ∷ codes "--" ∷ codes "--help" ∷ []) (quiet (Check bare)) (Some (codes "--help"))
 unfolding clap_on_literals
-dashes = (refl, ((refl, record { checkers = refl; all = refl; json = refl }), refl), refl)
+dashes = (refl, ((refl, record { checkers = refl; all = refl; json = refl }), refl, refl), refl)
 
 file_of_upgrade : Gives (codes "upgrade" ∷ codes "a.record" ∷ []) []
 unfolding clap_on_literals

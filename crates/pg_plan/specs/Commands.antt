@@ -1,6 +1,7 @@
 -- What the words of a command line ask for, by what `clap` makes of them.
 use Rattle.std.specs.Prelude.{◌≡◌, ℕ, Bool, true, false, pos, List, [], ◌∷◌}
-use Rattle.std.specs.Prelude.{Option, Some, None, codes, unwrap_or, if◌then◌else◌}
+use Rattle.std.specs.Prelude.{◌++◌, ◌&&◌, ◌||◌, Option, Some, None, codes, unwrap_or, is_some}
+use Rattle.std.specs.Prelude.{if◌then◌else◌}
 use Rattle.std.specs.Str.{bytes_eq}
 use Rattle.clap.specs.Faults.{fault_of}
 use Rattle.clap.specs.Kinds.{IsAmong, Kinds}
@@ -47,9 +48,10 @@ value_rule name = record (new_rule name) {
   value_names = 1;
 }
 
--- a number from 1 to 64 after `--checkers`
+-- a number from 1 to 64 after `--checkers`, or after `-j`
 abbrev pub checkers_rule : Rule
 checkers_rule = record (value_rule (codes "checkers")) {
+  short = Some 106;
   parser = Some (parsers.Signed (pos 1) (pos 64));
 }
 
@@ -86,7 +88,8 @@ certify_line =
     let line = with_rule (new_app (codes "certify")) checkers_rule in
     let bytes = with_rule line (switch_rule (codes "bytes")) in
     let order = with_rule bytes (switch_rule (codes "order")) in
-    with_progress (with_json order)
+    let first = with_rule order (switch_rule (codes "first")) in
+    with_progress (with_json first)
 
 abbrev pub run_line : App
 run_line =
@@ -119,11 +122,19 @@ show_line =
     let to = with_rule line (number_rule (codes "to")) in
     with_file (with_json to)
 
+-- an option has a second name
+abbrev pub also_named : Rule → Text → Rule
+also_named rule name = record rule { aliases = rule.aliases ++ (name ∷ []) }
+
 -- a number from 1 to 1,000,000 after `--most`
-abbrev pub most_rule : Rule
-most_rule = record (value_rule (codes "most")) {
+abbrev pub most_number_rule : Rule
+most_number_rule = record (value_rule (codes "most")) {
   parser = Some (parsers.Signed (pos 1) (pos 1000000));
 }
+
+-- or after `--limit`
+abbrev pub most_rule : Rule
+most_rule = also_named most_number_rule (codes "limit")
 
 abbrev pub explain_line : App
 explain_line =
@@ -191,6 +202,27 @@ is_on (Some text) = bytes_eq text (codes "true")
 abbrev pub has : Text → List Row → Bool
 has switch rows = is_on (first_of switch rows)
 
+-- At most one of `--json`, `--bytes`, `--order`, `--svg` and `--first` says what is written: two of
+-- them are among options.
+abbrev pub says_twice : List Row → Bool
+says_twice rows =
+    let json = has (codes "json") rows in
+    let bytes = has (codes "bytes") rows in
+    let order = has (codes "order") rows in
+    let first = has (codes "first") rows in
+    (json && (bytes || order || has (codes "svg") rows || first))
+    || (bytes && (order || first))
+    || (order && first)
+
+-- Of two options one has no effect beside the other: two say what is written; or a record is read
+-- up to the first event that is rejected, which one checker does; or one thread runs a script, and
+-- tells of no progress.
+abbrev pub has_conflict : List Row → Bool
+has_conflict rows =
+    says_twice rows
+    || (has (codes "first") rows && is_some (first_of (codes "checkers") rows))
+    || (has (codes "single") rows && has (codes "progress") rows)
+
 -- these are the events that options ask for
 pub record IsSelectionOf (rows : List Row) (asked : Selection) : Type 0 where
   pub from : IsAsked 0 (first_of (codes "from") rows) asked.from
@@ -219,6 +251,7 @@ pub record IsAskedOfCertify (rows : List Row) (asked : CertifyOptions) : Type 0 
   pub checkers : AreCheckersOf rows asked.checkers
   pub bytes : asked.bytes ≡ has (codes "bytes") rows
   pub order : asked.order ≡ has (codes "order") rows
+  pub first : asked.first ≡ has (codes "first") rows
   pub json : asked.json ≡ has (codes "json") rows
 
 pub record IsAskedOfRun (rows : List Row) (asked : RunOptions) : Type 0 where
@@ -253,6 +286,7 @@ abbrev pub IsPlanOf : Option (Text × List Row) → Plan → Type 0
 IsPlanOf None plan = ⊥
 IsPlanOf (Some (name, rows)) plan =
     IsCommandOf name rows plan.command × (plan.progress ≡ has (codes "progress") rows)
+    × (has_conflict rows ≡ false)
 
 -- the file of a name: none for `-`, which is standard input
 abbrev pub named_file : Option Text → Option Text

@@ -17,6 +17,10 @@ pub record IsLineOf (app : App) (line : Command) : Type 0 where
   pub form : app_of line ≡ app
   pub local : (fields_of line).has_globals ≡ false
 
+-- an option of this rule was made, unless memory ran out
+abbrev pub IsMade : Rule → Result Arg AllocError → Type 0
+IsMade rule option = IfOk option (IsOption rule)
+
 -- a command of this form was made, unless memory ran out
 pub record IsLine (app : App) (line : Result Command AllocError) : Type 0 where
   pub made : IfOk line (IsLineOf app)

@@ -1,8 +1,9 @@
 -- The texts of this program's own that are told where words give no plan. (`clap` makes those of
 -- help and of words that it does not take.)
-use Rattle.std.specs.Prelude.{◌≡◌, ◌⊎◌, List, ◌++◌, Option, Some, None, codes, string_bytes}
+use Rattle.std.specs.Prelude.{◌≡◌, ◌⊎◌, true, false, List, ◌++◌, Option, Some, None, codes}
+use Rattle.std.specs.Prelude.{string_bytes}
 use Rattle.clap.specs.Walk.{Row, Text}
-use Rattle.pg_plan.specs.Commands.{IsTellingOf}
+use Rattle.pg_plan.specs.Commands.{IsTellingOf, has_conflict}
 use Rattle.pg_plan.specs.declared.request.Telling.{Telling}
 use Rattle.pg_plan.specs.declared.request.Usage.{Usage}
 use Rattle.pg_plan.specs.declared.request.Usage.TheVariants.{Help, Version, Fault, Memory}
@@ -26,13 +27,22 @@ telling_text =
     codes "error: --most goes with --all alone, by digits alone, and --svg goes without --all"
     ++ more_text
 
--- The text is what is wrong with what a command's options spell, where `clap` takes the words: what
--- they ask to be told of bad events, or else a number.
+-- of two options one has no effect beside the other
+abbrev pub conflict_text : Text
+conflict_text =
+    codes "error: --json, --bytes, --order, --svg and --first exclude one another, and so do"
+    ++ (codes " --first and\n  --checkers, and --single and --progress" ++ more_text)
+
+-- The text is what is wrong with a command's options, where `clap` takes the words: of two of them
+-- one has no effect, or else what they ask to be told of bad events, or else a number.
 abbrev pub IsWrong : Option (Text × List Row) → Text → Type 0
 IsWrong None text = text ≡ number_text
 IsWrong (Some (name, rows)) text =
-    (((telling : Telling) → ¬ IsTellingOf rows telling) × (text ≡ telling_text))
-    ⊎ ((telling : Telling) × IsTellingOf rows telling × (text ≡ number_text))
+    ((has_conflict rows ≡ true) × (text ≡ conflict_text))
+    ⊎ ((has_conflict rows ≡ false) × ((telling : Telling) → ¬ IsTellingOf rows telling)
+    × (text ≡ telling_text))
+    ⊎ ((has_conflict rows ≡ false) × (telling : Telling) × IsTellingOf rows telling
+    × (text ≡ number_text))
 
 -- the text is told as a fault, or memory was refused
 abbrev pub IsFaultOf : Text → Usage → Type 0

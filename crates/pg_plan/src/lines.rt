@@ -2,16 +2,19 @@
 
 ghost use Rattle.clap.specs.Simple.{App, new_app, with_rule, with_subcommand};
 ghost use Rattle.clap.specs.Walk.{Rule};
-ghost use Rattle.pg_plan.specs.Making.{IsLine, IsLineOf, IsOption};
+ghost use Rattle.pg_plan.specs.Making.{IsLine, IsLineOf, IsOption, IsMade};
 ghost use Rattle.pg_plan.specs.Commands.{bare_line, plain_line, check_line, certify_line};
 ghost use Rattle.pg_plan.specs.Commands.{run_line, show_line, explain_line, command_line};
 ghost use Rattle.pg_plan.specs.Commands.{merge_line, error_rule, logs_rule};
 ghost use Rattle.pg_plan.specs.Commands.{judging_line, running_line, telling_line, filter_line};
 ghost use Rattle.pg_plan.specs.Commands.{file_rule, value_rule, switch_rule, checkers_rule};
-ghost use Rattle.pg_plan.specs.Commands.{number_rule, cpu_rule, most_rule, with_progress};
+ghost use Rattle.pg_plan.specs.Commands.{number_rule, cpu_rule, most_rule, most_number_rule};
+ghost use Rattle.pg_plan.specs.Commands.{also_named, with_progress};
 
 use clap::{Arg, ArgAction, Command as CommandLine, value_parser};
 use std::alloc::{AllocError, Global};
+
+const PROGRAM: &str = "pcid-audit";
 
 pub(crate) const CHECK: &str = "check";
 
@@ -67,6 +70,10 @@ pub(crate) const ORDER: &str = "order";
 
 const ORDER_ABOUT: &str = "For a record with spans, write the order found, one event number a line";
 
+pub(crate) const FIRST: &str = "first";
+
+const FIRST_ABOUT: &str = "Answer at the first event that is rejected, and read no further";
+
 pub(crate) const ERROR: &str = "error";
 
 const ERROR_ABOUT: &str =
@@ -96,6 +103,8 @@ const ALL_ABOUT: &str = "Explain every bad event, and write a summary";
 
 pub(crate) const MOST: &str = "most";
 
+const LIMIT: &str = "limit";
+
 const MOST_ABOUT: &str =
     "With --all, explain at most this many bad events, 1 to 1000000 (default 100)";
 
@@ -105,7 +114,7 @@ const SVG_ABOUT: &str = "Draw the first bad event as an SVG, instead of writing 
 
 pub(crate) const PROGRESS: &str = "progress";
 
-const PROGRESS_ABOUT: &str = "Report each million events read, on standard error";
+const PROGRESS_ABOUT: &str = "Report each second how many events were read, on standard error";
 
 const RECORDED_ABOUT: &str =
     "Report each million events recorded, on standard error; not with --single";
@@ -128,14 +137,28 @@ pub(crate) const FILE: &str = "file";
 
 const FILE_ABOUT: &str = "The file to read; standard input by default, or for -";
 
-fn bare_line<'a>(alloc: Global) -> CommandLine<'a>
+/// A command line whose usage texts begin with the program's name.
+fn with_name<'a>(line: CommandLine<'a>) -> Result<CommandLine<'a>, AllocError>
+    ensures { (app : App) → IsLineOf app line.entry → IsLine app result }
+{
+    line.bin_name(PROGRAM)
+}
+
+/// The command line with no command.
+fn settings<'a>(alloc: Global) -> CommandLine<'a>
     ensures { IsLineOf bare_line result }
 {
-    CommandLine::new(alloc, "pcid-audit")
+    CommandLine::new(alloc, PROGRAM)
         .about("Audits records of multiprocessor runs under x86-64 four-level paging with PCIDs")
         .version(VERSION)
         .no_binary_name(true)
         .subcommand_required(true)
+}
+
+fn bare_line<'a>(alloc: Global) -> Result<CommandLine<'a>, AllocError>
+    ensures { IsLine bare_line result }
+{
+    with_name(settings(alloc))
 }
 
 /// A command with no options. Like each step after it, it is a `Result`, so that a chain of steps
@@ -155,6 +178,18 @@ fn with_option<'a>(
         IsLine (with_rule app rule) result }
 {
     line?.arg(option)
+}
+
+/// The command with one more option, unless memory ran out while the option was made.
+fn with_made<'a>(
+    line: Result<CommandLine<'a>, AllocError>,
+    option: Result<Arg<'a>, AllocError>,
+) -> Result<CommandLine<'a>, AllocError>
+    ensures { (app : App) (rule : Rule) → IsLine app line.entry → IsMade rule option.entry →
+        IsLine (with_rule app rule) result }
+{
+    let option = option?;
+    with_option(line, option)
 }
 
 /// The command line with one more command.
@@ -190,11 +225,14 @@ fn value_option<'a>(alloc: Global, name: &'a str, value: &'a str, about: &'a str
         .action(ArgAction::Set)
 }
 
+/// How many checkers judge, after `--checkers` or `-j`.
 fn checkers_option<'a>(alloc: Global) -> Arg<'a>
     ensures { IsOption checkers_rule result }
 {
     let parser = value_parser!(u16).range(1..=64);
-    value_option(alloc, CHECKERS, "N", CHECKERS_ABOUT).value_parser(parser)
+    value_option(alloc, CHECKERS, "N", CHECKERS_ABOUT)
+        .short('j')
+        .value_parser(parser)
 }
 
 /// An event number after `--` and a name.
@@ -211,12 +249,27 @@ fn cpu_option<'a>(alloc: Global) -> Arg<'a>
     value_option(alloc, CPU, "P", CPU_ABOUT).value_parser(value_parser!(u16))
 }
 
+/// The option with a second name, which help shows.
+fn also_named<'a>(option: Arg<'a>, name: &'a str) -> Result<Arg<'a>, AllocError>
+    ensures { (rule : Rule) → IsOption rule option.entry →
+        IsMade (also_named rule name.entry.now) result }
+{
+    option.visible_alias(name)
+}
+
 /// How many are explained, after `--most`.
-fn most_option<'a>(alloc: Global) -> Arg<'a>
-    ensures { IsOption most_rule result }
+fn most_number<'a>(alloc: Global) -> Arg<'a>
+    ensures { IsOption most_number_rule result }
 {
     let parser = value_parser!(u32).range(1..=1_000_000);
     value_option(alloc, MOST, "N", MOST_ABOUT).value_parser(parser)
+}
+
+/// The same after `--limit` too.
+fn most_option<'a>(alloc: Global) -> Result<Arg<'a>, AllocError>
+    ensures { IsMade most_rule result }
+{
+    also_named(most_number(alloc), LIMIT)
 }
 
 /// By how much spans are widened, after `--error`.
@@ -288,6 +341,7 @@ fn certify_line<'a>(alloc: Global) -> Result<CommandLine<'a>, AllocError>
     let line = with_option(line, checkers_option(alloc));
     let line = with_option(line, switch(alloc, BYTES, FOUND_ABOUT));
     let line = with_option(line, switch(alloc, ORDER, ORDER_ABOUT));
+    let line = with_option(line, switch(alloc, FIRST, FIRST_ABOUT));
     let line = with_option(line, switch(alloc, JSON, JSON_ABOUT));
     with_progress(alloc, line, PROGRESS_ABOUT)
 }
@@ -327,7 +381,7 @@ fn explain_line<'a>(alloc: Global) -> Result<CommandLine<'a>, AllocError>
 {
     let line = new_line(alloc, EXPLAIN, EXPLAIN_ABOUT);
     let line = with_option(line, switch(alloc, ALL, ALL_ABOUT));
-    let line = with_option(line, most_option(alloc));
+    let line = with_made(line, most_option(alloc));
     let line = with_option(line, switch(alloc, SVG, SVG_ABOUT));
     let line = with_option(line, switch(alloc, JSON, JSON_ABOUT));
     with_progress(alloc, line, PROGRESS_ABOUT)
@@ -345,7 +399,7 @@ fn merge_line<'a>(alloc: Global) -> Result<CommandLine<'a>, AllocError>
 fn judging_line<'a>(alloc: Global) -> Result<CommandLine<'a>, AllocError>
     ensures { IsLine judging_line result }
 {
-    let line = with_command(Ok(bare_line(alloc)), check_line(alloc));
+    let line = with_command(bare_line(alloc), check_line(alloc));
     with_command(line, certify_line(alloc))
 }
 

@@ -6,7 +6,8 @@ ghost use Rattle.clap.specs.Values.{kind_of};
 ghost use Rattle.clap.specs.Simple.{subcommand_of, subcommand_rows_of};
 ghost use Rattle.clap.specs.Walk.{first_of};
 ghost use Rattle.pg_plan.specs.Commands.{texts, command_line, file_in, named_file};
-ghost use Rattle.pg_plan.specs.Commands.{logs_in, names_in, options_of, is_on, has, Reads};
+ghost use Rattle.pg_plan.specs.Commands.{logs_in, names_in, options_of, is_on, has, says_twice};
+ghost use Rattle.pg_plan.specs.Commands.{has_conflict, Reads};
 ghost use Rattle.pg_plan.specs.Commands.{IsSelectionOf, IsTellingOf, IsAskedOfCheck};
 ghost use Rattle.pg_plan.specs.Commands.{IsAskedOfCertify, IsAskedOfRun, IsAskedOfExplain};
 ghost use Rattle.pg_plan.specs.Commands.{IsAskedOfShow, IsAskedOfMerge, IsCommandOf, IsPlanOf};
@@ -18,8 +19,8 @@ ghost use Rattle.pg_plan.specs.declared.request.Plan.{Plan as Planned};
 
 use crate::checkers::Checkers;
 use crate::lines::{
-    ALL, BYTES, CERTIFY, CHECK, CHECKERS, CPU, ERROR, EXPLAIN, FILE, FROM, JSON, LOG, MERGE, MOST,
-    ORDER, PAGE, PROGRESS, RUN, RUN_OF, SHOW, SINGLE, SVG, TO, UPGRADE, WORD, command_line,
+    ALL, BYTES, CERTIFY, CHECK, CHECKERS, CPU, ERROR, EXPLAIN, FILE, FIRST, FROM, JSON, LOG, MERGE,
+    MOST, ORDER, PAGE, PROGRESS, RUN, RUN_OF, SHOW, SINGLE, SVG, TO, UPGRADE, WORD, command_line,
 };
 use crate::request::{
     CertifyOptions, CheckOptions, Command, ExplainOptions, Invocation, Plan, RunOptions,
@@ -43,6 +44,10 @@ const NO_NUMBER: &str = "error: a number is given by digits alone, an address by
 
 const NO_TELLING: &str = "error: --most goes with --all alone, by digits alone, and --svg goes \
     without --all\n\n\
+    For more information, try '--help'.\n";
+
+const CONFLICT: &str = "error: --json, --bytes, --order, --svg and --first exclude one another, \
+    and so do --first and\n  --checkers, and --single and --progress\n\n\
     For more information, try '--help'.\n";
 
 /// The version, which is given by a text of this program's own.
@@ -101,6 +106,29 @@ fn has(own: &ArgMatches<'_>, switch: &str) -> bool
     is_on(text_of(own, switch))
 }
 
+/// Whether two options say what is written.
+fn says_twice(own: &ArgMatches<'_>) -> bool
+    ensures { result ≡ says_twice (options_of own.now) }
+{
+    let json = has(own, JSON);
+    let bytes = has(own, BYTES);
+    let order = has(own, ORDER);
+    let svg = has(own, SVG);
+    let first = has(own, FIRST);
+    json && (bytes || order || svg || first) || bytes && (order || first) || order && first
+}
+
+/// Whether of two options one has no effect beside the other.
+fn has_conflict(own: &ArgMatches<'_>) -> bool
+    ensures { result ≡ has_conflict (options_of own.now) }
+{
+    let first = has(own, FIRST);
+    let counted = text_of(own, CHECKERS).is_some();
+    let single = has(own, SINGLE);
+    let progress = has(own, PROGRESS);
+    says_twice(own) || first && counted || single && progress
+}
+
 /// Which events the options ask for.
 fn selection_of(own: &ArgMatches<'_>) -> Option<Selection>
     ensures { Reads result (IsSelectionOf (options_of own.now)) }
@@ -150,6 +178,7 @@ fn asked_of_certify(own: &ArgMatches<'_>) -> Option<CertifyOptions>
         checkers: checkers_in(own)?,
         bytes: has(own, BYTES),
         order: has(own, ORDER),
+        first: has(own, FIRST),
         json: has(own, JSON),
     })
 }
@@ -213,6 +242,9 @@ fn plan_of(matches: &ArgMatches<'_>) -> Option<Plan>
     ensures { Reads result (IsPlanOf (subcommand_rows_of matches.now)) }
 {
     let (name, own) = matches.subcommand()?;
+    if has_conflict(own) {
+        return None;
+    }
     Some(Plan {
         command: command_of(name, own)?,
         progress: has(own, PROGRESS),
@@ -266,6 +298,9 @@ fn wrong_with(matches: &ArgMatches<'_>) -> &'static str
     let Some((_, own)) = matches.subcommand() else {
         return NO_NUMBER;
     };
+    if has_conflict(own) {
+        return CONFLICT;
+    }
     match telling_in(own) {
         None => NO_TELLING,
         Some(_) => NO_NUMBER,

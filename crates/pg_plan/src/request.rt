@@ -6,8 +6,8 @@ use pg_event::Selection;
 pub enum Telling {
     /// The cause of the first.
     First,
-    /// The causes of so many of them at most, 1 to 1,000,000, and a summary of all. It is 100 where
-    /// the words say nothing.
+    /// The causes of so many of them at most, 1 to 1,000,000, and a summary of all. It is 100 if
+    /// the arguments say nothing.
     All(u32),
     /// The first, drawn.
     Picture,
@@ -30,10 +30,13 @@ pub struct CertifyOptions {
     /// Whether the record is written in the place of its report.
     pub bytes: bool,
     /// Whether the order that was found is written of a record with spans, in the place of the
-    /// report or of the record. Of a record with one order the report is written as ever.
+    /// report. Of a record with one order the report is written as ever. A plan has at most one of
+    /// `bytes`, `order`, `first` and `json`.
     pub order: bool,
-    /// Whether the report is written as JSON. It has no effect where the record or the order is
-    /// asked for.
+    /// Whether a record with one order is read only up to the first event that is rejected. A plan
+    /// that asks for it has one checker.
+    pub first: bool,
+    /// Whether the report is written as JSON.
     pub json: bool,
 }
 
@@ -51,7 +54,7 @@ pub struct RunOptions {
 #[derive(Clone, Copy, Debug, PartialEq, Eq)]
 pub struct ExplainOptions {
     pub telling: Telling,
-    /// Whether JSON is written in the place of text. A picture is drawn all the same.
+    /// Whether JSON is written in the place of text. A plan does not ask for it and for a picture.
     pub json: bool,
 }
 
@@ -92,8 +95,8 @@ pub enum Command {
 #[derive(Clone, Copy, Debug, PartialEq, Eq)]
 pub struct Plan {
     pub command: Command,
-    /// Whether it is told meanwhile how many events have been read, or `run` has recorded, where it
-    /// does not keep to one thread. It is never asked of `show` and `merge`.
+    /// Whether it is told meanwhile how many events have been read, or `run` has recorded. It is
+    /// never asked of `show`, of `merge`, and of `run` on a single thread.
     pub progress: bool,
 }
 

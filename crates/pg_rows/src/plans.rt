@@ -38,10 +38,12 @@ fn asks_for(alloc: Global, words: &[&str], wanted: Option<Plan>) -> bool {
 
 /// Command lines of `check`: how many checkers they ask for, and whether for all events and for
 /// progress.
-const CHECKED: [(&[&str], u32, bool, bool); 6] = [
+const CHECKED: [(&[&str], u32, bool, bool); 8] = [
     (&["check"], 1, false, false),
     (&["check", "--checkers", "2"], 2, false, false),
     (&["check", "--checkers=02"], 2, false, false),
+    (&["check", "-j", "2"], 2, false, false),
+    (&["check", "-j64", "--all"], 64, true, false),
     (&["check", "--checkers", "64"], 64, false, false),
     (&["check", "--all"], 1, true, false),
     (
@@ -74,22 +76,32 @@ fn plans_of_check(rt: HostRuntime) {
 }
 
 /// Command lines of `certify`: how many checkers they ask for, whether for the record, for the
-/// order, and for JSON.
-const CERTIFIED: [(&[&str], u32, [bool; 3]); 6] = [
-    (&["certify"], 1, [false, false, false]),
-    (&["certify", "--checkers", "2"], 2, [false, false, false]),
-    (&["certify", "--bytes"], 1, [true, false, false]),
-    (&["certify", "--order"], 1, [false, true, false]),
-    (&["certify", "--json"], 1, [false, false, true]),
-    (&["certify", "--json", "--bytes"], 1, [true, false, true]),
+/// order, for JSON, and for an answer at the first rejection.
+const CERTIFIED: [(&[&str], u32, [bool; 4]); 7] = [
+    (&["certify"], 1, [false, false, false, false]),
+    (
+        &["certify", "--checkers", "2"],
+        2,
+        [false, false, false, false],
+    ),
+    (&["certify", "--bytes"], 1, [true, false, false, false]),
+    (&["certify", "--order"], 1, [false, true, false, false]),
+    (&["certify", "--json"], 1, [false, false, true, false]),
+    (
+        &["certify", "--json", "-j", "2"],
+        2,
+        [false, false, true, false],
+    ),
+    (&["certify", "--first"], 1, [false, false, false, true]),
 ];
 
-fn certified(number: u32, options: [bool; 3]) -> Option<Plan> {
-    let [bytes, order, json] = options;
+fn certified(number: u32, options: [bool; 4]) -> Option<Plan> {
+    let [bytes, order, json, first] = options;
     let asked = CertifyOptions {
         checkers: Checkers::new(number)?,
         bytes,
         order,
+        first,
         json,
     };
     Some(quiet(Command::Certify(asked)))
@@ -108,7 +120,7 @@ fn plans_of_certify(rt: HostRuntime) {
 const RUNS: [(&[&str], u32, [bool; 3]); 5] = [
     (&["run"], 1, [false, false, false]),
     (
-        &["run", "--bytes", "--checkers", "3", "--single"],
+        &["run", "--bytes", "-j3", "--single"],
         3,
         [true, true, false],
     ),
@@ -202,11 +214,16 @@ fn plans_of_show(rt: HostRuntime) {
 }
 
 /// Command lines of `explain`: what they ask to be told, and whether for progress.
-const EXPLAINED: [(&[&str], Telling, bool); 3] = [
+const EXPLAINED: [(&[&str], Telling, bool); 4] = [
     (&["explain"], Telling::First, false),
     (
         &["explain", "--most=01000000", "--all"],
         Telling::All(1_000_000),
+        false,
+    ),
+    (
+        &["explain", "--limit", "7", "--all"],
+        Telling::All(7),
         false,
     ),
     (&["explain", "--svg", "--progress"], Telling::Picture, true),
@@ -313,7 +330,7 @@ fn names_of_logs(rt: HostRuntime) -> Result<(), Fail> {
 }
 
 /// Command lines that are refused.
-const FAULTS: [&[&str]; 51] = [
+const FAULTS: [&[&str]; 66] = [
     &["merge"],
     &["merge", "--error", "3"],
     &["merge", "--error", "-3", "a.log"],
@@ -365,13 +382,29 @@ const FAULTS: [&[&str]; 51] = [
     &["show", "--progress"],
     &["run", "--progress=2"],
     &["check", "--progress=2"],
+    &["certify", "--json", "--bytes"],
+    &["certify", "--json", "--order"],
+    &["certify", "--bytes", "--order"],
+    &["certify", "--first", "--json"],
+    &["certify", "--first", "--bytes"],
+    &["certify", "--first", "--order"],
+    &["certify", "--first", "-j", "1"],
+    &["explain", "--json", "--svg"],
+    &["run", "--single", "--progress"],
+    &["run-of", "-j", "2"],
+    &["check", "-j0"],
+    &["check", "-j", "2", "--checkers", "2"],
+    &["explain", "--limit", "3"],
+    &["explain", "--all", "--limit", "0"],
+    &["explain", "--all", "--limit", "3", "--most", "3"],
 ];
 
 /// What is no number, for each option that takes one.
 const NO_NUMBERS: [&str; 6] = ["+2", "-1", "", "two", "0x+2", "0x-1"];
 
-const WITH_NUMBERS: [[&str; 2]; 6] = [
+const WITH_NUMBERS: [[&str; 2]; 7] = [
     ["check", "--checkers"],
+    ["check", "-j"],
     ["show", "--cpu"],
     ["show", "--page"],
     ["show", "--word"],

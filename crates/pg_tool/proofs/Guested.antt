@@ -1,6 +1,6 @@
 -- What runs of guest scripts come to, from what their parts do.
-use Rattle.std.proofs.Common.{◌≡◌, ℕ, Bool, true, false, List, Result, Ok, Err, sym, ap, subst, inl, inr}
-use Rattle.std.specs.Prelude.{◌⊎◌, IfOk, IfErr}
+use Rattle.std.proofs.Common.{◌≡◌, ℕ, Bool, true, false, List, Result, Ok, Err, sym, subst, inr}
+use Rattle.std.specs.Prelude.{IfOk, IfErr}
 use Rattle.std.specs.Io.KnownBytes.{IsAtEnd}
 use Rattle.pg_event.specs.Spelling.{Recorded}
 use Rattle.pg_world.specs.declared.receipt.Receipt.{Receipt}

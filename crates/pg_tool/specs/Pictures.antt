@@ -1,4 +1,4 @@
--- What `explain --svg` answers: a picture of what stands behind a no, in the place of text.
+-- What `explain --svg` answers: a picture of the cause of a rejection, in the place of text.
 use Rattle.std.specs.Prelude.{◌≡◌, ℕ, List, Some, Result}
 use Rattle.pg_event.specs.Spelling.{Recorded}
 use Rattle.pg_event.specs.Witness.{first_bad}

@@ -15,6 +15,7 @@ use Rattle.pg_plan.specs.declared.request.Telling.TheVariants.{First, All, Pictu
 use Rattle.pg_report.specs.declared.error.AuditError.TheVariants.{Device}
 use Rattle.pg_report.specs.Changes.{Change, Fails}
 use Rattle.pg_answers.specs.Certificates.{CertifiesRecord}
+use Rattle.pg_answers.specs.Firsts.{CertifiesFirst}
 use Rattle.pg_answers.specs.Explanations.{ExplainsRecord}
 use Rattle.pg_answers.specs.Lines.{ShowsRecord}
 use Rattle.pg_answers.specs.Naming.{NamesRecord}
@@ -39,10 +40,12 @@ use Rattle.pg_tool.specs.Pictures.{DrawsRecord}
 
 -- ---- a record with one order
 
--- by so many checkers whether some run has its events; or the record with moments for them
-abbrev pub CertifiesBy : ℕ → Bool → Streams → ℕ → Type 0
-CertifiesBy checkers false = CertifiesRecord checkers
-CertifiesBy checkers true = NamesRecord
+-- by so many checkers whether some run has its events; or whether any has those up to the first
+-- rejection; or the record with moments for them
+abbrev pub CertifiesBy : ℕ → Bool → Bool → Streams → ℕ → Type 0
+CertifiesBy checkers true first = NamesRecord
+CertifiesBy checkers false true = CertifiesFirst
+CertifiesBy checkers false false = CertifiesRecord checkers
 
 -- by so many checkers the record's report; or that with a summary of all bad events
 abbrev pub ChecksBy : ℕ → Bool → Streams → ℕ → Type 0
@@ -59,7 +62,8 @@ ExplainsBy Picture = DrawsRecord
 -- what a command does
 abbrev pub DoesPlain : Command → Streams → ℕ → Type 0
 DoesPlain (Check asked) s status = ChecksBy asked.checkers asked.all s status
-DoesPlain (Certify asked) s status = CertifiesBy asked.checkers asked.bytes s status
+DoesPlain (Certify asked) s status =
+    CertifiesBy asked.checkers asked.bytes asked.first s status
 DoesPlain (Run asked) s status = ⊥
 DoesPlain RunOf s status = ShowsRun s status
 DoesPlain (Explain asked) s status = ExplainsBy asked.telling s status

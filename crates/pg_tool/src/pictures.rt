@@ -1,4 +1,4 @@
-//! A picture of what stands behind a no.
+//! A picture of the cause of a rejection.
 
 ghost use Rattle.std.specs.Prelude.{IfOk, string_bytes};
 ghost use Rattle.pg_report.specs.Changes.{drawn, filled};

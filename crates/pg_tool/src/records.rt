@@ -13,7 +13,9 @@ ghost use Rattle.pg_tool.specs.Records.{checkers_of, DoesOrdered, DoesUnordered,
 ghost use Rattle.pg_auditing.specs.Refusals.{Tells};
 
 use crate::pictures::draw;
-use pg_answers::{certify, check_all, explain, explain_all, name_moments, run_of, show, upgrade};
+use pg_answers::{
+    certify, certify_first, check_all, explain, explain_all, name_moments, run_of, show, upgrade,
+};
 use pg_auditing::{REFUSED, check, tell, tell_spans};
 use pg_codec::{Sink, Source};
 use pg_json_answers::{Question, answer_json, tell_json};
@@ -28,8 +30,8 @@ use std::alloc::{AllocGlobal, Global};
 use std::sync::Wait;
 use std::thread::Threads;
 
-/// Certifies the record with one order on `input`, and writes its report, or the record with
-/// moments.
+/// Certifies the record with one order on `input`, and writes its report, that of what was read up
+/// to the first rejection, or the record with moments.
 fn certify_by<T: AllocGlobal + Threads + Wait + Sync, R: Source, O: Sink, E: Sink>(
     rt: &T,
     asked: &CertifyOptions,
@@ -37,11 +39,14 @@ fn certify_by<T: AllocGlobal + Threads + Wait + Sync, R: Source, O: Sink, E: Sin
     output: &mut O,
     errors: &mut E,
 ) -> u8
-    ensures { CertifiesBy asked.now.checkers asked.now.bytes (streams R.Source O.Sink E.Sink
+    ensures { CertifiesBy asked.now.checkers asked.now.bytes asked.now.first
+        (streams R.Source O.Sink E.Sink
         (input.old, output.old, errors.old) (input.new, output.new, errors.new)) result }
 {
     if asked.bytes {
         name_moments(rt.alloc(), input, output, errors)
+    } else if asked.first {
+        certify_first(rt.alloc(), input, output, errors)
     } else {
         certify(rt, asked.checkers, input, output, errors)
     }

@@ -6,8 +6,8 @@ use Rattle.pg_certify.specs.Accounts.{Account}
 use Rattle.pg_answers.proofs.Told.{denied_account}
 use Rattle.pg_answers.proofs.certificates.certificate_by.Goals as goal
 
-pub returns-in_ok-text-in-Some-Some : goal.returns-in_ok-text-in-Some-Some
-returns-in_ok-text-in-Some-Some c = λ r known.
+pub returns-in_ok-text-in-Some-Some-clause-told : goal.returns-in_ok-text-in-Some-Some-clause-told
+returns-in_ok-text-in-Some-Some-clause-told c = λ r known.
     let a : Account = c.args.account.now in
     let n : ℕ = c.in-Some-Some.number in
     let e : Event = c.in-Some-Some.event in

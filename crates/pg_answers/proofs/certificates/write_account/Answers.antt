@@ -14,4 +14,4 @@ pub returns : goal.returns
 returns g c = λ r known input reads read.
     let told = c.in_ok-told.told in
     let gave = c.give_certificate.ensures in
-    text_told IsCertificateOf 1 input _ r reads read told.denied (string_bytes told.text) (c.in_ok-told.ensures r known) c.give_certificate.result gave.text gave.device gave.denied
+    text_told IsCertificateOf 1 input _ r reads read told.denied (string_bytes told.text) (c.in_ok-told.ensures.told r known) c.give_certificate.result gave.text gave.device gave.denied

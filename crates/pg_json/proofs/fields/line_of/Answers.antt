@@ -1,10 +1,11 @@
-use Rattle.std.proofs.Common.{◌≡◌, ◌++◌, ◌∙◌, ap, false, codes}
-use Rattle.serde_json.specs.View.{view}
-use Rattle.serde_json.specs.Written.{has_float, compact_text}
-use Rattle.pg_json.proofs.Plain.{plain}
+use Rattle.std.proofs.Common.{◌∙◌, ap, codes}
+use Rattle.serde_json.specs.Data as json
+use Rattle.serde_json.specs.Data.{put}
+use Rattle.serde_json.proofs.Views.{view-Object}
+use Rattle.pg_json.specs.Tree.{field, count, object, format, data_of}
 use Rattle.pg_json.proofs.fields.line_of.Goals as goal
 
 pub returns : goal.returns
 returns c = λ told e.
-    let whole : has_float (view c.args.value.now) ≡ false = ap has_float e ∙ plain told in
-    c.in_ok-push_str.ensures.bytes ∙ ap (λ t. t ++ codes "\n") (c.in_ok-text.ensures.text whole ∙ ap compact_text e)
+    let put_in = c.in_ok-put_count.ensures ∙ ap (put (codes "format") (data_of (count format))) e in
+    c.text_line.ensures (object (field (codes "format") (count format) told)) (view-Object c.put_count.new.fields ∙ ap json.object put_in)

@@ -1,11 +1,9 @@
-use Rattle.std.proofs.Common.{◌≡◌, ◌∙◌, ℕ, Global, String, ap, length, string_bytes}
+use Rattle.std.proofs.Common.{◌≡◌, ◌∙◌, ℕ, Global, String, ap, codes, length, string_bytes}
 use Rattle.std.proofs.lemmas.Result.{IfOk-weaker}
-use Rattle.serde_json.specs.Data.{object}
-use Rattle.serde_json.proofs.Views.{view-Object}
 use Rattle.pg_event.specs.Spelling.{Recorded, segment_count}
 use Rattle.pg_explain.specs.declared.denial.Denial.{Denial}
 use Rattle.pg_explain.specs.Denied.{IsDenialOf}
-use Rattle.pg_json.specs.Reports.{with_counts}
+use Rattle.pg_json.specs.Reports.{with_counts, with_no}
 use Rattle.pg_json.specs.Tree.{Fields, json_line, members_of}
 use Rattle.pg_json_causes.specs.Causes.{denial_json}
 use Rattle.pg_json_answers.specs.Answers.{denied_json, with_cause}
@@ -28,4 +26,4 @@ returns c =
     (λ (t : String Global). string_bytes t ≡ json_line (denied_json r n x))
     (λ (t : String Global). (y : Denial) × IsDenialOf r.head r.events n y × (string_bytes t ≡ json_line (denied_json r n y)))
     (λ t is. (x, said.1, is))
-    (c.line_of.ensures (denied_json r n x) (view-Object c.put_no.new.fields ∙ ap object fields))
+    (c.line_of.ensures (with_no n 14 (codes "no moments") counts) fields)

@@ -1,10 +1,8 @@
 use Rattle.std.proofs.Common.{◌∙◌, ap, length}
-use Rattle.serde_json.specs.Data.{object}
-use Rattle.serde_json.proofs.Views.{view-Object}
 use Rattle.pg_json.specs.Tree.{members_of}
 use Rattle.pg_json.specs.Reports.{with_counts}
 use Rattle.pg_ordering.specs.Texts.{segments_of}
-use Rattle.pg_json_spans.specs.Told.{cause_fields, told_json}
+use Rattle.pg_json_spans.specs.Told.{cause_fields, with_told}
 use Rattle.pg_json_spans.proofs.told.told_line.Goals as goal
 
 pub returns : goal.returns
@@ -16,4 +14,4 @@ returns c =
     ∙ ap (λ n. members_of (with_counts n c.segments_of.result cause)) c.len.ensures.length
     ∙ ap (λ n. members_of (with_counts (length s.events) n cause)) c.segments_of.ensures in
     let fields = c.in_ok-put_told.ensures (with_counts (length s.events) (segments_of s) cause) counted in
-    c.line_of.ensures (told_json s told) (view-Object c.put_told.new.fields ∙ ap object fields)
+    c.line_of.ensures (with_told told (with_counts (length s.events) (segments_of s) cause)) fields

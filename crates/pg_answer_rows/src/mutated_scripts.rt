@@ -116,7 +116,7 @@ fn each_proper_beginning_of_a_script(rt: HostRuntime) -> Result<(), Fail> {
 }
 
 /// A script with another byte at a place.
-fn bent(alloc: Global, script: &str, at: usize, value: u8) -> Result<Vec<u8>, AllocError> {
+fn mutated(alloc: Global, script: &str, at: usize, value: u8) -> Result<Vec<u8>, AllocError> {
     let mut text = Vec::from_slice(alloc, script.as_bytes())?;
     if let Some(byte) = text.get_mut(at) {
         *byte = value;
@@ -166,9 +166,9 @@ fn number_of<T: AllocGlobal + Abort + Threads + Wait + Sync>(rt: &T, text: &[u8]
     number
 }
 
-/// Bends each byte of a script to each other value, and counts what comes of it by the number of
+/// Changes each byte of a script to each other value, and counts what comes of it by the number of
 /// the refusal.
-fn bend_each<T: AllocGlobal + Abort + Threads + Wait + Sync>(
+fn mutate_each<T: AllocGlobal + Abort + Threads + Wait + Sync>(
     rt: &T,
     script: &str,
 ) -> Result<[u32; 9], Fail> {
@@ -176,7 +176,7 @@ fn bend_each<T: AllocGlobal + Abort + Threads + Wait + Sync>(
     for (at, byte) in script.as_bytes().iter().enumerate() {
         for value in 0..=255u8 {
             if value != *byte {
-                let number = number_of(rt, &bent(rt.alloc(), script, at, value)?);
+                let number = number_of(rt, &mutated(rt.alloc(), script, at, value)?);
                 if let Some(count) = counts.get_mut(number) {
                     *count = count.wrapping_add(1);
                 }
@@ -190,7 +190,7 @@ fn bend_each<T: AllocGlobal + Abort + Threads + Wait + Sync>(
 
 #[test]
 fn each_byte_of_a_script(rt: HostRuntime) -> Result<(), Fail> {
-    let counts = bend_each(&rt, SCRIPT)?;
+    let counts = mutate_each(&rt, SCRIPT)?;
     let wanted = [1142, 1234, 1698, 1028, 1150, 8094, 7703, 181, 37695];
     assert_eq!(rt; counts, wanted);
     Ok(())
@@ -209,7 +209,7 @@ const NEW_SCRIPT: &str = "pcid-guest 2\nmachine 40 wp nxe\nsegment 16\ncpu 0x100
 
 #[test]
 fn each_byte_of_a_script_of_version_2(rt: HostRuntime) -> Result<(), Fail> {
-    let counts = bend_each(&rt, NEW_SCRIPT)?;
+    let counts = mutate_each(&rt, NEW_SCRIPT)?;
     let wanted = [1206, 1234, 1698, 1028, 1150, 8182, 8192, 300, 38975];
     assert_eq!(rt; counts, wanted);
     Ok(())

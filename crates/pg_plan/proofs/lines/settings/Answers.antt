@@ -1,6 +1,6 @@
 use Rattle.std.proofs.Common.{ap, true}
 use Rattle.clap.specs.Simple.{on_top}
-use Rattle.pg_plan.proofs.lines.bare_line.Goals as goal
+use Rattle.pg_plan.proofs.lines.settings.Goals as goal
 
 pub returns : goal.returns
 returns c = record {

@@ -1,7 +1,5 @@
 //! Records that end early, and records with one byte changed, each byte to each other value. One
-//! checker and two give the same report of each record that ends early and of each with one bit
-//! changed. Two checkers start threads, which takes so long on some machines that they do not judge
-//! every value.
+//! checker and two give the same report of each.
 
 use pg_cases::{versions, walks};
 use pg_codec::Watched;
@@ -27,7 +25,7 @@ fn place_of(answer: Result<Verdict, AuditError>) -> usize {
 }
 
 /// A record with another byte at a place.
-fn bent(alloc: Global, record: &[u8], at: usize, value: u8) -> Result<Vec<u8>, AllocError> {
+fn mutated(alloc: Global, record: &[u8], at: usize, value: u8) -> Result<Vec<u8>, AllocError> {
     let mut bytes = Vec::from_slice(alloc, record)?;
     if let Some(byte) = bytes.get_mut(at) {
         *byte = value;
@@ -50,18 +48,6 @@ fn audited_by<T: AllocGlobal + Abort + Threads + Wait + Sync>(
     }
 }
 
-/// What the bytes come to by one checker.
-fn audited_alone<T: AllocGlobal + Abort + Threads + Wait + Sync>(
-    rt: &T,
-    bytes: &[u8],
-    at: usize,
-) -> Result<Verdict, AuditError> {
-    let mut output = Watched::new(Vec::new(rt.alloc()));
-    let alone = audited_by(rt, bytes, 1, &mut output);
-    assert!(rt; alone.is_err() == output.inner.is_empty(), "{at}");
-    alone
-}
-
 /// What the bytes come to, which one checker and two have to say and write alike.
 fn audited<T: AllocGlobal + Abort + Threads + Wait + Sync>(
     rt: &T,
@@ -78,8 +64,8 @@ fn audited<T: AllocGlobal + Abort + Threads + Wait + Sync>(
     alone
 }
 
-/// Bends each byte of a record to each other value.
-fn bend_each<T: AllocGlobal + Abort + Threads + Wait + Sync>(
+/// Changes each byte of a record to each other value.
+fn mutate_each<T: AllocGlobal + Abort + Threads + Wait + Sync>(
     rt: &T,
     record: &[u8],
 ) -> Result<Tally, Fail> {
@@ -87,13 +73,8 @@ fn bend_each<T: AllocGlobal + Abort + Threads + Wait + Sync>(
     for (at, byte) in record.iter().enumerate() {
         for value in 0..=255u8 {
             if value != *byte {
-                let bytes = bent(rt.alloc(), record, at, value)?;
-                let one_bit = (value ^ *byte).is_power_of_two();
-                let place = place_of(if one_bit {
-                    audited(rt, &bytes, at)
-                } else {
-                    audited_alone(rt, &bytes, at)
-                });
+                let bytes = mutated(rt.alloc(), record, at, value)?;
+                let place = place_of(audited(rt, &bytes, at));
                 if let Some(count) = tally.get_mut(place) {
                     *count = count.wrapping_add(1);
                 }
@@ -109,7 +90,7 @@ const FRESH_WALKS: Tally = [
     2040, 509, 2265, 1020, 1010, 2301, 6120, 0, 1020, 1,
 ];
 
-/// Counted by the same.
+/// Counted by that auditor too.
 const DIRTY_ASSISTS: Tally = [
     2289, 8151, 13174, 0, 0, 0, 0, 0, 0, 3315, 0, 96, 12, 1219, //
     2040, 509, 2519, 1021, 1011, 2809, 9774, 0, 1020, 1,
@@ -124,24 +105,24 @@ fn cut_each<T: AllocGlobal + Abort + Threads + Wait + Sync>(rt: &T, record: &[u8
 }
 
 /// Each proper beginning of a record is refused, and its changed records give this tally.
-fn cut_and_bend<T: AllocGlobal + Abort + Threads + Wait + Sync>(
+fn cut_and_mutate<T: AllocGlobal + Abort + Threads + Wait + Sync>(
     rt: &T,
     record: &[u8],
     tally: Tally,
 ) -> Result<(), Fail> {
     cut_each(rt, record);
-    assert_eq!(rt; bend_each(rt, record)?, tally);
+    assert_eq!(rt; mutate_each(rt, record)?, tally);
     Ok(())
 }
 
 #[test]
 fn each_byte_of_a_record(rt: HostRuntime) -> Result<(), Fail> {
     let walk = walks::fresh_walk(rt.alloc())?;
-    cut_and_bend(&rt, &walk.input, FRESH_WALKS)
+    cut_and_mutate(&rt, &walk.input, FRESH_WALKS)
 }
 
 #[test]
 fn each_byte_of_a_record_with_assists(rt: HostRuntime) -> Result<(), Fail> {
     let assist = versions::dirty_assist(rt.alloc())?;
-    cut_and_bend(&rt, &assist.input, DIRTY_ASSISTS)
+    cut_and_mutate(&rt, &assist.input, DIRTY_ASSISTS)
 }

@@ -1,0 +1,82 @@
+-- What `certify --first` answers: of a record none of whose events is denied what `certify`
+-- answers, and else the no of the events that were read, up to the end of the segment with the
+-- first one that is denied. What follows these was not read, and may be no record.
+use Rattle.std.specs.Prelude.{◌≡◌, ◌⊎◌, ℕ, Bool, List, Option, Some, None, Result, Ok, Err, IfSome}
+use Rattle.pg_event.specs.declared.version.Version.TheVariants.{Two}
+use Rattle.pg_event.specs.Reading.{refusal}
+use Rattle.pg_event.specs.Spelling.{Recorded}
+use Rattle.pg_certify.specs.Accounts.{Account, IsAccount}
+use Rattle.pg_report.specs.declared.error.AuditError.{AuditError}
+use Rattle.pg_report.specs.declared.error.AuditError.TheVariants.{Refused, Device, Memory}
+use Rattle.pg_report.specs.declared.error.AuditError.TheVariants.{Thread, Checkers}
+use Rattle.pg_report.specs.Audits.{SpellsOne, SpellsNone, ReaderFails, WriterFails}
+use Rattle.pg_report.specs.Audits.{TellsFailures}
+use Rattle.pg_report.specs.Changes.{Change, Adds, AddsSome, AddsNothing}
+use Rattle.pg_report.specs.Going.{IsReading}
+use Rattle.pg_report.specs.Intake.{ReadsRecord, TellsDevice}
+use Rattle.pg_auditing.specs.Refusals.{TellsError}
+use Rattle.pg_auditing.specs.Streams.{Streams}
+use Rattle.pg_answers.specs.Certificates.{IsCertificateOf, certificate_status}
+use Rattle.pg_answers.specs.Texts.{HasWrittenText}
+
+-- the bytes begin with this header and these events
+pub record Begins (bytes : List ℕ) (r : Recorded) : Type 0 where
+  pub number : ℕ
+  pub full : Bool
+  pub left : List ℕ
+  pub reading : IsReading r.head r.events number full bytes left
+
+-- the record that was read: all that the bytes spell, or where an event is denied a beginning
+abbrev pub IsReadUpTo : Option ℕ → List ℕ → Recorded → Type 0
+IsReadUpTo None bytes r = ReadsRecord Two bytes (Ok r)
+IsReadUpTo (Some n) bytes r = Begins bytes r
+
+abbrev pub IsAccountUpTo : Option (List ℕ) → Account → Type 0
+IsAccountUpTo left a =
+    (r : Recorded) × IsAccount a r.head r.events
+    × IfSome left (λ bytes. IsReadUpTo a.findings.denied bytes r)
+
+abbrev pub ReadsUpTo : Option (List ℕ) → Result Account AuditError → Type 0
+ReadsUpTo left (Ok a) = IsAccountUpTo left a
+ReadsUpTo left (Err e) = IfSome left (λ bytes. ReadsRecord Two bytes (Err e))
+
+-- the same, where no other record can be spelled by these bytes
+abbrev pub IsOneUpTo : Option ℕ → List ℕ → Recorded → Type 0
+IsOneUpTo None bytes r = SpellsOne bytes r
+IsOneUpTo (Some n) bytes r = Begins bytes r
+
+-- this was read of the bytes, this is its text with the answer, and this holds of the text
+abbrev pub HasFirst : List ℕ → Option ℕ → (List ℕ → Type 0) → Type 0
+HasFirst bytes x P =
+    (r : Recorded) × IsOneUpTo x bytes r × (text : List ℕ) × IsCertificateOf r x text × P text
+
+-- Asked of these bytes, the program answers so, and leaves the writer so: as `GivesText` of `Texts`
+-- says it of one checker.
+abbrev pub GivesFirst : List ℕ → Change → Change → Result (Option ℕ) AuditError → Type 0
+GivesFirst bytes input output (Ok x) = HasFirst bytes x (Adds output)
+GivesFirst bytes input output (Err (Refused e)) =
+    (refusal bytes ≡ Some e) × SpellsNone bytes × AddsNothing output
+GivesFirst bytes input output (Err Memory) = AddsNothing output
+GivesFirst bytes input output (Err Thread) = ⊥
+GivesFirst bytes input output (Err Checkers) = ⊥
+GivesFirst bytes input output (Err Device) =
+    (ReaderFails input output × AddsNothing output)
+    ⊎ (WriterFails input output × (x : Option ℕ) × HasFirst bytes x (AddsSome output))
+
+pub record IsFirstGiven (input output : Change) (result : Result (Option ℕ) AuditError) : Type 0
+  where
+    pub gives : IfSome input.old.bytes (λ bytes. GivesFirst bytes input output result)
+    pub written : HasWrittenText IsCertificateOf input output result
+    pub failures : TellsFailures input output result
+
+-- what is left of that once so much of the record was read, whatever it was read from
+abbrev pub GivesFirstOf : Option ℕ → Recorded → Change → Result (Option ℕ) AuditError → Type 0
+GivesFirstOf denied r output result =
+    (input : Change) → IfSome input.old.bytes (λ bytes. IsReadUpTo denied bytes r) →
+    TellsDevice {A = Recorded} input (Ok r) → IsFirstGiven input output result
+
+-- The status is that of such an answer, and the line on standard error is its line.
+abbrev pub CertifiesFirst : Streams → ℕ → Type 0
+CertifiesFirst s status =
+    (answer : Result (Option ℕ) AuditError) × (status ≡ certificate_status answer)
+    × IsFirstGiven s.input s.output answer × TellsError s.errors answer
