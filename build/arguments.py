@@ -5,6 +5,7 @@ the arguments, and files that can't be opened. The texts and the options are tho
 The messages are the program's own, to the byte: checks/usage/run compares them. Where this file is not sure
 it says nothing, and the program has to answer.
 """
+import itertools
 import os
 import re
 import stat
@@ -19,6 +20,14 @@ MORE = "\n\nFor more information, try '--help'.\n"
 NO_NUMBER = ("error: a number is given by digits alone, an address by 0x and 1 to 16 hexadecimal digits,\n"
              "  and a page by an address that is canonical" + MORE)
 NO_TELLING = "error: --most goes with --all alone, by digits alone, and --svg goes without --all" + MORE
+CONFLICT = ("error: --json, --bytes, --order, --svg and --first exclude one another, and so do --first and\n"
+            "  --checkers, and --single and --progress" + MORE)
+# Options of which one has no effect beside another.
+EXCLUSIVE = (*itertools.combinations(("json", "bytes", "order", "svg", "first"), 2), ("first", "checkers"),
+             ("single", "progress"))
+# Why a file can't be opened.
+REASONS = ((FileNotFoundError, "no such file or directory"), (PermissionError, "permission denied"),
+           (NotADirectoryError, "a part of its path is no directory"))
 # Options whose value is a number, with the least and the greatest.
 EVENTS = (0, 4294967295)
 NUMBERS = {"checkers": (1, 64), "cpu": (0, 65535), "most": (1, 1_000_000), "from": EVENTS, "to": EVENTS,
@@ -89,6 +98,7 @@ class Line:
         self.name, self.text = name, text_of(name)
         self.help = help_texts.Help(self.text)
         self.options = {it.name: it for it in self.help.options}
+        self.names = {name: it.name for it in self.help.options for name in it.names()}
         self.usage = re.search(r"^Usage: .*$", self.text, re.M)[0]
         self.files = re.search(r"[\[<](\w+)[\]>](\.\.\.)?$", self.usage) if name else None
 
@@ -111,9 +121,10 @@ class Line:
 
 def unknown(line, name, used, left):
     """The error for a long option that the command does not have."""
-    near = alike(name, line.options)
+    near = alike(name, line.names)
     if near:
-        used = used if near[-1] in used else [*used, near[-1]]
+        meant = line.names[near[-1]]
+        used = used if meant in used else [*used, meant]
         tip = f"\n\n  tip: a similar argument exists: '--{near[-1]}'"
     elif line.name:
         tip = f"\n\n  tip: to pass '--{name}' as a value, use '-- --{name}'"
@@ -126,7 +137,7 @@ def tip_of_command(line, name, left):
     """The tip that a command among the words that are left has such an option."""
     best = None
     for command, _ in line.help.commands:
-        near = alike(name, Line(command).options) if command != "help" else []
+        near = alike(name, Line(command).names) if command != "help" else []
         if near and command in left and (best is None or left.index(command) < best[0]):
             best = left.index(command), command, near[-1]
     return f"\n\n  tip: '{best[1]} --{best[2]}' exists" if best else ""
@@ -193,9 +204,10 @@ class Reader:
 
     def long(self, word, left):
         name, has_value, value = word.partition("=")
-        if name not in self.line.options:
+        if name not in self.line.names:
             self.give_up()
             raise unknown(self.line, name, [*self.given], left)
+        name = self.line.names[name]
         if has_value and not self.line.options[name].value:
             if self.pending is not None or any(it is not None for it in self.given.values()):
                 raise Unsure
@@ -215,10 +227,22 @@ class Reader:
         if word[1] == "h":
             self.settle()
             raise Answer(DONE, self.line.text)
-        if any(it.letter == word[:2] for it in self.line.options.values()):
-            raise Unsure
+        for it in self.line.options.values():
+            if it.letter == word[:2]:
+                self.lettered(it, word[2:])
+                return
         raise fault(f"unexpected argument '{word[:2]}' found\n\n  tip: to pass '{word[:2]}' as a value, "
                     f"use '-- {word[:2]}'", self.line.usage)
+
+    def lettered(self, option, rest):
+        """An option by its letter, with what follows in the same word."""
+        if not option.value:
+            raise Unsure
+        self.settle()
+        if rest:
+            self.take(option.name, rest.removeprefix("="))
+        else:
+            self.pending = option.name, None
 
     def give_up(self):
         """Before an error is told the option that was read last counts as given, whatever its value."""
@@ -240,6 +264,8 @@ def is_canonical(address):
 
 def look_at_plan(name, given):
     """Refuses what the command line takes, and the program does not."""
+    if any(one in given and other in given for one, other in EXCLUSIVE):
+        raise Answer(USAGE, errors=CONFLICT)
     is_signed = {option for option in NUMBERS if (given.get(option) or "").startswith("+")}
     if name == "explain" and ("most" in given and "all" not in given or {"svg", "all"} <= {*given} or is_signed):
         raise Answer(USAGE, errors=NO_TELLING)
@@ -261,8 +287,9 @@ def look_at_files(name, files):
         # (a pipe that is opened and closed would break for whoever writes to it)
         if stat.S_ISREG(os.stat(files[0]).st_mode):
             os.close(os.open(files[0], os.O_RDONLY))
-    except OSError:
-        raise Answer(UNOPENED, errors=f"pcid-audit: can't open {files[0]}\n") from None
+    except OSError as error:
+        why = next((f"pcid-audit: {reason}\n" for kind, reason in REASONS if isinstance(error, kind)), "")
+        raise Answer(UNOPENED, errors=f"pcid-audit: can't open {files[0]}\n{why}") from None
 
 
 def look_at_help(names, words):

@@ -8,14 +8,24 @@ COMMAND = re.compile(r"  ([a-z][a-z-]*)  +(\S.*)")
 OPTION = re.compile(r"  (?:(-\w), |    )--([a-z][a-z-]*)(?: <([^>]+)>)?(?:\.\.\.)?  +(\S.*)")
 
 
+# The other name of an option, at the end of what it does.
+ALIAS = re.compile(r" \[alias: --([a-z][a-z-]*)\]$")
+
+
 class Option:
-    """An option: its letter, or None; its name; what its value is called, or None; what it does."""
+    """An option: its letter, or None; its name, and another one, or None; what its value is called, or None; what
+    it does."""
 
     def __init__(self, letter, name, value, about):
-        self.letter, self.name, self.value, self.about = letter, name, value, about
+        self.letter, self.name, self.value = letter, name, value
+        alias = ALIAS.search(about)
+        self.alias, self.about = alias and alias[1], ALIAS.sub("", about)
+
+    def names(self):
+        return [self.name] + ([self.alias] if self.alias else [])
 
     def spellings(self):
-        return [f"--{self.name}"] + ([self.letter] if self.letter else [])
+        return [f"--{name}" for name in self.names()] + ([self.letter] if self.letter else [])
 
 
 class Help:

@@ -18,13 +18,23 @@ MEMORY_OF_A_PROOF = 3_000_000_000
 
 
 def program():
-    """The path of the program: what the environment variable PCID_AUDIT names, else the proved one,
-    which is proved and built first where it is missing or older than its sources."""
+    """The path of the program: what the environment variable PCID_AUDIT names, else the proved one. If that
+    is missing or older than its sources, the script ends with a line that says so: its proof takes half an
+    hour of all cores, and starts only for who asks for it."""
     named = os.environ.get("PCID_AUDIT")
     if named:
         return os.path.abspath(named)
-    subprocess.run([os.path.join(TOP, "pcid-audit"), "--prove"], stdout=subprocess.DEVNULL, check=True)
+    if not {"-h", "--help"} & set(sys.argv[1:]) and not is_proved():
+        print(f"{os.path.relpath(os.path.abspath(sys.argv[0]), TOP)}: there is no proved program: name one by "
+              "PCID_AUDIT, or run ./pcid-audit --prove first", file=sys.stderr)
+        sys.exit(2)
     return BUILT
+
+
+def is_proved():
+    """Whether the proved program is there and no older than its sources, as ./pcid-audit sees it."""
+    told = subprocess.run([os.path.join(TOP, "pcid-audit"), "--version"], stdout=subprocess.PIPE, check=True)
+    return b"\nproved: yes" in told.stdout
 
 
 def end_with_parent():

@@ -8,7 +8,7 @@ import sys
 import tempfile
 import time
 
-from probe import image
+from probe import bochsrc, image
 
 MEMORY = 1152  # MB: the first 128 MB of two GBs
 BOCHS_BIOS = "/usr/share/bochs/BIOS-bochs-latest"
@@ -135,8 +135,7 @@ def qemu(settings, limit, replay=b""):
 
 
 def write_bochsrc(folder, **values):
-    with open(os.path.join(folder, "bochsrc"), "w", encoding="utf-8") as file:
-        file.write(BOCHSRC.format(bios=BOCHS_BIOS, vga_bios=BOCHS_VGA_BIOS, **values))
+    bochsrc.write(folder, bios=BOCHS_BIOS, vga_bios=BOCHS_VGA_BIOS, **values)
     with open(os.path.join(folder, "commands"), "w", encoding="utf-8") as file:
         file.write("c\n")  # Debian's is built with its debugger, which waits for this
 
@@ -197,24 +196,4 @@ def xen(settings, limit, replay=b"", parameters=None):
     return system.run(settings, limit, replay, parameters)
 
 
-BOCHSRC = """\
-config_interface: textconfig
-display_library: rfb, options="timeout=0"
-cpu: model=broadwell_ult, count={processors}, ips={ips}, reset_on_triple_fault=0
-memory: guest={memory}, host={memory}
-romimage: file={bios}
-vgaromimage: file={vga_bios}
-boot: {boot}
-ata0: enabled=1, ioaddr1=0x1f0, ioaddr2=0x3f0, irq=14
-ata0-master: {drive}
-port_e9_hack: enabled=1
-com1: enabled=1, mode=file, dev=said
-clock: sync=none
-log: log
-panic: action=fatal
-error: action=report
-info: action=report
-debug: action=ignore
-plugin_ctrl: speaker=0
-"""
 SYSTEMS = {"bochs": bochs, "kvm": kvm, "qemu": qemu, "xen": xen}

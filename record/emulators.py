@@ -4,29 +4,9 @@ import os
 import subprocess
 
 from record import parts
-from probe import image
+from probe import bochsrc, image
 
 MEMORY = 512  # MB
-BOCHSRC = """\
-config_interface: textconfig
-display_library: nogui
-cpu: model=broadwell_ult, count={processors}, ips=100000000, reset_on_triple_fault=0
-memory: guest={memory}, host={memory}
-romimage: file={bios}
-vgaromimage: file={vga_bios}
-boot: cdrom
-ata0: enabled=1, ioaddr1=0x1f0, ioaddr2=0x3f0, irq=14
-ata0-master: type=cdrom, path=disc, status=inserted
-port_e9_hack: enabled=1
-com1: enabled=1, mode=file, dev=said
-clock: sync=none
-log: log
-panic: action=fatal
-error: action=report
-info: action=report
-debug: action=ignore
-plugin_ctrl: speaker=0
-"""
 
 
 def built(name):
@@ -52,9 +32,9 @@ def prepare_bochs(chosen, folder):
     with image.alone():
         bios, vga_bios = firmware(["bochsbios", "vgabios"], "bochs/BIOS-bochs-latest",
                                   "vgabios/vgabios.bin")
-    with open(os.path.join(folder, "bochsrc"), "w", encoding="utf-8") as file:
-        file.write(BOCHSRC.format(processors=chosen.processors, memory=MEMORY, bios=bios,
-                                  vga_bios=vga_bios))
+    bochsrc.write(folder, display="nogui", processors=chosen.processors, memory=MEMORY,
+                  ips=100000000, bios=bios, vga_bios=vga_bios, boot="cdrom",
+                  drive="type=cdrom, path=disc, status=inserted")
     return ["-q", "-f", "bochsrc"]
 
 

@@ -26,7 +26,9 @@
 #define RING_3 0xFFFF808000000000u
 enum { MEMORY_SLOT = 256, RING_3_SLOT = 257 };
 
-/* Filled in by who loads the guest, at a fixed place (entry.s). docs/PROBE.md lists the bits. */
+/* Filled in by who loads the guest, at physical address 0x10010 (entry.s). `left_out` and `ways` have a bit
+ * for each kind and way (below), `burst` is how many events a burst has, `focus` 1 to 5 in the order of
+ * docs/PROBE.md, "Processors at once", and the last two say where the log is and how long. */
 struct settings {
     uint64_t magic, seed, seeds, events, processors, version, left_out, ways, script, burst, focus;
     volatile uint64_t log_address, log_length;
@@ -53,13 +55,13 @@ enum {
  * again (replay.c), whose numbers then stand in the place of seeds; whether all processors act at
  * once (streams.c); whether what is answered is judged, instead of recorded (case.c). */
 enum {
-    DOORBELL = 1 << 0,
-    SERIAL = 1 << 1,
-    LOADER_STARTS = 1 << 2,
-    LOADER_TURNS = 1 << 3,
-    REPLAY = 1 << 4,
+    DOORBELL = 1 << 0,      /* the log stays in memory, and is handed over at port 0xEA */
+    SERIAL = 1 << 1,        /* the record goes to the serial line */
+    LOADER_STARTS = 1 << 2, /* the loader starts the processor whose number goes to port 0xEB, in RDI */
+    LOADER_TURNS = 1 << 3,  /* port 0xED runs the named processor until it writes to port 0xEE */
+    REPLAY = 1 << 4,        /* of what probe/replay.py placed at 0x700000 */
     AT_ONCE = 1 << 5,
-    CASE = 1 << 6
+    CASE = 1 << 6           /* of what probe/casing.py placed behind a replay */
 };
 
 /* What the machine offers. */
