@@ -14,7 +14,7 @@ use std::io::{self, ErrorKind, Lock, Read, Stderr, Write};
 use std::process::ExitCode;
 
 /// What is read: it tells of its progress on standard error, by a handle of its own.
-type Input<'a, R> = Peeked<Followed<'a, Watched<R>, Watched<Stderr>, &'a HostRuntime>>;
+type Input<'r, 'a, R> = Peeked<Followed<'a, Watched<R>, Watched<Stderr>, &'r HostRuntime>>;
 
 /// How many bytes a file has, if it is one that has a size: neither a pipe nor a device.
 fn size_of(file: &File) -> Option<u64> {
@@ -25,12 +25,12 @@ fn size_of(file: &File) -> Option<u64> {
 }
 
 /// The file of that name, where it can be opened, and else `why` says why not.
-fn open_file<'a>(
-    rt: &'a HostRuntime,
+fn open_file<'r, 'a>(
+    rt: &'r HostRuntime,
     name: &str,
     progress: &'a Cell<bool>,
     why: &Cell<Option<ErrorKind>>,
-) -> Option<Input<'a, File>> {
+) -> Option<Input<'r, 'a, File>> {
     match fs::open(rt, name) {
         Ok(file) => {
             let size = size_of(&file);
