@@ -8,6 +8,8 @@ mod cells;
 #[cfg(test)]
 mod certificates;
 #[cfg(test)]
+mod first_rejections;
+#[cfg(test)]
 mod invalidations;
 #[cfg(test)]
 mod logs;

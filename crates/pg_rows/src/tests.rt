@@ -1,4 +1,4 @@
-use crate::{certificates, invalidations, rights, spliced};
+use crate::{certificates, first_rejections, invalidations, rights, spliced};
 use pg_cases::{explanations, first_unanswered, headers, refusals, runs, versions, walks};
 use std::alloc::AllocGlobal;
 use std::process::Abort;
@@ -63,5 +63,5 @@ fn samples_explained(rt: HostRuntime) -> Result<(), Fail> {
 
 #[test]
 fn records_certified(rt: HostRuntime) -> Result<(), Fail> {
-    expect_all(&rt, &[certificates::ROWS])
+    expect_all(&rt, &[certificates::ROWS, first_rejections::ROWS])
 }
