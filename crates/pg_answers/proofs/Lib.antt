@@ -2,10 +2,13 @@ pub mod WrittenRuns
 pub mod Rows
 pub mod Upgraded
 pub mod GivenTexts
+pub mod Finding
 pub mod Bad
+pub mod Explained
 pub mod Named
 pub mod Accounted
 pub mod Told
+pub mod Audited
 pub mod OneDenial
 pub mod OneCertificate
 pub mod GivenFirsts

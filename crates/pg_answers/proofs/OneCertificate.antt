@@ -1,19 +1,26 @@
 -- Whatever certifies a record comes to one answer, and to one text.
-use Rattle.std.proofs.Common.{◌≡◌, ℕ, ◌+◌, ◌<◌, List, ◌++◌, take, Option, Some, None, IfSome, Ok, Err, refl, ap, sym, ◌∙◌, subst, inl, inr, arith}
-use Rattle.std.specs.Prelude.{Result}
+use Rattle.std.proofs.Common.{◌≡◌, ℕ, ◌+◌, ◌<◌, List, ◌++◌, length, take, Option, Some, None, Ok, Err, refl, ap, sym, ◌∙◌, subst, inl, inr, arith}
+use Rattle.std.specs.Prelude.{Result, slice_get}
 use Rattle.std.specs.List.{take-map}
 use Rattle.std.proofs.lemmas.Bool.{cases_lt}
 use Rattle.pg_event.specs.declared.event.Event.{Event}
 use Rattle.pg_event.specs.Heads.{Head}
-use Rattle.pg_event.specs.Spelling.{Recorded}
+use Rattle.pg_event.specs.Spelling.{Recorded, segment_count}
 use Rattle.pg_report.specs.declared.error.AuditError.{AuditError}
 use Rattle.pg_report.specs.Changes.{Change, Adds}
 use Rattle.pg_run_of.specs.Converse.{without_moments, AreSameButMoments}
 use Rattle.pg_machine.specs.Machine.{visible}
 use Rattle.pg_search.specs.Law.{RunBeginsWith}
 use Rattle.pg_certify.specs.Certified.{IsDenied, HasRunButMoments}
-use Rattle.pg_answers.specs.Certificates.{IsCertificate, IsCertificateOf, IsDeniedRecord, IsDenialText, IsTheCertificate, denied_report}
-use Rattle.pg_answers.specs.Texts.{GivesText, IsTextGivenBy}
+use Rattle.pg_explain.specs.Denied.{denial_text, denial_text_by}
+use Rattle.pg_report.specs.Text.{report_text}
+use Rattle.pg_answers.specs.declared.answer.Answer.{Answer}
+use Rattle.pg_answers.specs.declared.answer.Answer.TheVariants.{Report, Summary, Cause, Causes, Rejection, Events}
+use Rattle.pg_answers.specs.declared.answer.Rejection.{Rejection as Rejected}
+use Rattle.pg_answers.specs.Answers.{IsCertificate, IsRejection, TellsDenial, denied_in}
+use Rattle.pg_answers.specs.AnswerTexts.{answer_text, denied_report, rejection_text}
+use Rattle.pg_answers.specs.Certificates.{IsCertificateText, IsTheCertificate}
+use Rattle.pg_answers.specs.Texts.{GivesText}
 use Rattle.pg_answers.proofs.OneDenial.{one_denial}
 
 -- the first events of two lists that are the same but for moments
@@ -37,36 +44,55 @@ one_event head events n m h k =
       ]
     ]
 
-one_text : (r : Recorded) (n : ℕ) (t u : List ℕ) → IsDeniedRecord r n → IsDenialText r n t → IsDenialText r n u → t ≡ u
-one_text r n t u is h k =
-    let names = is.denied.names in
-    h.2 ∙ ap (λ d. denied_report r n ++ d) (one_denial r.head r.events n names.0 h.0 k.0 names.1 h.1 k.1) ∙ sym k.2
+-- one number, and one text
+-- the text of a rejection, by the record
+told_text : (r : Recorded) (n : ℕ) (x : Rejected) → TellsDenial r n x → rejection_text x ≡ denied_report n (length r.events) (segment_count r) ++ denial_text r.events x.denial
+told_text r n x h =
+    let event : Some x.event ≡ slice_get r.events x.denial.number = sym (ap (slice_get r.events) h.number ∙ h.event) in
+    ap (λ (o : Option Event). denied_report x.denial.number x.events x.segments ++ denial_text_by o x.taken x.denial) event
+    ∙ ap (λ (o : Option Event). denied_report x.denial.number x.events x.segments ++ denial_text_by (slice_get r.events x.denial.number) o x.denial) h.taken
+    ∙ ap (λ (i : ℕ). denied_report i x.events x.segments ++ denial_text r.events x.denial) h.number
+    ∙ ap (λ (i : ℕ). denied_report n i x.segments ++ denial_text r.events x.denial) h.count
+    ∙ ap (λ (i : ℕ). denied_report n (length r.events) i ++ denial_text r.events x.denial) h.segments
 
-pub one_certificate : (r : Recorded) (x y : Option ℕ) (t u : List ℕ) → IsCertificateOf r x t → IsCertificateOf r y u → (x ≡ y) × (t ≡ u)
-one_certificate r None None t u h k = (refl, h.1 ∙ sym k.1)
-one_certificate r None (Some n) t u h k = absurd (k.0.none (begins r.head r.events n h.0.run))
-one_certificate r (Some n) None t u h k = absurd (h.0.none (begins r.head r.events n k.0.run))
-one_certificate r (Some n) (Some m) t u h k =
-    let same = one_event r.head r.events n m h.0.denied k.0.denied in
-    (ap Some same, one_text r m t u k.0 (subst (λ i. IsDenialText r i t) same h.1) k.1)
+one_told : (r : Recorded) (n : ℕ) (x y : Rejected) → IsDenied r.head r.events n → TellsDenial r n x → TellsDenial r n y → (x.denial.number ≡ y.denial.number) × (rejection_text x ≡ rejection_text y)
+one_told r n x y denied h k =
+    let names = denied.names in
+    let number = h.number ∙ sym k.number in
+    let one = one_denial r.head r.events n names.0 x.denial y.denial names.1 h.denial k.denial in
+    let text = told_text r n x h in
+    let other = told_text r n y k in
+    (number, text ∙ ap (λ d. denied_report n (length r.events) (segment_count r) ++ d) one ∙ sym other)
 
-the_certificate : (left : Option (List ℕ)) (checkers : ℕ) (input output : Change) (answer : Result (Option ℕ) AuditError)
-    → IfSome left (λ bytes. GivesText IsCertificateOf checkers bytes input output answer) → IfSome left (λ bytes. IsTheCertificate bytes output answer)
-the_certificate None checkers input output answer gives = tt
-the_certificate (Some bytes) checkers input output (Err e) gives = tt
-the_certificate (Some bytes) checkers input output (Ok x) gives =
+one_rejection : (r : Recorded) (x y : Rejected) → IsRejection r x → IsRejection r y → (x.denial.number ≡ y.denial.number) × (rejection_text x ≡ rejection_text y)
+one_rejection r x y h k =
+    let same : h.0 ≡ k.0 = one_event r.head r.events h.0 k.0 h.1.denied k.1.denied in
+    one_told r h.0 x y h.1.denied h.2 (subst (λ (n : ℕ). TellsDenial r n y) (sym same) k.2)
+
+pub one_certificate : (r : Recorded) (x y : Answer) → IsCertificate r x → IsCertificate r y → (denied_in x ≡ denied_in y) × (answer_text x ≡ answer_text y)
+one_certificate r (Report a) (Report b) h k = (refl, ap report_text (h.1 ∙ sym k.1))
+one_certificate r (Report a) (Rejection y) h k = absurd (k.1.none (begins r.head r.events k.0 h.0.run))
+one_certificate r (Rejection x) (Report b) h k = absurd (h.1.none (begins r.head r.events h.0 k.0.run))
+one_certificate r (Rejection x) (Rejection y) h k =
+    let one = one_rejection r x y h k in
+    (ap Some one.0, one.1)
+one_certificate r (Report a) (Summary b s) h k = absurd k
+one_certificate r (Report a) (Cause b q e) h k = absurd k
+one_certificate r (Report a) (Causes b q es s) h k = absurd k
+one_certificate r (Report a) (Events q f) h k = absurd k
+one_certificate r (Rejection x) (Summary b s) h k = absurd k
+one_certificate r (Rejection x) (Cause b q e) h k = absurd k
+one_certificate r (Rejection x) (Causes b q es s) h k = absurd k
+one_certificate r (Rejection x) (Events q f) h k = absurd k
+one_certificate r (Summary a t) y h k = absurd h
+one_certificate r (Cause a p d) y h k = absurd h
+one_certificate r (Causes a p ds t) y h k = absurd h
+one_certificate r (Events p g) y h k = absurd h
+
+pub the_certificate : (bytes : List ℕ) (checkers : ℕ) (input output : Change) (answer : Result Answer AuditError) → GivesText IsCertificateText checkers bytes input output answer → IsTheCertificate bytes answer
+the_certificate bytes checkers input output (Err e) gives = tt
+the_certificate bytes checkers input output (Ok x) gives = λ other checkers' input' output' its.
     let r = gives.0 in
-    let text = gives.2 in (
-      text,
-      gives.4,
-      λ other checkers' input' output' its.
-          let same : its.0 ≡ r = gives.1.1 its.0 its.1.0 in
-          let one = one_certificate r other x its.2 text (subst (λ s. IsCertificateOf s other its.2) same its.3) gives.3 in
-          (one.0, subst (Adds output') one.1 its.4),
-    )
-
-pub is_certificate : (checkers : ℕ) (input output : Change) (answer : Result (Option ℕ) AuditError) → IsTextGivenBy IsCertificateOf checkers input output answer → IsCertificate checkers input output answer
-is_certificate checkers input output answer text = record {
-  text = text;
-  only = the_certificate input.old.bytes checkers input output answer text.gives;
-}
+    let same : its.0 ≡ r = gives.1.1 its.0 its.1.0 in
+    let one = one_certificate r other x (subst (λ (q : Recorded). IsCertificate q other) same its.3.0) gives.3.0 in
+    (one.0, subst (Adds output') (its.3.1 ∙ one.1) its.4)

@@ -14,9 +14,8 @@ use Rattle.pg_certify.specs.Certified.{IsDenied}
 use Rattle.pg_certify.specs.Shares.{end_of}
 use Rattle.pg_certify.specs.Accounts.{Account, IsAccount}
 use Rattle.pg_explain.specs.declared.denial.Denial.{Denial}
-use Rattle.pg_explain.specs.Denied.{IsDenialFor, IsDenialOf, DenialsAmongKept, denial_text_by}
-use Rattle.pg_explain.specs.Lasts.{taken_in}
-use Rattle.pg_answers.specs.Accounts.{IsChange, IsDeniedAccount, IsDenialTold}
+use Rattle.pg_explain.specs.Denied.{IsDenialFor, IsDenialOf, DenialsAmongKept}
+use Rattle.pg_answers.specs.Accounts.{IsChange, IsDeniedAccount}
 
 some_same : (x y : Event) → Some x ≡ Some y → x ≡ y
 some_same x y h = cc
@@ -68,7 +67,7 @@ module _ (a : Account) (r : Recorded) (n : ℕ) (e : Event) (h : IsDeniedAccount
   within (Some last) l = omega (arith, l.before, reach)
 
   module _ (law : DenialsAmongKept) (taken : TakenByAChange) (denial : Denial) (of : IsDenialFor a.findings.kept.head a.findings.kept.events n e denial) where
-    denial_is : IsDenialOf r.head r.events n denial
+    pub denial_is : IsDenialOf r.head r.events n denial
     denial_is = law r.head a.findings.kept.events r.events n e denial h.known.certifying.kept reach h.there (subst (λ (x : Head). IsDenialFor x a.findings.kept.events n e denial) h.known.certifying.settings of)
 
     none : NoneWitness r.head r.events e n (n + 1)
@@ -86,8 +85,3 @@ module _ (a : Account) (r : Recorded) (n : ℕ) (e : Event) (h : IsDeniedAccount
 
     pub changes_last : IfSome denial.last (λ last. IsChange r.events last.number)
     changes_last = changes denial.last denial_is.last
-
-    pub told : (text : List ℕ) (o : Option Event) → o ≡ taken_in r.events denial.last → text ≡ denial_text_by (Some e) o denial → IsDenialTold r n text
-    told text o is wrote =
-        let event : slice_get r.events denial.number ≡ Some e = ap (slice_get r.events) of.number ∙ h.there in
-        (denial, denial_is, wrote ∙ ap (λ o. denial_text_by (Some e) o denial) is ∙ ap (λ o. denial_text_by o (taken_in r.events denial.last) denial) (sym event))

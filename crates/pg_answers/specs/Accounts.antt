@@ -7,8 +7,6 @@ use Rattle.pg_event.specs.Spelling.{Recorded}
 use Rattle.pg_codec.specs.declared.stage.Stage.{Stage}
 use Rattle.pg_codec.specs.declared.stream.Source.{Ghosts}
 use Rattle.pg_certify.specs.Accounts.{Account, IsAccount}
-use Rattle.pg_explain.specs.declared.denial.Denial.{Denial}
-use Rattle.pg_explain.specs.Denied.{IsDenialOf, denial_text}
 use Rattle.pg_search.specs.Changes.{changes_something}
 use Rattle.pg_report.specs.declared.error.AuditError.{AuditError}
 use Rattle.pg_report.specs.Going.{IsGoing}
@@ -35,11 +33,6 @@ ReadsAccount left (Err e) = IfSome left (λ bytes. ReadsRecord Two bytes (Err e)
 -- there is an event with this number, and it changes something
 abbrev pub IsChange : List Event → ℕ → Type 0
 IsChange events n = (e : Event) × (slice_get events n ≡ Some e) × (changes_something e ≡ true)
-
--- what stands behind event n, and its text
-abbrev pub IsDenialTold : Recorded → ℕ → List ℕ → Type 0
-IsDenialTold r n text =
-    (x : Denial) × IsDenialOf r.head r.events n x × (text ≡ denial_text r.events x)
 
 -- it is the account of a record of which event n, this one, is denied
 pub record IsDeniedAccount (a : Account) (r : Recorded) (n : ℕ) (e : Event) : Type 0 where

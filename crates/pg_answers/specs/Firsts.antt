@@ -16,7 +16,9 @@ use Rattle.pg_report.specs.Going.{IsReading}
 use Rattle.pg_report.specs.Intake.{ReadsRecord, TellsDevice}
 use Rattle.pg_auditing.specs.Refusals.{TellsError}
 use Rattle.pg_auditing.specs.Streams.{Streams}
-use Rattle.pg_answers.specs.Certificates.{IsCertificateOf, certificate_status}
+use Rattle.pg_answers.specs.declared.answer.Answer.{Answer}
+use Rattle.pg_answers.specs.Answers.{IsCertificate, answer_status, denied_in}
+use Rattle.pg_answers.specs.AnswerTexts.{answer_text}
 use Rattle.pg_answers.specs.Texts.{HasWrittenText}
 
 -- the bytes begin with this header and these events
@@ -40,19 +42,24 @@ abbrev pub ReadsUpTo : Option (List ℕ) → Result Account AuditError → Type 
 ReadsUpTo left (Ok a) = IsAccountUpTo left a
 ReadsUpTo left (Err e) = IfSome left (λ bytes. ReadsRecord Two bytes (Err e))
 
+-- the answer of what was read, as text
+abbrev pub IsTextOf : Recorded → Answer → List ℕ → Type 0
+IsTextOf r x text = IsCertificate r x × (text ≡ answer_text x)
+
 -- the same, where no other record can be spelled by these bytes
 abbrev pub IsOneUpTo : Option ℕ → List ℕ → Recorded → Type 0
 IsOneUpTo None bytes r = SpellsOne bytes r
 IsOneUpTo (Some n) bytes r = Begins bytes r
 
 -- this was read of the bytes, this is its text with the answer, and this holds of the text
-abbrev pub HasFirst : List ℕ → Option ℕ → (List ℕ → Type 0) → Type 0
+abbrev pub HasFirst : List ℕ → Answer → (List ℕ → Type 0) → Type 0
 HasFirst bytes x P =
-    (r : Recorded) × IsOneUpTo x bytes r × (text : List ℕ) × IsCertificateOf r x text × P text
+    (r : Recorded) × IsOneUpTo (denied_in x) bytes r × (text : List ℕ) × IsTextOf r x text
+    × P text
 
 -- Asked of these bytes, the program answers so, and leaves the writer so: as `GivesText` of `Texts`
 -- says it of one checker.
-abbrev pub GivesFirst : List ℕ → Change → Change → Result (Option ℕ) AuditError → Type 0
+abbrev pub GivesFirst : List ℕ → Change → Change → Result Answer AuditError → Type 0
 GivesFirst bytes input output (Ok x) = HasFirst bytes x (Adds output)
 GivesFirst bytes input output (Err (Refused e)) =
     (refusal bytes ≡ Some e) × SpellsNone bytes × AddsNothing output
@@ -61,16 +68,16 @@ GivesFirst bytes input output (Err Thread) = ⊥
 GivesFirst bytes input output (Err Checkers) = ⊥
 GivesFirst bytes input output (Err Device) =
     (ReaderFails input output × AddsNothing output)
-    ⊎ (WriterFails input output × (x : Option ℕ) × HasFirst bytes x (AddsSome output))
+    ⊎ (WriterFails input output × (x : Answer) × HasFirst bytes x (AddsSome output))
 
-pub record IsFirstGiven (input output : Change) (result : Result (Option ℕ) AuditError) : Type 0
+pub record IsFirstGiven (input output : Change) (result : Result Answer AuditError) : Type 0
   where
     pub gives : IfSome input.old.bytes (λ bytes. GivesFirst bytes input output result)
-    pub written : HasWrittenText IsCertificateOf input output result
+    pub written : HasWrittenText IsTextOf input output result
     pub failures : TellsFailures input output result
 
 -- what is left of that once so much of the record was read, whatever it was read from
-abbrev pub GivesFirstOf : Option ℕ → Recorded → Change → Result (Option ℕ) AuditError → Type 0
+abbrev pub GivesFirstOf : Option ℕ → Recorded → Change → Result Answer AuditError → Type 0
 GivesFirstOf denied r output result =
     (input : Change) → IfSome input.old.bytes (λ bytes. IsReadUpTo denied bytes r) →
     TellsDevice {A = Recorded} input (Ok r) → IsFirstGiven input output result
@@ -78,5 +85,5 @@ GivesFirstOf denied r output result =
 -- The status is that of such an answer, and the line on standard error is its line.
 abbrev pub CertifiesFirst : Streams → ℕ → Type 0
 CertifiesFirst s status =
-    (answer : Result (Option ℕ) AuditError) × (status ≡ certificate_status answer)
+    (answer : Result Answer AuditError) × (status ≡ answer_status answer)
     × IsFirstGiven s.input s.output answer × TellsError s.errors answer

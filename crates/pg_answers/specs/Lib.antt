@@ -2,11 +2,12 @@ pub mod Runs
 pub mod Replay
 pub mod RunOf
 pub mod Upgrades
-pub mod Lines
 pub mod Texts
-pub mod Explanations
-pub mod Summaries
-pub mod Accounts
+pub mod Found
+pub mod Answers
+pub mod AnswerTexts
 pub mod Certificates
+pub mod Audited
+pub mod Accounts
 pub mod Firsts
 pub mod Naming

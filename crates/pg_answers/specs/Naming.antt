@@ -11,7 +11,9 @@ use Rattle.pg_report.specs.Audits.{SpellsOne}
 use Rattle.pg_report.specs.Changes.{Change, Fails, Works, Adds, AddsSome}
 use Rattle.pg_answers.specs.declared.shown.Naming.{Naming}
 use Rattle.pg_answers.specs.declared.shown.Naming.TheVariants.{Named, Denied}
-use Rattle.pg_answers.specs.Certificates.{IsDeniedRecord, IsDenialText}
+use Rattle.pg_answers.specs.declared.answer.Rejection.{Rejection}
+use Rattle.pg_answers.specs.Answers.{IsRejection}
+use Rattle.pg_answers.specs.AnswerTexts.{rejection_text}
 use Rattle.pg_auditing.specs.Refusals.{StaysSame, Tells, refusal_line}
 use Rattle.pg_auditing.specs.Status.{error_status}
 use Rattle.pg_auditing.specs.Streams.{Streams}
@@ -35,7 +37,7 @@ IsNaming r Named text =
     (named : Recorded) × IsNamedRecord r named × (text ≡ record_bytes named)
     × (IsRecord r → SpellsOne text named)
 IsNaming r (Denied told) text =
-    ((n : ℕ) × IsDeniedRecord r n × IsDenialText r n (string_bytes told)) × (text ≡ [])
+    ((x : Rejection) × IsRejection r x × (string_bytes told ≡ rejection_text x)) × (text ≡ [])
 
 -- 0 where the record was written. The report of a no goes to standard error, and the status is 1;
 -- where standard error fails it is 2. An error is told by its line.

@@ -1,6 +1,6 @@
 //! Records that are certified as they are read.
 
-ghost use Rattle.std.specs.Prelude.{◌≡◌, [], ℕ, List, Option, Err, OnOk, IfErr, IfSome};
+ghost use Rattle.std.specs.Prelude.{◌≡◌, ◌≢◌, [], ℕ, List, Option, Err, OnOk, IfErr, IfSome};
 ghost use Rattle.pg_codec.specs.declared.stage.Stage.TheVariants.{Start};
 ghost use Rattle.pg_codec.specs.Streams.{FailsWithDevice};
 ghost use Rattle.pg_report.specs.Changes.{drawn};
@@ -32,6 +32,7 @@ fn account_rest<R: Source>(
     ensures device { (start : Option (List ℕ)) (f : ℕ) → IsAccounting R.Source start f
         (reader.old.unread, source.old) reader.old.stage account.old 0 →
         FailsWithDevice is_device f (R.failed source.new) result }
+    ensures alone { (result ≢ Err AuditError.Thread) × (result ≢ Err AuditError.Checkers) }
 {
     let mut room = Vec::new(alloc);
     for _ in 0..MOST_CHUNKS {
@@ -57,6 +58,7 @@ fn account_by<R: Source>(
     requires { reader.old ≡ record { unread = []; stage = Start } }
     ensures reads { ReadsAccount (R.left source.old) result }
     ensures device { TellsDevice (drawn R.Source source.old source.new) result }
+    ensures alone { (result ≢ Err AuditError.Thread) × (result ≢ Err AuditError.Checkers) }
 {
     let header = match reader.read_header(alloc, source) {
         Ok(header) => header,
@@ -76,6 +78,7 @@ pub(crate) fn read_account<R: Source>(
 ) -> Result<StreamingCertifier, AuditError>
     ensures reads { ReadsAccount (R.left source.old) result }
     ensures device { TellsDevice (drawn R.Source source.old source.new) result }
+    ensures alone { (result ≢ Err AuditError.Thread) × (result ≢ Err AuditError.Checkers) }
 {
     let mut reader = RecordReader::new(alloc)?;
     account_by(alloc, &mut reader, source)

@@ -1,18 +1,58 @@
-//! The cause of the rejection of a record that was certified as it was read.
+//! What stands behind the event that is denied: of a record that was read whole, and of one that
+//! was certified as it was read.
 
-ghost use Rattle.std.specs.Prelude.{◌≡◌, ◌<◌, List, length, IfOk, IfSome, string_bytes};
+ghost use Rattle.std.specs.Prelude.{◌≡◌, ◌<◌, ℕ, List, length, IfOk, IfSome, slice_get};
 ghost use Rattle.pg_event.specs.declared.event.Event.{Event};
 ghost use Rattle.pg_event.specs.Heads.{Head};
 ghost use Rattle.pg_event.specs.Spelling.{Recorded};
 ghost use Rattle.pg_certify.specs.Accounts.{IsAccount};
+ghost use Rattle.pg_certify.specs.Certified.{IsDenied};
 ghost use Rattle.pg_explain.specs.Lasts.{taken_in};
-ghost use Rattle.pg_answers.specs.Accounts.{IsChange, IsDenialTold, IsDeniedAccount};
+ghost use Rattle.pg_answers.specs.Accounts.{IsChange, IsDeniedAccount};
+ghost use Rattle.pg_answers.specs.Answers.{TellsDenial};
 
+use crate::answer::Rejection;
 use pg_certify::StreamingCertifier;
+use pg_check::History;
 use pg_event::Event;
-use pg_explain::{denial_text_by, denials_among_kept, deny_event};
+use pg_explain::{denials_among_kept, deny, deny_event};
 use pg_search::{Last, Seen, taken_by_a_change};
 use std::alloc::{AllocError, Global};
+
+/// The event behind which another was never witnessed, where these are the events of the run.
+fn taken_in(events: &[Event], last: Option<Last>) -> Option<Event>
+    ensures { result ≡ taken_in events.now last }
+{
+    match last {
+        None => None,
+        Some(last) => match events.get(last.number as usize) {
+            Some(event) => Some(*event),
+            None => None,
+        },
+    }
+}
+
+/// What stands behind the event that is denied, of a record that was read whole.
+pub(crate) fn denial_in(
+    alloc: Global,
+    history: &History,
+    number: u64,
+) -> Result<Rejection, AllocError>
+    requires { IsDenied history.now.head history.now.events number }
+    ensures { IfOk result (TellsDenial history.now number) }
+{
+    let denial = deny(alloc, history, number)?;
+    let events = history.events();
+    let event = events[number as usize];
+    let taken = taken_in(events, denial.last);
+    Ok(Rejection {
+        events: history.len(),
+        segments: history.segments(),
+        denial,
+        event,
+        taken,
+    })
+}
 
 /// The event behind which another was never witnessed, which changes something.
 fn taken_of(account: &StreamingCertifier, last: Option<Last>) -> Option<Event>
@@ -26,21 +66,28 @@ fn taken_of(account: &StreamingCertifier, last: Option<Last>) -> Option<Event>
     }
 }
 
-/// What stands behind the event that is denied, as text.
-pub(crate) fn told_of(
+/// What stands behind the event that is denied, of a record that was certified as it was read.
+pub(crate) fn denial_by(
     alloc: Global,
     account: &StreamingCertifier,
     number: u64,
     event: &Event,
-) -> Result<String, AllocError>
+) -> Result<Rejection, AllocError>
     requires { (r : Recorded) × IsDeniedAccount account.now r number event.now }
     ensures { (r : Recorded) → IsDeniedAccount account.now r number event.now →
-        IfOk result (λ t. IsDenialTold r number (string_bytes t)) }
+        IfOk result (TellsDenial r number) }
 {
     denials_among_kept();
     taken_by_a_change();
-    let seen = Seen::among(account.certifying().kept());
+    let certifying = account.certifying();
+    let seen = Seen::among(certifying.kept());
     let denial = deny_event(alloc, &seen, number as u32, event)?;
     let taken = taken_of(account, denial.last);
-    denial_text_by(alloc, Some(*event), taken, &denial)
+    Ok(Rejection {
+        events: certifying.len(),
+        segments: certifying.segments(),
+        denial,
+        event: *event,
+        taken,
+    })
 }

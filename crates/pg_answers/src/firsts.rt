@@ -1,6 +1,6 @@
 //! Whether some run of the machine has a record's events, answered at the first that is denied.
 
-ghost use Rattle.std.specs.Prelude.{◌≡◌, [], ℕ, List, Option, Err, OnOk, IfErr, IfSome, is_some};
+ghost use Rattle.std.specs.Prelude.{◌≡◌, [], ℕ, List, Option, Err, OnOk, IfOk, IfErr, IfSome, is_some};
 ghost use Rattle.pg_event.specs.Spelling.{Recorded};
 ghost use Rattle.pg_codec.specs.declared.stage.Stage.TheVariants.{Start};
 ghost use Rattle.pg_codec.specs.Streams.{FailsWithDevice};
@@ -10,14 +10,18 @@ ghost use Rattle.pg_report.specs.Intake.{ReadsRecord, TellsDevice, is_device};
 ghost use Rattle.pg_auditing.specs.Streams.{streams};
 ghost use Rattle.pg_answers.specs.Accounts.{IsAccounting};
 ghost use Rattle.pg_answers.specs.Firsts.{IsAccountUpTo, ReadsUpTo, GivesFirstOf, IsFirstGiven};
+ghost use Rattle.pg_answers.specs.AnswerTexts.{answer_text};
 ghost use Rattle.pg_answers.specs.Firsts.{CertifiesFirst};
+ghost use Rattle.pg_report.specs.Audits.{WritesText};
 
-use crate::certificates::{certificate_by, certificate_status, give_certificate};
+use crate::answer::{Answer, answer_status};
+use crate::certificates::certificate_by;
+use crate::text::answer_text;
 use pg_auditing::tell_error;
 use pg_certify::StreamingCertifier;
 use pg_codec::{RecordReader, Sink, Source};
 use pg_event::Version;
-use pg_report::{AuditError, MOST_CHUNKS, audit_error};
+use pg_report::{AuditError, MOST_CHUNKS, audit_error, write_text};
 use std::alloc::Global;
 
 /// Whether an event that was read is denied.
@@ -94,18 +98,35 @@ fn read_up_to<R: Source>(alloc: Global, source: &mut R) -> Result<StreamingCerti
     account_first_by(alloc, &mut reader, source)
 }
 
+/// Writes an answer as text, and gives it.
+fn write_answer<O: Sink>(
+    alloc: Global,
+    answer: Answer,
+    output: &mut O,
+) -> Result<Answer, AuditError>
+    ensures text { WritesText (filled O.Sink output.old output.new) (answer_text answer) result }
+    ensures device { TellsDevice (filled O.Sink output.old output.new) result }
+    ensures same { IfOk result (λ x. x ≡ answer) }
+{
+    let text = answer_text(alloc, &answer)?;
+    match write_text(output, text.as_str()) {
+        Ok(()) => Ok(answer),
+        Err(error) => Err(error),
+    }
+}
+
 /// Writes whether what was read can be certified, by what is known of it.
 fn write_up_to<O: Sink>(
     alloc: Global,
     account: &StreamingCertifier,
     output: &mut O,
-) -> Result<Option<u64>, AuditError>
+) -> Result<Answer, AuditError>
     requires { (r : Recorded) × IsAccount account.now r.head r.events }
     ensures { (r : Recorded) → IsAccount account.now r.head r.events →
         GivesFirstOf account.now.findings.denied r (filled O.Sink output.old output.new) result }
 {
-    let told = certificate_by(alloc, account)?;
-    give_certificate(output, told)
+    let answer = certificate_by(alloc, account)?;
+    write_answer(alloc, answer, output)
 }
 
 /// Certifies a record as it is read, up to that segment. Nothing is written before the answer is
@@ -114,7 +135,7 @@ fn write_first<R: Source, O: Sink>(
     alloc: Global,
     input: &mut R,
     output: &mut O,
-) -> Result<Option<u64>, AuditError>
+) -> Result<Answer, AuditError>
     ensures { IsFirstGiven
         (drawn R.Source input.old input.new) (filled O.Sink output.old output.new) result }
 {
@@ -139,5 +160,5 @@ pub fn certify_first<R: Source, O: Sink, E: Sink>(
 {
     let answer = write_first(alloc, input, output);
     tell_error(errors, &answer);
-    certificate_status(answer)
+    answer_status(&answer)
 }

@@ -3,25 +3,31 @@
 #![tactic(auto)]
 
 mod accounts;
+mod answer;
+mod answering;
 mod certificates;
+mod checks;
 mod denials;
 mod explanations;
 mod firsts;
-mod lines;
+mod laws;
 mod naming;
+mod question;
 mod replayer;
 mod runs;
 mod shown;
 mod summaries;
+mod text;
 mod upgrader;
 
-pub use certificates::certify;
-pub use explanations::explain;
+pub use answer::{Answer, Rejection, Summary, answer_status};
+pub use answering::answer_record;
 pub use firsts::certify_first;
-pub use lines::show;
+pub use laws::checks_are_audits;
 pub use naming::name_moments;
+pub use question::Question;
 pub use replayer::run_of;
 pub use runs::run_text;
-pub use shown::{Shown, ToldText, give};
-pub use summaries::{check_all, explain_all};
+pub use shown::Shown;
+pub use text::answer_text;
 pub use upgrader::upgrade;

@@ -10,8 +10,9 @@ ghost use Rattle.pg_answers.specs.Naming.{IsNaming, NamesRecord, TellsNaming, wi
 ghost use Rattle.pg_auditing.specs.Streams.{streams};
 ghost use Rattle.pg_answers.specs.Texts.{GivesTextOf, IsTextGiven};
 
-use crate::certificates::no_text;
+use crate::denials::denial_in;
 use crate::shown::Naming;
+use crate::text::rejection_text;
 use pg_auditing::{NO, REFUSED, YES, error_status, tell};
 use pg_certify::{Certified, certify, denied_events_have_no_run};
 use pg_check::History;
@@ -54,7 +55,8 @@ fn write_found<O: Sink>(
     match certify(alloc, history)? {
         Certified::Yes(found) => write_events(output, history, &found),
         Certified::No(event) => {
-            let text = no_text(alloc, history, event)?;
+            let rejection = denial_in(alloc, history, event)?;
+            let text = rejection_text(alloc, &rejection)?;
             Ok(Naming::Denied(text))
         }
     }

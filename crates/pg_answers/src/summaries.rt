@@ -1,154 +1,94 @@
-//! What stands behind all bad events of a record, and what these have in common.
+//! What all bad events of a record have in common, and the causes of the first of them.
 
-ghost use Rattle.std.specs.Prelude.{◌≡◌, ◌++◌, length, IfOk, OnOk, string_bytes};
-ghost use Rattle.pg_explain.specs.Bads.{bads};
-ghost use Rattle.pg_report.specs.Changes.{drawn, filled};
-ghost use Rattle.pg_auditing.specs.Streams.{streams};
-ghost use Rattle.pg_answers.specs.Summaries.{tally_line, tally_lines, count_line, IsSummary};
-ghost use Rattle.pg_answers.specs.Summaries.{IsCheckOfAll, IsExplanationOfAll};
-ghost use Rattle.pg_answers.specs.Summaries.{ChecksAll, ExplainsAll};
-ghost use Rattle.pg_answers.specs.Texts.{IsTextGiven};
+ghost use Rattle.std.specs.Prelude.{◌≡◌, ◌<◌, List, length, take, IfOk};
+ghost use Rattle.std.specs.List.{AllByRecursion};
+ghost use Rattle.pg_event.specs.Witness.{Witnessed};
+ghost use Rattle.pg_explain.specs.Bads.{IsBad, bads};
+ghost use Rattle.pg_explain.specs.Explained.{IsExplained};
+ghost use Rattle.pg_answers.specs.Answers.{AreCauses, AreExplanations, IsSummary, IsSummed};
 
-use crate::shown::{ToldText, give};
-use pg_auditing::{status_of, tell_error};
+use crate::answer::{Answer, Summary};
 use pg_check::History;
-use pg_codec::{Sink, Source};
-use pg_explain::{Bad, Tally, bads, explanations_text, tallies, tally_text};
-use pg_report::{AuditError, Verdict, read_record, reason_name, reason_number, report_of};
+use pg_explain::{Bad, Explanation, bads, explain, tallies};
+use pg_report::report_of;
 use std::alloc::{AllocError, Global};
 
-fn tally_line(alloc: Global, tally: &Tally) -> Result<String, AllocError>
-    ensures { IfOk result (λ t. string_bytes t ≡ tally_line tally.now) }
+/// How many bad events there are, and what those with one reason have in common.
+fn summary_of(alloc: Global, found: &[Bad]) -> Result<Summary, AllocError>
+    ensures { IfOk result (IsSummary found.now) }
 {
-    let reason = tally.reason;
-    tally_text(alloc, reason_number(reason), reason_name(reason), tally)
+    let tallies = tallies(alloc, found)?;
+    Ok(Summary {
+        bad_events: found.len() as u64,
+        tallies,
+    })
 }
 
-fn push_tallies(alloc: Global, text: &mut String, tallies: &[Tally]) -> Result<(), AllocError>
-    ensures { OnOk result
-        (string_bytes text.new ≡ string_bytes text.old ++ tally_lines tallies.now) }
+/// The cause of an event that is not witnessed.
+pub(crate) fn cause_of(
+    alloc: Global,
+    history: &History,
+    number: u64,
+) -> Result<Explanation, AllocError>
+    requires within { number < length history.now.events }
+    requires bad { ¬ Witnessed history.now.head history.now.events number }
+    ensures { IfOk result (IsExplained history.now.head history.now.events number) }
 {
-    for tally in tallies {
-        let line = tally_line(alloc, tally)?;
-        text.push_str(line.as_str())?;
+    match explain(alloc, history, number)? {
+        Some(explanation) => Ok(explanation),
+        None => unreachable!(),
     }
-    Ok(())
 }
 
-fn count_line(alloc: Global, count: usize) -> Result<String, AllocError>
-    ensures { IfOk result (λ t. string_bytes t ≡ count_line count) }
+/// The cause of each of bad events, in their order.
+fn each(alloc: Global, history: &History, found: &[Bad]) -> Result<Vec<Explanation>, AllocError>
+    requires { AllByRecursion (IsBad history.now.head history.now.events) found.now }
+    ensures { IfOk result (λ xs.
+        AreExplanations history.now.head history.now.events found.now xs.items) }
 {
-    format!(in alloc; "bad events: {count}\n")
+    let mut causes = Vec::new(alloc);
+    for bad in found {
+        let cause = cause_of(alloc, history, bad.number as u64)?;
+        causes.push(cause)?;
+    }
+    Ok(causes)
 }
 
-/// How many bad events there are, and what those with one reason have in common, reason by reason.
-fn summary(alloc: Global, bads: &[Bad]) -> Result<String, AllocError>
-    ensures { IfOk result (λ t. IsSummary bads.now (string_bytes t)) }
+/// The causes of so many bad events at most.
+fn causes_of(
+    alloc: Global,
+    history: &History,
+    found: &[Bad],
+    most: usize,
+) -> Result<Vec<Explanation>, AllocError>
+    requires { found.now ≡ bads history.now.head history.now.events }
+    ensures { IfOk result (λ xs.
+        AreExplanations history.now.head history.now.events (take most found.now) xs.items) }
 {
-    let mut text = count_line(alloc, bads.len())?;
-    let told = tallies(alloc, bads)?;
-    push_tallies(alloc, &mut text, &told)?;
-    Ok(text)
+    each(alloc, history, &found[..most.min(found.len())])
 }
 
-/// The report of a history, and a summary of its bad events.
-fn summed(alloc: Global, history: &History) -> Result<ToldText, AllocError>
-    ensures { IfOk result (λ told. IsCheckOfAll history.now told.verdict
-        (string_bytes told.text)) }
+/// The report of a record, and a summary of its bad events.
+pub(crate) fn summed(alloc: Global, history: &History) -> Result<Answer, AllocError>
+    ensures { IfOk result (IsSummed history.now) }
 {
-    let report = report_of(history);
     let found = bads(alloc, history)?;
-    let mut text = report.text(alloc)?;
-    let summary = summary(alloc, &found)?;
-    text.push_str(summary.as_str())?;
-    Ok(ToldText {
-        verdict: report.verdict,
-        text,
-    })
+    let summary = summary_of(alloc, &found)?;
+    Ok(Answer::Summary(report_of(history), summary))
 }
 
-/// The report of a history, what stands behind so many of its bad events at most, and a summary of
-/// all of them.
-fn explained(alloc: Global, history: &History, most: u32) -> Result<ToldText, AllocError>
-    ensures { IfOk result (λ told. IsExplanationOfAll most history.now told.verdict
-        (string_bytes told.text)) }
-{
-    let report = report_of(history);
-    let found = bads(alloc, history)?;
-    let mut text = report.text(alloc)?;
-    let told = explanations_text(alloc, history, &found, most as usize)?;
-    text.push_str(told.as_str())?;
-    let summary = summary(alloc, &found)?;
-    text.push_str(summary.as_str())?;
-    Ok(ToldText {
-        verdict: report.verdict,
-        text,
-    })
-}
-
-fn write_check<R: Source, O: Sink>(
+/// The report of a record, the causes of so many of its bad events at most, and a summary of all of
+/// them.
+pub(crate) fn all_explained(
     alloc: Global,
-    input: &mut R,
-    output: &mut O,
-) -> Result<Verdict, AuditError>
-    ensures { IsTextGiven IsCheckOfAll
-        (drawn R.Source input.old input.new) (filled O.Sink output.old output.new) result }
-{
-    let history = match read_record(alloc, input) {
-        Ok(history) => history,
-        Err(error) => return Err(error),
-    };
-    let told = summed(alloc, &history)?;
-    give(output, told)
-}
-
-fn write_explanations<R: Source, O: Sink>(
-    alloc: Global,
+    history: History,
     most: u32,
-    input: &mut R,
-    output: &mut O,
-) -> Result<Verdict, AuditError>
-    ensures { IsTextGiven (IsExplanationOfAll most)
-        (drawn R.Source input.old input.new) (filled O.Sink output.old output.new) result }
+) -> Result<Answer, AllocError>
+    ensures { IfOk result (AreCauses most history) }
 {
-    let history = match read_record(alloc, input) {
-        Ok(history) => history,
-        Err(error) => return Err(error),
-    };
-    let told = explained(alloc, &history, most)?;
-    give(output, told)
-}
-
-/// Writes the report of the record on `input`, and behind it a summary of its bad events: how many
-/// there are, and for each reason how many, the first, and their processors and pages. It gives the
-/// exit status, which is that of the report: 0 yes, 1 no, 2 refused, 3 memory.
-pub fn check_all<R: Source, O: Sink, E: Sink>(
-    alloc: Global,
-    input: &mut R,
-    output: &mut O,
-    errors: &mut E,
-) -> u8
-    ensures { ChecksAll (streams R.Source O.Sink E.Sink
-        (input.old, output.old, errors.old) (input.new, output.new, errors.new)) result }
-{
-    let answer = write_check(alloc, input, output);
-    tell_error(errors, &answer);
-    status_of(answer)
-}
-
-/// Writes the report of the record on `input`, what stands behind so many of its bad events at
-/// most, and the same summary. It gives the same exit status.
-pub fn explain_all<R: Source, O: Sink, E: Sink>(
-    alloc: Global,
-    most: u32,
-    input: &mut R,
-    output: &mut O,
-    errors: &mut E,
-) -> u8
-    ensures { ExplainsAll most (streams R.Source O.Sink E.Sink
-        (input.old, output.old, errors.old) (input.new, output.new, errors.new)) result }
-{
-    let answer = write_explanations(alloc, most, input, output);
-    tell_error(errors, &answer);
-    status_of(answer)
+    let found = bads(alloc, &history)?;
+    let causes = causes_of(alloc, &history, &found, most as usize)?;
+    let summary = summary_of(alloc, &found)?;
+    let report = report_of(&history);
+    Ok(Answer::Causes(report, history, causes, summary))
 }

@@ -1,15 +1,12 @@
 // SPDX-License-Identifier: MIT OR Apache-2.0
-//! `check` over any streams: the audit of a record, its exit status, and the lines that tell of
-//! what was refused.
+//! Exit statuses, and the lines that tell of what was refused.
 #![tactic(auto)]
 
-mod checks;
 mod files;
 mod refusals;
 mod statuses;
 mod words;
 
-pub use checks::check;
 pub use files::tell_unopened;
 pub use refusals::{
     put_error, put_line, put_name, put_number, put_place, put_refusal, tell, tell_error,

@@ -1,4 +1,2 @@
 pub mod OnLiterals
 mod Pieces
-mod Explained
-mod Given

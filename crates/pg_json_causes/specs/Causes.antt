@@ -40,18 +40,14 @@ explanation_json events x = object (
     (field (codes "finding") (finding_json events x.finding)
     (ended_fields events x.other x.last))))
 
--- the event with a number, without its moments
-abbrev pub claim_at : ℕ → Option Event → Json
-claim_at number None = nothing
-claim_at number (Some e) = claim_json number e
-
 abbrev pub given_json : Option Outcome → Json
 given_json None = nothing
 given_json (Some outcome) = outcome_json outcome
 
-abbrev pub denial_json : List Event → Denial → Json
-denial_json events x = object (
-    field (codes "event") (claim_at x.number (slice_get events x.number))
+-- of this event, where the other is the one behind which it was never witnessed
+abbrev pub denial_json : Event → Option Event → Denial → Json
+denial_json e taken x = object (
+    field (codes "event") (claim_json x.number e)
     (field (codes "now") (walk_json x.walk.items)
     (field (codes "given") (given_json x.given)
-    (field (codes "last") (last_json (taken_in events x.last) x.last) no_fields))))
+    (field (codes "last") (last_json taken x.last) no_fields))))

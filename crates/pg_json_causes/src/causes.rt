@@ -3,12 +3,12 @@
 ghost use Rattle.std.specs.Prelude.{◌≡◌, IfOk, Some, None, slice_get};
 ghost use Rattle.serde_json.specs.View.{view, members_view};
 ghost use Rattle.pg_json.specs.Tree.{data_of, members_of};
-ghost use Rattle.pg_json_causes.specs.Causes.{ended_fields, explanation_json, claim_at};
+ghost use Rattle.pg_json_causes.specs.Causes.{ended_fields, explanation_json};
 ghost use Rattle.pg_json_causes.specs.Causes.{given_json, denial_json};
 
 use crate::entries::walk_json;
 use crate::findings::finding_json;
-use crate::lasts::{event_at, last_json};
+use crate::lasts::{event_at, last_json, taken_in};
 use pg_event::{Event, Moments, Outcome};
 use pg_explain::{Denial, Explanation};
 use pg_json::{Fields, claim_json, numbers_json, outcome_json, put_flag};
@@ -17,12 +17,13 @@ use serde_json::{Map, Value, put};
 use std::alloc::{AllocError, Global};
 
 /// Whether no moments prove an event, and when it would last have been witnessed.
-fn final_fields(alloc: Global, events: &[Event], last: Option<Last>) -> Result<Fields, AllocError>
+fn final_fields(alloc: Global, events: &[Event], told: &Explanation) -> Result<Fields, AllocError>
     ensures { IfOk result (λ m. members_view m.entries
-        ≡ members_of (ended_fields events.now None last)) }
+        ≡ members_of (ended_fields events.now None told.now.last)) }
 {
     let mut fields = Map::new(alloc);
-    let told = last_json(alloc, events, last)?;
+    let taken = taken_in(events, told.last);
+    let told = last_json(alloc, taken, told.last)?;
     put(&mut fields, alloc, "last", told)?;
     put_flag(&mut fields, alloc, "final", true)?;
     Ok(fields)
@@ -50,7 +51,7 @@ fn ended_fields(alloc: Global, events: &[Event], told: &Explanation) -> Result<F
         ≡ members_of (ended_fields events.now told.now.other told.now.last)) }
 {
     match &told.other {
-        None => final_fields(alloc, events, told.last),
+        None => final_fields(alloc, events, told),
         Some(moments) => other_fields(alloc, events, moments, told.last),
     }
 }
@@ -73,17 +74,6 @@ pub fn explanation_json(
     Ok(Value::Object(fields))
 }
 
-/// The event of a run with a number, without its moments.
-fn claim_at(alloc: Global, events: &[Event], number: u32) -> Result<Value, AllocError>
-    ensures { IfOk result (λ v. view v
-        ≡ data_of (claim_at number (slice_get events.now number))) }
-{
-    match events.get(number as usize) {
-        None => Ok(Value::Null),
-        Some(event) => claim_json(alloc, number as u64, event),
-    }
-}
-
 fn given_json(alloc: Global, given: Option<Outcome>) -> Result<Value, AllocError>
     ensures { IfOk result (λ v. view v ≡ data_of (given_json given)) }
 {
@@ -93,18 +83,24 @@ fn given_json(alloc: Global, given: Option<Outcome>) -> Result<Value, AllocError
     }
 }
 
-/// What stands behind an event that no moments witness, where these are the events of its run.
-pub fn denial_json(alloc: Global, events: &[Event], told: &Denial) -> Result<Value, AllocError>
-    ensures { IfOk result (λ v. view v ≡ data_of (denial_json events.now told.now)) }
+/// What stands behind this event, which no moments witness, where the other is the one behind which
+/// it was never witnessed.
+pub fn denial_json(
+    alloc: Global,
+    event: &Event,
+    taken: Option<Event>,
+    told: &Denial,
+) -> Result<Value, AllocError>
+    ensures { IfOk result (λ v. view v ≡ data_of (denial_json event.now taken told.now)) }
 {
     let mut fields = Map::new(alloc);
-    let last = last_json(alloc, events, told.last)?;
+    let last = last_json(alloc, taken, told.last)?;
     put(&mut fields, alloc, "last", last)?;
     let given = given_json(alloc, told.given)?;
     put(&mut fields, alloc, "given", given)?;
     let walk = walk_json(alloc, told.walk.as_slice())?;
     put(&mut fields, alloc, "now", walk)?;
-    let event = claim_at(alloc, events, told.number)?;
+    let event = claim_json(alloc, told.number as u64, event)?;
     put(&mut fields, alloc, "event", event)?;
     Ok(Value::Object(fields))
 }

@@ -13,22 +13,38 @@ use serde_json::{Map, Value, put};
 use std::alloc::{AllocError, Global};
 
 /// The event of a run with a number, where there is one.
+fn find_event(events: &[Event], number: u32) -> Option<Event>
+    ensures { result ≡ slice_get events.now number }
+{
+    match events.get(number as usize) {
+        None => None,
+        Some(event) => Some(*event),
+    }
+}
+
+/// An event with its number, where there is one.
+fn numbered(alloc: Global, number: u32, event: Option<Event>) -> Result<Value, AllocError>
+    ensures { IfOk result (λ v. view v ≡ data_of (event_at number event)) }
+{
+    match event {
+        None => Ok(Value::Null),
+        Some(event) => event_json(alloc, number as u64, &event),
+    }
+}
+
+/// The event of a run with a number.
 pub(crate) fn event_at(alloc: Global, events: &[Event], number: u32) -> Result<Value, AllocError>
     ensures { IfOk result (λ v. view v
         ≡ data_of (event_at number (slice_get events.now number))) }
 {
-    match events.get(number as usize) {
-        None => Ok(Value::Null),
-        Some(event) => event_json(alloc, number as u64, event),
-    }
+    numbered(alloc, number, find_event(events, number))
 }
 
-fn some_last(alloc: Global, events: &[Event], last: &Last) -> Result<Value, AllocError>
-    ensures { IfOk result (λ v. view v
-        ≡ data_of (last_json (slice_get events.now last.now.number) (Some last.now))) }
+fn some_last(alloc: Global, taken: Option<Event>, last: &Last) -> Result<Value, AllocError>
+    ensures { IfOk result (λ v. view v ≡ data_of (last_json taken (Some last.now))) }
 {
     let mut fields = Map::new(alloc);
-    let taken = event_at(alloc, events, last.number)?;
+    let taken = numbered(alloc, last.number, taken)?;
     put(&mut fields, alloc, "taken_by", taken)?;
     let moments = numbers_json(alloc, last.moments.as_slice())?;
     put(&mut fields, alloc, "by", moments)?;
@@ -36,16 +52,26 @@ fn some_last(alloc: Global, events: &[Event], last: &Last) -> Result<Value, Allo
     Ok(Value::Object(fields))
 }
 
-/// When an event of a run would last have been witnessed, and which event took that away.
+/// When an event would last have been witnessed, and the event that took that away.
 pub(crate) fn last_json(
     alloc: Global,
-    events: &[Event],
+    taken: Option<Event>,
     last: Option<Last>,
 ) -> Result<Value, AllocError>
-    ensures { IfOk result (λ v. view v ≡ data_of (last_json (taken_in events.now last) last)) }
+    ensures { IfOk result (λ v. view v ≡ data_of (last_json taken last)) }
 {
     match last {
         None => Ok(Value::Null),
-        Some(last) => some_last(alloc, events, &last),
+        Some(last) => some_last(alloc, taken, &last),
+    }
+}
+
+/// The event of a run that took that away.
+pub(crate) fn taken_in(events: &[Event], last: Option<Last>) -> Option<Event>
+    ensures { result ≡ taken_in events.now last }
+{
+    match last {
+        None => None,
+        Some(last) => find_event(events, last.number),
     }
 }

@@ -12,9 +12,9 @@ use Rattle.pg_ordering.specs.declared.told.Told.{Told}
 use Rattle.pg_ordering.specs.Answers.{IsSo, told_status}
 use Rattle.pg_ordering.specs.Readings.{ReadsRun, DeviceTold}
 use Rattle.pg_json.specs.Tree.{json_line}
-use Rattle.pg_json_answers.specs.declared.question.Question.{Question}
-use Rattle.pg_json_answers.specs.declared.question.Question.TheVariants.{Check, CheckAll, Certify}
-use Rattle.pg_json_answers.specs.declared.question.Question.TheVariants.{Explain, ExplainAll, Show}
+use Rattle.pg_answers.specs.declared.question.Question.{Question}
+use Rattle.pg_answers.specs.declared.question.Question.TheVariants.{Check, CheckAll, Certify}
+use Rattle.pg_answers.specs.declared.question.Question.TheVariants.{Explain, ExplainAll, Show}
 use Rattle.pg_json_answers.specs.Refusals.{error_json, spans_json}
 use Rattle.pg_json_spans.specs.Refusals.{Refuses, WantsMemory, TellsUnread}
 use Rattle.pg_json_spans.specs.Told.{told_json}

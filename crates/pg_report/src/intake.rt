@@ -76,6 +76,7 @@ fn read_rest<R: Source>(
         IsGoing R.Source newest start f
         (reader.old.unread, source.old) reader.old.stage history.old 0 →
         FailsWithDevice is_device f (R.failed source.new) result }
+    ensures alone { (result ≢ Err AuditError.Thread) × (result ≢ Err AuditError.Checkers) }
 {
     for _ in 0..MOST_CHUNKS {
         match reader.read_segment(alloc, source) {
@@ -106,6 +107,7 @@ fn read_behind<R: Source>(
         IsGoing R.Source newest start f (reader.old.unread, source.old) reader.old.stage
         (record { head = header; events = [] }) 0 →
         FailsWithDevice is_device f (R.failed source.new) result }
+    ensures alone { (result ≢ Err AuditError.Thread) × (result ≢ Err AuditError.Checkers) }
 {
     let mut history = History::new(alloc, header)?;
     match read_rest(alloc, reader, source, &mut history) {
@@ -125,6 +127,7 @@ fn read_by<R: Source>(
     requires { reader.old ≡ record { unread = []; stage = Start } }
     ensures reads { IfSome (R.left source.old) (λ bytes. ReadsRecord newest bytes result) }
     ensures device { TellsDevice (drawn R.Source source.old source.new) result }
+    ensures alone { (result ≢ Err AuditError.Thread) × (result ≢ Err AuditError.Checkers) }
 {
     match read_header_up_to(alloc, reader, source, newest) {
         Ok(header) => read_behind(alloc, reader, source, header),
@@ -140,6 +143,7 @@ fn read_up_to<R: Source>(
 ) -> Result<History, AuditError>
     ensures reads { IfSome (R.left source.old) (λ bytes. ReadsRecord newest bytes result) }
     ensures device { TellsDevice (drawn R.Source source.old source.new) result }
+    ensures alone { (result ≢ Err AuditError.Thread) × (result ≢ Err AuditError.Checkers) }
 {
     let mut reader = RecordReader::new(alloc)?;
     read_by(alloc, &mut reader, source, newest)
@@ -149,6 +153,7 @@ fn read_up_to<R: Source>(
 pub fn read_record<R: Source>(alloc: Global, source: &mut R) -> Result<History, AuditError>
     ensures reads { IfSome (R.left source.old) (λ bytes. ReadsRecord Version.Two bytes result) }
     ensures device { TellsDevice (drawn R.Source source.old source.new) result }
+    ensures alone { (result ≢ Err AuditError.Thread) × (result ≢ Err AuditError.Checkers) }
 {
     read_up_to(alloc, source, Version::Two)
 }
@@ -158,6 +163,7 @@ pub fn read_record<R: Source>(alloc: Global, source: &mut R) -> Result<History, 
 pub fn read_old_record<R: Source>(alloc: Global, source: &mut R) -> Result<History, AuditError>
     ensures reads { IfSome (R.left source.old) (λ bytes. ReadsRecord Version.One bytes result) }
     ensures device { TellsDevice (drawn R.Source source.old source.new) result }
+    ensures alone { (result ≢ Err AuditError.Thread) × (result ≢ Err AuditError.Checkers) }
 {
     read_up_to(alloc, source, Version::One)
 }

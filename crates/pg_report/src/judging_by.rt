@@ -143,8 +143,8 @@ fn take_back<T>(lent: &mut T)
     ensures { lent.new ≡ lent.old }
 {}
 
-/// Judges the window that waits, and reads the next beside: a window asks for at most 65,536 events,
-/// and its last segment may bring as many more.
+/// Judges the window that waits, and reads the next beside: a window asks for at most 65,536
+/// events, and its last segment may bring as many more.
 fn judge_and_read<T: Threads + Wait + Sync, G: Gate, R: Source>(
     crew: &Crew<'_, T, G>,
     reader: &mut RecordReader,

@@ -1,2 +1,4 @@
 pub mod Guested
 mod Looking
+mod Only
+mod Performed

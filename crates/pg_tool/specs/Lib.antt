@@ -1,4 +1,4 @@
 pub mod Guests
-pub mod Pictures
+pub mod Rendered
 pub mod Records
 pub mod Answers

@@ -1,5 +1,5 @@
 -- What commands do of a record, by its version: with one order of events, or with spans.
-use Rattle.std.specs.Prelude.{◌≡◌, ◌⊎◌, ◌||◌, not, ℕ, Bool, true, false, if◌then◌else◌}
+use Rattle.std.specs.Prelude.{◌≡◌, ◌⊎◌, ◌&&◌, not, ℕ, Bool, true, false, if◌then◌else◌}
 use Rattle.std.specs.Prelude.{List, Option, Some, None}
 use Rattle.std.specs.Prelude.{IfSome}
 use Rattle.std.specs.Io.KnownBytes.{Keeps}
@@ -7,28 +7,20 @@ use Rattle.pg_plan.specs.declared.request.Command.{Command}
 use Rattle.pg_plan.specs.declared.request.Command.TheVariants.{Check, Certify, Run, RunOf}
 use Rattle.pg_plan.specs.declared.request.Command.TheVariants.{Explain, Show, Upgrade, Merge}
 use Rattle.pg_plan.specs.declared.request.CertifyOptions.{CertifyOptions}
-use Rattle.pg_plan.specs.declared.request.CheckOptions.{CheckOptions}
 use Rattle.pg_plan.specs.declared.request.ExplainOptions.{ExplainOptions}
-use Rattle.pg_plan.specs.declared.request.ShowOptions.{ShowOptions}
 use Rattle.pg_plan.specs.declared.request.Telling.{Telling}
 use Rattle.pg_plan.specs.declared.request.Telling.TheVariants.{First, All, Picture}
 use Rattle.pg_report.specs.declared.error.AuditError.TheVariants.{Device}
 use Rattle.pg_report.specs.Changes.{Change, Fails}
-use Rattle.pg_answers.specs.Certificates.{CertifiesRecord}
 use Rattle.pg_answers.specs.Firsts.{CertifiesFirst}
-use Rattle.pg_answers.specs.Explanations.{ExplainsRecord}
-use Rattle.pg_answers.specs.Lines.{ShowsRecord}
 use Rattle.pg_answers.specs.Naming.{NamesRecord}
 use Rattle.pg_answers.specs.RunOf.{ShowsRun}
-use Rattle.pg_answers.specs.Summaries.{ChecksAll, ExplainsAll}
 use Rattle.pg_answers.specs.Upgrades.{Upgrades}
 use Rattle.pg_auditing.specs.Refusals.{StaysSame, Tells, refusal_line, spans_line}
-use Rattle.pg_auditing.specs.Status.{Checks}
 use Rattle.pg_auditing.specs.Streams.{Streams}
 use Rattle.pg_json.specs.Tree.{json_line}
-use Rattle.pg_json_answers.specs.declared.question.Question.{Question}
-use Rattle.pg_json_answers.specs.declared.question.Question.TheVariants as questions
-use Rattle.pg_json_answers.specs.Commands.{AnswersJson}
+use Rattle.pg_answers.specs.declared.question.Question.{Question}
+use Rattle.pg_answers.specs.declared.question.Question.TheVariants as questions
 use Rattle.pg_json_answers.specs.Refusals.{error_json}
 use Rattle.pg_json_spans.specs.Answers.{AnswersSpans}
 use Rattle.pg_ordering.specs.Answers.{OrdersRecord}
@@ -36,92 +28,74 @@ use Rattle.pg_ordering.specs.Shown.{ShowsSpans}
 use Rattle.pg_ordering.specs.declared.told.Asked.{Asked}
 use Rattle.pg_ordering.specs.declared.told.Asked.TheVariants as asking
 use Rattle.pg_span_codec.specs.Versions.{says_spans}
-use Rattle.pg_tool.specs.Pictures.{DrawsRecord}
+use Rattle.pg_tool.specs.declared.format.Format.{Format}
+use Rattle.pg_tool.specs.declared.format.Format.TheVariants as formats
+use Rattle.pg_tool.specs.Rendered.{AnswersRecord}
+
+-- ---- what is asked, and in which form the answer is written
+
+abbrev pub check_question : Bool → Question
+check_question all = if all then questions.CheckAll else questions.Check
+
+-- what is asked of bad events: a picture shows the first
+abbrev pub telling_question : Telling → Question
+telling_question First = questions.Explain
+telling_question (All most) = questions.ExplainAll most
+telling_question Picture = questions.Explain
+
+abbrev pub format_of : Bool → Format
+format_of json = if json then formats.Json else formats.Text
+
+abbrev pub telling_form : Bool → Telling → Format
+telling_form json First = format_of json
+telling_form json (All most) = format_of json
+telling_form json Picture = formats.Picture
+
+abbrev pub telling_format : ExplainOptions → Format
+telling_format asked = telling_form asked.json asked.telling
 
 -- ---- a record with one order
 
--- by so many checkers whether some run has its events; or whether any has those up to the first
--- rejection; or the record with moments for them
-abbrev pub CertifiesBy : ℕ → Bool → Bool → Streams → ℕ → Type 0
-CertifiesBy checkers true first = NamesRecord
-CertifiesBy checkers false true = CertifiesFirst
-CertifiesBy checkers false false = CertifiesRecord checkers
+-- whether some run has its events; or whether any has those up to the first rejection; or the
+-- record with moments for them
+abbrev pub CertifiesBy : CertifyOptions → Bool → Bool → Streams → ℕ → Type 0
+CertifiesBy asked true first = NamesRecord
+CertifiesBy asked false true = CertifiesFirst
+CertifiesBy asked false false =
+    AnswersRecord questions.Certify (format_of asked.json) asked.checkers
 
--- by so many checkers the record's report; or that with a summary of all bad events
-abbrev pub ChecksBy : ℕ → Bool → Streams → ℕ → Type 0
-ChecksBy checkers false = Checks checkers
-ChecksBy checkers true = ChecksAll
-
--- what stands behind the first bad event; or behind so many at most, with that summary; or behind
--- the first as a picture
-abbrev pub ExplainsBy : Telling → Streams → ℕ → Type 0
-ExplainsBy First = ExplainsRecord
-ExplainsBy (All most) = ExplainsAll most
-ExplainsBy Picture = DrawsRecord
-
--- what a command does
+-- what a command does: the form of the answer changes nothing else
 abbrev pub DoesPlain : Command → Streams → ℕ → Type 0
-DoesPlain (Check asked) s status = ChecksBy asked.checkers asked.all s status
-DoesPlain (Certify asked) s status =
-    CertifiesBy asked.checkers asked.bytes asked.first s status
+DoesPlain (Check asked) s status =
+    AnswersRecord (check_question asked.all) (format_of asked.json) asked.checkers s status
+DoesPlain (Certify asked) s status = CertifiesBy asked asked.bytes asked.first s status
 DoesPlain (Run asked) s status = ⊥
 DoesPlain RunOf s status = ShowsRun s status
-DoesPlain (Explain asked) s status = ExplainsBy asked.telling s status
-DoesPlain (Show asked) s status = ShowsRecord asked.selection s status
+DoesPlain (Explain asked) s status =
+    AnswersRecord (telling_question asked.telling) (telling_format asked) 1 s status
+DoesPlain (Show asked) s status =
+    AnswersRecord (questions.Show asked.selection) (format_of asked.json) 1 s status
 DoesPlain Upgrade s status = Upgrades s status
 DoesPlain (Merge error) s status = ⊥
 
 -- ---- JSON: what is asked to be answered by it, if anything is
 
-abbrev pub check_question : CheckOptions → Option Question
-check_question asked =
-    if not asked.json then None
-    else if asked.all then Some questions.CheckAll else Some questions.Check
+abbrev pub in_json : Bool → Question → Option Question
+in_json json question = if json then Some question else None
 
 -- the report alone, and neither a record nor an order
-abbrev pub certify_question : CertifyOptions → Option Question
-certify_question asked =
-    if not asked.json || asked.bytes || asked.order then None else Some questions.Certify
-
--- what is asked of bad events: a picture is none
-abbrev pub telling_question : Telling → Option Question
-telling_question First = Some questions.Explain
-telling_question (All most) = Some (questions.ExplainAll most)
-telling_question Picture = None
-
-abbrev pub explain_question : ExplainOptions → Option Question
-explain_question asked = if not asked.json then None else telling_question asked.telling
-
-abbrev pub show_question : ShowOptions → Option Question
-show_question asked =
-    if not asked.json then None else Some (questions.Show asked.selection)
+abbrev pub is_json : CertifyOptions → Bool
+is_json asked = asked.json && not asked.bytes && not asked.order
 
 abbrev pub question_of : Command → Option Question
-question_of (Check asked) = check_question asked
-question_of (Certify asked) = certify_question asked
+question_of (Check asked) = in_json asked.json (check_question asked.all)
+question_of (Certify asked) = in_json (is_json asked) questions.Certify
 question_of (Run asked) = None
 question_of RunOf = None
-question_of (Explain asked) = explain_question asked
-question_of (Show asked) = show_question asked
+question_of (Explain asked) = in_json asked.json (telling_question asked.telling)
+question_of (Show asked) = in_json asked.json (questions.Show asked.selection)
 question_of Upgrade = None
 question_of (Merge error) = None
-
--- so many checkers answer a command as JSON: those of `certify`, and one of each other
-abbrev pub checkers_of : Command → ℕ
-checkers_of (Check asked) = 1
-checkers_of (Certify asked) = asked.checkers
-checkers_of (Run asked) = 1
-checkers_of RunOf = 1
-checkers_of (Explain asked) = 1
-checkers_of (Show asked) = 1
-checkers_of Upgrade = 1
-checkers_of (Merge error) = 1
-
--- what a command does of a record with one order, as JSON where that is asked for
-abbrev pub DoesOrdered : Option Question → Command → Streams → ℕ → Type 0
-DoesOrdered None command s status = DoesPlain command s status
-DoesOrdered (Some question) command s status =
-    AnswersJson question (checkers_of command) s status
 
 -- ---- a record with spans
 
@@ -186,7 +160,7 @@ DoesOfRecord command s status =
     (Says true s.input × (looked : Change) × IsLookedAt s.input looked
     × DoesUnordered (question_of command) command (record s { input = looked }) status)
     ⊎ (Says false s.input × (looked : Change) × IsLookedAt s.input looked
-    × DoesOrdered (question_of command) command (record s { input = looked }) status)
+    × DoesPlain command (record s { input = looked }) status)
     ⊎ FailsToLook (question_of command) s status
 
 -- the commands that read a record

@@ -2,11 +2,12 @@
 //! The whole program over any streams.
 #![tactic(auto)]
 
+mod answers;
+mod format;
 mod guest_error;
 mod guest_refusals;
 mod guests;
 mod host;
-mod pictures;
 mod program;
 mod records;
 

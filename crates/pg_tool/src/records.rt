@@ -4,26 +4,23 @@ ghost use Rattle.std.specs.Prelude.{◌≡◌, true};
 ghost use Rattle.pg_report.specs.Changes.{filled};
 ghost use Rattle.pg_auditing.specs.Streams.{streams};
 ghost use Rattle.pg_ordering.specs.Answers.{OrdersRecord};
-ghost use Rattle.pg_tool.specs.Records.{CertifiesBy, ChecksBy, ExplainsBy, DoesPlain};
+ghost use Rattle.pg_tool.specs.Records.{CertifiesBy, DoesPlain};
 ghost use Rattle.pg_tool.specs.Records.{asked_of, told_of, RefusesSpans, DoesSpanned};
 ghost use Rattle.pg_tool.specs.Records.{DoesOfRecord, reads_record};
-ghost use Rattle.pg_tool.specs.Records.{check_question, certify_question, telling_question};
-ghost use Rattle.pg_tool.specs.Records.{explain_question, show_question, question_of};
-ghost use Rattle.pg_tool.specs.Records.{checkers_of, DoesOrdered, DoesUnordered, device_line};
+ghost use Rattle.pg_tool.specs.Records.{check_question, telling_question, question_of};
+ghost use Rattle.pg_tool.specs.Records.{format_of, telling_format, in_json, is_json};
+ghost use Rattle.pg_tool.specs.Records.{DoesUnordered, device_line};
 ghost use Rattle.pg_auditing.specs.Refusals.{Tells};
 
-use crate::pictures::draw;
-use pg_answers::{
-    certify, certify_first, check_all, explain, explain_all, name_moments, run_of, show, upgrade,
-};
-use pg_auditing::{REFUSED, check, tell, tell_spans};
+use crate::answers::answer;
+use crate::format::Format;
+use pg_answers::{Question, certify_first, name_moments, run_of, upgrade};
+use pg_auditing::{REFUSED, tell, tell_spans};
 use pg_codec::{Sink, Source};
-use pg_json_answers::{Question, answer_json, tell_json};
+use pg_json_answers::tell_json;
 use pg_json_spans::answer_spans_json;
 use pg_ordering::{Asked, certify_spanned, show_spanned};
-use pg_plan::{
-    CertifyOptions, CheckOptions, Checkers, Command, ExplainOptions, ShowOptions, Telling,
-};
+use pg_plan::{CertifyOptions, CheckOptions, Checkers, Command, ExplainOptions, Telling};
 use pg_report::AuditError;
 use pg_span_codec::Peeked;
 use std::alloc::{AllocGlobal, Global};
@@ -39,7 +36,7 @@ fn certify_by<T: AllocGlobal + Threads + Wait + Sync, R: Source, O: Sink, E: Sin
     output: &mut O,
     errors: &mut E,
 ) -> u8
-    ensures { CertifiesBy asked.now.checkers asked.now.bytes asked.now.first
+    ensures { CertifiesBy asked.now asked.now.bytes asked.now.first
         (streams R.Source O.Sink E.Sink
         (input.old, output.old, errors.old) (input.new, output.new, errors.new)) result }
 {
@@ -48,43 +45,45 @@ fn certify_by<T: AllocGlobal + Threads + Wait + Sync, R: Source, O: Sink, E: Sin
     } else if asked.first {
         certify_first(rt.alloc(), input, output, errors)
     } else {
-        certify(rt, asked.checkers, input, output, errors)
+        let format = format_of(asked.json);
+        answer(rt, asked.checkers, Question::Certify, format, input, output, errors)
     }
 }
 
-/// Judges the record on `input`, and writes its report, or that and a summary of all bad events.
-fn check_by<T: AllocGlobal + Threads + Wait + Sync, R: Source, O: Sink, E: Sink>(
-    rt: &T,
-    asked: &CheckOptions,
-    input: &mut R,
-    output: &mut O,
-    errors: &mut E,
-) -> u8
-    ensures { ChecksBy asked.now.checkers asked.now.all (streams R.Source O.Sink E.Sink
-        (input.old, output.old, errors.old) (input.new, output.new, errors.new)) result }
+/// What `check` is asked.
+fn check_question(asked: &CheckOptions) -> Question
+    ensures { result ≡ check_question asked.now.all }
 {
     if asked.all {
-        check_all(rt.alloc(), input, output, errors)
+        Question::CheckAll
     } else {
-        check(rt, asked.checkers, input, output, errors)
+        Question::Check
     }
 }
 
-/// Explains bad events of the record on `input`: the first, as text or drawn, or all up to so many.
-fn explain_by<R: Source, O: Sink, E: Sink>(
-    alloc: Global,
-    telling: Telling,
-    input: &mut R,
-    output: &mut O,
-    errors: &mut E,
-) -> u8
-    ensures { ExplainsBy telling (streams R.Source O.Sink E.Sink
-        (input.old, output.old, errors.old) (input.new, output.new, errors.new)) result }
+/// What `explain` is asked of bad events: a picture shows the first.
+fn telling_question(telling: Telling) -> Question
+    ensures { result ≡ telling_question telling }
 {
     match telling {
-        Telling::First => explain(alloc, input, output, errors),
-        Telling::All(most) => explain_all(alloc, most, input, output, errors),
-        Telling::Picture => draw(alloc, input, output, errors),
+        Telling::First | Telling::Picture => Question::Explain,
+        Telling::All(most) => Question::ExplainAll(most),
+    }
+}
+
+fn format_of(json: bool) -> Format
+    ensures { result ≡ format_of json }
+{
+    if json { Format::Json } else { Format::Text }
+}
+
+/// The form of what `explain` writes.
+fn telling_format(asked: &ExplainOptions) -> Format
+    ensures { result ≡ telling_format asked.now }
+{
+    match asked.telling {
+        Telling::First | Telling::All(_) => format_of(asked.json),
+        Telling::Picture => Format::Picture,
     }
 }
 
@@ -102,67 +101,40 @@ fn do_of_plain<T: AllocGlobal + Threads + Wait + Sync, R: Source, O: Sink, E: Si
 {
     let alloc = rt.alloc();
     match command {
-        Command::Check(asked) => check_by(rt, asked, input, output, errors),
+        Command::Check(asked) => {
+            let question = check_question(asked);
+            let format = format_of(asked.json);
+            answer(rt, asked.checkers, question, format, input, output, errors)
+        }
         Command::Certify(asked) => certify_by(rt, asked, input, output, errors),
         Command::RunOf => run_of(alloc, input, output, errors),
-        Command::Explain(asked) => explain_by(alloc, asked.telling, input, output, errors),
-        Command::Show(asked) => show(alloc, asked.selection, input, output, errors),
+        Command::Explain(asked) => {
+            let question = telling_question(asked.telling);
+            let format = telling_format(asked);
+            answer(rt, Checkers::default(), question, format, input, output, errors)
+        }
+        Command::Show(asked) => {
+            let question = Question::Show(asked.selection);
+            let format = format_of(asked.json);
+            answer(rt, Checkers::default(), question, format, input, output, errors)
+        }
         Command::Upgrade => upgrade(alloc, input, output, errors),
         Command::Run(_) | Command::Merge { .. } => unreachable!(),
     }
 }
 
-fn check_question(asked: &CheckOptions) -> Option<Question>
-    ensures { result ≡ check_question asked.now }
+/// A question whose answer is written as JSON, where that is asked for.
+fn in_json(json: bool, question: Question) -> Option<Question>
+    ensures { result ≡ in_json json question }
 {
-    if !asked.json {
-        None
-    } else if asked.all {
-        Some(Question::CheckAll)
-    } else {
-        Some(Question::Check)
-    }
+    if json { Some(question) } else { None }
 }
 
-fn certify_question(asked: &CertifyOptions) -> Option<Question>
-    ensures { result ≡ certify_question asked.now }
+/// Whether `certify` writes its report as JSON: the report alone, and neither a record nor an order.
+fn is_json(asked: &CertifyOptions) -> bool
+    ensures { result ≡ is_json asked.now }
 {
-    if !asked.json || asked.bytes || asked.order {
-        None
-    } else {
-        Some(Question::Certify)
-    }
-}
-
-/// What `explain` is asked of bad events.
-fn telling_question(telling: Telling) -> Option<Question>
-    ensures { result ≡ telling_question telling }
-{
-    match telling {
-        Telling::First => Some(Question::Explain),
-        Telling::All(most) => Some(Question::ExplainAll(most)),
-        Telling::Picture => None,
-    }
-}
-
-fn explain_question(asked: &ExplainOptions) -> Option<Question>
-    ensures { result ≡ explain_question asked.now }
-{
-    if asked.json {
-        telling_question(asked.telling)
-    } else {
-        None
-    }
-}
-
-fn show_question(asked: &ShowOptions) -> Option<Question>
-    ensures { result ≡ show_question asked.now }
-{
-    if asked.json {
-        Some(Question::Show(asked.selection))
-    } else {
-        None
-    }
+    asked.json && !asked.bytes && !asked.order
 }
 
 /// What a command is asked to answer as JSON.
@@ -170,46 +142,11 @@ fn question_of(command: &Command) -> Option<Question>
     ensures { result ≡ question_of command.now }
 {
     match command {
-        Command::Check(asked) => check_question(asked),
-        Command::Certify(asked) => certify_question(asked),
-        Command::Explain(asked) => explain_question(asked),
-        Command::Show(asked) => show_question(asked),
+        Command::Check(asked) => in_json(asked.json, check_question(asked)),
+        Command::Certify(asked) => in_json(is_json(asked), Question::Certify),
+        Command::Explain(asked) => in_json(asked.json, telling_question(asked.telling)),
+        Command::Show(asked) => in_json(asked.json, Question::Show(asked.selection)),
         Command::Run(_) | Command::RunOf | Command::Upgrade | Command::Merge { .. } => None,
-    }
-}
-
-/// How many checkers answer a command as JSON: `check` judges on the calling thread then.
-fn checkers_of(command: &Command) -> Checkers
-    ensures { result ≡ checkers_of command.now }
-{
-    match command {
-        Command::Certify(asked) => asked.checkers,
-        Command::Check(_)
-        | Command::Run(_)
-        | Command::RunOf
-        | Command::Explain(_)
-        | Command::Show(_)
-        | Command::Upgrade
-        | Command::Merge { .. } => Checkers::default(),
-    }
-}
-
-/// Does what a command says of the record with one order on `input`, as JSON where that is asked
-/// for.
-fn do_of_ordered<T: AllocGlobal + Threads + Wait + Sync, R: Source, O: Sink, E: Sink>(
-    rt: &T,
-    command: &Command,
-    input: &mut R,
-    output: &mut O,
-    errors: &mut E,
-) -> u8
-    requires { reads_record command.now ≡ true }
-    ensures { DoesOrdered (question_of command.now) command.now (streams R.Source O.Sink E.Sink
-        (input.old, output.old, errors.old) (input.new, output.new, errors.new)) result }
-{
-    match question_of(command) {
-        None => do_of_plain(rt, command, input, output, errors),
-        Some(question) => answer_json(rt, checkers_of(command), question, input, output, errors),
     }
 }
 
@@ -338,7 +275,7 @@ pub(crate) fn do_of_record<T: AllocGlobal + Threads + Wait + Sync, R: Source, O:
 {
     match input.says_spans() {
         Ok(true) => do_of_unordered(rt.alloc(), command, input, output, errors),
-        Ok(false) => do_of_ordered(rt, command, input, output, errors),
+        Ok(false) => do_of_plain(rt, command, input, output, errors),
         Err(_) => {
             tell_device(command, errors);
             REFUSED

@@ -6,8 +6,8 @@ use Rattle.pg_certify.specs.Accounts.{Account}
 use Rattle.pg_answers.proofs.Told.{denied_account}
 use Rattle.pg_answers.proofs.certificates.certificate_by.Goals as goal
 
-pub returns-in_ok-text-in-Some-Some-clause-told : goal.returns-in_ok-text-in-Some-Some-clause-told
-returns-in_ok-text-in-Some-Some-clause-told c = λ r known.
+pub returns-in_ok-rejection-in-Some-Some-clause-told : goal.returns-in_ok-rejection-in-Some-Some-clause-told
+returns-in_ok-rejection-in-Some-Some-clause-told c = λ r known.
     let a : Account = c.args.account.now in
     let n : ℕ = c.in-Some-Some.number in
     let e : Event = c.in-Some-Some.event in
@@ -17,4 +17,14 @@ returns-in_ok-text-in-Some-Some-clause-told c = λ r known.
     let event : a.event ≡ Some e = sym c.event.ensures ∙ c.in-Some-Some.is-1 in
     let few : length r.events < 2 ^ 32 = known.certifying.few in
     let runs = c.denied_events_have_no_run.ensures r.head r.events n known.certifying.well (omega (arith, few)) denied in
-    (record { denied = denied; none = runs.0; before = runs.1 }, c.in_ok-text-in-Some-Some.ensures r (denied_account a r n e known found event))
+    (n, record { denied = denied; none = runs.0; before = runs.1 }, c.in_ok-rejection-in-Some-Some.ensures r (denied_account a r n e known found event))
+
+pub returns-in_ok-rejection-in-Some-Some-clause-denied : goal.returns-in_ok-rejection-in-Some-Some-clause-denied
+returns-in_ok-rejection-in-Some-Some-clause-denied c =
+    let a : Account = c.args.account.now in
+    let n : ℕ = c.in-Some-Some.number in
+    let e : Event = c.in-Some-Some.event in
+    let found : a.findings.denied ≡ Some n = sym (c.settle.ensures.found ∙ ap (λ (f : Findings). f.denied) c.certifying-certifying.ensures) ∙ c.in-Some-Some.is-0 in
+    let event : a.event ≡ Some e = sym c.event.ensures ∙ c.in-Some-Some.is-1 in
+    let told = c.in_ok-rejection-in-Some-Some.ensures c.requires.0 (denied_account a c.requires.0 n e c.requires.1 found event) in
+    ap Some told.number ∙ sym found

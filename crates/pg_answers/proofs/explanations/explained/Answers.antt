@@ -1,38 +1,35 @@
-use Rattle.std.proofs.Common.{◌≡◌, ◌++◌, ap, sym, ◌∙◌}
+use Rattle.std.proofs.Common.{◌≡◌, ap, refl, sym, ◌∙◌}
 use Rattle.pg_event.specs.Witness.{first_bad}
-use Rattle.pg_explain.specs.Text.{explanation_text}
 use Rattle.pg_report.specs.declared.report.Report.{Report}
 use Rattle.pg_report.specs.declared.report.Verdict.TheVariants.{Yes, No}
-use Rattle.pg_report.specs.Text.{verdict_of, report_text}
+use Rattle.pg_report.specs.Text.{verdict_of}
 use Rattle.pg_answers.proofs.Bad.{bad_is_within, bad_is_unwitnessed, told_bad, told_good}
 use Rattle.pg_answers.proofs.explanations.explained.Goals as goal
 
-pub push_explanation-requires-clause-within : goal.push_explanation-requires-clause-within
-push_explanation-requires-clause-within c =
-    let head = c.args.history.now.head in
-    let events = c.args.history.now.events in
+pub cause_of-requires-clause-within : goal.cause_of-requires-clause-within
+cause_of-requires-clause-within c =
+    let head = c.args.history.head in
+    let events = c.args.history.events in
     let is : verdict_of (first_bad head events) ≡ No c.in-No.event c.in-No.reason = ap (λ (x : Report). x.verdict) (sym c.report_of-report.ensures) ∙ c.in-No.is in
     bad_is_within head events c.in-No.event c.in-No.reason (told_bad (first_bad head events) c.in-No.event c.in-No.reason is)
 
-pub push_explanation-requires-clause-bad : goal.push_explanation-requires-clause-bad
-push_explanation-requires-clause-bad c =
-    let head = c.args.history.now.head in
-    let events = c.args.history.now.events in
+pub cause_of-requires-clause-bad : goal.cause_of-requires-clause-bad
+cause_of-requires-clause-bad c =
+    let head = c.args.history.head in
+    let events = c.args.history.events in
     let is : verdict_of (first_bad head events) ≡ No c.in-No.event c.in-No.reason = ap (λ (x : Report). x.verdict) (sym c.report_of-report.ensures) ∙ c.in-No.is in
     bad_is_unwitnessed head events c.in-No.event c.in-No.reason (told_bad (first_bad head events) c.in-No.event c.in-No.reason is)
 
 pub returns-in-Yes : goal.returns-in-Yes
 returns-in-Yes c =
-    let head = c.args.history.now.head in
-    let events = c.args.history.now.events in
+    let head = c.args.history.head in
+    let events = c.args.history.events in
     let is : verdict_of (first_bad head events) ≡ Yes = ap (λ (x : Report). x.verdict) (sym c.report_of-report.ensures) ∙ c.in-Yes.is in
-    rw (c.in-Yes.is) (told_good (first_bad head events) is, c.in_ok-text.ensures ∙ ap report_text c.report_of-report.ensures)
+    (c.report_of-report.ensures, told_good (first_bad head events) is)
 
-pub returns-in_ok-push_explanation-in-No : goal.returns-in_ok-push_explanation-in-No
-returns-in_ok-push_explanation-in-No c =
-    let head = c.args.history.now.head in
-    let events = c.args.history.now.events in
+pub returns-in_ok-cause-in-No : goal.returns-in_ok-cause-in-No
+returns-in_ok-cause-in-No c =
+    let head = c.args.history.head in
+    let events = c.args.history.events in
     let is : verdict_of (first_bad head events) ≡ No c.in-No.event c.in-No.reason = ap (λ (x : Report). x.verdict) (sym c.report_of-report.ensures) ∙ c.in-No.is in
-    let w = c.in_ok-push_explanation-in-No.ensures in
-    let text = c.in_ok-text.ensures ∙ ap report_text c.report_of-report.ensures in
-    (told_bad (first_bad head events) c.in-No.event c.in-No.reason is, w.0, w.1, w.2 ∙ ap (λ t. t ++ explanation_text events w.0) text)
+    (c.report_of-report.ensures, refl, c.in-No.event, c.in-No.reason, told_bad (first_bad head events) c.in-No.event c.in-No.reason is, c.in_ok-cause-in-No.ensures)

@@ -5,6 +5,7 @@ use Rattle.pg_event.specs.declared.event.Event.{Event}
 use Rattle.pg_event.specs.Spelling.{record_bytes}
 use Rattle.pg_certify.specs.Certified.{IsCertified, IsDenied}
 use Rattle.pg_answers.specs.declared.shown.Naming.TheVariants.{Named, Denied}
+use Rattle.pg_answers.specs.Answers.{IsRejection}
 use Rattle.pg_answers.specs.Naming.{IsNaming, with_events}
 use Rattle.pg_answers.proofs.GivenTexts.{memory_fails, text_told}
 use Rattle.pg_certify.proofs.Named.{same_count, well_alike}
@@ -41,6 +42,11 @@ returns-in-Yes g c = λ input reads read.
     let wrote = c.write_events.ensures in
     text_told IsNaming 1 input _ r reads read Named (record_bytes (with_events r found)) named c.write_events.result (rw c.deref.ensures.value at wrote.text) wrote.device wrote.named
 
+pub returns-in_err-rejection-in-No : goal.returns-in_err-rejection-in-No
+returns-in_err-rejection-in-No g c = λ input reads read.
+    let p = err_from_is_err_and c.from_residual-in_err-rejection-in-No.result c.from_residual-in_err-rejection-in-No.ensures.1 in
+    rw (p.1, p.2) (memory_fails IsNaming 1 input _ c.args.history.now read (Keeps-refl _) refl)
+
 pub returns-in_err-text-in-No : goal.returns-in_err-text-in-No
 returns-in_err-text-in-No g c = λ input reads read.
     let p = err_from_is_err_and c.from_residual-in_err-text-in-No.result c.from_residual-in_err-text-in-No.ensures.1 in
@@ -54,4 +60,6 @@ returns-in_ok-text-in-No g c = λ input reads read.
     let count : length r.events < 2 ^ 32 = c.events-events.ensures.count in
     let runs = c.denied_events_have_no_run.ensures r.head r.events n c.events-events.ensures.well (omega (arith, count)) denied in
     let text = c.in_ok-text-in-No.text in
-    text_told IsNaming 1 input _ r reads read (Denied text) [] ((n, record { denied = denied; none = runs.0; before = runs.1 }, c.in_ok-text-in-No.ensures), refl) (Ok (Denied text)) (Appends-nil _) refl refl
+    let x = c.in_ok-rejection-in-No.rejection in
+    let is : IsRejection r x = (n, record { denied = denied; none = runs.0; before = runs.1 }, c.in_ok-rejection-in-No.ensures) in
+    text_told IsNaming 1 input _ r reads read (Denied text) [] ((x, is, c.in_ok-text-in-No.ensures), refl) (Ok (Denied text)) (Appends-nil _) refl refl

@@ -1,0 +1,49 @@
+use Rattle.std.proofs.Common.{◌≡◌, ◌≤◌, length, None, ap, sym, subst, ◌∙◌, arith}
+use Rattle.pg_event.specs.declared.event.Event.{Event}
+use Rattle.pg_event.specs.Form.{broken_rule}
+use Rattle.pg_event.specs.Spelling.{Recorded}
+use Rattle.pg_certify.specs.Windows.{Findings}
+use Rattle.pg_certify.specs.Accounts.{Account}
+use Rattle.pg_explain.specs.declared.denial.Denial.{Denial}
+use Rattle.pg_explain.specs.Denied.{IsDenialFor}
+use Rattle.pg_certify.specs.Windows.{IsCertifying}
+use Rattle.pg_answers.proofs.Told.{low, reach, well, names, within, changes_last, denial_is}
+use Rattle.pg_answers.proofs.denials.denial_by.Goals as goal
+
+pub overflow_cast-number : goal.overflow_cast-number
+overflow_cast-number c = omega (arith, low c.args.account.now c.requires.0 c.args.number c.args.event.now c.requires.1)
+
+pub deny_event-requires-clause-within : goal.deny_event-requires-clause-within
+deny_event-requires-clause-within c =
+    subst (λ (q : Recorded). c.args.number ≤ length q.events) (sym (c.among-seen.ensures ∙ c.kept.ensures ∙ ap (λ (f : Findings). f.kept) c.certifying-certifying.ensures)) (reach c.args.account.now c.requires.0 c.args.number c.args.event.now c.requires.1)
+
+pub deny_event-requires-clause-well : goal.deny_event-requires-clause-well
+deny_event-requires-clause-well c =
+    subst (λ (q : Recorded). broken_rule q.head c.args.event.now ≡ None) (sym (c.among-seen.ensures ∙ c.kept.ensures ∙ ap (λ (f : Findings). f.kept) c.certifying-certifying.ensures)) (well c.args.account.now c.requires.0 c.args.number c.args.event.now c.requires.1)
+
+pub deny_event-requires-clause-names : goal.deny_event-requires-clause-names
+deny_event-requires-clause-names c = names c.args.account.now c.requires.0 c.args.number c.args.event.now c.requires.1
+
+pub taken_of-taken-requires : goal.taken_of-taken-requires
+taken_of-taken-requires c =
+    let kept : Recorded = c.args.account.now.findings.kept in
+    let of : IsDenialFor kept.head kept.events c.args.number c.args.event.now c.in_ok-denial.denial = subst (λ (q : Recorded). IsDenialFor q.head q.events c.args.number c.args.event.now c.in_ok-denial.denial) (c.among-seen.ensures ∙ c.kept.ensures ∙ ap (λ (f : Findings). f.kept) c.certifying-certifying.ensures) c.in_ok-denial.ensures in
+    within c.args.account.now c.requires.0 c.args.number c.args.event.now c.requires.1 c.in_ok-denial.denial.last of.last
+
+pub returns : goal.returns
+returns c = λ r h.
+    let a : Account = c.args.account.now in
+    let e : Event = c.args.event.now in
+    let denial : Denial = c.in_ok-denial.denial in
+    let kept : Recorded = c.args.account.now.findings.kept in
+    let of : IsDenialFor kept.head kept.events c.args.number c.args.event.now c.in_ok-denial.denial = subst (λ (q : Recorded). IsDenialFor q.head q.events c.args.number c.args.event.now c.in_ok-denial.denial) (c.among-seen.ensures ∙ c.kept.ensures ∙ ap (λ (f : Findings). f.kept) c.certifying-certifying.ensures) c.in_ok-denial.ensures in
+    let changes = changes_last a r c.args.number e h c.denials_among_kept.ensures c.taken_by_a_change.ensures denial of in
+    let known : IsCertifying c.certifying-certifying.result.now r.head r.events = rw c.certifying-certifying.ensures h.known.certifying in
+    record {
+      number = of.number;
+      denial = denial_is a r c.args.number e h c.denials_among_kept.ensures c.taken_by_a_change.ensures denial of;
+      event = h.there;
+      taken = c.taken_of-taken.ensures r.head r.events h.known changes;
+      count = c.len.ensures r.head r.events known;
+      segments = c.segments.ensures r.head r.events known;
+    }

@@ -1,8 +1,0 @@
-use Rattle.std.proofs.Common.{◌≡◌, ◌++◌, drop, string_bytes}
-use Rattle.pg_answers.specs.Summaries.{tally_lines}
-use Rattle.pg_answers.proofs.summaries.push_tallies.Given as goal
-
-abbrev pub invariant-loop-tally : goal.invariant-loop-tally
-invariant-loop-tally l =
-    string_bytes l.text ++ tally_lines (drop l.tally-index l.tallies)
-    ≡ string_bytes l.fn.text ++ tally_lines l.tallies

@@ -1,0 +1,62 @@
+-- Answers as text.
+use Rattle.std.specs.Prelude.{ℕ, List, [], ◌∷◌, ◌++◌, Some, codes, decimal}
+use Rattle.pg_event.specs.declared.event.Event.{Event}
+use Rattle.pg_explain.specs.declared.explainer.Explanation.{Explanation}
+use Rattle.pg_explain.specs.declared.tallier.Tally.{Tally}
+use Rattle.pg_explain.specs.Denied.{denial_text_by}
+use Rattle.pg_explain.specs.Filters.{shown_text}
+use Rattle.pg_explain.specs.Tallies.{tally_text}
+use Rattle.pg_explain.specs.Text.{explanation_text}
+use Rattle.pg_report.specs.Text.{counts_text, reason_name, reason_number, report_text}
+use Rattle.pg_answers.specs.declared.answer.Answer.{Answer}
+use Rattle.pg_answers.specs.declared.answer.Answer.TheVariants.{Report, Summary, Cause, Causes}
+use Rattle.pg_answers.specs.declared.answer.Answer.TheVariants.{Rejection, Events}
+use Rattle.pg_answers.specs.declared.answer.Rejection.{Rejection as Rejected}
+use Rattle.pg_answers.specs.declared.answer.Summary.{Summary as Summed}
+
+-- ---- the summary
+
+abbrev pub tally_line : Tally → List ℕ
+tally_line t = tally_text (reason_number t.reason) (reason_name t.reason) t
+
+abbrev pub tally_lines : List Tally → List ℕ
+tally_lines [] = []
+tally_lines (t ∷ ts) = tally_line t ++ tally_lines ts
+
+abbrev pub count_line : ℕ → List ℕ
+count_line count = codes "bad events: " ++ (decimal count ++ codes "\n")
+
+-- how many bad events there are, and a line for each reason
+abbrev pub summary_text : Summed → List ℕ
+summary_text s = count_line s.bad_events ++ tally_lines s.tallies.items
+
+-- ---- causes, with an empty line after each
+
+abbrev pub causes_text : List Event → List Explanation → List ℕ
+causes_text events [] = []
+causes_text events (x ∷ xs) =
+    (explanation_text events x ++ codes "\n") ++ causes_text events xs
+
+-- ---- the report of a no of `certify`, and what stands behind it
+
+abbrev pub denied_head : ℕ → List ℕ
+denied_head n = codes "verdict: no\nevent: " ++ (decimal n ++ codes "\nreason: 14 no moments\n")
+
+abbrev pub denied_report : ℕ → ℕ → ℕ → List ℕ
+denied_report n events segments = denied_head n ++ counts_text events segments
+
+abbrev pub rejection_text : Rejected → List ℕ
+rejection_text x =
+    denied_report x.denial.number x.events x.segments
+    ++ denial_text_by (Some x.event) x.taken x.denial
+
+-- ---- an answer
+
+abbrev pub answer_text : Answer → List ℕ
+answer_text (Report report) = report_text report
+answer_text (Summary report s) = report_text report ++ summary_text s
+answer_text (Cause report r x) = report_text report ++ explanation_text r.events x
+answer_text (Causes report r xs s) =
+    (report_text report ++ causes_text r.events xs.items) ++ summary_text s
+answer_text (Rejection x) = rejection_text x
+answer_text (Events r selection) = shown_text selection r.events

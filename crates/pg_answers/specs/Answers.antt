@@ -1,0 +1,154 @@
+-- What is answered of a record with one order, whatever the format is in which it is written.
+use Rattle.std.specs.Prelude.{◌≡◌, ℕ, List, [], ◌∷◌, length, take, Option, Some, None}
+use Rattle.std.specs.Prelude.{Result, Ok, Err, slice_get}
+use Rattle.pg_event.specs.declared.selection.Selection.{Selection}
+use Rattle.pg_event.specs.declared.event.Event.{Event}
+use Rattle.pg_event.specs.declared.event.Reason.{Reason}
+use Rattle.pg_event.specs.Heads.{Head}
+use Rattle.pg_event.specs.Spelling.{Recorded, segment_count}
+use Rattle.pg_event.specs.Witness.{first_bad}
+use Rattle.pg_search.specs.Law.{RunBeginsWith}
+use Rattle.pg_certify.specs.Certified.{CanBeCertified, IsDenied, HasRunButMoments}
+use Rattle.pg_explain.specs.declared.bad_events.Bad.{Bad}
+use Rattle.pg_explain.specs.declared.explainer.Explanation.{Explanation}
+use Rattle.pg_explain.specs.Bads.{bads}
+use Rattle.pg_explain.specs.Denied.{IsDenialOf}
+use Rattle.pg_explain.specs.Explained.{IsExplained}
+use Rattle.pg_explain.specs.Lasts.{taken_in}
+use Rattle.pg_explain.specs.Tallies.{AreTallies}
+use Rattle.pg_report.specs.declared.error.AuditError.{AuditError}
+use Rattle.pg_report.specs.declared.report.Report.{Report as Reported}
+use Rattle.pg_report.specs.declared.report.Verdict.TheVariants.{Yes}
+use Rattle.pg_report.specs.Text.{report_of}
+use Rattle.pg_auditing.specs.Status.{error_status, verdict_status}
+use Rattle.pg_answers.specs.declared.answer.Answer.{Answer}
+use Rattle.pg_answers.specs.declared.answer.Answer.TheVariants.{Report, Summary, Cause, Causes}
+use Rattle.pg_answers.specs.declared.answer.Answer.TheVariants.{Rejection, Events}
+use Rattle.pg_answers.specs.declared.answer.Rejection.{Rejection as Rejected}
+use Rattle.pg_answers.specs.declared.answer.Summary.{Summary as Summed}
+use Rattle.pg_answers.specs.declared.question.Question.{Question}
+use Rattle.pg_answers.specs.declared.question.Question.TheVariants.{Check, CheckAll, Certify}
+use Rattle.pg_answers.specs.declared.question.Question.TheVariants.{Explain, ExplainAll, Show}
+
+-- ---- `certify`
+
+-- moments make the events an accepted record, and some run of the machine has them
+pub record IsCertifiedRecord (r : Recorded) : Type 0 where
+  pub certified : CanBeCertified r.head r.events
+  pub run : HasRunButMoments r.head r.events
+
+-- event n is the least that no moments witness: no run of the machine begins with the events up to
+-- it, and some run has those before it
+pub record IsDeniedRecord (r : Recorded) (n : ℕ) : Type 0 where
+  pub denied : IsDenied r.head r.events n
+  pub none : RunBeginsWith r.head r.events n → ⊥
+  pub before : HasRunButMoments r.head (take n r.events)
+
+-- the report of a yes
+abbrev pub yes_report : ℕ → ℕ → Reported
+yes_report events segments = record { verdict = Yes; events = events; segments = segments }
+
+abbrev pub certified_report : Recorded → Reported
+certified_report r = yes_report (length r.events) (segment_count r)
+
+-- what stands behind event n, and what is told with it
+pub record TellsDenial (r : Recorded) (n : ℕ) (x : Rejected) : Type 0 where
+  pub number : x.denial.number ≡ n
+  pub denial : IsDenialOf r.head r.events n x.denial
+  pub event : slice_get r.events n ≡ Some x.event
+  pub taken : x.taken ≡ taken_in r.events x.denial.last
+  pub count : x.events ≡ length r.events
+  pub segments : x.segments ≡ segment_count r
+
+-- the event that is denied, and what stands behind that
+abbrev pub IsRejection : Recorded → Rejected → Type 0
+IsRejection r x = (n : ℕ) × IsDeniedRecord r n × TellsDenial r n x
+
+-- ---- `explain`
+
+-- these stand behind these bad events, one behind each
+abbrev pub AreExplanations : Head → List Event → List Bad → List Explanation → Type 0
+AreExplanations head events [] [] = Unit {0}
+AreExplanations head events [] (x ∷ xs) = ⊥
+AreExplanations head events (b ∷ bs) [] = ⊥
+AreExplanations head events (b ∷ bs) (x ∷ xs) =
+    IsExplained head events b.number x × AreExplanations head events bs xs
+
+-- how many bad events there are, and what those with each reason have in common
+pub record IsSummary (xs : List Bad) (s : Summed) : Type 0 where
+  pub count : s.bad_events ≡ length xs
+  pub tallies : AreTallies xs s.tallies.items
+
+-- ---- answers
+
+-- a yes, or the event of a no and what stands behind it
+abbrev pub IsCertificate : Recorded → Answer → Type 0
+IsCertificate r (Report report) = IsCertifiedRecord r × (report ≡ certified_report r)
+IsCertificate r (Summary report s) = ⊥
+IsCertificate r (Cause report q x) = ⊥
+IsCertificate r (Causes report q xs s) = ⊥
+IsCertificate r (Rejection x) = IsRejection r x
+IsCertificate r (Events q selection) = ⊥
+
+-- the report, and of a no the cause of the first bad event
+abbrev pub IsExplanation : Recorded → Answer → Type 0
+IsExplanation r (Report report) =
+    (report ≡ report_of r) × (first_bad r.head r.events ≡ None)
+IsExplanation r (Summary report s) = ⊥
+IsExplanation r (Cause report q x) =
+    (report ≡ report_of r) × (q ≡ r) × (n : ℕ) × (reason : Reason)
+    × (first_bad r.head r.events ≡ Some (n, reason)) × IsExplained r.head r.events n x
+IsExplanation r (Causes report q xs s) = ⊥
+IsExplanation r (Rejection x) = ⊥
+IsExplanation r (Events q selection) = ⊥
+
+abbrev pub IsSummed : Recorded → Answer → Type 0
+IsSummed r (Report report) = ⊥
+IsSummed r (Summary report s) = (report ≡ report_of r) × IsSummary (bads r.head r.events) s
+IsSummed r (Cause report q x) = ⊥
+IsSummed r (Causes report q xs s) = ⊥
+IsSummed r (Rejection x) = ⊥
+IsSummed r (Events q selection) = ⊥
+
+abbrev pub AreCauses : ℕ → Recorded → Answer → Type 0
+AreCauses most r (Report report) = ⊥
+AreCauses most r (Summary report s) = ⊥
+AreCauses most r (Cause report q x) = ⊥
+AreCauses most r (Causes report q xs s) =
+    (report ≡ report_of r) × (q ≡ r)
+    × AreExplanations r.head r.events (take most (bads r.head r.events)) xs.items
+    × IsSummary (bads r.head r.events) s
+AreCauses most r (Rejection x) = ⊥
+AreCauses most r (Events q selection) = ⊥
+
+-- the answer of a question of a record
+abbrev pub IsAnswer : Question → Recorded → Answer → Type 0
+IsAnswer Check r x = x ≡ Report (report_of r)
+IsAnswer CheckAll r x = IsSummed r x
+IsAnswer Certify r x = IsCertificate r x
+IsAnswer Explain r x = IsExplanation r x
+IsAnswer (ExplainAll most) r x = AreCauses most r x
+IsAnswer (Show selection) r x = x ≡ Events r selection
+
+-- the event that an answer of `certify` names, if it is no
+abbrev pub denied_in : Answer → Option ℕ
+denied_in (Report report) = None
+denied_in (Summary report s) = None
+denied_in (Cause report r x) = None
+denied_in (Causes report r xs s) = None
+denied_in (Rejection x) = Some x.denial.number
+denied_in (Events r selection) = None
+
+-- ---- statuses: 0 yes, and what was shown; 1 no
+
+abbrev pub status_of : Answer → ℕ
+status_of (Report report) = verdict_status report.verdict
+status_of (Summary report s) = verdict_status report.verdict
+status_of (Cause report r x) = 1
+status_of (Causes report r xs s) = verdict_status report.verdict
+status_of (Rejection x) = 1
+status_of (Events r selection) = 0
+
+abbrev pub answer_status : Result Answer AuditError → ℕ
+answer_status (Ok x) = status_of x
+answer_status (Err e) = error_status e

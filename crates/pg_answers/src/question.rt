@@ -1,0 +1,18 @@
+use pg_event::Selection;
+
+/// What is asked of a record with one order.
+#[derive(Clone, Copy)]
+pub enum Question {
+    /// Its report.
+    Check,
+    /// That, and a summary of all bad events.
+    CheckAll,
+    /// Whether some run of the machine has its events.
+    Certify,
+    /// Its report, and the cause of a rejection.
+    Explain,
+    /// Its report, the causes of so many bad events at most, and the summary.
+    ExplainAll(u32),
+    /// The events that a selection asks for.
+    Show(Selection),
+}

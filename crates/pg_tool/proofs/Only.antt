@@ -1,0 +1,28 @@
+-- What `certify` answers is one thing.
+use Rattle.std.proofs.Common.{ℕ, List, Option, Some, None, IfSome}
+use Rattle.std.specs.Prelude.{Result}
+use Rattle.pg_report.specs.declared.error.AuditError.{AuditError}
+use Rattle.pg_report.specs.Changes.{Change}
+use Rattle.pg_answers.specs.declared.answer.Answer.{Answer}
+use Rattle.pg_answers.specs.declared.question.Question.{Question}
+use Rattle.pg_answers.specs.declared.question.Question.TheVariants as questions
+use Rattle.pg_answers.specs.Texts.{GivesText}
+use Rattle.pg_answers.proofs.OneCertificate.{the_certificate}
+use Rattle.pg_tool.specs.declared.format.Format.{Format}
+use Rattle.pg_tool.specs.declared.format.Format.TheVariants.{Text, Json, Picture}
+use Rattle.pg_tool.specs.Rendered.{IsOnly, IsRendering}
+
+module _ (checkers : ℕ) (input output : Change) (answer : Result Answer AuditError) where
+  of_bytes : (question : Question) (format : Format) (bytes : List ℕ) → GivesText (IsRendering question format) checkers bytes input output answer → IsOnly question format bytes answer
+  of_bytes questions.Check format bytes gives = tt
+  of_bytes questions.CheckAll format bytes gives = tt
+  of_bytes questions.Certify Text bytes gives = the_certificate bytes checkers input output answer gives
+  of_bytes questions.Certify Json bytes gives = tt
+  of_bytes questions.Certify Picture bytes gives = tt
+  of_bytes questions.Explain format bytes gives = tt
+  of_bytes (questions.ExplainAll most) format bytes gives = tt
+  of_bytes (questions.Show selection) format bytes gives = tt
+
+  pub only : (question : Question) (format : Format) (left : Option (List ℕ)) → IfSome left (λ bytes. GivesText (IsRendering question format) checkers bytes input output answer) → IfSome left (λ bytes. IsOnly question format bytes answer)
+  only question format None gives = tt
+  only question format (Some bytes) gives = of_bytes question format bytes gives
