@@ -15,22 +15,9 @@ use crate::answer::Rejection;
 use pg_certify::StreamingCertifier;
 use pg_check::History;
 use pg_event::Event;
-use pg_explain::{denials_among_kept, deny, deny_event};
+use pg_explain::{denials_among_kept, deny, deny_event, taken_in};
 use pg_search::{Last, Seen, taken_by_a_change};
 use std::alloc::{AllocError, Global};
-
-/// The event behind which another was never witnessed, where these are the events of the run.
-fn taken_in(events: &[Event], last: Option<Last>) -> Option<Event>
-    ensures { result ≡ taken_in events.now last }
-{
-    match last {
-        None => None,
-        Some(last) => match events.get(last.number as usize) {
-            Some(event) => Some(*event),
-            None => None,
-        },
-    }
-}
 
 /// What stands behind the event that is denied, of a record that was read whole.
 pub(crate) fn denial_in(

@@ -1,9 +1,9 @@
 -- The bad events of a run, one by one.
-use Rattle.std.proofs.Common.{◌≡◌, ℕ, zero, suc, ◌+◌, ◌<◌, ◌≤◌, List, [], ◌∷◌, ◌++◌, length, take, drop, get_or, Option, Some, None, refl, sym, ap, ◌∙◌, subst, arith, append_assoc, codes, length-drop, inl, inr}
+use Rattle.std.proofs.Common.{◌≡◌, ℕ, zero, suc, ◌+◌, ◌<◌, ◌≤◌, List, [], ◌∷◌, ◌++◌, length, take, drop, get_or, Option, Some, None, refl, sym, ap, ◌∙◌, subst, arith, append_assoc, length-drop, inl, inr}
 use Rattle.std.specs.Prelude.{slice_get, option_and_then}
 use Rattle.std.specs.List.{AllByRecursion, Contains}
 use Rattle.std.proofs.lemmas.Bool.{cases_lt}
-use Rattle.std.proofs.lemmas.List.{drop_more, take_more}
+use Rattle.std.proofs.lemmas.List.{drop_more}
 use Rattle.std.proofs.lemmas.List.Elements.{All-from_recursion, All-get_or, All-contains, Contains-append_right}
 use Rattle.std.proofs.lemmas.Option.{slice_get-get_or, slice_get_within}
 use Rattle.pg_event.specs.declared.event.Event.{Event}
@@ -11,10 +11,7 @@ use Rattle.pg_event.specs.declared.event.Reason.{Reason}
 use Rattle.pg_event.specs.Heads.{Head}
 use Rattle.pg_event.specs.Witness.{failing, failing_event}
 use Rattle.pg_explain.specs.declared.bad_events.Bad.{Bad}
-use Rattle.pg_explain.specs.declared.explainer.Explanation.{Explanation}
-use Rattle.pg_explain.specs.Bads.{bad_of, with_bad, bads_from, bads, IsBad, BadsAreExact, AreExplained}
-use Rattle.pg_explain.specs.Explained.{IsExplained}
-use Rattle.pg_explain.specs.Text.{explanation_text}
+use Rattle.pg_explain.specs.Bads.{bad_of, with_bad, bads_from, bads, IsBad, BadsAreExact}
 
 -- a list from one of its places on
 drop_head : {A : Type 0} (xs : List A) (n : ℕ) (x : A) (rest : List A) → x ∷ rest ≡ drop n xs → (slice_get xs n ≡ Some x) × (rest ≡ drop (n + 1) xs)
@@ -126,28 +123,3 @@ bads_exact head events i reason = (
       (All-from_recursion (IsBad head events) (bads head events) (all_are_bad head events)) h.1 in
       ap (failing head events) (sym h.2) ∙ (bad ∙ ap (λ (r : Reason). Some r) h.3),
 )
-
--- ---- explanations
-
--- one more is explained
-explained_more : (head : Head) (events : List Event) (bs : List Bad) (b : Bad) (text : List ℕ) (x : Explanation) → AreExplained head events bs text → IsExplained head events b.number x →
-    AreExplained head events (bs ++ b ∷ []) (text ++ (explanation_text events x ++ codes "\n"))
-explained_more head events [] b text x are is = (x, [], is, refl, ap (λ t. t ++ (explanation_text events x ++ codes "\n")) are)
-explained_more head events (c ∷ cs) b text x are is =
-    let more = explanation_text events x ++ codes "\n" in (
-      are.0,
-      are.1 ++ more,
-      are.2,
-      explained_more head events cs b are.1 x are.3 is,
-      ap (λ t. t ++ more) are.4 ∙ append_assoc (explanation_text events are.0) (codes "\n" ++ are.1) more,
-    )
-
--- a text with one more explanation, of the next bad event
-pub explained_at : (head : Head) (events : List Event) (bs : List Bad) (i : ℕ) (d : Bad) (text : List ℕ) (x : Explanation) (new : List ℕ) → i < length bs → AreExplained head events (take i bs) text →
-    IsExplained head events (get_or bs i d).number x → new ≡ (text ++ explanation_text events x) ++ codes "\n" → AreExplained head events (take (i + 1) bs) new
-explained_at head events bs i d text x new l are is wrote =
-    let told = explanation_text events x in
-    let more : AreExplained head events (take i bs ++ get_or bs i d ∷ []) (text ++ (told ++ codes "\n")) = explained_more head events (take i bs) (get_or bs i d) text x are is in
-    let same : text ++ (told ++ codes "\n") ≡ new = sym (append_assoc text told (codes "\n")) ∙ sym wrote in
-    subst (λ (t : List ℕ). AreExplained head events (take (i + 1) bs) t) same
-    (subst (λ (xs : List Bad). AreExplained head events xs (text ++ (told ++ codes "\n"))) (sym (take_more bs i d l)) more)

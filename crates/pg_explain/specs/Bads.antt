@@ -1,6 +1,6 @@
 -- The events of a run that are bad: their moments do not prove them. Each is judged by the events
 -- before it, as they are recorded, also after the first bad one, where no run has that past.
-use Rattle.std.specs.Prelude.{◌≡◌, ◌↔◌, ℕ, ◌+◌, ◌-◌, ◌%◌, ◌^◌, List, [], ◌∷◌, ◌++◌, codes}
+use Rattle.std.specs.Prelude.{◌≡◌, ◌↔◌, ℕ, ◌+◌, ◌-◌, ◌%◌, ◌^◌, List, [], ◌∷◌}
 use Rattle.std.specs.Prelude.{Option, Some, None}
 use Rattle.std.specs.List.{Contains}
 use Rattle.pg_event.specs.declared.event.Event.{Event}
@@ -11,9 +11,6 @@ use Rattle.pg_event.specs.Form.{processor_of}
 use Rattle.pg_event.specs.Heads.{Head}
 use Rattle.pg_event.specs.Witness.{failing, failing_event}
 use Rattle.pg_explain.specs.declared.bad_events.Bad.{Bad}
-use Rattle.pg_explain.specs.declared.explainer.Explanation.{Explanation}
-use Rattle.pg_explain.specs.Explained.{IsExplained}
-use Rattle.pg_explain.specs.Text.{explanation_text}
 
 -- the linear address that an access or an assist is for
 abbrev pub address_of : Event → ℕ
@@ -59,11 +56,3 @@ abbrev pub BadsAreExact : Type 0
 BadsAreExact = (head : Head) (events : List Event) (i : ℕ) (reason : Reason) →
     (failing head events i ≡ Some reason)
     ↔ ((x : Bad) × Contains (bads head events) x × (x.number ≡ i) × (x.reason ≡ reason))
-
--- the texts of explanations of these events, one of each, with an empty line after each
-abbrev pub AreExplained : Head → List Event → List Bad → List ℕ → Type 0
-AreExplained head events [] text = text ≡ []
-AreExplained head events (b ∷ bs) text =
-    (x : Explanation) × (rest : List ℕ) × IsExplained head events b.number x
-    × AreExplained head events bs rest
-    × (text ≡ explanation_text events x ++ (codes "\n" ++ rest))

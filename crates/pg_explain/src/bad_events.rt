@@ -1,17 +1,8 @@
 //! The events of a run that their moments do not prove.
 
-ghost use Rattle.std.specs.Prelude.{◌≡◌, ◌<◌, ◌++◌, length, take, codes, IfOk, OnOk};
-ghost use Rattle.std.specs.Prelude.{string_bytes};
-ghost use Rattle.std.specs.List.{AllByRecursion};
-ghost use Rattle.pg_event.specs.Witness.{Witnessed};
-ghost use Rattle.pg_explain.specs.declared.explainer.Explanation.{Explanation};
-ghost use Rattle.pg_explain.specs.Bads.{address_of, bad_of, bads, AreExplained, BadsAreExact};
-ghost use Rattle.pg_explain.specs.Bads.{IsBad};
-ghost use Rattle.pg_explain.specs.Explained.{IsExplained};
-ghost use Rattle.pg_explain.specs.Text.{explanation_text};
+ghost use Rattle.std.specs.Prelude.{◌≡◌, IfOk};
+ghost use Rattle.pg_explain.specs.Bads.{address_of, bad_of, bads, BadsAreExact};
 
-use crate::explainer::explain;
-use crate::text::push_explained;
 use pg_check::{History, check_event};
 use pg_event::{Event, Reason, Request, processor_of};
 use std::alloc::{AllocError, Global};
@@ -64,56 +55,6 @@ pub fn bads(alloc: Global, history: &History) -> Result<Vec<Bad>, AllocError>
         }
     }
     Ok(found)
-}
-
-/// Appends the explanation of an event that is not witnessed.
-pub fn push_explanation(
-    alloc: Global,
-    text: &mut String,
-    history: &History,
-    number: u64,
-) -> Result<(), AllocError>
-    requires within { number < length history.now.events }
-    requires bad { ¬ Witnessed history.now.head history.now.events number }
-    ensures { OnOk result ((x : Explanation)
-        × IsExplained history.now.head history.now.events number x
-        × (string_bytes text.new
-        ≡ string_bytes text.old ++ explanation_text history.now.events x)) }
-{
-    match explain(alloc, history, number)? {
-        Some(explanation) => push_explained(text, history.events(), &explanation),
-        None => unreachable!(),
-    }
-}
-
-/// The texts of explanations of bad events, one of each in their order, with an empty line after
-/// each.
-fn explain_each(alloc: Global, history: &History, bads: &[Bad]) -> Result<String, AllocError>
-    requires { AllByRecursion (IsBad history.now.head history.now.events) bads.now }
-    ensures { IfOk result (λ t. AreExplained history.now.head history.now.events bads.now
-        (string_bytes t)) }
-{
-    let mut text = String::new(alloc);
-    for bad in bads {
-        push_explanation(alloc, &mut text, history, bad.number as u64)?;
-        text.push_str("\n")?;
-    }
-    Ok(text)
-}
-
-/// The texts of explanations of so many of a history's bad events at most, one of each in their
-/// order, with an empty line after each. Fails only when out of memory.
-pub fn explanations_text(
-    alloc: Global,
-    history: &History,
-    found: &[Bad],
-    most: usize,
-) -> Result<String, AllocError>
-    requires { found.now ≡ bads history.now.head history.now.events }
-    ensures { IfOk result (λ t. AreExplained history.now.head history.now.events
-        (take most found.now) (string_bytes t)) }
-{
-    explain_each(alloc, history, &found[..most.min(found.len())])
 }
 
 /// The bad events are just those for which a reason fails.

@@ -3,12 +3,12 @@
 ghost use Rattle.std.specs.Prelude.{◌≡◌, ◌++◌, IfOk, OnOk, string_bytes};
 ghost use Rattle.pg_explain.specs.Denied.{claimed_text, now_entry_text, now_walk_text};
 ghost use Rattle.pg_explain.specs.Denied.{claim_line, claim_at, now_level_text, given_text};
-ghost use Rattle.pg_explain.specs.Denied.{denial_text, denial_text_by};
+ghost use Rattle.pg_explain.specs.Denied.{denial_text_by};
 
 use crate::denial::Denial;
 use crate::entry::WalkEntry;
-use crate::last_lines::{push_taken_by, taken_in};
-use crate::line::{event_at, push_claim, push_outcome};
+use crate::last_lines::push_taken_by;
+use crate::line::{push_claim, push_outcome};
 use crate::names::level_number;
 use crate::walk_finding::is_table;
 use crate::walk_text::{push_held, push_writer};
@@ -117,12 +117,4 @@ pub fn denial_text_by(
     push_given(&mut text, denial.given)?;
     push_taken_by(&mut text, taken, denial.last)?;
     Ok(text)
-}
-
-/// What `denial_text_by` gives, where these are the events of its run.
-pub fn denial_text(alloc: Global, events: &[Event], denial: &Denial) -> Result<String, AllocError>
-    ensures { IfOk result (λ t. string_bytes t ≡ denial_text events.now denial.now) }
-{
-    let event = event_at(events, denial.number);
-    denial_text_by(alloc, event, taken_in(events, denial.last), denial)
 }

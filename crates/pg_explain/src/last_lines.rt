@@ -30,8 +30,9 @@ pub fn push_last_moments(text: &mut String, last: &Last) -> Result<(), AllocErro
     Ok(())
 }
 
-/// The event that took the last moments away.
-pub(crate) fn taken_in(events: &[Event], last: Option<Last>) -> Option<Event>
+/// The event behind which another was never witnessed, where it ever was and these are the events of
+/// the run.
+pub fn taken_in(events: &[Event], last: Option<Last>) -> Option<Event>
     ensures { result ≡ taken_in events.now last }
 {
     match last {

@@ -248,8 +248,8 @@ pub(crate) fn push_event(text: &mut String, number: u64, event: &Event) -> Resul
     push_deed(text, event)
 }
 
-/// The event with this number.
-pub(crate) fn event_at(events: &[Event], number: u32) -> Option<Event>
+/// The event with this number, where there is one.
+pub fn event_at(events: &[Event], number: u32) -> Option<Event>
     ensures { result ≡ slice_get events.now number }
 {
     match events.get(number as usize) {

@@ -8,9 +8,9 @@ ghost use Rattle.pg_json_causes.specs.Causes.{given_json, denial_json};
 
 use crate::entries::walk_json;
 use crate::findings::finding_json;
-use crate::lasts::{event_at, last_json, taken_in};
+use crate::lasts::{event_at, last_json};
 use pg_event::{Event, Moments, Outcome};
-use pg_explain::{Denial, Explanation};
+use pg_explain::{Denial, Explanation, taken_in};
 use pg_json::{Fields, claim_json, numbers_json, outcome_json, put_flag};
 use pg_search::Last;
 use serde_json::{Map, Value, put};

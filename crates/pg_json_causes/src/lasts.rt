@@ -2,25 +2,15 @@
 
 ghost use Rattle.std.specs.Prelude.{◌≡◌, IfOk, Some, slice_get};
 ghost use Rattle.serde_json.specs.View.{view};
-ghost use Rattle.pg_explain.specs.Lasts.{taken_in};
 ghost use Rattle.pg_json.specs.Tree.{data_of};
 ghost use Rattle.pg_json_causes.specs.Lasts.{event_at, last_json};
 
 use pg_event::Event;
+use pg_explain::event_at as find_event;
 use pg_json::{event_json, numbers_json, put_count};
 use pg_search::Last;
 use serde_json::{Map, Value, put};
 use std::alloc::{AllocError, Global};
-
-/// The event of a run with a number, where there is one.
-fn find_event(events: &[Event], number: u32) -> Option<Event>
-    ensures { result ≡ slice_get events.now number }
-{
-    match events.get(number as usize) {
-        None => None,
-        Some(event) => Some(*event),
-    }
-}
 
 /// An event with its number, where there is one.
 fn numbered(alloc: Global, number: u32, event: Option<Event>) -> Result<Value, AllocError>
@@ -63,15 +53,5 @@ pub(crate) fn last_json(
     match last {
         None => Ok(Value::Null),
         Some(last) => some_last(alloc, taken, &last),
-    }
-}
-
-/// The event of a run that took that away.
-pub(crate) fn taken_in(events: &[Event], last: Option<Last>) -> Option<Event>
-    ensures { result ≡ taken_in events.now last }
-{
-    match last {
-        None => None,
-        Some(last) => find_event(events, last.number),
     }
 }

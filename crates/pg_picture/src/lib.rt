@@ -8,5 +8,5 @@ mod placer;
 mod rows;
 mod shapes;
 
-pub use painter::{draw, picture_text};
+pub use painter::picture_text;
 pub use placer::{Arrow, Deed, EntryBox, EventBox, Lane, Layout, Role, lay_out};

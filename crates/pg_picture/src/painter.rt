@@ -1,9 +1,6 @@
 //! The text of a picture.
 
-ghost use Rattle.std.specs.Prelude.{◌≡◌, ◌++◌, ◌<◌, length, IfOk, OnOk, string_bytes};
-ghost use Rattle.pg_event.specs.Witness.{Witnessed};
-ghost use Rattle.pg_explain.specs.declared.explainer.Explanation.{Explanation};
-ghost use Rattle.pg_explain.specs.Explained.{IsExplained};
+ghost use Rattle.std.specs.Prelude.{◌≡◌, ◌++◌, IfOk, OnOk, string_bytes};
 ghost use Rattle.pg_picture.specs.Svg.{open_text, markers_text, paper_text, title_text};
 ghost use Rattle.pg_picture.specs.Svg.{finding_line, seen_text, taken_text, lines_text, lanes_text};
 ghost use Rattle.pg_picture.specs.Svg.{event_box_text, event_boxes_text, entry_box_text};
@@ -18,8 +15,7 @@ use crate::shapes::{
 use pg_check::History;
 use pg_event::{Event, Moments};
 use pg_explain::{
-    Explanation, deed_name, explain, push_entry, push_finding, push_last, push_last_moments,
-    push_numbered,
+    Explanation, deed_name, push_entry, push_finding, push_last, push_last_moments, push_numbered,
 };
 use pg_search::Last;
 use std::alloc::{AllocError, Global};
@@ -264,18 +260,4 @@ pub fn picture_text(
 {
     let layout = lay_out(alloc, history, explanation)?;
     svg_text(alloc, history.events(), explanation, &layout)
-}
-
-/// The picture of why an event is not witnessed. Fails only when out of memory.
-pub fn draw(alloc: Global, history: &History, number: u64) -> Result<String, AllocError>
-    requires within { number < length history.now.events }
-    requires bad { ¬ Witnessed history.now.head history.now.events number }
-    ensures { IfOk result (λ t. (x : Explanation)
-        × IsExplained history.now.head history.now.events number x
-        × IsPicture history.now.head history.now.events x (string_bytes t)) }
-{
-    match explain(alloc, history, number)? {
-        Some(explanation) => picture_text(alloc, history, &explanation),
-        None => unreachable!(),
-    }
 }
