@@ -1,4 +1,4 @@
--- What stands behind bad events, one by one.
+-- The causes of bad events, one by one.
 use Rattle.std.proofs.Common.{ℕ, ◌+◌, ◌<◌, List, [], ◌∷◌, ◌++◌, length, take, get_or, sym, subst}
 use Rattle.std.proofs.lemmas.List.{take_more}
 use Rattle.pg_event.specs.declared.event.Event.{Event}

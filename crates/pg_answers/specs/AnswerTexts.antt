@@ -37,7 +37,7 @@ causes_text events [] = []
 causes_text events (x ∷ xs) =
     (explanation_text events x ++ codes "\n") ++ causes_text events xs
 
--- ---- the report of a no of `certify`, and what stands behind it
+-- ---- the report of a no of `certify`, and its cause
 
 abbrev pub denied_head : ℕ → List ℕ
 denied_head n = codes "verdict: no\nevent: " ++ (decimal n ++ codes "\nreason: 14 no moments\n")

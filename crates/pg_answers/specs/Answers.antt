@@ -51,7 +51,7 @@ yes_report events segments = record { verdict = Yes; events = events; segments =
 abbrev pub certified_report : Recorded → Reported
 certified_report r = yes_report (length r.events) (segment_count r)
 
--- what stands behind event n, and what is told with it
+-- the cause of the rejection of event n, and what is told with it
 pub record TellsDenial (r : Recorded) (n : ℕ) (x : Rejected) : Type 0 where
   pub number : x.denial.number ≡ n
   pub denial : IsDenialOf r.head r.events n x.denial
@@ -60,7 +60,7 @@ pub record TellsDenial (r : Recorded) (n : ℕ) (x : Rejected) : Type 0 where
   pub count : x.events ≡ length r.events
   pub segments : x.segments ≡ segment_count r
 
--- the event that is denied, and what stands behind that
+-- the event that is denied, and the cause
 abbrev pub IsRejection : Recorded → Rejected → Type 0
 IsRejection r x = (n : ℕ) × IsDeniedRecord r n × TellsDenial r n x
 
@@ -81,7 +81,7 @@ pub record IsSummary (xs : List Bad) (s : Summed) : Type 0 where
 
 -- ---- answers
 
--- a yes, or the event of a no and what stands behind it
+-- a yes, or the event of a no and its cause
 abbrev pub IsCertificate : Recorded → Answer → Type 0
 IsCertificate r (Report report) = IsCertifiedRecord r × (report ≡ certified_report r)
 IsCertificate r (Summary report s) = ⊥

@@ -31,7 +31,7 @@ pub record IsNamedRecord (r named : Recorded) : Type 0 where
   pub run : HasRun named.head named.events
 
 -- the text is the one spelling of such a record; or there is none, and the text is empty: what is
--- told is the report of a no at the least event that no moments witness, with what stands behind it
+-- told is the report of a no at the least event that no moments witness, with its cause
 abbrev pub IsNaming : Recorded → Naming → List ℕ → Type 0
 IsNaming r Named text =
     (named : Recorded) × IsNamedRecord r named × (text ≡ record_bytes named)

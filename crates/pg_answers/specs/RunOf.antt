@@ -34,8 +34,8 @@ HasReportText bytes P =
 
 -- Asked for a run of the record that these bytes spell, the program answers so, and leaves the
 -- writer so: there is one, and its text was written and nothing else; the record is not accepted,
--- and its report was; or the bytes spell none, and nothing was written; nor was it for want of
--- memory, nor where the reader failed; where the writer failed a beginning of that text was.
+-- and its report was; or the bytes spell none, and nothing was written; nor was it if memory ran
+-- out, nor where the reader failed; where the writer failed a beginning of that text was.
 abbrev pub GivesRun : List ℕ → Change → Change → Result Shown AuditError → Type 0
 GivesRun bytes input output (Ok shown.Run) = HasRunText bytes (Adds output)
 GivesRun bytes input output (Ok shown.Report) = HasReportText bytes (Adds output)

@@ -1,5 +1,5 @@
-//! What stands behind the event that is denied: of a record that was read whole, and of one that
-//! was certified as it was read.
+//! The cause of the rejection of the event that is denied: of a record that was read whole, and of
+//! one that was certified as it was read.
 
 ghost use Rattle.std.specs.Prelude.{◌≡◌, ◌<◌, ℕ, List, length, IfOk, IfSome, slice_get};
 ghost use Rattle.pg_event.specs.declared.event.Event.{Event};
@@ -19,7 +19,7 @@ use pg_explain::{denials_among_kept, deny, deny_event, taken_in};
 use pg_search::{Last, Seen, taken_by_a_change};
 use std::alloc::{AllocError, Global};
 
-/// What stands behind the event that is denied, of a record that was read whole.
+/// The cause of the rejection of this event, of a record that was read whole.
 pub(crate) fn denial_in(
     alloc: Global,
     history: &History,
@@ -53,7 +53,7 @@ fn taken_of(account: &StreamingCertifier, last: Option<Last>) -> Option<Event>
     }
 }
 
-/// What stands behind the event that is denied, of a record that was certified as it was read.
+/// The cause of the rejection of this event, of a record that was certified as it was read.
 pub(crate) fn denial_by(
     alloc: Global,
     account: &StreamingCertifier,

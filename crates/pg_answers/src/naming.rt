@@ -96,7 +96,7 @@ fn tell_naming<E: Sink>(errors: &mut E, answer: &Result<Naming, AuditError>) -> 
 
 /// Writes the record on `input` with moments that witness its events, whatever moments it names,
 /// so that it is accepted. Where there are none it writes nothing, and to `errors` the report of
-/// the no and what stands behind it, as `certify` does to its output. It gives the exit status: 0 a
+/// the no and its cause, as `certify` does to its output. It gives the exit status: 0 a
 /// record, 1 no, 2 refused, 3 memory.
 pub fn name_moments<R: Source, O: Sink, E: Sink>(
     alloc: Global,

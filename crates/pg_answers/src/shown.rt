@@ -21,6 +21,6 @@ pub struct ReportText {
 pub enum Naming {
     /// The record with moments that were found.
     Named,
-    /// There are none: the report of the no, and what stands behind it.
+    /// There are none: the report of the no, and its cause.
     Denied(String),
 }

@@ -102,7 +102,7 @@ fn denied_report(alloc: Global, rejection: &Rejection) -> Result<String, AllocEr
     Ok(text)
 }
 
-/// That report, and what stands behind it.
+/// That report, and the cause.
 pub(crate) fn rejection_text(alloc: Global, rejection: &Rejection) -> Result<String, AllocError>
     ensures { IfOk result (λ t. string_bytes t ≡ rejection_text rejection.now) }
 {

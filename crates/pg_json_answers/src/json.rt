@@ -90,7 +90,7 @@ fn causes_fields(
     Ok(fields)
 }
 
-/// The line of a no of `certify`, and of what stands behind it.
+/// The line of a no of `certify`, and of its cause.
 fn rejection_line(alloc: Global, rejection: &Rejection) -> Result<String, AllocError>
     ensures { IfOk result (λ t. string_bytes t ≡ json_line (rejection_json rejection.now)) }
 {

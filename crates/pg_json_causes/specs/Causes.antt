@@ -2,7 +2,7 @@
 --
 --     event                the event
 --     walk                 the entries that its moments name, down to the first that is no table
---     finding              what stands behind the reason
+--     finding              what was found for the reason
 --     final                whether no moments prove it
 --     other_moments        else the freshest that do
 --     last                 and, where none do, when it would last have been witnessed

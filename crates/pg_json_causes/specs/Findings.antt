@@ -1,8 +1,8 @@
--- What stands behind a reason, as JSON. The field `finding` is the word with which its line begins;
+-- What was found for a reason, as JSON. The field `finding` is the word with which its line begins;
 -- the others are
 --
 --     moments              level, moment, above (moment or event), limit
---     wished               wished, level, found
+--     `wished`             `wished`, level, found
 --     pcids                pcid, moment, other_pcid, other_moment
 --     dropped              entry (structure entry or translation), level, by (an event)
 --     held                 word, value, is, moment

@@ -56,7 +56,7 @@ fn ended_fields(alloc: Global, events: &[Event], told: &Explanation) -> Result<F
     }
 }
 
-/// What stands behind the reason of a bad event, where these are the events of its run.
+/// The cause of a bad event, where these are the events of its run.
 pub fn explanation_json(
     alloc: Global,
     events: &[Event],
@@ -83,8 +83,8 @@ fn given_json(alloc: Global, given: Option<Outcome>) -> Result<Value, AllocError
     }
 }
 
-/// What stands behind this event, which no moments witness, where the other is the one behind which
-/// it was never witnessed.
+/// The cause of the rejection of this event, which no moments witness, where the other is the one
+/// behind which it was never witnessed.
 pub fn denial_json(
     alloc: Global,
     event: &Event,

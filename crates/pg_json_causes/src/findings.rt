@@ -1,4 +1,4 @@
-//! What stands behind a reason, as JSON.
+//! What was found for a reason, as JSON.
 
 ghost use Rattle.std.specs.Prelude.{◌≡◌, IfOk, OnOk};
 ghost use Rattle.serde_json.specs.View.{view, members_view};
@@ -242,7 +242,7 @@ fn finding_fields(alloc: Global, events: &[Event], finding: Finding) -> Result<F
     }
 }
 
-/// What stands behind a reason, where these are the events of its run.
+/// What was found for a reason, where these are the events of its run.
 pub(crate) fn finding_json(
     alloc: Global,
     events: &[Event],

@@ -31,7 +31,7 @@ pub(crate) fn told_of(alloc: Global, run: &SpannedRun) -> Result<Told, AllocErro
     }
 }
 
-/// What stands behind a no, and whether it is one since all orders were tried.
+/// The cause of a rejection, and whether it is one since all orders were tried.
 fn why_fields(alloc: Global, cause: Value, is_of_all: bool) -> Result<Fields, AllocError>
     ensures { (told : Json) → view cause ≡ data_of told →
         IfOk result (λ m. members_view m.entries ≡ members_of (why_fields told is_of_all)) }

@@ -144,7 +144,7 @@ pub record IsLookedAt (input looked : Change) : Type 0 where
 abbrev pub Says : Bool → Change → Type 0
 Says spans input = IfSome input.old.bytes (λ bytes. spans ≡ says_spans bytes)
 
--- the line of a failed device, or its object
+-- the line of an I/O error, or its object
 abbrev pub device_line : Option Question → List ℕ
 device_line None = refusal_line Device
 device_line (Some question) = json_line (error_json Device)
