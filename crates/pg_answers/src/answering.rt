@@ -39,11 +39,7 @@ fn explain<R: Source>(alloc: Global, input: &mut R) -> Result<Answer, AuditError
 }
 
 /// Its report, the causes of so many bad events at most, and a summary of all of them.
-fn explain_all<R: Source>(
-    alloc: Global,
-    most: u32,
-    input: &mut R,
-) -> Result<Answer, AuditError>
+fn explain_all<R: Source>(alloc: Global, most: u32, input: &mut R) -> Result<Answer, AuditError>
     ensures { IsFound (IsAnswer (Question.ExplainAll most)) 1
         (drawn R.Source input.old input.new) result }
 {
@@ -54,11 +50,7 @@ fn explain_all<R: Source>(
 }
 
 /// Its events, of which a selection asks for some.
-fn show<R: Source>(
-    alloc: Global,
-    selection: Selection,
-    input: &mut R,
-) -> Result<Answer, AuditError>
+fn show<R: Source>(alloc: Global, selection: Selection, input: &mut R) -> Result<Answer, AuditError>
     ensures { IsFound (IsAnswer (Question.Show selection)) 1
         (drawn R.Source input.old input.new) result }
 {

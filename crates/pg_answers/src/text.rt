@@ -9,9 +9,7 @@ ghost use Rattle.pg_explain.specs.Text.{explanation_text};
 
 use crate::answer::{Answer, Rejection, Summary};
 use pg_event::Event;
-use pg_explain::{
-    Explanation, Tally, denial_text_by, explanation_text, shown_text, tally_text,
-};
+use pg_explain::{Explanation, Tally, denial_text_by, explanation_text, shown_text, tally_text};
 use pg_report::{reason_name, reason_number};
 use std::alloc::{AllocError, Global};
 

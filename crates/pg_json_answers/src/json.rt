@@ -104,13 +104,7 @@ fn rejection_line(alloc: Global, rejection: &Rejection) -> Result<String, AllocE
     let cause = denial_json(alloc, event, *taken, denial)?;
     let mut fields = cause_fields(alloc, cause)?;
     put_counts(&mut fields, alloc, *events, *segments)?;
-    put_no(
-        &mut fields,
-        alloc,
-        denial.number as u64,
-        14,
-        "no moments",
-    )?;
+    put_no(&mut fields, alloc, denial.number as u64, 14, "no moments")?;
     line_of(alloc, fields)
 }
 

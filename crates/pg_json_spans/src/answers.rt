@@ -10,10 +10,10 @@ ghost use Rattle.pg_json_spans.specs.Answers.{OrdersJson, ShowsJson, AnswersSpan
 use crate::lines::spanned_json_lines;
 use crate::refusals::{tell_memory, tell_spans, tell_unread};
 use crate::told::{told_line, told_of};
+use pg_answers::Question;
 use pg_auditing::{NO, REFUSED, YES};
 use pg_codec::{Sink, Source, put_all};
 use pg_event::Selection;
-use pg_answers::Question;
 use pg_json_answers::tell_json;
 use pg_ordering::{Told, read_run};
 use pg_report::AuditError;

@@ -3,7 +3,7 @@
 #![tactic(auto)]
 
 mod counts;
-mod onlooker;
+mod observer;
 mod progress;
 mod publisher;
 mod reader;
@@ -11,7 +11,7 @@ mod rule;
 mod seen;
 
 pub use counts::Counts;
-pub use onlooker::{Nobody, Onlooker};
+pub use observer::{Nobody, Observer};
 pub use progress::Progress;
 pub use publisher::Publisher;
 pub use reader::ReadSeat;

@@ -14,7 +14,7 @@ use crate::live_judging::LiveJudging;
 use crate::lookout::Lookout;
 use crate::processor_threads::run_processors;
 use pg_pool::{Gate, OpenGate};
-use pg_progress::{Nobody, Onlooker, Progress, Publisher, ReadSeat};
+use pg_progress::{Nobody, Observer, Progress, Publisher, ReadSeat};
 use pg_report::Crew;
 use pg_runner::{RunError, RunResult};
 use pg_script::Script;
@@ -40,7 +40,7 @@ fn told_by_one_word(alloc: Global) -> Result<(Progress, Publisher, ReadSeat), Al
 }
 
 /// The run on a board that was opened for it.
-fn run_on<R: Threads + Wait + Sync, G: Gate, H: Gate, O: Onlooker>(
+fn run_on<R: Threads + Wait + Sync, G: Gate, H: Gate, O: Observer>(
     crew: &Crew<'_, R, H>,
     script: &Script,
     gate: &G,
@@ -60,20 +60,20 @@ fn run_on<R: Threads + Wait + Sync, G: Gate, H: Gate, O: Onlooker>(
 }
 
 /// The run that an observer sees, judged by what is passed in.
-fn run_judged<R: Threads + Wait + Sync, G: Gate, H: Gate, O: Onlooker + Drop>(
+fn run_judged<R: Threads + Wait + Sync, G: Gate, H: Gate, O: Observer + Drop>(
     crew: &Crew<'_, R, H>,
     script: &Script,
     gate: &G,
-    onlooker: O,
+    observer: O,
     judging: &mut LiveJudging,
 ) -> Result<RunResult, RunError>
-    requires { O.told onlooker ≡ counts 0 0 }
+    requires { O.told observer ≡ counts 0 0 }
     ensures ok { IfOk result (λ run. IsGuestRun script.now run) }
     ensures formed { IfOk result (λ run. IsRecord (record_of run.trace)) }
     ensures err { IfErr result IsWant }
 {
     let (progress, publisher, seat) = told_by_one_word(crew.alloc)?;
-    let mut lookout = Lookout::new(&progress, seat, onlooker);
+    let mut lookout = Lookout::new(&progress, seat, observer);
     let board = Board::new(crew.alloc, script, publisher, &progress)?;
     run_on(crew, script, gate, board, &mut lookout, judging)
 }
@@ -88,19 +88,19 @@ fn run_judged<R: Threads + Wait + Sync, G: Gate, H: Gate, O: Onlooker + Drop>(
 ///
 /// Fails once all threads that were started have ended, by the lowest number that there is, where
 /// memory or a thread was refused.
-pub fn run_guest_followed<R: Threads + Wait + Sync, G: Gate, H: Gate, O: Onlooker + Drop>(
+pub fn run_guest_followed<R: Threads + Wait + Sync, G: Gate, H: Gate, O: Observer + Drop>(
     crew: &Crew<'_, R, H>,
     script: &Script,
     gate: &G,
-    onlooker: O,
+    observer: O,
 ) -> Result<RunResult, RunError>
-    requires { O.told onlooker ≡ counts 0 0 }
+    requires { O.told observer ≡ counts 0 0 }
     ensures ok { IfOk result (λ run. IsGuestRun script.now run) }
     ensures formed { IfOk result (λ run. IsRecord (record_of run.trace)) }
     ensures err { IfErr result IsWant }
 {
     let mut judging = nothing_judged(crew, script)?;
-    run_judged(crew, script, gate, onlooker, &mut judging)
+    run_judged(crew, script, gate, observer, &mut judging)
 }
 
 /// Runs a script as `run_guest_followed` does, with no observer, by a crew of so many checkers,

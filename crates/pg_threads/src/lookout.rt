@@ -9,7 +9,7 @@ use crate::live_judging::LiveJudging;
 use crate::segments::take_segments;
 use crossbeam_utils::Backoff;
 use pg_pool::Gate;
-use pg_progress::{Counts, Onlooker, Progress, ReadSeat};
+use pg_progress::{Counts, Observer, Progress, ReadSeat};
 use pg_report::Crew;
 use pg_runner::RunError;
 use std::sync::atomic::{AtomicU64, Ordering};
@@ -19,29 +19,29 @@ use std::thread::Threads;
 /// Where the calling thread sees how far the processors have come, without their lock, and lets an
 /// observer see it. The observer was told no more than was read.
 #[derive(Drop)]
-pub(crate) struct Lookout<'a, O: Onlooker> {
+pub(crate) struct Lookout<'a, O: Observer> {
     progress: &'a Progress,
     seat: ReadSeat,
-    onlooker: O,
+    observer: O,
     ghost own: { seat.word ≡ progress.now },
-    ghost told: { IsNotBelow (O.told onlooker) seat.last },
+    ghost told: { IsNotBelow (O.told observer) seat.last },
 }
 
-impl<'a, O: Onlooker> Lookout<'a, O> {
-    pub(crate) fn new(progress: &'a Progress, seat: ReadSeat, onlooker: O) -> Lookout<'a, O>
+impl<'a, O: Observer> Lookout<'a, O> {
+    pub(crate) fn new(progress: &'a Progress, seat: ReadSeat, observer: O) -> Lookout<'a, O>
         requires own { seat.word ≡ progress.now }
-        requires told { O.told onlooker ≡ seat.last }
+        requires told { O.told observer ≡ seat.last }
     {
         Lookout {
             progress,
             seat,
-            onlooker,
+            observer,
         }
     }
 
     fn look(&mut self) -> Counts {
         let counts = self.progress.read(&mut self.seat);
-        self.onlooker.see(counts);
+        self.observer.see(counts);
         counts
     }
 }
@@ -63,7 +63,7 @@ fn judge_round<R: Threads + Wait + Sync, H: Gate>(
 
 /// Judges segments as they are sealed, until so many threads have ended, and looks once more then.
 /// After an error there is no further round, and no further look.
-pub(crate) fn watch<R: Threads + Wait + Sync, H: Gate, O: Onlooker>(
+pub(crate) fn watch<R: Threads + Wait + Sync, H: Gate, O: Observer>(
     crew: &Crew<'_, R, H>,
     shared: &Mutex<Board<'_>>,
     lookout: &mut Lookout<'_, O>,

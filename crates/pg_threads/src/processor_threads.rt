@@ -8,7 +8,7 @@ use crate::live_judging::LiveJudging;
 use crate::lookout::{Lookout, watch};
 use crate::processor::run_processor;
 use pg_pool::Gate;
-use pg_progress::Onlooker;
+use pg_progress::Observer;
 use pg_report::Crew;
 use pg_runner::RunError;
 use pg_script::Script;
@@ -68,7 +68,7 @@ fn processor_count(script: &Script) -> u16
 /// Lets each processor of a script carry its instructions out in a thread of its own, if it has
 /// any, and judges what they seal. All threads that were started are joined before it answers, also
 /// where a thread was refused.
-fn run_all<R: Threads + Wait + Sync, G: Gate, H: Gate, O: Onlooker>(
+fn run_all<R: Threads + Wait + Sync, G: Gate, H: Gate, O: Observer>(
     crew: &Crew<'_, R, H>,
     shared: &Mutex<Board<'_>>,
     script: &Script,
@@ -111,7 +111,7 @@ fn run_all<R: Threads + Wait + Sync, G: Gate, H: Gate, O: Onlooker>(
 /// Runs all processors of a script, each that has instructions in a thread of its own, and judges
 /// what they seal. It answers once all threads have ended, and says out of memory where memory and
 /// a thread were refused.
-pub(crate) fn run_processors<R: Threads + Wait + Sync, G: Gate, H: Gate, O: Onlooker>(
+pub(crate) fn run_processors<R: Threads + Wait + Sync, G: Gate, H: Gate, O: Observer>(
     crew: &Crew<'_, R, H>,
     shared: &Mutex<Board<'_>>,
     script: &Script,

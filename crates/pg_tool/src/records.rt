@@ -46,7 +46,15 @@ fn certify_by<T: AllocGlobal + Threads + Wait + Sync, R: Source, O: Sink, E: Sin
         certify_first(rt.alloc(), input, output, errors)
     } else {
         let format = format_of(asked.json);
-        answer(rt, asked.checkers, Question::Certify, format, input, output, errors)
+        answer(
+            rt,
+            asked.checkers,
+            Question::Certify,
+            format,
+            input,
+            output,
+            errors,
+        )
     }
 }
 
@@ -111,12 +119,28 @@ fn do_of_plain<T: AllocGlobal + Threads + Wait + Sync, R: Source, O: Sink, E: Si
         Command::Explain(asked) => {
             let question = telling_question(asked.telling);
             let format = telling_format(asked);
-            answer(rt, Checkers::default(), question, format, input, output, errors)
+            answer(
+                rt,
+                Checkers::default(),
+                question,
+                format,
+                input,
+                output,
+                errors,
+            )
         }
         Command::Show(asked) => {
             let question = Question::Show(asked.selection);
             let format = format_of(asked.json);
-            answer(rt, Checkers::default(), question, format, input, output, errors)
+            answer(
+                rt,
+                Checkers::default(),
+                question,
+                format,
+                input,
+                output,
+                errors,
+            )
         }
         Command::Upgrade => upgrade(alloc, input, output, errors),
         Command::Run(_) | Command::Merge { .. } => unreachable!(),

@@ -7,7 +7,7 @@ use crate::counts::Counts;
 
 /// Who is told how far a run has come while it goes on, by what a reader has read. It changes
 /// nothing of the run.
-pub trait Onlooker {
+pub trait Observer {
     /// No more than what it was told last.
     ghost told: { Self → Told };
 
@@ -22,7 +22,7 @@ pub trait Onlooker {
 #[derive(Clone, Copy)]
 pub struct Nobody;
 
-impl Onlooker for Nobody {
+impl Observer for Nobody {
     ghost told = { λ _. counts 0 0 };
 
     fn see(&mut self, _counts: Counts) {}
