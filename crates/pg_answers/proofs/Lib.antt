@@ -12,3 +12,4 @@ pub mod Audited
 pub mod OneDenial
 pub mod OneCertificate
 pub mod GivenFirsts
+mod FirstChecks

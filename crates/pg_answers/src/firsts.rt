@@ -11,6 +11,8 @@ ghost use Rattle.pg_auditing.specs.Streams.{streams};
 ghost use Rattle.pg_answers.specs.Accounts.{IsAccounting};
 ghost use Rattle.pg_answers.specs.Firsts.{IsAccountUpTo, ReadsUpTo, GivesFirstOf, IsFirstGiven};
 ghost use Rattle.pg_answers.specs.AnswerTexts.{answer_text};
+ghost use Rattle.pg_answers.specs.Answers.{denied_in};
+ghost use Rattle.pg_answers.specs.Certificates.{IsCertificateText};
 ghost use Rattle.pg_answers.specs.Firsts.{CertifiesFirst};
 ghost use Rattle.pg_report.specs.Audits.{WritesText};
 
@@ -99,7 +101,7 @@ fn read_up_to<R: Source>(alloc: Global, source: &mut R) -> Result<StreamingCerti
 }
 
 /// Writes an answer as text, and gives it.
-fn write_answer<O: Sink>(
+pub(crate) fn write_answer<O: Sink>(
     alloc: Global,
     answer: Answer,
     output: &mut O,
@@ -123,7 +125,8 @@ fn write_up_to<O: Sink>(
 ) -> Result<Answer, AuditError>
     requires { (r : Recorded) × IsAccount account.now r.head r.events }
     ensures { (r : Recorded) → IsAccount account.now r.head r.events →
-        GivesFirstOf account.now.findings.denied r (filled O.Sink output.old output.new) result }
+        GivesFirstOf IsCertificateText denied_in account.now.findings.denied r
+        (filled O.Sink output.old output.new) result }
 {
     let answer = certificate_by(alloc, account)?;
     write_answer(alloc, answer, output)
@@ -136,7 +139,7 @@ fn write_first<R: Source, O: Sink>(
     input: &mut R,
     output: &mut O,
 ) -> Result<Answer, AuditError>
-    ensures { IsFirstGiven
+    ensures { IsFirstGiven IsCertificateText denied_in
         (drawn R.Source input.old input.new) (filled O.Sink output.old output.new) result }
 {
     match read_up_to(alloc, input) {

@@ -9,6 +9,7 @@ mod certificates;
 mod checks;
 mod denials;
 mod explanations;
+mod first_checks;
 mod firsts;
 mod laws;
 mod naming;
@@ -22,6 +23,7 @@ mod upgrader;
 
 pub use answer::{Answer, Rejection, Summary, answer_status};
 pub use answering::answer_record;
+pub use first_checks::check_first;
 pub use firsts::certify_first;
 pub use laws::checks_are_audits;
 pub use naming::name_moments;

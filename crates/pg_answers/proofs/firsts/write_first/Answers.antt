@@ -1,5 +1,7 @@
 use Rattle.std.proofs.Common.{refl}
 use Rattle.std.proofs.KnownBytes.{Keeps-refl}
+use Rattle.pg_answers.specs.Answers.{denied_in}
+use Rattle.pg_answers.specs.Certificates.{IsCertificateText}
 use Rattle.pg_answers.proofs.GivenFirsts.{first_fails}
 use Rattle.pg_answers.proofs.firsts.write_first.Goals as goal
 
@@ -14,4 +16,4 @@ returns-in-Ok g c =
     c.write_up_to.ensures known.0 known.1 _ known.2 c.in-Ok.ensures.device
 
 pub returns-in-Err : goal.returns-in-Err
-returns-in-Err g c = first_fails _ _ c.in-Err.error c.in-Err.ensures.reads c.in-Err.ensures.device (Keeps-refl _) refl
+returns-in-Err g c = first_fails IsCertificateText denied_in _ _ c.in-Err.error c.in-Err.ensures.reads c.in-Err.ensures.device (Keeps-refl _) refl
