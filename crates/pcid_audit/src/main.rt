@@ -2,12 +2,12 @@
 //! pcid-audit: the program over the standard streams.
 #![tactic(auto)]
 
-use pg_auditing::{UNOPENED, tell_no_words};
+use pg_auditing::UNOPENED;
 use pg_codec::{Sink, Watched, put_all};
 use pg_follow::{Followed, Teller};
-use pg_plan::{NoWords, arguments, words_of};
+use pg_plan::arguments;
 use pg_span_codec::Peeked;
-use pg_tool::{Host, pcid_audit_followed, plan};
+use pg_tool::{Host, pcid_audit_of_arguments};
 use std::cell::Cell;
 use std::fs::{self, File};
 use std::io::{self, ErrorKind, Lock, Read, Stderr, Write};
@@ -60,13 +60,6 @@ fn tell_why<E: Sink>(errors: &mut E, why: Option<ErrorKind>) {
 fn main(rt: HostRuntime) -> ExitCode {
     let mut output = Watched::new(rt.stdout());
     let mut errors = Watched::new(rt.stderr());
-    let arguments = match arguments(&rt) {
-        Ok(arguments) => arguments,
-        Err(why) => return ExitCode::from(tell_no_words(&mut errors, why)),
-    };
-    let Ok(words) = words_of(rt.alloc(), arguments.as_slice()) else {
-        return ExitCode::from(tell_no_words(&mut errors, NoWords::Memory));
-    };
     let progress = Cell::new(false);
     let why = Cell::new(None);
     let mut input = Peeked::new(Followed::new(
@@ -81,9 +74,9 @@ fn main(rt: HostRuntime) -> ExitCode {
         reading: &progress,
         onlooker: Teller::new(Watched::new(rt.stderr())),
     };
-    let status = pcid_audit_followed(
+    let status = pcid_audit_of_arguments(
         &rt,
-        plan(rt.alloc(), words.as_slice()),
+        arguments(&rt),
         host,
         &mut input,
         &mut output,

@@ -2,3 +2,4 @@ pub mod Guests
 pub mod Pictures
 pub mod Records
 pub mod Answers
+pub mod Words

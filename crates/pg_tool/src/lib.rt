@@ -9,6 +9,7 @@ mod host;
 mod pictures;
 mod program;
 mod records;
+mod words;
 
 pub use guest_error::GuestError;
 pub use host::Host;
@@ -18,3 +19,4 @@ pub use pg_plan::{
     ShowOptions, Telling, Usage, plan,
 };
 pub use program::{pcid_audit, pcid_audit_followed, run, run_followed};
+pub use words::{pcid_audit_of_arguments, pcid_audit_of_words};
