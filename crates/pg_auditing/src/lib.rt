@@ -5,12 +5,13 @@
 
 mod checks;
 mod files;
+mod reasons;
 mod refusals;
 mod statuses;
 mod words;
 
 pub use checks::check;
-pub use files::tell_unopened;
+pub use files::{UNCREATED, tell_input, tell_uncreated, tell_unopened};
 pub use refusals::{
     put_error, put_line, put_name, put_number, put_place, put_refusal, tell, tell_error,
     tell_memory, tell_spans, tell_text,

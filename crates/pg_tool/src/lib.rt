@@ -2,17 +2,25 @@
 //! The whole program over any streams.
 #![tactic(auto)]
 
+mod brief;
 mod guest_error;
 mod guest_refusals;
 mod guests;
 mod host;
+mod inputs;
+mod lines;
+mod named;
+mod nowhere;
+mod outputs;
 mod pictures;
 mod program;
 mod records;
 mod words;
 
+pub use brief::Brief;
 pub use guest_error::GuestError;
 pub use host::Host;
+pub use nowhere::Nowhere;
 pub use pg_event::Selection;
 pub use pg_plan::{
     CertifyOptions, CheckOptions, Checkers, Command, ExplainOptions, Invocation, Plan, RunOptions,

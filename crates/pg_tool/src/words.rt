@@ -5,6 +5,7 @@ ghost use Rattle.clap.specs.Walk.{texts};
 ghost use Rattle.pg_auditing.specs.Streams.{streams};
 ghost use Rattle.pg_progress.specs.Seats.{counts};
 ghost use Rattle.pg_tool.specs.Answers.{opens};
+ghost use Rattle.pg_tool.specs.Outputs.{makes};
 ghost use Rattle.pg_tool.specs.Words.{AnswersArguments, AnswersWords};
 
 use crate::host::Host;
@@ -24,6 +25,8 @@ pub fn pcid_audit_of_words<
     T: AllocGlobal + Threads + Wait + Sync,
     F: Fn(&str) -> Option<Peeked<S>>,
     S: Source + Drop,
+    G: Fn(&str) -> Option<W>,
+    W: Sink + Drop,
     R: Source,
     O: Sink,
     E: Sink,
@@ -31,15 +34,16 @@ pub fn pcid_audit_of_words<
 >(
     rt: &T,
     words: &[&str],
-    host: Host<'_, F, P>,
+    host: Host<'_, F, G, P>,
     input: &mut Peeked<R>,
     output: &mut O,
     errors: &mut E,
 ) -> u8
     requires opener { F.IsAlwaysCallable host.opener }
+    requires creator { G.IsAlwaysCallable host.creator }
     requires onlooker { P.told host.onlooker ≡ counts 0 0 }
     ensures { AnswersWords (texts words.now) (opens F.Fn ⟦<Peeked<S> as Source>⟧ host.entry.opener)
-        (input.new ≡ input.old)
+        (makes G.Fn W.Sink host.entry.creator) host.entry.is_terminal (input.new ≡ input.old)
         (streams ⟦<Peeked<R> as Source>⟧ O.Sink E.Sink
         (input.old, output.old, errors.old) (input.new, output.new, errors.new)) result }
 {
@@ -54,6 +58,8 @@ pub fn pcid_audit_of_arguments<
     T: AllocGlobal + Threads + Wait + Sync,
     F: Fn(&str) -> Option<Peeked<S>>,
     S: Source + Drop,
+    G: Fn(&str) -> Option<W>,
+    W: Sink + Drop,
     R: Source,
     O: Sink,
     E: Sink,
@@ -61,15 +67,17 @@ pub fn pcid_audit_of_arguments<
 >(
     rt: &T,
     arguments: Result<Vec<String>, NoWords>,
-    host: Host<'_, F, P>,
+    host: Host<'_, F, G, P>,
     input: &mut Peeked<R>,
     output: &mut O,
     errors: &mut E,
 ) -> u8
     requires opener { F.IsAlwaysCallable host.opener }
+    requires creator { G.IsAlwaysCallable host.creator }
     requires onlooker { P.told host.onlooker ≡ counts 0 0 }
     ensures { AnswersArguments arguments
-        (opens F.Fn ⟦<Peeked<S> as Source>⟧ host.entry.opener) (input.new ≡ input.old)
+        (opens F.Fn ⟦<Peeked<S> as Source>⟧ host.entry.opener)
+        (makes G.Fn W.Sink host.entry.creator) host.entry.is_terminal (input.new ≡ input.old)
         (streams ⟦<Peeked<R> as Source>⟧ O.Sink E.Sink
         (input.old, output.old, errors.old) (input.new, output.new, errors.new)) result }
 {
