@@ -21,18 +21,25 @@ NO_NUMBER = ("error: a number is given by digits alone, an address by 0x and 1 t
              "  and a page by an address that is canonical" + MORE)
 NO_TELLING = "error: --most goes with --all alone, by digits alone, and --svg goes without --all" + MORE
 CONFLICT = ("error: --json, --bytes, --order, --svg and --first exclude one another, and so do --first and\n"
-            "  --checkers, and --single and --progress" + MORE)
+            "  --checkers, --single and --progress, and --quiet and each of --output, --bytes, --order and --svg;\n"
+            "  several files exclude --json, --bytes and --svg" + MORE)
 # Options of which one has no effect beside another.
 EXCLUSIVE = (*itertools.combinations(("json", "bytes", "order", "svg", "first"), 2), ("first", "checkers"),
-             ("single", "progress"))
+             ("single", "progress"), *(("quiet", name) for name in ("output", "bytes", "order", "svg")))
+# Options that write no text of lines, which could begin with a file's name.
+UNMIXED = {"json", "bytes", "svg"}
+# Commands that write bytes which are no text, with --bytes or always.
+BINARY = ("merge", "upgrade")
+TERMINAL = "error: a record is no text for a terminal: use --output FILE, or redirect the output\n"
 # Why a file can't be opened.
 REASONS = ((FileNotFoundError, "no such file or directory"), (PermissionError, "permission denied"),
-           (NotADirectoryError, "a part of its path is no directory"))
+           (NotADirectoryError, "a part of its path is no directory"), (IsADirectoryError, "it is a directory"))
 # Options whose value is a number, with the least and the greatest.
 EVENTS = (0, 4294967295)
 NUMBERS = {"checkers": (1, 64), "cpu": (0, 65535), "most": (1, 1_000_000), "from": EVENTS, "to": EVENTS,
            "error": EVENTS}
 ADDRESSES = ("page", "word")
+NAMES = ("output",)
 
 
 class Answer(Exception):
@@ -170,7 +177,7 @@ class Reader:
 
     def look_at(self, name, value):
         """Refuses a value that the command line does not take."""
-        if name in ADDRESSES:
+        if name in ADDRESSES or name in NAMES:
             return
         if name not in NUMBERS:
             raise Unsure
@@ -236,10 +243,12 @@ class Reader:
 
     def lettered(self, option, rest):
         """An option by its letter, with what follows in the same word."""
-        if not option.value:
+        if not option.value and rest:
             raise Unsure
         self.settle()
-        if rest:
+        if not option.value:
+            self.take(option.name, None)
+        elif rest:
             self.take(option.name, rest.removeprefix("="))
         else:
             self.pending = option.name, None
@@ -262,9 +271,10 @@ def is_canonical(address):
     return address >> 47 in (0, 0x1FFFF)
 
 
-def look_at_plan(name, given):
+def look_at_plan(name, given, files):
     """Refuses what the command line takes, and the program does not."""
-    if any(one in given and other in given for one, other in EXCLUSIVE):
+    is_mixed = name != "merge" and len(files) > 1 and UNMIXED & {*given}
+    if is_mixed or any(one in given and other in given for one, other in EXCLUSIVE):
         raise Answer(USAGE, errors=CONFLICT)
     is_signed = {option for option in NUMBERS if (given.get(option) or "").startswith("+")}
     if name == "explain" and ("most" in given and "all" not in given or {"svg", "all"} <= {*given} or is_signed):
@@ -279,13 +289,24 @@ def look_at_plan(name, given):
             raise Answer(USAGE, errors=NO_NUMBER)
 
 
+def look_at_output(name, given, is_terminal):
+    """Refuses a terminal for what is no text. The program creates the file for the output before it opens others."""
+    if "output" in given:
+        raise Unsure
+    if (name in BINARY or "bytes" in given) and "quiet" not in given and is_terminal:
+        raise Answer(USAGE, errors=TERMINAL)
+
+
 def look_at_files(name, files):
     """Refuses a file that can't be opened. Of several logs the first is opened first."""
     if not files or files[0] == "-" or len(files) > 1 and name != "merge":
         return
     try:
         # (a pipe that is opened and closed would break for whoever writes to it)
-        if stat.S_ISREG(os.stat(files[0]).st_mode):
+        mode = os.stat(files[0]).st_mode
+        if stat.S_ISDIR(mode):
+            raise IsADirectoryError
+        if stat.S_ISREG(mode):
             os.close(os.open(files[0], os.O_RDONLY))
     except OSError as error:
         why = next((f"pcid-audit: {reason}\n" for kind, reason in REASONS if isinstance(error, kind)), "")
@@ -325,8 +346,9 @@ def look_at_first(line, words):
     raise fault(f"unrecognized subcommand '{word}'{tip}", line.usage)
 
 
-def answer(words):
-    """The program's answer to these arguments; None where it has to read a record, or only it knows."""
+def answer(words, is_terminal=False):
+    """The program's answer to these arguments, where standard output is a terminal or not; None where it has to
+    read a record, or only it knows."""
     try:
         for word in words:
             word.encode()
@@ -341,7 +363,8 @@ def answer(words):
         if not reader.files and reader.line.files[0].startswith("<"):
             raise fault(f"the following required arguments were not provided:\n  {reader.line.files[0]}",
                         reader.line.usage_of([*reader.given, reader.line.files[1]], False))
-        look_at_plan(words[0], reader.given)
+        look_at_plan(words[0], reader.given, reader.files)
+        look_at_output(words[0], reader.given, is_terminal)
         look_at_files(words[0], reader.files)
     except Answer as known:
         return known

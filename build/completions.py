@@ -1,6 +1,9 @@
 # SPDX-License-Identifier: MIT OR Apache-2.0
 """Completions for bash and zsh, made from the program's own table of options."""
 
+# How help calls a value that is the name of a file.
+FILE = "FILE"
+
 BASH = """# Completion of pcid-audit for bash, made by build/package from the program's help texts.
 _pcid_audit() {{
     local current=${{COMP_WORDS[COMP_CWORD]}} options=
@@ -42,8 +45,11 @@ case $subcommand in
 def bash(whole, commands):
     """The completion file for bash."""
     first = " ".join([name for name, _ in whole.commands] + [it for o in whole.options for it in o.spellings()])
-    valued = sorted({f"--{o.name}" for it in commands.values() for o in it.options if o.value})
+    files = sorted({f"--{o.name}" for it in commands.values() for o in it.options if o.value == FILE})
+    valued = sorted({f"--{o.name}" for it in commands.values() for o in it.options if o.value not in (None, FILE)})
     values = f"    {' | '.join(valued)}) return ;;\n" if valued else ""
+    if files:
+        values += f"    {' | '.join(files)}) COMPREPLY=($(compgen -f -- \"$current\")); return ;;\n"
     rows = []
     for name, it in commands.items():
         rows.append(f"    {name}) options='{' '.join(w for o in it.options for w in o.spellings())}' ;;\n")
@@ -65,7 +71,7 @@ def specification(option):
     """What zsh's _arguments takes for an option."""
     about = f"[{escaped(option.about)}]"
     if option.value:
-        return quoted(f"--{option.name}={about}:{escaped(option.value)}:")
+        return quoted(f"--{option.name}={about}:{escaped(option.value)}:{'_files' if option.value == FILE else ''}")
     if option.letter:
         return f"'({option.letter} --{option.name})'{{{option.letter},--{option.name}}}{quoted(about)}"
     return quoted(f"--{option.name}{about}")

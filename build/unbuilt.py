@@ -22,7 +22,7 @@ NOT_BUILT = 70
 
 def main():
     words = sys.argv[1:]
-    known = arguments.answer(words)
+    known = arguments.answer(words, sys.stdout.isatty())
     if known:
         sys.stdout.write(known.output)
         sys.stderr.write(known.errors)

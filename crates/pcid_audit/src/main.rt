@@ -2,15 +2,17 @@
 //! pcid-audit: the program over the standard streams.
 #![tactic(auto)]
 
-use pg_auditing::{UNOPENED, tell_no_words};
-use pg_codec::{Sink, Watched, put_all};
+mod reasons;
+
+use crate::reasons::Reasoned;
+use pg_codec::Watched;
 use pg_follow::{Followed, Teller};
-use pg_plan::{NoWords, arguments, words_of};
+use pg_plan::arguments;
 use pg_span_codec::Peeked;
-use pg_tool::{Host, pcid_audit_followed, plan};
+use pg_tool::{Brief, Host, pcid_audit_of_arguments};
 use std::cell::Cell;
 use std::fs::{self, File};
-use std::io::{self, ErrorKind, Lock, Read, Stderr, Write};
+use std::io::{self, ErrorKind, IsTerminal, Lock, Read, Stderr, Write};
 use std::process::ExitCode;
 
 /// What is read: it tells of its progress on standard error, by a handle of its own.
@@ -24,6 +26,22 @@ fn size_of(file: &File) -> Option<u64> {
     }
 }
 
+/// The path of the file of that name, where `-` is standard input.
+fn path_of(name: &str) -> &str {
+    if name == "-" { "/dev/stdin" } else { name }
+}
+
+/// The file of that path, if it is no directory.
+fn file_at(rt: &HostRuntime, path: &str) -> Result<File, ErrorKind> {
+    match fs::open(rt, path) {
+        Ok(file) => match file.metadata() {
+            Ok(metadata) if metadata.is_dir() => Err(ErrorKind::IsADirectory),
+            _ => Ok(file),
+        },
+        Err(error) => Err(error.kind()),
+    }
+}
+
 /// The file of that name, where it can be opened, and else `why` says why not.
 fn open_file<'r, 'a>(
     rt: &'r HostRuntime,
@@ -31,13 +49,28 @@ fn open_file<'r, 'a>(
     progress: &'a Cell<bool>,
     why: &Cell<Option<ErrorKind>>,
 ) -> Option<Input<'r, 'a, File>> {
-    match fs::open(rt, name) {
+    match file_at(rt, path_of(name)) {
         Ok(file) => {
             let size = size_of(&file);
             let errors = Watched::new(rt.stderr());
             let followed = Followed::new(Watched::new(file), errors, rt, size, progress);
             Some(Peeked::new(followed))
         }
+        Err(kind) => {
+            why.set(Some(kind));
+            None
+        }
+    }
+}
+
+/// The empty file of that name, where it can be created, and else `why` says why not.
+fn create_file(
+    rt: &HostRuntime,
+    name: &str,
+    why: &Cell<Option<ErrorKind>>,
+) -> Option<Watched<File>> {
+    match File::create(rt, name) {
+        Ok(file) => Some(Watched::new(file)),
         Err(error) => {
             why.set(Some(error.kind()));
             None
@@ -45,30 +78,17 @@ fn open_file<'r, 'a>(
     }
 }
 
-/// Tells why a file can't be opened, behind the line that says so, where the system gives one of
-/// these reasons.
-fn tell_why<E: Sink>(errors: &mut E, why: Option<ErrorKind>) {
-    let line: &[u8] = match why {
-        Some(ErrorKind::NotFound) => b"pcid-audit: no such file or directory\n",
-        Some(ErrorKind::PermissionDenied) => b"pcid-audit: permission denied\n",
-        Some(ErrorKind::NotADirectory) => b"pcid-audit: a part of its path is no directory\n",
-        _ => b"",
-    };
-    let _ = put_all(errors, line);
-}
-
 fn main(rt: HostRuntime) -> ExitCode {
     let mut output = Watched::new(rt.stdout());
-    let mut errors = Watched::new(rt.stderr());
-    let arguments = match arguments(&rt) {
-        Ok(arguments) => arguments,
-        Err(why) => return ExitCode::from(tell_no_words(&mut errors, why)),
-    };
-    let Ok(words) = words_of(rt.alloc(), arguments.as_slice()) else {
-        return ExitCode::from(tell_no_words(&mut errors, NoWords::Memory));
+    // Whoever names a file, or reads standard error at a terminal, is told in words too.
+    let is_brief = Cell::new(!rt.stderr().is_terminal());
+    let why = Cell::new(None);
+    let mut errors = Reasoned {
+        errors: Brief::new(Watched::new(rt.stderr()), &is_brief),
+        why: &why,
+        reasons: Watched::new(rt.stderr()),
     };
     let progress = Cell::new(false);
-    let why = Cell::new(None);
     let mut input = Peeked::new(Followed::new(
         Watched::new(rt.reader()),
         Watched::new(rt.stderr()),
@@ -77,20 +97,25 @@ fn main(rt: HostRuntime) -> ExitCode {
         &progress,
     ));
     let host = Host {
-        opener: |name: &str| open_file(&rt, name, &progress, &why),
+        opener: |name: &str| {
+            is_brief.set(false);
+            open_file(&rt, name, &progress, &why)
+        },
+        creator: |name: &str| {
+            is_brief.set(false);
+            create_file(&rt, name, &why)
+        },
+        is_terminal: rt.stdout().is_terminal(),
         reading: &progress,
         onlooker: Teller::new(Watched::new(rt.stderr())),
     };
-    let status = pcid_audit_followed(
+    let status = pcid_audit_of_arguments(
         &rt,
-        plan(rt.alloc(), words.as_slice()),
+        arguments(&rt),
         host,
         &mut input,
         &mut output,
         &mut errors,
     );
-    if status == UNOPENED {
-        tell_why(&mut errors, why.get());
-    }
     ExitCode::from(status)
 }

@@ -3,7 +3,7 @@
 use pg_cases::{Case, Pieces, answers, bytes_of, is_answered, walks};
 use pg_codec::{Sink, Source, Watched};
 use pg_span_codec::Peeked;
-use pg_tool::{pcid_audit, plan};
+use pg_tool::{Nowhere, pcid_audit, plan};
 use std::alloc::AllocGlobal;
 use std::io::ErrorKind;
 use std::process::Abort;
@@ -30,7 +30,8 @@ fn run_with_file<T: AllocGlobal + Threads + Wait + Sync, R: Source, O: Sink, E: 
         }
     };
     let planned = plan(rt.alloc(), case.words);
-    pcid_audit(rt, planned, opener, input, output, errors)
+    let creator = |_name: &str| -> Option<Nowhere> { None };
+    pcid_audit(rt, planned, opener, creator, input, output, errors)
 }
 
 /// Whether the program answers as the case says, whose input the file has, and reads no standard

@@ -72,7 +72,9 @@ fn beginning(alloc: Global, text: &[u8]) -> Result<(u8, String), AllocError> {
     match refusal(lines, is_whole) {
         Some(name) => {
             let line = lines.wrapping_add(1);
-            let told = format!(in alloc; "pcid-audit: script line {line} refused {name}\n")?;
+            let told = format!(in alloc;
+                "pcid-audit: script line {line} refused {name}\npcid-audit: input: standard input\n"
+            )?;
             Ok((2, told))
         }
         None => {
@@ -126,18 +128,24 @@ fn mutated(alloc: Global, script: &str, at: usize, value: u8) -> Result<Vec<u8>,
 
 /// The refusals of a script, by their numbers from 1.
 const REFUSALS: [&str; 8] = [
-    " refused 1 first line\n",
-    " refused 2 machine\n",
-    " refused 3 segment\n",
-    " refused 4 cpu\n",
-    " refused 5 instruction\n",
-    " refused 6 number\n",
-    " refused 7 malformed\n",
-    " refused 8 line end\n",
+    " refused 1 first line",
+    " refused 2 machine",
+    " refused 3 segment",
+    " refused 4 cpu",
+    " refused 5 instruction",
+    " refused 6 number",
+    " refused 7 malformed",
+    " refused 8 line end",
 ];
 
-/// The number of the refusal that a line tells, and 0 where it tells none.
-fn number_told(line: &[u8]) -> usize {
+/// What follows the line of a refusal.
+const INPUT: &[u8] = b"\npcid-audit: input: standard input\n";
+
+/// The number of the refusal that lines tell, and 0 where they tell none.
+fn number_told(lines: &[u8]) -> usize {
+    let Some(line) = lines.strip_suffix(INPUT) else {
+        return 0;
+    };
     for (i, refusal) in REFUSALS.iter().enumerate() {
         if line.ends_with(refusal.as_bytes()) {
             return i.wrapping_add(1);

@@ -144,19 +144,22 @@ $ certify --order
 == spanned_walk_checked
 $ check
 < @walk
-! pcid-audit: refused 2 version: certify judges records with spans
+! pcid-audit: refused 2 version
+! pcid-audit: certify judges records with spans
 ? 2
 
 == run_of_spanned_walk
 $ run-of
 < @walk
-! pcid-audit: refused 2 version: certify judges records with spans
+! pcid-audit: refused 2 version
+! pcid-audit: certify judges records with spans
 ? 2
 
 == spanned_walk_upgraded
 $ upgrade
 < @walk
-! pcid-audit: refused 2 version: certify judges records with spans
+! pcid-audit: refused 2 version
+! pcid-audit: certify judges records with spans
 ? 2
 
 == span_that_begins_before_event_0

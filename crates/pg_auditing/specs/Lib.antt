@@ -1,3 +1,4 @@
+pub mod Reasons
 pub mod Streams
 pub mod Refusals
 pub mod Status

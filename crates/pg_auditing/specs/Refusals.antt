@@ -6,6 +6,7 @@ use Rattle.pg_report.specs.declared.error.AuditError.TheVariants.{Refused, Devic
 use Rattle.pg_report.specs.declared.error.AuditError.TheVariants.{Thread, Checkers}
 use Rattle.pg_report.specs.Changes.{Change, Fails, Works, Adds, AddsSome, AddsNothing}
 use Rattle.pg_report.specs.Numbers.{rule_number, error_number, error_name}
+use Rattle.pg_auditing.specs.Reasons.{words_line}
 use Rattle.pg_plan.specs.declared.words.NoWords.{NoWords}
 use Rattle.pg_plan.specs.declared.words.NoWords.TheVariants as unread
 
@@ -32,22 +33,34 @@ place_text Memory = []
 place_text Thread = []
 place_text Checkers = []
 
--- the line of an audit that came to no verdict
-abbrev pub refusal_line : AuditError → List ℕ
-refusal_line error =
+-- the number and the name of why an audit came to no verdict
+abbrev pub fixed_line : AuditError → List ℕ
+fixed_line error =
     refusal_text (error_number error) (error_name error) ++ (place_text error ++ codes "\n")
+
+-- the lines of an audit that came to no verdict: that line, and what is wrong in words
+abbrev pub refusal_line : AuditError → List ℕ
+refusal_line error = fixed_line error ++ words_line error
 
 -- `pcid-audit: refused 1 memory`, the line for running out of memory before any input was read
 abbrev pub memory_line : List ℕ
 memory_line = refusal_text 1 (codes "memory") ++ codes "\n"
 
--- the line of a record of version 3 or 4 where its events have to stand in one order
+-- the lines of a record of version 3 or 4 where its events have to stand in one order
 abbrev pub spans_line : List ℕ
-spans_line = codes "pcid-audit: refused 2 version: certify judges records with spans\n"
+spans_line = codes "pcid-audit: refused 2 version\npcid-audit: certify judges records with spans\n"
 
 -- `pcid-audit: can't open a.record`
 abbrev pub unopened_line : List ℕ → List ℕ
 unopened_line name = codes "pcid-audit: can't open" ++ (codes " " ++ (name ++ codes "\n"))
+
+-- `pcid-audit: can't create a.txt`
+abbrev pub uncreated_line : List ℕ → List ℕ
+uncreated_line name = codes "pcid-audit: can't create" ++ (codes " " ++ (name ++ codes "\n"))
+
+-- `pcid-audit: input: a.record`
+abbrev pub input_line : List ℕ → List ℕ
+input_line name = codes "pcid-audit: input:" ++ (codes " " ++ (name ++ codes "\n"))
 
 -- the stream is as it was
 abbrev pub StaysSame : Change → Type 0

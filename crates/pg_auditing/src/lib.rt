@@ -3,11 +3,12 @@
 #![tactic(auto)]
 
 mod files;
+mod reasons;
 mod refusals;
 mod statuses;
 mod words;
 
-pub use files::tell_unopened;
+pub use files::{UNCREATED, tell_input, tell_uncreated, tell_unopened};
 pub use refusals::{
     put_error, put_line, put_name, put_number, put_place, put_refusal, tell, tell_error,
     tell_memory, tell_spans, tell_text,

@@ -3,9 +3,10 @@
 ghost use Rattle.std.specs.Prelude.{◌++◌, codes, decimal};
 ghost use Rattle.pg_codec.specs.Writing.{Puts};
 ghost use Rattle.pg_report.specs.Changes.{filled};
-ghost use Rattle.pg_auditing.specs.Refusals.{refusal_text, place_text, refusal_line, memory_line};
-ghost use Rattle.pg_auditing.specs.Refusals.{Tells, TellsError, spans_line};
+ghost use Rattle.pg_auditing.specs.Refusals.{refusal_text, place_text, fixed_line, refusal_line};
+ghost use Rattle.pg_auditing.specs.Refusals.{memory_line, Tells, TellsError, spans_line};
 
+use crate::reasons::put_words;
 use itoa::Buffer;
 use pg_codec::{Failed, Sink, put_all};
 use pg_event::Refusal;
@@ -65,13 +66,21 @@ pub fn put_place<W: Sink>(errors: &mut W, error: AuditError) -> Result<(), Faile
     }
 }
 
-/// The line that says why there is no answer.
-pub fn put_error<W: Sink>(errors: &mut W, error: AuditError) -> Result<(), Failed>
-    ensures { Puts W.Sink (refusal_line error) errors.old errors.new result }
+/// The line that says why there is no answer, by a number and its name.
+fn put_fixed<W: Sink>(errors: &mut W, error: AuditError) -> Result<(), Failed>
+    ensures { Puts W.Sink (fixed_line error) errors.old errors.new result }
 {
     put_refusal(errors, error.number(), error.name())?;
     put_place(errors, error)?;
     put_all(errors, b"\n")
+}
+
+/// The two lines that say why there is no answer: the second one says it in words.
+pub fn put_error<W: Sink>(errors: &mut W, error: AuditError) -> Result<(), Failed>
+    ensures { Puts W.Sink (refusal_line error) errors.old errors.new result }
+{
+    put_fixed(errors, error)?;
+    put_words(errors, error)
 }
 
 /// The line of a refusal with nothing after its name.
@@ -83,7 +92,7 @@ pub fn put_line<W: Sink>(errors: &mut W, number: u8, name: &str) -> Result<(), F
     put_all(errors, b"\n")
 }
 
-/// Writes the line that says why there is no answer.
+/// Writes the lines that say why there is no answer.
 pub fn tell<W: Sink>(errors: &mut W, error: AuditError)
     ensures { Tells (filled W.Sink errors.old errors.new) (refusal_line error) }
 {
@@ -104,11 +113,11 @@ pub fn tell_spans<W: Sink>(errors: &mut W)
 {
     tell_text(
         errors,
-        "pcid-audit: refused 2 version: certify judges records with spans\n",
+        "pcid-audit: refused 2 version\npcid-audit: certify judges records with spans\n",
     )
 }
 
-/// Writes that line where there is an error, and else nothing.
+/// Writes those lines where there is an error, and else nothing.
 pub fn tell_error<W: Sink, T>(errors: &mut W, answer: &Result<T, AuditError>)
     ensures { TellsError (filled W.Sink errors.old errors.new) answer.now }
 {

@@ -1,9 +1,10 @@
 //! What the program is given and must answer, over streams that are whole, small or failing.
 
 use crate::pieces::{Crumbs, Fault, Pieces};
+use crate::told::is_told;
 use pg_codec::{Sink, Source, Watched};
 use pg_span_codec::Peeked;
-use pg_tool::{pcid_audit, plan};
+use pg_tool::{Nowhere, pcid_audit, plan};
 use std::alloc::AllocGlobal;
 use std::io::ErrorKind;
 use std::sync::Wait;
@@ -20,7 +21,7 @@ pub struct Case<'a> {
     pub input: &'a [u8],
     /// Standard output.
     pub output: &'a [u8],
-    /// Standard error.
+    /// Standard error: of a refusal its fixed line alone.
     pub line: &'a str,
     /// The exit status.
     pub status: u8,
@@ -34,6 +35,11 @@ fn no_file(_name: &str) -> Option<Peeked<Watched<&'static [u8]>>> {
     None
 }
 
+/// None can be created.
+fn no_creation(_name: &str) -> Option<Nowhere> {
+    None
+}
+
 /// The exit status of the program with these words on these streams, where there are no files. What
 /// the program promises is long: who calls this carries none of it, and is proved sooner.
 pub fn run_on<T: AllocGlobal + Threads + Wait + Sync, R: Source, O: Sink, E: Sink>(
@@ -44,7 +50,7 @@ pub fn run_on<T: AllocGlobal + Threads + Wait + Sync, R: Source, O: Sink, E: Sin
     errors: &mut E,
 ) -> u8 {
     let planned = plan(rt.alloc(), words);
-    pcid_audit(rt, planned, no_file, input, output, errors)
+    pcid_audit(rt, planned, no_file, no_creation, input, output, errors)
 }
 
 /// The exit status of the program over memory (`run_on`).
@@ -59,9 +65,10 @@ pub fn run_over<T: AllocGlobal + Threads + Wait + Sync>(
     run_on(rt, words, &mut input, output, errors)
 }
 
-/// Whether the program ended and wrote as the case says.
+/// Whether the program ended and wrote as the case says. A refusal's fixed line is followed by those
+/// that say it in words and name the input.
 pub fn is_answered<'a>(case: Case<'a>, status: u8, output: &[u8], line: &[u8]) -> bool {
-    status == case.status && output == case.output && line == case.line.as_bytes()
+    status == case.status && output == case.output && is_told(case.line, status, line)
 }
 
 /// Whether the program answers as the case says on a source in the place of the case's input.
@@ -149,8 +156,8 @@ fn ends_at_write<'a, T: AllocGlobal + Threads + Wait + Sync>(
     let mut errors = Watched::new(Vec::new(rt.alloc()));
     let status = run_on(rt, case.words, &mut input, &mut output, &mut errors);
     let taken = output.inner.taken.as_slice();
-    let is_told = status == 2 && errors.inner.as_slice() == DEVICE.as_bytes();
-    Ok(is_told && taken.len() == write && case.output.starts_with(taken))
+    let is_well_told = status == 2 && is_told(DEVICE, status, &errors.inner);
+    Ok(is_well_told && taken.len() == write && case.output.starts_with(taken))
 }
 
 /// Whether it does at each write to standard output in its turn.

@@ -11,6 +11,7 @@ mod pieces;
 pub mod refusals;
 mod row;
 pub mod runs;
+mod told;
 pub mod versions;
 pub mod walks;
 
@@ -21,3 +22,4 @@ pub use case::{
 pub use long::push_record;
 pub use pieces::Pieces;
 pub use row::{Row, bytes_of, first_unanswered, row_of, rows_of};
+pub use told::is_told;

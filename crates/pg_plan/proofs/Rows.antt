@@ -6,7 +6,7 @@ use Rattle.clap.specs.Walk.{Row, Text, first_of}
 use Rattle.clap.specs.Kinds.{Kinds}
 use Rattle.clap.specs.declared.error.kind.ErrorKind.TheVariants.{DisplayHelp, DisplayVersion, InvalidSubcommand, MissingSubcommand, UnknownArgument, ValueValidation, ArgumentConflict}
 use Rattle.clap.proofs.OnLiterals.{clap_on_literals}
-use Rattle.pg_plan.specs.Commands.{AreAsked, Asks, IsAsked, command_line, has_conflict}
+use Rattle.pg_plan.specs.Commands.{AreAsked, Asks, IsAsked, command_line, files_in, has_conflict, output_in}
 use Rattle.pg_plan.specs.Values.{IsCpuIn, IsOptional, IsPageIn}
 use Rattle.pg_plan.specs.declared.request.CheckOptions.{CheckOptions}
 use Rattle.pg_plan.specs.declared.request.Command.{Command}
@@ -32,10 +32,10 @@ bare = record { checkers = 1; all = false; json = false }
 
 -- nothing is told meanwhile
 abbrev quiet : Command → Plan
-quiet command = record { command = command; progress = false }
+quiet command = record { command = command; progress = false; quiet = false }
 
 abbrev telling : Command → Plan
-telling command = record { command = command; progress = true }
+telling command = record { command = command; progress = true; quiet = false }
 
 check : Gives (codes "check" ∷ []) []
 unfolding clap_on_literals
@@ -60,7 +60,7 @@ check_short = refl
 
 asks_certify : Asks (codes "certify" ∷ codes "--bytes" ∷ []) (quiet (Certify (record { checkers = 1; bytes = true; order = false; first = false; json = false }))) None
 unfolding clap_on_literals
-asks_certify = (refl, ((refl, record { checkers = refl; bytes = refl; order = refl; first = refl; json = refl }), refl, refl), refl)
+asks_certify = (refl, ((refl, record { checkers = refl; bytes = refl; order = refl; first = refl; json = refl }), refl, refl, refl), refl)
 
 certify_single : Gives (codes "certify" ∷ codes "--single" ∷ []) (UnknownArgument ∷ [])
 unfolding clap_on_literals
@@ -121,9 +121,13 @@ unknown_word : Gives (codes "judge" ∷ []) (UnknownArgument ∷ InvalidSubcomma
 unfolding clap_on_literals
 unknown_word = refl
 
-two_files : Gives (codes "check" ∷ codes "one" ∷ codes "two" ∷ []) (UnknownArgument ∷ [])
+two_files : Gives (codes "check" ∷ codes "one" ∷ codes "two" ∷ []) []
 unfolding clap_on_literals
 two_files = refl
+
+two_files_of_show : Gives (codes "show" ∷ codes "one" ∷ codes "two" ∷ []) (UnknownArgument ∷ [])
+unfolding clap_on_literals
+two_files_of_show = refl
 
 check_bytes : Gives (codes "check" ∷ codes "--bytes" ∷ []) (UnknownArgument ∷ [])
 unfolding clap_on_literals
@@ -163,7 +167,7 @@ checkers_of_run_of = refl
 
 asks_one : Asks (codes "check" ∷ []) (quiet (Check bare)) None
 unfolding clap_on_literals
-asks_one = (refl, ((refl, record { checkers = refl; all = refl; json = refl }), refl, refl), refl)
+asks_one = (refl, ((refl, record { checkers = refl; all = refl; json = refl }), refl, refl, refl), refl)
 
 -- ---- the switches of `run`
 
@@ -187,7 +191,7 @@ two = refl
 
 asks_run : Asks run_words (quiet (Run (record { checkers = 2; single = true; bytes = true }))) None
 unfolding clap_on_literals
-asks_run = (refl, ((refl, record { checkers = subst (λ o. AreAsked o 2) (sym two) (((omega arith, (omega arith, tt)), refl, omega arith), (omega arith, omega arith)); single = refl; bytes = refl }), refl, refl), refl)
+asks_run = (refl, ((refl, record { checkers = subst (λ o. AreAsked o 2) (sym two) (((omega arith, (omega arith, tt)), refl, omega arith), (omega arith, omega arith)); single = refl; bytes = refl }), refl, refl, refl), refl)
 
 -- ---- the event numbers of `show`
 
@@ -219,7 +223,7 @@ seven = refl
 
 asks_show : Asks show_words (quiet (Show (record { selection = record every { from = 5; to = 7 }; json = false }))) None
 unfolding clap_on_literals
-asks_show = (refl, ((refl, record { selection = record { from = subst (λ o. IsAsked 0 o 5) (sym five) ((omega arith, (omega arith, tt)), refl, omega arith); to = subst (λ o. IsAsked 4294967295 o 7) (sym seven) ((omega arith, (omega arith, tt)), refl, omega arith); cpu = tt; page = tt; word = tt }; json = refl }), refl, refl), refl)
+asks_show = (refl, ((refl, record { selection = record { from = subst (λ o. IsAsked 0 o 5) (sym five) ((omega arith, (omega arith, tt)), refl, omega arith); to = subst (λ o. IsAsked 4294967295 o 7) (sym seven) ((omega arith, (omega arith, tt)), refl, omega arith); cpu = tt; page = tt; word = tt }; json = refl }), refl, refl, refl), refl)
 
 -- ---- what is asked of the events themselves
 
@@ -258,7 +262,7 @@ is_5f0 = ((codes "5F0", refl, (omega arith, (omega arith, (omega arith, (omega a
 
 asks_filter : Asks filter_words (quiet (Show (record { selection = record every { cpu = Some 3; page = Some 1520 }; json = false }))) None
 unfolding clap_on_literals
-asks_filter = (refl, ((refl, record { selection = record { from = refl; to = refl; cpu = subst (λ o. IsOptional IsCpuIn o (Some 3)) (sym third) is_3; page = subst (λ o. IsOptional IsPageIn o (Some 1520)) (sym paged) is_5f0; word = tt }; json = refl }), refl, refl), refl)
+asks_filter = (refl, ((refl, record { selection = record { from = refl; to = refl; cpu = subst (λ o. IsOptional IsCpuIn o (Some 3)) (sym third) is_3; page = subst (λ o. IsOptional IsPageIn o (Some 1520)) (sym paged) is_5f0; word = tt }; json = refl }), refl, refl, refl), refl)
 
 -- ---- what is told of bad events
 
@@ -272,11 +276,11 @@ none_at_most = refl
 
 asks_all : Asks (codes "explain" ∷ codes "--all" ∷ []) (quiet (Explain (record { telling = All 100; json = false }))) None
 unfolding clap_on_literals
-asks_all = (refl, ((refl, record { telling = (refl, refl, refl); json = refl }), refl, refl), refl)
+asks_all = (refl, ((refl, record { telling = (refl, refl, refl); json = refl }), refl, refl, refl), refl)
 
 asks_picture : Asks (codes "explain" ∷ codes "--svg" ∷ []) (quiet (Explain (record { telling = Picture; json = false }))) None
 unfolding clap_on_literals
-asks_picture = (refl, ((refl, record { telling = (refl, refl, refl); json = refl }), refl, refl), refl)
+asks_picture = (refl, ((refl, record { telling = (refl, refl, refl); json = refl }), refl, refl, refl), refl)
 
 picture_of_certify : Gives (codes "certify" ∷ codes "--svg" ∷ []) (UnknownArgument ∷ [])
 unfolding clap_on_literals
@@ -332,6 +336,26 @@ record_of_a_single_thread : conflicts (codes "run" ∷ codes "--single" ∷ code
 unfolding clap_on_literals
 record_of_a_single_thread = refl
 
+json_of_two_files : conflicts (codes "certify" ∷ codes "--json" ∷ codes "one" ∷ codes "two" ∷ []) ≡ true
+unfolding clap_on_literals
+json_of_two_files = refl
+
+text_of_two_files : conflicts (codes "certify" ∷ codes "one" ∷ codes "two" ∷ []) ≡ false
+unfolding clap_on_literals
+text_of_two_files = refl
+
+json_of_one_file : conflicts (codes "certify" ∷ codes "--json" ∷ codes "one" ∷ []) ≡ false
+unfolding clap_on_literals
+json_of_one_file = refl
+
+quiet_bytes : conflicts (codes "certify" ∷ codes "-q" ∷ codes "--bytes" ∷ []) ≡ true
+unfolding clap_on_literals
+quiet_bytes = refl
+
+quiet_and_output : conflicts (codes "show" ∷ codes "--quiet" ∷ codes "--output" ∷ codes "a" ∷ []) ≡ true
+unfolding clap_on_literals
+quiet_and_output = refl
+
 -- and all are not drawn
 abbrev drawn_words : List Text
 drawn_words = codes "explain" ∷ codes "--all" ∷ codes "--svg" ∷ []
@@ -344,15 +368,15 @@ all_drawn = refl
 
 asks_progress : Asks (codes "check" ∷ codes "--progress" ∷ []) (telling (Check bare)) None
 unfolding clap_on_literals
-asks_progress = (refl, ((refl, record { checkers = refl; all = refl; json = refl }), refl, refl), refl)
+asks_progress = (refl, ((refl, record { checkers = refl; all = refl; json = refl }), refl, refl, refl), refl)
 
 asks_progress_of_run : Asks (codes "run" ∷ codes "--progress" ∷ []) (telling (Run (record { checkers = 1; single = false; bytes = false }))) None
 unfolding clap_on_literals
-asks_progress_of_run = (refl, ((refl, record { checkers = refl; single = refl; bytes = refl }), refl, refl), refl)
+asks_progress_of_run = (refl, ((refl, record { checkers = refl; single = refl; bytes = refl }), refl, refl, refl), refl)
 
 asks_json : Asks (codes "show" ∷ codes "--json" ∷ []) (quiet (Show (record { selection = every; json = true }))) None
 unfolding clap_on_literals
-asks_json = (refl, ((refl, record { selection = record { from = refl; to = refl; cpu = tt; page = tt; word = tt }; json = refl }), refl, refl), refl)
+asks_json = (refl, ((refl, record { selection = record { from = refl; to = refl; cpu = tt; page = tt; word = tt }; json = refl }), refl, refl, refl), refl)
 
 json_of_run : Gives (codes "run" ∷ codes "--json" ∷ []) (UnknownArgument ∷ [])
 unfolding clap_on_literals
@@ -366,16 +390,16 @@ progress_of_show = refl
 
 file : Asks (codes "check" ∷ codes "a.record" ∷ []) (quiet (Check bare)) (Some (codes "a.record"))
 unfolding clap_on_literals
-file = (refl, ((refl, record { checkers = refl; all = refl; json = refl }), refl, refl), refl)
+file = (refl, ((refl, record { checkers = refl; all = refl; json = refl }), refl, refl, refl), refl)
 
 dash : Asks (codes "check" ∷ codes "-" ∷ []) (quiet (Check bare)) None
 unfolding clap_on_literals
-dash = (refl, ((refl, record { checkers = refl; all = refl; json = refl }), refl, refl), refl)
+dash = (refl, ((refl, record { checkers = refl; all = refl; json = refl }), refl, refl, refl), refl)
 
 -- after `--` each word is a name
 dashes : Asks (codes "check" ∷ codes "--" ∷ codes "--help" ∷ []) (quiet (Check bare)) (Some (codes "--help"))
 unfolding clap_on_literals
-dashes = (refl, ((refl, record { checkers = refl; all = refl; json = refl }), refl, refl), refl)
+dashes = (refl, ((refl, record { checkers = refl; all = refl; json = refl }), refl, refl, refl), refl)
 
 file_of_upgrade : Gives (codes "upgrade" ∷ codes "a.record" ∷ []) []
 unfolding clap_on_literals
@@ -384,3 +408,25 @@ file_of_upgrade = refl
 options_of_upgrade : Gives (codes "upgrade" ∷ codes "--checkers" ∷ codes "2" ∷ []) (UnknownArgument ∷ [])
 unfolding clap_on_literals
 options_of_upgrade = refl
+
+asks_quiet : Asks (codes "check" ∷ codes "-q" ∷ []) (record (quiet (Check bare)) { quiet = true }) None
+unfolding clap_on_literals
+asks_quiet = (refl, ((refl, record { checkers = refl; all = refl; json = refl }), refl, refl, refl), refl)
+
+-- ---- several files, and a file for what is written
+
+both_files : files_in (subcommand_of command_line (codes "explain" ∷ codes "one" ∷ codes "-" ∷ [])) ≡ codes "one" ∷ codes "-" ∷ []
+unfolding clap_on_literals
+both_files = refl
+
+no_files : files_in (subcommand_of command_line (codes "explain" ∷ [])) ≡ []
+unfolding clap_on_literals
+no_files = refl
+
+written_file : output_in (subcommand_of command_line (codes "merge" ∷ codes "--output" ∷ codes "a" ∷ codes "b" ∷ [])) ≡ Some (codes "a")
+unfolding clap_on_literals
+written_file = refl
+
+written_dash : output_in (subcommand_of command_line (codes "merge" ∷ codes "--output" ∷ codes "-" ∷ codes "b" ∷ [])) ≡ None
+unfolding clap_on_literals
+written_dash = refl

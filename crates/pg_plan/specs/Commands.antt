@@ -1,7 +1,7 @@
 -- What the words of a command line ask for, by what `clap` makes of them.
 use Rattle.std.specs.Prelude.{◌≡◌, ℕ, Bool, true, false, pos, List, [], ◌∷◌}
 use Rattle.std.specs.Prelude.{◌++◌, ◌&&◌, ◌||◌, Option, Some, None, codes, unwrap_or, is_some}
-use Rattle.std.specs.Prelude.{if◌then◌else◌}
+use Rattle.std.specs.Prelude.{if◌then◌else◌, length, nat_lt}
 use Rattle.std.specs.Str.{bytes_eq}
 use Rattle.clap.specs.Faults.{fault_of}
 use Rattle.clap.specs.Kinds.{IsAmong, Kinds}
@@ -59,6 +59,14 @@ checkers_rule = record (value_rule (codes "checkers")) {
 abbrev pub file_rule : Rule
 file_rule = record (new_rule (codes "file")) { action = Some Set; value_names = 1 }
 
+-- the names of files, after the options
+abbrev pub files_rule : Rule
+files_rule = record (new_rule (codes "file")) {
+  action = Some Append;
+  value_names = 1;
+  range = Some (record { start_inclusive = 1; end_inclusive = usize_max });
+}
+
 abbrev pub with_file : App → App
 with_file line = with_rule line file_rule
 
@@ -69,9 +77,25 @@ switch_rule name = record (new_rule name) { long = Some name; action = Some SetT
 abbrev pub with_json : App → App
 with_json line = with_rule line (switch_rule (codes "json"))
 
--- `--progress`, and a file's name after it
+-- `--quiet`, or `-q`
+abbrev pub quiet_rule : Rule
+quiet_rule = record (switch_rule (codes "quiet")) { short = Some 113 }
+
+-- `--output` and a name, and `--quiet`
+abbrev pub with_outputs : App → App
+with_outputs line = with_rule (with_rule line (value_rule (codes "output"))) quiet_rule
+
+-- `--progress`, and these after it
+abbrev pub with_told : App → App
+with_told line = with_outputs (with_rule line (switch_rule (codes "progress")))
+
+-- and a file's name after it
 abbrev pub with_progress : App → App
-with_progress line = with_file (with_rule line (switch_rule (codes "progress")))
+with_progress line = with_file (with_told line)
+
+-- or the names of files
+abbrev pub with_files : App → App
+with_files line = with_rule (with_told line) files_rule
 
 -- a command with no option of its own
 abbrev pub plain_line : Text → App
@@ -81,7 +105,7 @@ abbrev pub check_line : App
 check_line =
     let line = with_rule (new_app (codes "check")) checkers_rule in
     let all = with_rule line (switch_rule (codes "all")) in
-    with_progress (with_json all)
+    with_files (with_json all)
 
 abbrev pub certify_line : App
 certify_line =
@@ -89,7 +113,7 @@ certify_line =
     let bytes = with_rule line (switch_rule (codes "bytes")) in
     let order = with_rule bytes (switch_rule (codes "order")) in
     let first = with_rule order (switch_rule (codes "first")) in
-    with_progress (with_json first)
+    with_files (with_json first)
 
 abbrev pub run_line : App
 run_line =
@@ -120,7 +144,7 @@ abbrev pub show_line : App
 show_line =
     let line = with_rule filter_line (number_rule (codes "from")) in
     let to = with_rule line (number_rule (codes "to")) in
-    with_file (with_json to)
+    with_file (with_outputs (with_json to))
 
 -- an option has a second name
 abbrev pub also_named : Rule → Text → Rule
@@ -141,7 +165,7 @@ explain_line =
     let all = with_rule (new_app (codes "explain")) (switch_rule (codes "all")) in
     let most = with_rule all most_rule in
     let svg = with_rule most (switch_rule (codes "svg")) in
-    with_progress (with_json svg)
+    with_files (with_json svg)
 
 -- a number of 32 bits after `--error`
 abbrev pub error_rule : Rule
@@ -157,7 +181,8 @@ logs_rule = record (new_rule (codes "log")) {
 }
 
 abbrev pub merge_line : App
-merge_line = with_rule (with_rule (new_app (codes "merge")) error_rule) logs_rule
+merge_line =
+    with_rule (with_outputs (with_rule (new_app (codes "merge")) error_rule)) logs_rule
 
 -- the commands that judge a record
 abbrev pub judging_line : App
@@ -214,14 +239,32 @@ says_twice rows =
     || (bytes && (order || first))
     || (order && first)
 
+-- several files are named
+abbrev pub has_several : List Row → Bool
+has_several rows = nat_lt 1 (length (unwrap_or (all_of (codes "file") rows) []))
+
+-- nothing goes to standard output, and an option says where it goes, or what
+abbrev pub is_unheard : List Row → Bool
+is_unheard rows =
+    has (codes "quiet") rows
+    && (is_some (first_of (codes "output") rows) || has (codes "bytes") rows
+    || has (codes "order") rows || has (codes "svg") rows)
+
+-- several files are named, and what is written is no text of lines that could begin with a name
+abbrev pub mixes_files : List Row → Bool
+mixes_files rows =
+    has_several rows
+    && (has (codes "json") rows || has (codes "bytes") rows || has (codes "svg") rows)
+
 -- Of two options one has no effect beside the other: two say what is written; or a record is read
 -- up to the first event that is rejected, which one checker does; or one thread runs a script, and
--- tells of no progress.
+-- tells of no progress; or nothing is written, and it is said where or what; or files are mixed.
 abbrev pub has_conflict : List Row → Bool
 has_conflict rows =
     says_twice rows
     || (has (codes "first") rows && is_some (first_of (codes "checkers") rows))
     || (has (codes "single") rows && has (codes "progress") rows)
+    || is_unheard rows || mixes_files rows
 
 -- these are the events that options ask for
 pub record IsSelectionOf (rows : List Row) (asked : Selection) : Type 0 where
@@ -286,7 +329,7 @@ abbrev pub IsPlanOf : Option (Text × List Row) → Plan → Type 0
 IsPlanOf None plan = ⊥
 IsPlanOf (Some (name, rows)) plan =
     IsCommandOf name rows plan.command × (plan.progress ≡ has (codes "progress") rows)
-    × (has_conflict rows ≡ false)
+    × (plan.quiet ≡ has (codes "quiet") rows) × (has_conflict rows ≡ false)
 
 -- the file of a name: none for `-`, which is standard input
 abbrev pub named_file : Option Text → Option Text
@@ -298,14 +341,26 @@ abbrev pub file_in : Option (Text × List Row) → Option Text
 file_in None = None
 file_in (Some (name, rows)) = named_file (first_of (codes "file") rows)
 
--- the names of logs that a command has, where it has some
-abbrev pub names_in : Option (Text × List Row) → Option (List Text)
-names_in None = None
-names_in (Some (name, rows)) = all_of (codes "log") rows
+-- the file that a command has for what it writes
+abbrev pub output_in : Option (Text × List Row) → Option Text
+output_in None = None
+output_in (Some (name, rows)) = named_file (first_of (codes "output") rows)
+
+-- the names that a command has after an option, where it has some
+abbrev pub names_in : Text → Option (Text × List Row) → Option (List Text)
+names_in option None = None
+names_in option (Some (name, rows)) = all_of option rows
 
 -- and none where it has none
+abbrev pub all_in : Text → Option (Text × List Row) → List Text
+all_in option found = unwrap_or (names_in option found) []
+
+-- the names of its files, and of its logs
+abbrev pub files_in : Option (Text × List Row) → List Text
+files_in = all_in (codes "file")
+
 abbrev pub logs_in : Option (Text × List Row) → List Text
-logs_in found = unwrap_or (names_in found) []
+logs_in = all_in (codes "log")
 
 -- the words are taken, this is their plan, and this the file that they name, where they name one
 abbrev pub Asks : List Text → Plan → Option Text → Type 0

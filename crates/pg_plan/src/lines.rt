@@ -7,9 +7,10 @@ ghost use Rattle.pg_plan.specs.Commands.{bare_line, plain_line, check_line, cert
 ghost use Rattle.pg_plan.specs.Commands.{run_line, show_line, explain_line, command_line};
 ghost use Rattle.pg_plan.specs.Commands.{merge_line, error_rule, logs_rule};
 ghost use Rattle.pg_plan.specs.Commands.{judging_line, running_line, telling_line, filter_line};
-ghost use Rattle.pg_plan.specs.Commands.{file_rule, value_rule, switch_rule, checkers_rule};
+ghost use Rattle.pg_plan.specs.Commands.{file_rule, files_rule, value_rule, switch_rule};
+ghost use Rattle.pg_plan.specs.Commands.{checkers_rule, quiet_rule, with_outputs, with_told};
 ghost use Rattle.pg_plan.specs.Commands.{number_rule, cpu_rule, most_rule, most_number_rule};
-ghost use Rattle.pg_plan.specs.Commands.{also_named, with_progress};
+ghost use Rattle.pg_plan.specs.Commands.{also_named, with_files, with_progress};
 
 use clap::{Arg, ArgAction, Command as CommandLine, value_parser};
 use std::alloc::{AllocError, Global};
@@ -119,6 +120,14 @@ const PROGRESS_ABOUT: &str = "Report each second how many events were read, on s
 const RECORDED_ABOUT: &str =
     "Report each million events recorded, on standard error; not with --single";
 
+pub(crate) const OUTPUT: &str = "output";
+
+const OUTPUT_ABOUT: &str = "Write to this file instead of standard output, which - stands for";
+
+pub(crate) const QUIET: &str = "quiet";
+
+const QUIET_ABOUT: &str = "Write nothing to standard output: the exit status is the answer";
+
 pub(crate) const JSON: &str = "json";
 
 const JSON_ABOUT: &str = "Write JSON instead of text";
@@ -136,6 +145,10 @@ const TO_ABOUT: &str = "Number of the last event to write (default: the last eve
 pub(crate) const FILE: &str = "file";
 
 const FILE_ABOUT: &str = "The file to read; standard input by default, or for -";
+
+const FILES_ABOUT: &str =
+    "The files to read; of several each line begins with the file's name; standard input by \
+    default, or for -";
 
 /// A command line whose usage texts begin with the program's name.
 fn with_name<'a>(line: CommandLine<'a>) -> Result<CommandLine<'a>, AllocError>
@@ -301,7 +314,48 @@ fn file_option<'a>(alloc: Global) -> Arg<'a>
         .action(ArgAction::Set)
 }
 
-/// The command with `--progress` and a file's name after its options.
+/// The names of files after the options.
+fn files_option<'a>(alloc: Global) -> Arg<'a>
+    ensures { IsOption files_rule result }
+{
+    Arg::new(alloc, FILE)
+        .value_name("FILE")
+        .help(FILES_ABOUT)
+        .action(ArgAction::Append)
+        .num_args(1..)
+}
+
+/// Nothing goes to standard output, after `--quiet` or `-q`.
+fn quiet_option<'a>(alloc: Global) -> Arg<'a>
+    ensures { IsOption quiet_rule result }
+{
+    switch(alloc, QUIET, QUIET_ABOUT).short('q')
+}
+
+/// The command with `--output` and `--quiet`.
+fn with_outputs<'a>(
+    alloc: Global,
+    line: Result<CommandLine<'a>, AllocError>,
+) -> Result<CommandLine<'a>, AllocError>
+    ensures { (app : App) → IsLine app line.entry → IsLine (with_outputs app) result }
+{
+    let line = with_option(line, value_option(alloc, OUTPUT, "FILE", OUTPUT_ABOUT));
+    with_option(line, quiet_option(alloc))
+}
+
+/// The command with these and `--progress`.
+fn with_told<'a>(
+    alloc: Global,
+    line: Result<CommandLine<'a>, AllocError>,
+    about: &'a str,
+) -> Result<CommandLine<'a>, AllocError>
+    ensures { (app : App) → IsLine app line.entry → IsLine (with_told app) result }
+{
+    let line = with_option(line, switch(alloc, PROGRESS, about));
+    with_outputs(alloc, line)
+}
+
+/// The command with these and a file's name after its options.
 fn with_progress<'a>(
     alloc: Global,
     line: Result<CommandLine<'a>, AllocError>,
@@ -309,8 +363,17 @@ fn with_progress<'a>(
 ) -> Result<CommandLine<'a>, AllocError>
     ensures { (app : App) → IsLine app line.entry → IsLine (with_progress app) result }
 {
-    let line = with_option(line, switch(alloc, PROGRESS, about));
-    with_option(line, file_option(alloc))
+    with_option(with_told(alloc, line, about), file_option(alloc))
+}
+
+/// The command with these and the names of files after its options.
+fn with_files<'a>(
+    alloc: Global,
+    line: Result<CommandLine<'a>, AllocError>,
+) -> Result<CommandLine<'a>, AllocError>
+    ensures { (app : App) → IsLine app line.entry → IsLine (with_files app) result }
+{
+    with_option(with_told(alloc, line, PROGRESS_ABOUT), files_option(alloc))
 }
 
 /// A command with no option of its own.
@@ -331,7 +394,7 @@ fn check_line<'a>(alloc: Global) -> Result<CommandLine<'a>, AllocError>
     let line = with_option(line, checkers_option(alloc));
     let line = with_option(line, switch(alloc, ALL, SUMMARY_ABOUT));
     let line = with_option(line, switch(alloc, JSON, JSON_ABOUT));
-    with_progress(alloc, line, PROGRESS_ABOUT)
+    with_files(alloc, line)
 }
 
 fn certify_line<'a>(alloc: Global) -> Result<CommandLine<'a>, AllocError>
@@ -343,7 +406,7 @@ fn certify_line<'a>(alloc: Global) -> Result<CommandLine<'a>, AllocError>
     let line = with_option(line, switch(alloc, ORDER, ORDER_ABOUT));
     let line = with_option(line, switch(alloc, FIRST, FIRST_ABOUT));
     let line = with_option(line, switch(alloc, JSON, JSON_ABOUT));
-    with_progress(alloc, line, PROGRESS_ABOUT)
+    with_files(alloc, line)
 }
 
 fn run_line<'a>(alloc: Global) -> Result<CommandLine<'a>, AllocError>
@@ -373,6 +436,7 @@ fn show_line<'a>(alloc: Global) -> Result<CommandLine<'a>, AllocError>
     let line = with_option(line, number_option(alloc, FROM, "A", FROM_ABOUT));
     let line = with_option(line, number_option(alloc, TO, "B", TO_ABOUT));
     let line = with_option(line, switch(alloc, JSON, JSON_LINES_ABOUT));
+    let line = with_outputs(alloc, line);
     with_option(line, file_option(alloc))
 }
 
@@ -384,7 +448,7 @@ fn explain_line<'a>(alloc: Global) -> Result<CommandLine<'a>, AllocError>
     let line = with_made(line, most_option(alloc));
     let line = with_option(line, switch(alloc, SVG, SVG_ABOUT));
     let line = with_option(line, switch(alloc, JSON, JSON_ABOUT));
-    with_progress(alloc, line, PROGRESS_ABOUT)
+    with_files(alloc, line)
 }
 
 fn merge_line<'a>(alloc: Global) -> Result<CommandLine<'a>, AllocError>
@@ -392,6 +456,7 @@ fn merge_line<'a>(alloc: Global) -> Result<CommandLine<'a>, AllocError>
 {
     let line = new_line(alloc, MERGE, MERGE_ABOUT);
     let line = with_option(line, error_option(alloc));
+    let line = with_outputs(alloc, line);
     with_option(line, logs_option(alloc))
 }
 

@@ -4,9 +4,10 @@ ghost use Rattle.std.specs.Prelude.{◌≡◌, ◌⊎◌, ℕ, List, Option, Som
 ghost use Rattle.std.specs.Prelude.{option_map, map};
 ghost use Rattle.clap.specs.Values.{kind_of};
 ghost use Rattle.clap.specs.Simple.{subcommand_of, subcommand_rows_of};
-ghost use Rattle.clap.specs.Walk.{first_of};
-ghost use Rattle.pg_plan.specs.Commands.{texts, command_line, file_in, named_file};
-ghost use Rattle.pg_plan.specs.Commands.{logs_in, names_in, options_of, is_on, has, says_twice};
+ghost use Rattle.clap.specs.Walk.{all_of, first_of};
+ghost use Rattle.pg_plan.specs.Commands.{texts, command_line, file_in, named_file, output_in};
+ghost use Rattle.pg_plan.specs.Commands.{all_in, files_in, logs_in, names_in, options_of, is_on};
+ghost use Rattle.pg_plan.specs.Commands.{has, has_several, says_twice, is_unheard, mixes_files};
 ghost use Rattle.pg_plan.specs.Commands.{has_conflict, Reads};
 ghost use Rattle.pg_plan.specs.Commands.{IsSelectionOf, IsTellingOf, IsAskedOfCheck};
 ghost use Rattle.pg_plan.specs.Commands.{IsAskedOfCertify, IsAskedOfRun, IsAskedOfExplain};
@@ -20,7 +21,8 @@ ghost use Rattle.pg_plan.specs.declared.request.Plan.{Plan as Planned};
 use crate::checkers::Checkers;
 use crate::lines::{
     ALL, BYTES, CERTIFY, CHECK, CHECKERS, CPU, ERROR, EXPLAIN, FILE, FIRST, FROM, JSON, LOG, MERGE,
-    MOST, ORDER, PAGE, PROGRESS, RUN, RUN_OF, SHOW, SINGLE, SVG, TO, UPGRADE, WORD, command_line,
+    MOST, ORDER, OUTPUT, PAGE, PROGRESS, QUIET, RUN, RUN_OF, SHOW, SINGLE, SVG, TO, UPGRADE, WORD,
+    command_line,
 };
 use crate::request::{
     CertifyOptions, CheckOptions, Command, ExplainOptions, Invocation, Plan, RunOptions,
@@ -47,7 +49,8 @@ const NO_TELLING: &str = "error: --most goes with --all alone, by digits alone, 
     For more information, try '--help'.\n";
 
 const CONFLICT: &str = "error: --json, --bytes, --order, --svg and --first exclude one another, \
-    and so do --first and\n  --checkers, and --single and --progress\n\n\
+    and so do --first and\n  --checkers, --single and --progress, and --quiet and each of --output, \
+    --bytes, --order and --svg;\n  several files exclude --json, --bytes and --svg\n\n\
     For more information, try '--help'.\n";
 
 /// The version, which is given by a text of this program's own.
@@ -118,6 +121,45 @@ fn says_twice(own: &ArgMatches<'_>) -> bool
     json && (bytes || order || svg || first) || bytes && (order || first) || order && first
 }
 
+/// All texts that an option was given, where it was given.
+fn all_of<'m, 'a>(own: &'m ArgMatches<'a>, option: &str) -> Option<&'m [&'a str]>
+    ensures { option_map (λ s. map (λ v. v.now) s.now) result
+        ≡ all_of option.now (options_of own.now) }
+{
+    own.get_strs(option)
+}
+
+/// Whether several files are named.
+fn has_several(own: &ArgMatches<'_>) -> bool
+    ensures { result ≡ has_several (options_of own.now) }
+{
+    match all_of(own, FILE) {
+        Some(names) => names.len() > 1,
+        None => false,
+    }
+}
+
+/// Whether nothing goes to standard output, and an option says where it goes, or what.
+fn is_unheard(own: &ArgMatches<'_>) -> bool
+    ensures { result ≡ is_unheard (options_of own.now) }
+{
+    let output = text_of(own, OUTPUT).is_some();
+    let bytes = has(own, BYTES);
+    let order = has(own, ORDER);
+    let svg = has(own, SVG);
+    has(own, QUIET) && (output || bytes || order || svg)
+}
+
+/// Whether several files are named, and what is written is no text of lines.
+fn mixes_files(own: &ArgMatches<'_>) -> bool
+    ensures { result ≡ mixes_files (options_of own.now) }
+{
+    let json = has(own, JSON);
+    let bytes = has(own, BYTES);
+    let svg = has(own, SVG);
+    has_several(own) && (json || bytes || svg)
+}
+
 /// Whether of two options one has no effect beside the other.
 fn has_conflict(own: &ArgMatches<'_>) -> bool
     ensures { result ≡ has_conflict (options_of own.now) }
@@ -126,7 +168,7 @@ fn has_conflict(own: &ArgMatches<'_>) -> bool
     let counted = text_of(own, CHECKERS).is_some();
     let single = has(own, SINGLE);
     let progress = has(own, PROGRESS);
-    says_twice(own) || first && counted || single && progress
+    says_twice(own) || first && counted || single && progress || is_unheard(own) || mixes_files(own)
 }
 
 /// Which events the options ask for.
@@ -248,6 +290,7 @@ fn plan_of(matches: &ArgMatches<'_>) -> Option<Plan>
     Some(Plan {
         command: command_of(name, own)?,
         progress: has(own, PROGRESS),
+        quiet: has(own, QUIET),
     })
 }
 
@@ -270,25 +313,38 @@ fn file_of<'a>(matches: &ArgMatches<'a>) -> Option<&'a str>
     named_file(own.get_str(FILE))
 }
 
-/// The names of logs that the matches have, where they have some.
-fn names_of<'m, 'a>(matches: &'m ArgMatches<'a>) -> Option<&'m [&'a str]>
-    ensures { option_map (λ s. map (λ v. v.now) s.now) result
-        ≡ names_in (subcommand_rows_of matches.now) }
+/// The name of the file that the matches have for what is written.
+fn output_of<'a>(matches: &ArgMatches<'a>) -> Option<&'a str>
+    ensures { option_map (λ s. s.now) result ≡ output_in (subcommand_rows_of matches.now) }
 {
     let (_, own) = matches.subcommand()?;
-    own.get_strs(LOG)
+    named_file(own.get_str(OUTPUT))
 }
 
-/// The names of logs that the matches have, in a list, which has none where the matches have none.
-fn logs_of<'a>(alloc: Global, matches: &ArgMatches<'a>) -> Result<Vec<&'a str>, AllocError>
-    ensures { IfOk result (λ logs. map (λ s. s.now) logs.items
-        ≡ logs_in (subcommand_rows_of matches.now)) }
+/// The names that the matches have after an option, where they have some.
+fn names_of<'m, 'a>(matches: &'m ArgMatches<'a>, option: &str) -> Option<&'m [&'a str]>
+    ensures { option_map (λ s. map (λ v. v.now) s.now) result
+        ≡ names_in option.now (subcommand_rows_of matches.now) }
 {
-    let mut logs = Vec::new(alloc);
-    if let Some(names) = names_of(matches) {
-        logs.extend_from_slice(names)?;
+    let (_, own) = matches.subcommand()?;
+    own.get_strs(option)
+}
+
+/// The names that the matches have after an option, in a list, which has none where the matches
+/// have none.
+fn list_of<'a>(
+    alloc: Global,
+    matches: &ArgMatches<'a>,
+    option: &str,
+) -> Result<Vec<&'a str>, AllocError>
+    ensures { IfOk result (λ all. map (λ s. s.now) all.items
+        ≡ all_in option.now (subcommand_rows_of matches.now)) }
+{
+    let mut all = Vec::new(alloc);
+    if let Some(names) = names_of(matches, option) {
+        all.extend_from_slice(names)?;
     }
-    Ok(logs)
+    Ok(all)
 }
 
 /// What is wrong with the words where `clap` takes them.
@@ -337,14 +393,18 @@ fn matches_of<'a>(alloc: Global, words: &'a [&'a str]) -> Result<ArgMatches<'a>,
     }
 }
 
-/// What the matches ask for, with its file and its logs.
+/// What the matches ask for, with its files and its logs.
 fn asked_by<'a>(alloc: Global, matches: &ArgMatches<'a>) -> Result<Invocation<'a>, Usage>
     ensures plan { IfOk result (λ asked.
         Reads (Some asked.plan) (IsPlanOf (subcommand_rows_of matches.now))) }
     ensures file { IfOk result (λ asked. option_map (λ s. s.now) asked.file
         ≡ file_in (subcommand_rows_of matches.now)) }
+    ensures files { IfOk result (λ asked. map (λ s. s.now) asked.files.items
+        ≡ files_in (subcommand_rows_of matches.now)) }
     ensures logs { IfOk result (λ asked. map (λ s. s.now) asked.logs.items
         ≡ logs_in (subcommand_rows_of matches.now)) }
+    ensures output { IfOk result (λ asked. option_map (λ s. s.now) asked.output
+        ≡ output_in (subcommand_rows_of matches.now)) }
     ensures memory { IfErr result (λ why. (plan : Planned) →
         IsPlanOf (subcommand_rows_of matches.now) plan → why ≡ Usage.Memory) }
     ensures wrong { IfErr result (TellsWrong (subcommand_rows_of matches.now)) }
@@ -352,13 +412,15 @@ fn asked_by<'a>(alloc: Global, matches: &ArgMatches<'a>) -> Result<Invocation<'a
     let Some(plan) = plan_of(matches) else {
         return Err(fault(alloc, wrong_with(matches)));
     };
-    match logs_of(alloc, matches) {
-        Ok(logs) => Ok(Invocation {
+    match (list_of(alloc, matches, FILE), list_of(alloc, matches, LOG)) {
+        (Ok(files), Ok(logs)) => Ok(Invocation {
             plan,
             file: file_of(matches),
+            files,
             logs,
+            output: output_of(matches),
         }),
-        Err(_) => Err(Usage::Memory),
+        (Err(_), _) | (_, Err(_)) => Err(Usage::Memory),
     }
 }
 
@@ -366,8 +428,12 @@ fn asked_by<'a>(alloc: Global, matches: &ArgMatches<'a>) -> Result<Invocation<'a
 pub fn plan<'a>(alloc: Global, words: &'a [&'a str]) -> Result<Invocation<'a>, Usage>
     ensures asked { IfOk result (λ asked. AsksOnly (texts words.now) asked.plan
         (option_map (λ s. s.now) asked.file)) }
+    ensures files { IfOk result (λ asked. map (λ s. s.now) asked.files.items
+        ≡ files_in (subcommand_of command_line (texts words.now))) }
     ensures logs { IfOk result (λ asked. map (λ s. s.now) asked.logs.items
         ≡ logs_in (subcommand_of command_line (texts words.now))) }
+    ensures output { IfOk result (λ asked. option_map (λ s. s.now) asked.output
+        ≡ output_in (subcommand_of command_line (texts words.now))) }
     ensures taken { IfErr result (λ why. (plan : Planned) (file : Option (List ℕ)) →
         Asks (texts words.now) plan file → why ≡ Usage.Memory) }
     ensures help { IfErr result (λ why. AsksHelp (texts words.now) → ¬ IsFault why) }

@@ -98,6 +98,10 @@ pub struct Plan {
     /// Whether it is told meanwhile how many events have been read, or `run` has recorded. It is
     /// never asked of `show`, of `merge`, and of `run` on a single thread.
     pub progress: bool,
+    /// Whether nothing goes to standard output. It is never asked where a file is named for that,
+    /// nor beside an option that says what is written in the place of a report's text, but for
+    /// JSON, as which refusals are told.
+    pub quiet: bool,
 }
 
 /// What the words of a command line ask for, and of which files.
@@ -107,8 +111,14 @@ pub struct Invocation<'a> {
     /// The name of the file that is read in the place of standard input, where the words have one
     /// that is not `-`.
     pub file: Option<&'a str>,
+    /// The names of all files that are read, as the words have them, `-` too: none stands for
+    /// standard input. Only `check`, `certify` and `explain` have more than one.
+    pub files: Vec<&'a str>,
     /// The names of the logs that `merge` reads, one at least. The other commands have none.
     pub logs: Vec<&'a str>,
+    /// The name of the file that is written in the place of standard output, where the words have
+    /// one that is not `-`.
+    pub output: Option<&'a str>,
 }
 
 /// Why the words of a command line give no plan.

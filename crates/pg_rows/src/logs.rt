@@ -3,7 +3,7 @@
 use pg_cases::{Case, bytes_of, is_answered};
 use pg_codec::Watched;
 use pg_span_codec::Peeked;
-use pg_tool::{pcid_audit, plan};
+use pg_tool::{Nowhere, pcid_audit, plan};
 use std::alloc::AllocGlobal;
 use std::sync::Wait;
 use std::test::Fail;
@@ -57,7 +57,8 @@ fn run_with_logs<'a, T: AllocGlobal + Threads + Wait + Sync>(
     let mut input = Peeked::new(Watched::new(merged.input));
     let opener = |name: &str| Some(Peeked::new(Watched::new(log_of(name, first, second))));
     let planned = plan(rt.alloc(), merged.words);
-    pcid_audit(rt, planned, opener, &mut input, output, errors)
+    let creator = |_name: &str| -> Option<Nowhere> { None };
+    pcid_audit(rt, planned, opener, creator, &mut input, output, errors)
 }
 
 /// Whether the two logs are merged as the case says.

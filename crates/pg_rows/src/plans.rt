@@ -20,6 +20,18 @@ fn quiet(command: Command) -> Plan {
     Plan {
         command,
         progress: false,
+        quiet: false,
+    }
+}
+
+/// What a plan asks for of standard input, written to standard output.
+fn bare(alloc: Global, plan: Plan) -> Invocation<'static> {
+    Invocation {
+        plan,
+        file: None,
+        files: Vec::new(alloc),
+        logs: Vec::new(alloc),
+        output: None,
     }
 }
 
@@ -28,12 +40,7 @@ fn asks_for(alloc: Global, words: &[&str], wanted: Option<Plan>) -> bool {
     let Some(plan_wanted) = wanted else {
         return false;
     };
-    let wanted = Invocation {
-        plan: plan_wanted,
-        file: None,
-        logs: Vec::new(alloc),
-    };
-    plan(alloc, words).ok() == Some(wanted)
+    plan(alloc, words).ok() == Some(bare(alloc, plan_wanted))
 }
 
 /// Command lines of `check`: how many checkers they ask for, and whether for all events and for
@@ -64,6 +71,7 @@ fn checked(number: u32, all: bool, progress: bool) -> Option<Plan> {
     Some(Plan {
         command: Command::Check(asked),
         progress,
+        quiet: false,
     })
 }
 
@@ -139,6 +147,7 @@ fn run(number: u32, options: [bool; 3]) -> Option<Plan> {
     Some(Plan {
         command: Command::Run(asked),
         progress,
+        quiet: false,
     })
 }
 
@@ -239,6 +248,7 @@ fn plans_of_explain(rt: HostRuntime) {
         let wanted = Some(Plan {
             command: Command::Explain(asked),
             progress,
+            quiet: false,
         });
         assert!(rt; asks_for(rt.alloc(), words, wanted), "{words:?}");
     }
@@ -255,41 +265,97 @@ const PLAIN: [(&[&str], Command, bool); 4] = [
 #[test]
 fn plans_of_plain_commands(rt: HostRuntime) {
     for &(words, command, progress) in &PLAIN {
-        let wanted = Some(Plan { command, progress });
+        let wanted = Some(Plan {
+            command,
+            progress,
+            quiet: false,
+        });
         assert!(rt; asks_for(rt.alloc(), words, wanted), "{words:?}");
     }
 }
 
-/// Command lines with a file's name, and that name.
-const NAMED: [(&[&str], Option<&str>); 8] = [
-    (&["check", "a.record"], Some("a.record")),
-    (&["check", "--", "--checkers"], Some("--checkers")),
-    (&["check", "-"], None),
-    (&["check", "--", "-"], None),
-    (&["check", ""], Some("")),
-    (&["check", "check"], Some("check")),
-    (&["check", "more"], Some("more")),
-    (&["check", "/tmp/\u{e9}.record"], Some("/tmp/\u{e9}.record")),
+/// `check` with no option.
+fn plain_check() -> Command {
+    Command::Check(CheckOptions {
+        checkers: Checkers::default(),
+        all: false,
+        json: false,
+    })
+}
+
+/// Command lines of `check` with names of files: those, the one that is read where there is one,
+/// and the file that is written.
+const NAMED: [(&[&str], &[&str], Option<&str>, Option<&str>); 12] = [
+    (
+        &["check", "a.record"],
+        &["a.record"],
+        Some("a.record"),
+        None,
+    ),
+    (&["check", "--", "-j"], &["-j"], Some("-j"), None),
+    (&["check", "-"], &["-"], None, None),
+    (&["check", "--", "-"], &["-"], None, None),
+    (&["check", ""], &[""], Some(""), None),
+    (&["check", "check"], &["check"], Some("check"), None),
+    (&["check", "more"], &["more"], Some("more"), None),
+    (
+        &["check", "\u{e9}.record"],
+        &["\u{e9}.record"],
+        Some("\u{e9}.record"),
+        None,
+    ),
+    (&["check", "a", "-", "a"], &["a", "-", "a"], Some("a"), None),
+    (
+        &["check", "--output", "a", "b"],
+        &["b"],
+        Some("b"),
+        Some("a"),
+    ),
+    (&["check", "--output=a"], &[], None, Some("a")),
+    (&["check", "--output", "-"], &[], None, None),
 ];
 
-/// Whether a command line is one of `check` that names this file.
-fn names_file(alloc: Global, words: &[&str], file: Option<&str>) -> bool {
+/// Whether a command line is one of `check` that names these files.
+fn names_files(
+    alloc: Global,
+    words: &[&str],
+    names: &'static [&'static str],
+    file: Option<&'static str>,
+    output: Option<&'static str>,
+) -> Result<bool, Fail> {
+    let mut files = Vec::new(alloc);
+    files.extend_from_slice(names)?;
     let wanted = Invocation {
-        plan: quiet(Command::Check(CheckOptions {
-            checkers: Checkers::default(),
-            all: false,
-            json: false,
-        })),
+        plan: quiet(plain_check()),
         file,
+        files,
         logs: Vec::new(alloc),
+        output,
     };
-    plan(alloc, words).ok() == Some(wanted)
+    Ok(plan(alloc, words).ok() == Some(wanted))
 }
 
 #[test]
-fn names_of_files(rt: HostRuntime) {
-    for &(words, file) in &NAMED {
-        assert!(rt; names_file(rt.alloc(), words, file), "{words:?}");
+fn names_of_files(rt: HostRuntime) -> Result<(), Fail> {
+    for &(words, names, file, output) in &NAMED {
+        let are_named = names_files(rt.alloc(), words, names, file, output)?;
+        assert!(rt; are_named, "{words:?}");
+    }
+    Ok(())
+}
+
+/// Command lines of `check` that ask for nothing on standard output.
+const UNHEARD: [&[&str]; 2] = [&["check", "-q"], &["check", "--quiet"]];
+
+#[test]
+fn plans_of_the_status_alone(rt: HostRuntime) {
+    for &words in &UNHEARD {
+        let wanted = Some(Plan {
+            command: plain_check(),
+            progress: false,
+            quiet: true,
+        });
+        assert!(rt; asks_for(rt.alloc(), words, wanted), "{words:?}");
     }
 }
 
@@ -316,7 +382,9 @@ fn names_logs(
     let wanted = Invocation {
         plan: quiet(Command::Merge { error }),
         file: None,
+        files: Vec::new(alloc),
         logs,
+        output: None,
     };
     Ok(plan(alloc, words).ok() == Some(wanted))
 }
@@ -330,7 +398,7 @@ fn names_of_logs(rt: HostRuntime) -> Result<(), Fail> {
 }
 
 /// Command lines that are refused.
-const FAULTS: [&[&str]; 66] = [
+const FAULTS: [&[&str]; 78] = [
     &["merge"],
     &["merge", "--error", "3"],
     &["merge", "--error", "-3", "a.log"],
@@ -338,7 +406,19 @@ const FAULTS: [&[&str]; 66] = [
     &["check", "--order"],
     &[],
     &["judge"],
-    &["check", "one", "two"],
+    &["run-of", "one", "two"],
+    &["upgrade", "one", "two"],
+    &["certify", "--json", "one", "two"],
+    &["certify", "--bytes", "one", "two"],
+    &["check", "--json", "one", "two"],
+    &["explain", "--svg", "one", "two"],
+    &["check", "--output"],
+    &["check", "--output", "a", "--output", "b"],
+    &["check", "-q", "--quiet"],
+    &["check", "-q", "--output", "a"],
+    &["certify", "-q", "--order"],
+    &["run", "--quiet", "--bytes"],
+    &["explain", "--quiet", "--svg"],
     &["check", "--single"],
     &["explain", "--bytes"],
     &["check", "--version"],

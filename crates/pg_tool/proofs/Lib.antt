@@ -1,3 +1,4 @@
+pub mod Each
 pub mod Guested
 mod Looking
 mod Only

@@ -1,4 +1,7 @@
+pub mod Names
 pub mod Guests
 pub mod Rendered
 pub mod Records
+pub mod Outputs
 pub mod Answers
+pub mod Words

@@ -3,19 +3,29 @@
 #![tactic(auto)]
 
 mod answers;
+mod brief;
 mod format;
 mod guest_error;
 mod guest_refusals;
 mod guests;
 mod host;
+mod inputs;
+mod lines;
+mod named;
+mod nowhere;
+mod outputs;
 mod program;
 mod records;
+mod words;
 
+pub use brief::Brief;
 pub use guest_error::GuestError;
 pub use host::Host;
+pub use nowhere::Nowhere;
 pub use pg_event::Selection;
 pub use pg_plan::{
     CertifyOptions, CheckOptions, Checkers, Command, ExplainOptions, Invocation, Plan, RunOptions,
     ShowOptions, Telling, Usage, plan,
 };
 pub use program::{pcid_audit, pcid_audit_followed, run, run_followed};
+pub use words::{pcid_audit_of_arguments, pcid_audit_of_words};

@@ -1,31 +1,28 @@
 //! The program by what its words ask for: a command, and what it reads.
 
-ghost use Rattle.std.specs.Prelude.{◌≡◌, None};
+ghost use Rattle.std.specs.Prelude.{◌≡◌, false};
 ghost use Rattle.pg_progress.specs.Seats.{counts};
 ghost use Rattle.pg_report.specs.Changes.{filled};
-ghost use Rattle.pg_tool.specs.Answers.{Answers, DoesCommand, DoesFile, DoesNamed, GivesText};
-ghost use Rattle.pg_tool.specs.Answers.{GivesUsage, MergesAsked, opens, widening_of};
+ghost use Rattle.pg_tool.specs.Answers.{Answers, GivesText, GivesUsage, opens};
 ghost use Rattle.pg_tool.specs.Guests.{guest_error_status, run_error_status};
 ghost use Rattle.pg_tool.specs.Guests.{RunsGuest, TellsGuest};
+ghost use Rattle.pg_tool.specs.Outputs.{makes};
 ghost use Rattle.pg_auditing.specs.Streams.{streams};
 
 use crate::guest_error::GuestError;
 use crate::guest_refusals::tell_guest;
 use crate::guests::run_script;
 use crate::host::Host;
-use crate::records::do_of_record;
-use pg_auditing::{
-    MEMORY, REFUSED, UNOPENED, USAGE, YES, tell, tell_memory, tell_text, tell_unopened,
-};
+use crate::outputs::perform_out;
+use pg_auditing::{MEMORY, REFUSED, USAGE, YES, tell, tell_memory, tell_text};
 use pg_codec::{Sink, Source, put_all};
-use pg_ordering::merge;
 use pg_plan::{Command, Invocation, Plan, RunOptions, Usage};
 use pg_progress::{Nobody, Onlooker};
 use pg_report::AuditError;
 use pg_runner::RunError;
 use pg_script::{ScriptError, ScriptRefusal};
 use pg_span_codec::Peeked;
-use std::alloc::{AllocGlobal, Global};
+use std::alloc::AllocGlobal;
 use std::cell::Cell;
 use std::sync::Wait;
 use std::thread::Threads;
@@ -114,93 +111,6 @@ fn give_text<O: Sink, E: Sink>(text: &str, output: &mut O, errors: &mut E) -> u8
     }
 }
 
-/// Does what a plan says that reads one input.
-fn perform<T: AllocGlobal + Threads + Wait + Sync, R: Source, O: Sink, E: Sink, P: Onlooker + Drop>(
-    rt: &T,
-    plan: &Plan,
-    input: &mut Peeked<R>,
-    output: &mut O,
-    errors: &mut E,
-    onlooker: P,
-) -> u8
-    requires logs { widening_of plan.now.command ≡ None }
-    requires onlooker { P.told onlooker ≡ counts 0 0 }
-    ensures { DoesCommand plan.now.command (streams ⟦<Peeked<R> as Source>⟧ O.Sink E.Sink
-        (input.old, output.old, errors.old) (input.new, output.new, errors.new)) result }
-{
-    match &plan.command {
-        Command::Run(asked) => if plan.progress {
-            run_followed(rt, asked, input, output, errors, onlooker)
-        } else {
-            run(rt, asked, input, output, errors)
-        },
-        Command::Check(_)
-        | Command::Certify(_)
-        | Command::RunOf
-        | Command::Explain(_)
-        | Command::Show(_)
-        | Command::Upgrade => do_of_record(rt, &plan.command, input, output, errors),
-        Command::Merge { .. } => unreachable!(),
-    }
-}
-
-/// Does what a plan says with the file of that name in the place of the input.
-fn perform_on<
-    T: AllocGlobal + Threads + Wait + Sync,
-    F: Fn(&str) -> Option<Peeked<S>>,
-    S: Source + Drop,
-    O: Sink,
-    E: Sink,
-    P: Onlooker + Drop,
->(rt: &T, plan: &Plan, name: &str, host: Host<'_, F, P>, output: &mut O, errors: &mut E) -> u8
-    requires logs { widening_of plan.now.command ≡ None }
-    requires opener { F.IsAlwaysCallable host.opener }
-    requires onlooker { P.told host.onlooker ≡ counts 0 0 }
-    ensures { DoesNamed (opens F.Fn ⟦<Peeked<S> as Source>⟧ host.entry.opener)
-        plan.now.command name.now
-        (filled O.Sink output.old output.new) (filled E.Sink errors.old errors.new) result }
-{
-    match (host.opener)(name) {
-        Some(mut file) => perform(rt, plan, &mut file, output, errors, host.onlooker),
-        None => {
-            tell_unopened(errors, name);
-            UNOPENED
-        }
-    }
-}
-
-/// By how many ticks a command widens the spans of the logs that it reads, where it reads logs.
-fn widening_of(command: &Command) -> Option<u32>
-    ensures { result ≡ widening_of command.now }
-{
-    match command {
-        Command::Merge { error } => Some(*error),
-        Command::Check(_)
-        | Command::Certify(_)
-        | Command::Run(_)
-        | Command::RunOf
-        | Command::Explain(_)
-        | Command::Show(_)
-        | Command::Upgrade => None,
-    }
-}
-
-/// Merges the logs that are named, with spans that are so much wider.
-fn merge_asked<F: Fn(&str) -> Option<S>, S: Source + Drop, O: Sink, E: Sink>(
-    alloc: Global,
-    asked: &Invocation<'_>,
-    error: u32,
-    opener: &F,
-    output: &mut O,
-    errors: &mut E,
-) -> u8
-    requires { F.IsAlwaysCallable opener.now }
-    ensures { MergesAsked (opens F.Fn S.Source opener.now) asked.now error
-        (filled O.Sink output.old output.new) (filled E.Sink errors.old errors.new) result }
-{
-    merge(alloc, asked.logs.as_slice(), error, opener, output, errors)
-}
-
 /// Whether what is read is a record whose reading is to be told of: `run` reads a script.
 fn tells_of_reading(plan: &Plan) -> bool {
     match &plan.command {
@@ -234,46 +144,18 @@ fn tell_usage<O: Sink, E: Sink>(why: Usage, output: &mut O, errors: &mut E) -> u
     }
 }
 
-/// Does what words ask for of one input: that of the program, or the file that they name.
-fn perform_asked<
-    T: AllocGlobal + Threads + Wait + Sync,
-    F: Fn(&str) -> Option<Peeked<S>>,
-    S: Source + Drop,
-    R: Source,
-    O: Sink,
-    E: Sink,
-    P: Onlooker + Drop,
->(
-    rt: &T,
-    asked: &Invocation<'_>,
-    host: Host<'_, F, P>,
-    input: &mut Peeked<R>,
-    output: &mut O,
-    errors: &mut E,
-) -> u8
-    requires logs { widening_of asked.now.plan.command ≡ None }
-    requires opener { F.IsAlwaysCallable host.opener }
-    requires onlooker { P.told host.onlooker ≡ counts 0 0 }
-    ensures { DoesFile (opens F.Fn ⟦<Peeked<S> as Source>⟧ host.entry.opener)
-        (input.new ≡ input.old) asked.now
-        (streams ⟦<Peeked<R> as Source>⟧ O.Sink E.Sink
-        (input.old, output.old, errors.old) (input.new, output.new, errors.new)) result }
-{
-    match asked.file {
-        None => perform(rt, &asked.plan, input, output, errors, host.onlooker),
-        Some(name) => perform_on(rt, &asked.plan, name, host, output, errors),
-    }
-}
-
 /// The whole program, over any streams: what `plan` made of the words after its name, what opens a
 /// file, what it reads where the words name none, and what it writes to. It gives the exit status,
-/// which is 64 where the words are no command of it, and 66 where a file can't be opened. Where
-/// the words ask for progress the host, whose onlooker was told nothing before, comes to know how
-/// far a record was read, or a run has come: telling of it is up to who made the host.
+/// which is 64 where the words are no command of it, or ask for bytes on a terminal, 66 where a
+/// file can't be opened, and 73 where the file for the output can't be created. Where the words ask
+/// for progress the host, whose onlooker was told nothing before, comes to know how far a record
+/// was read, or a run has come: telling of it is up to who made the host.
 pub fn pcid_audit_followed<
     T: AllocGlobal + Threads + Wait + Sync,
     F: Fn(&str) -> Option<Peeked<S>>,
     S: Source + Drop,
+    G: Fn(&str) -> Option<W>,
+    W: Sink + Drop,
     R: Source,
     O: Sink,
     E: Sink,
@@ -281,15 +163,16 @@ pub fn pcid_audit_followed<
 >(
     rt: &T,
     planned: Result<Invocation<'_>, Usage>,
-    host: Host<'_, F, P>,
+    host: Host<'_, F, G, P>,
     input: &mut Peeked<R>,
     output: &mut O,
     errors: &mut E,
 ) -> u8
     requires opener { F.IsAlwaysCallable host.opener }
+    requires creator { G.IsAlwaysCallable host.creator }
     requires onlooker { P.told host.onlooker ≡ counts 0 0 }
     ensures { Answers planned.entry (opens F.Fn ⟦<Peeked<S> as Source>⟧ host.entry.opener)
-        (input.new ≡ input.old)
+        (makes G.Fn W.Sink host.entry.creator) host.entry.is_terminal (input.new ≡ input.old)
         (streams ⟦<Peeked<R> as Source>⟧ O.Sink E.Sink
         (input.old, output.old, errors.old) (input.new, output.new, errors.new)) result }
 {
@@ -298,17 +181,16 @@ pub fn pcid_audit_followed<
         Err(why) => return tell_usage(why, output, errors),
     };
     host.reading.set(tells_of_reading(&asked.plan));
-    match widening_of(&asked.plan.command) {
-        Some(error) => merge_asked(rt.alloc(), &asked, error, &host.opener, output, errors),
-        None => perform_asked(rt, &asked, host, input, output, errors),
-    }
+    perform_out(rt, &asked, host, input, output, errors)
 }
 
-/// The whole program over streams that tell of no progress.
+/// The whole program over streams that tell of no progress, of which none is a terminal.
 pub fn pcid_audit<
     T: AllocGlobal + Threads + Wait + Sync,
     F: Fn(&str) -> Option<Peeked<S>>,
     S: Source + Drop,
+    G: Fn(&str) -> Option<W>,
+    W: Sink + Drop,
     R: Source,
     O: Sink,
     E: Sink,
@@ -316,18 +198,22 @@ pub fn pcid_audit<
     rt: &T,
     planned: Result<Invocation<'_>, Usage>,
     opener: F,
+    creator: G,
     input: &mut Peeked<R>,
     output: &mut O,
     errors: &mut E,
 ) -> u8
-    requires { F.IsAlwaysCallable opener }
+    requires opener { F.IsAlwaysCallable opener }
+    requires creator { G.IsAlwaysCallable creator }
     ensures { Answers planned.entry (opens F.Fn ⟦<Peeked<S> as Source>⟧ opener)
-        (input.new ≡ input.old)
+        (makes G.Fn W.Sink creator) false (input.new ≡ input.old)
         (streams ⟦<Peeked<R> as Source>⟧ O.Sink E.Sink
         (input.old, output.old, errors.old) (input.new, output.new, errors.new)) result }
 {
     let host = Host {
         opener,
+        creator,
+        is_terminal: false,
         reading: &Cell::new(false),
         onlooker: Nobody,
     };

@@ -5,4 +5,4 @@ returns c =
     let checkers = c.with_option-line.ensures _ _ c.new_line-line.ensures c.checkers_option.ensures in
     let all = c.with_option-line-2.ensures _ _ checkers c.switch.ensures in
     let json = c.with_option-line-3.ensures _ _ all c.switch-2.ensures in
-    c.with_progress.ensures _ json
+    c.with_files.ensures _ json

@@ -6,4 +6,4 @@ returns c =
     let most = c.with_made-line.ensures _ _ all c.most_option.ensures in
     let svg = c.with_option-line-2.ensures _ _ most c.switch-2.ensures in
     let json = c.with_option-line-3.ensures _ _ svg c.switch-3.ensures in
-    c.with_progress.ensures _ json
+    c.with_files.ensures _ json

@@ -1,4 +1,4 @@
-use Rattle.std.proofs.Common.{List, codes, sym, ap, ◌∙◌}
+use Rattle.std.proofs.Common.{List, sym, ap, ◌∙◌}
 use Rattle.clap.specs.Matches.{found_of}
 use Rattle.clap.specs.Walk.{Row, rows_of}
 use Rattle.clap.specs.declared.parser.matches.ArgMatches.TheViews.{out-ArgMatches}
@@ -12,4 +12,4 @@ returns c =
     let found = found_of c.in_ok-own.own.now in
     let rows : List Row = rows_of found in
     let found_is = joined (out-ArgMatches c.args.matches.now).subcommand c.in_ok-own.field-0-0.now rows c.in_ok-own.ensures.rows c.in_ok-own.ensures.name in
-    c.get_strs.ensures ∙ raw_values-rows found (codes "log") ∙ sym (ap names_in found_is)
+    c.get_strs.ensures ∙ raw_values-rows found c.args.option.now ∙ sym (ap (names_in c.args.option.now) found_is)

@@ -3,12 +3,12 @@ use Rattle.std.proofs.lemmas.Fn.{says_at}
 use Rattle.pg_report.specs.Changes.{drawn}
 use Rattle.pg_span_codec.specs.contracts.peeked.PeekedSource.TheImpl as peeked
 use Rattle.pg_tool.proofs.Looking.{stays_same}
-use Rattle.pg_tool.proofs.program.perform_on.Goals as goal
+use Rattle.pg_tool.proofs.inputs.perform_on.Goals as goal
 
 pub returns-in-Some : goal.returns-in-Some
 returns-in-Some g c =
-    let file = drawn (peeked.ghosts g.row.S g.S.Source g.S.Source-dict) c.in-Some.file c.perform.new.input in
-    inl (file, (c.in-Some.file, c.perform.new.input, says_at g.F.Fn c.in-Some.ensures refl, refl), c.perform.ensures)
+    let file = drawn (peeked.ghosts g.row.S g.S.Source g.S.Source-dict) c.in-Some.file c.perform_named.new.input in
+    inl (file, (c.in-Some.file, c.perform_named.new.input, says_at g.F.Fn c.in-Some.ensures refl, refl), c.perform_named.ensures)
 
 pub returns-in-None : goal.returns-in-None
 returns-in-None g c =
