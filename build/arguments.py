@@ -21,10 +21,11 @@ NO_NUMBER = ("error: a number is given by digits alone, an address by 0x and 1 t
              "  and a page by an address that is canonical" + MORE)
 NO_TELLING = "error: --most goes with --all alone, by digits alone, and --svg goes without --all" + MORE
 CONFLICT = ("error: --json, --bytes, --order, --svg and --first exclude one another, and so do --first and\n"
-            "  --checkers, --single and --progress, and --quiet and each of --output, --bytes, --order and --svg;\n"
+            "  each of --all and --checkers, --single and --progress, and --quiet and each of --output, --bytes,"
+            " --order and --svg;\n"
             "  several files exclude --json, --bytes and --svg" + MORE)
 # Options of which one has no effect beside another.
-EXCLUSIVE = (*itertools.combinations(("json", "bytes", "order", "svg", "first"), 2), ("first", "checkers"),
+EXCLUSIVE = (*itertools.combinations(("json", "bytes", "order", "svg", "first"), 2), ("first", "all"), ("first", "checkers"),
              ("single", "progress"), *(("quiet", name) for name in ("output", "bytes", "order", "svg")))
 # Options that write no text of lines, which could begin with a file's name.
 UNMIXED = {"json", "bytes", "svg"}

@@ -107,7 +107,7 @@ fn main(rt: HostRuntime) -> ExitCode {
         },
         is_terminal: rt.stdout().is_terminal(),
         reading: &progress,
-        onlooker: Teller::new(Watched::new(rt.stderr())),
+        observer: Teller::new(Watched::new(rt.stderr())),
     };
     let status = pcid_audit_of_arguments(
         &rt,

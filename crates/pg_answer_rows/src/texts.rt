@@ -60,7 +60,9 @@ const NO_TELLING: &str =
 /// Of two options of which one has no effect.
 const CONFLICT: &str = "error: --json, --bytes, --order, --svg and --first exclude one another, \
     and so do --first and\n\
-    \x20 --checkers, and --single and --progress\n\
+    \x20 each of --all and --checkers, --single and --progress, and --quiet and each of --output, \
+    --bytes, --order and --svg;\n\
+    \x20 several files exclude --json, --bytes and --svg\n\
     \n\
     For more information, try '--help'.\n";
 

@@ -5,7 +5,7 @@ ghost use Rattle.pg_progress.specs.Seats.{IsNotBelow, counts};
 
 use crate::line::{is_due, put_line};
 use pg_codec::Sink;
-use pg_progress::{Counts, Onlooker};
+use pg_progress::{Counts, Observer};
 
 /// Tells a sink how many events and sealed segments a run has, once for all millions of events that
 /// were passed since it was told before. Whether the sink takes the line changes nothing.
@@ -30,7 +30,7 @@ impl<E: Sink> Teller<E> {
     }
 }
 
-impl<E: Sink> Onlooker for Teller<E> {
+impl<E: Sink> Observer for Teller<E> {
     ghost told = { λ t. t.last };
 
     fn see(&mut self, counts: Counts)

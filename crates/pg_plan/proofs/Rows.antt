@@ -28,7 +28,7 @@ every = record { from = 0; to = 4294967295; cpu = None; page = None; word = None
 
 -- `check` with no option
 abbrev bare : CheckOptions
-bare = record { checkers = 1; all = false; json = false }
+bare = record { checkers = 1; all = false; first = false; json = false }
 
 -- nothing is told meanwhile
 abbrev quiet : Command → Plan
@@ -59,7 +59,7 @@ unfolding clap_on_literals
 check_short = refl
 
 asks_certify : Asks (codes "certify" ∷ codes "--bytes" ∷ []) (quiet (Certify (record { checkers = 1; bytes = true; order = false; first = false; json = false }))) None
-unfolding clap_on_literals
+unfolding clap_on_literals has_conflict
 asks_certify = (refl, ((refl, record { checkers = refl; bytes = refl; order = refl; first = refl; json = refl }), refl, refl, refl), refl)
 
 certify_single : Gives (codes "certify" ∷ codes "--single" ∷ []) (UnknownArgument ∷ [])
@@ -166,8 +166,8 @@ unfolding clap_on_literals
 checkers_of_run_of = refl
 
 asks_one : Asks (codes "check" ∷ []) (quiet (Check bare)) None
-unfolding clap_on_literals
-asks_one = (refl, ((refl, record { checkers = refl; all = refl; json = refl }), refl, refl, refl), refl)
+unfolding clap_on_literals has_conflict
+asks_one = (refl, ((refl, record { checkers = refl; all = refl; first = refl; json = refl }), refl, refl, refl), refl)
 
 -- ---- the switches of `run`
 
@@ -190,7 +190,7 @@ unfolding clap_on_literals
 two = refl
 
 asks_run : Asks run_words (quiet (Run (record { checkers = 2; single = true; bytes = true }))) None
-unfolding clap_on_literals
+unfolding clap_on_literals has_conflict
 asks_run = (refl, ((refl, record { checkers = subst (λ o. AreAsked o 2) (sym two) (((omega arith, (omega arith, tt)), refl, omega arith), (omega arith, omega arith)); single = refl; bytes = refl }), refl, refl, refl), refl)
 
 -- ---- the event numbers of `show`
@@ -222,7 +222,7 @@ unfolding clap_on_literals
 seven = refl
 
 asks_show : Asks show_words (quiet (Show (record { selection = record every { from = 5; to = 7 }; json = false }))) None
-unfolding clap_on_literals
+unfolding clap_on_literals has_conflict
 asks_show = (refl, ((refl, record { selection = record { from = subst (λ o. IsAsked 0 o 5) (sym five) ((omega arith, (omega arith, tt)), refl, omega arith); to = subst (λ o. IsAsked 4294967295 o 7) (sym seven) ((omega arith, (omega arith, tt)), refl, omega arith); cpu = tt; page = tt; word = tt }; json = refl }), refl, refl, refl), refl)
 
 -- ---- what is asked of the events themselves
@@ -261,7 +261,7 @@ is_5f0 : IsPageIn (codes "0x5F0") 1520
 is_5f0 = ((codes "5F0", refl, (omega arith, (omega arith, (omega arith, (omega arith, (omega arith, tt)))), refl, omega arith)), refl)
 
 asks_filter : Asks filter_words (quiet (Show (record { selection = record every { cpu = Some 3; page = Some 1520 }; json = false }))) None
-unfolding clap_on_literals
+unfolding clap_on_literals has_conflict
 asks_filter = (refl, ((refl, record { selection = record { from = refl; to = refl; cpu = subst (λ o. IsOptional IsCpuIn o (Some 3)) (sym third) is_3; page = subst (λ o. IsOptional IsPageIn o (Some 1520)) (sym paged) is_5f0; word = tt }; json = refl }), refl, refl, refl), refl)
 
 -- ---- what is told of bad events
@@ -275,11 +275,11 @@ unfolding clap_on_literals
 none_at_most = refl
 
 asks_all : Asks (codes "explain" ∷ codes "--all" ∷ []) (quiet (Explain (record { telling = All 100; json = false }))) None
-unfolding clap_on_literals
+unfolding clap_on_literals has_conflict
 asks_all = (refl, ((refl, record { telling = (refl, refl, refl); json = refl }), refl, refl, refl), refl)
 
 asks_picture : Asks (codes "explain" ∷ codes "--svg" ∷ []) (quiet (Explain (record { telling = Picture; json = false }))) None
-unfolding clap_on_literals
+unfolding clap_on_literals has_conflict
 asks_picture = (refl, ((refl, record { telling = (refl, refl, refl); json = refl }), refl, refl, refl), refl)
 
 picture_of_certify : Gives (codes "certify" ∷ codes "--svg" ∷ []) (UnknownArgument ∷ [])
@@ -309,51 +309,51 @@ abbrev conflicts : List Text → Bool
 conflicts words = has_conflict (options (subcommand_of command_line words))
 
 order_and_bytes : conflicts (codes "certify" ∷ codes "--order" ∷ codes "--bytes" ∷ []) ≡ true
-unfolding clap_on_literals
+unfolding clap_on_literals has_conflict
 order_and_bytes = refl
 
 json_and_bytes : conflicts (codes "certify" ∷ codes "--json" ∷ codes "--bytes" ∷ []) ≡ true
-unfolding clap_on_literals
+unfolding clap_on_literals has_conflict
 json_and_bytes = refl
 
 json_and_picture : conflicts (codes "explain" ∷ codes "--json" ∷ codes "--svg" ∷ []) ≡ true
-unfolding clap_on_literals
+unfolding clap_on_literals has_conflict
 json_and_picture = refl
 
 first_and_bytes : conflicts (codes "certify" ∷ codes "--first" ∷ codes "--bytes" ∷ []) ≡ true
-unfolding clap_on_literals
+unfolding clap_on_literals has_conflict
 first_and_bytes = refl
 
 first_of_two_checkers : conflicts (codes "certify" ∷ codes "--first" ∷ codes "-j2" ∷ []) ≡ true
-unfolding clap_on_literals
+unfolding clap_on_literals has_conflict
 first_of_two_checkers = refl
 
 progress_of_a_single_thread : conflicts (codes "run" ∷ codes "--single" ∷ codes "--progress" ∷ []) ≡ true
-unfolding clap_on_literals
+unfolding clap_on_literals has_conflict
 progress_of_a_single_thread = refl
 
 record_of_a_single_thread : conflicts (codes "run" ∷ codes "--single" ∷ codes "--bytes" ∷ []) ≡ false
-unfolding clap_on_literals
+unfolding clap_on_literals has_conflict
 record_of_a_single_thread = refl
 
 json_of_two_files : conflicts (codes "certify" ∷ codes "--json" ∷ codes "one" ∷ codes "two" ∷ []) ≡ true
-unfolding clap_on_literals
+unfolding clap_on_literals has_conflict
 json_of_two_files = refl
 
 text_of_two_files : conflicts (codes "certify" ∷ codes "one" ∷ codes "two" ∷ []) ≡ false
-unfolding clap_on_literals
+unfolding clap_on_literals has_conflict
 text_of_two_files = refl
 
 json_of_one_file : conflicts (codes "certify" ∷ codes "--json" ∷ codes "one" ∷ []) ≡ false
-unfolding clap_on_literals
+unfolding clap_on_literals has_conflict
 json_of_one_file = refl
 
 quiet_bytes : conflicts (codes "certify" ∷ codes "-q" ∷ codes "--bytes" ∷ []) ≡ true
-unfolding clap_on_literals
+unfolding clap_on_literals has_conflict
 quiet_bytes = refl
 
 quiet_and_output : conflicts (codes "show" ∷ codes "--quiet" ∷ codes "--output" ∷ codes "a" ∷ []) ≡ true
-unfolding clap_on_literals
+unfolding clap_on_literals has_conflict
 quiet_and_output = refl
 
 -- and all are not drawn
@@ -367,15 +367,15 @@ all_drawn = refl
 -- ---- what is told meanwhile
 
 asks_progress : Asks (codes "check" ∷ codes "--progress" ∷ []) (telling (Check bare)) None
-unfolding clap_on_literals
-asks_progress = (refl, ((refl, record { checkers = refl; all = refl; json = refl }), refl, refl, refl), refl)
+unfolding clap_on_literals has_conflict
+asks_progress = (refl, ((refl, record { checkers = refl; all = refl; first = refl; json = refl }), refl, refl, refl), refl)
 
 asks_progress_of_run : Asks (codes "run" ∷ codes "--progress" ∷ []) (telling (Run (record { checkers = 1; single = false; bytes = false }))) None
-unfolding clap_on_literals
+unfolding clap_on_literals has_conflict
 asks_progress_of_run = (refl, ((refl, record { checkers = refl; single = refl; bytes = refl }), refl, refl, refl), refl)
 
 asks_json : Asks (codes "show" ∷ codes "--json" ∷ []) (quiet (Show (record { selection = every; json = true }))) None
-unfolding clap_on_literals
+unfolding clap_on_literals has_conflict
 asks_json = (refl, ((refl, record { selection = record { from = refl; to = refl; cpu = tt; page = tt; word = tt }; json = refl }), refl, refl, refl), refl)
 
 json_of_run : Gives (codes "run" ∷ codes "--json" ∷ []) (UnknownArgument ∷ [])
@@ -389,17 +389,17 @@ progress_of_show = refl
 -- ---- the file
 
 file : Asks (codes "check" ∷ codes "a.record" ∷ []) (quiet (Check bare)) (Some (codes "a.record"))
-unfolding clap_on_literals
-file = (refl, ((refl, record { checkers = refl; all = refl; json = refl }), refl, refl, refl), refl)
+unfolding clap_on_literals has_conflict
+file = (refl, ((refl, record { checkers = refl; all = refl; first = refl; json = refl }), refl, refl, refl), refl)
 
 dash : Asks (codes "check" ∷ codes "-" ∷ []) (quiet (Check bare)) None
-unfolding clap_on_literals
-dash = (refl, ((refl, record { checkers = refl; all = refl; json = refl }), refl, refl, refl), refl)
+unfolding clap_on_literals has_conflict
+dash = (refl, ((refl, record { checkers = refl; all = refl; first = refl; json = refl }), refl, refl, refl), refl)
 
 -- after `--` each word is a name
 dashes : Asks (codes "check" ∷ codes "--" ∷ codes "--help" ∷ []) (quiet (Check bare)) (Some (codes "--help"))
-unfolding clap_on_literals
-dashes = (refl, ((refl, record { checkers = refl; all = refl; json = refl }), refl, refl, refl), refl)
+unfolding clap_on_literals has_conflict
+dashes = (refl, ((refl, record { checkers = refl; all = refl; first = refl; json = refl }), refl, refl, refl), refl)
 
 file_of_upgrade : Gives (codes "upgrade" ∷ codes "a.record" ∷ []) []
 unfolding clap_on_literals
@@ -410,8 +410,8 @@ unfolding clap_on_literals
 options_of_upgrade = refl
 
 asks_quiet : Asks (codes "check" ∷ codes "-q" ∷ []) (record (quiet (Check bare)) { quiet = true }) None
-unfolding clap_on_literals
-asks_quiet = (refl, ((refl, record { checkers = refl; all = refl; json = refl }), refl, refl, refl), refl)
+unfolding clap_on_literals has_conflict
+asks_quiet = (refl, ((refl, record { checkers = refl; all = refl; first = refl; json = refl }), refl, refl, refl), refl)
 
 -- ---- several files, and a file for what is written
 

@@ -105,7 +105,8 @@ abbrev pub check_line : App
 check_line =
     let line = with_rule (new_app (codes "check")) checkers_rule in
     let all = with_rule line (switch_rule (codes "all")) in
-    with_files (with_json all)
+    let first = with_rule all (switch_rule (codes "first")) in
+    with_files (with_json first)
 
 abbrev pub certify_line : App
 certify_line =
@@ -257,12 +258,14 @@ mixes_files rows =
     && (has (codes "json") rows || has (codes "bytes") rows || has (codes "svg") rows)
 
 -- Of two options one has no effect beside the other: two say what is written; or a record is read
--- up to the first event that is rejected, which one checker does; or one thread runs a script, and
--- tells of no progress; or nothing is written, and it is said where or what; or files are mixed.
-abbrev pub has_conflict : List Row → Bool
+-- up to the first event that is rejected, which one checker does, and which is not all of it; or one
+-- thread runs a script, and tells of no progress; or nothing is written, and it is said where or
+-- what; or files are mixed.
+unfoldable pub has_conflict : List Row → Bool
 has_conflict rows =
     says_twice rows
-    || (has (codes "first") rows && is_some (first_of (codes "checkers") rows))
+    || (has (codes "first") rows
+    && (has (codes "all") rows || is_some (first_of (codes "checkers") rows)))
     || (has (codes "single") rows && has (codes "progress") rows)
     || is_unheard rows || mixes_files rows
 
@@ -288,6 +291,7 @@ AreCheckersOf rows = AreAsked (first_of (codes "checkers") rows)
 pub record IsAskedOfCheck (rows : List Row) (asked : CheckOptions) : Type 0 where
   pub checkers : AreCheckersOf rows asked.checkers
   pub all : asked.all ≡ has (codes "all") rows
+  pub first : asked.first ≡ has (codes "first") rows
   pub json : asked.json ≡ has (codes "json") rows
 
 pub record IsAskedOfCertify (rows : List Row) (asked : CertifyOptions) : Type 0 where

@@ -393,6 +393,7 @@ fn check_line<'a>(alloc: Global) -> Result<CommandLine<'a>, AllocError>
     let line = new_line(alloc, CHECK, CHECK_ABOUT);
     let line = with_option(line, checkers_option(alloc));
     let line = with_option(line, switch(alloc, ALL, SUMMARY_ABOUT));
+    let line = with_option(line, switch(alloc, FIRST, FIRST_ABOUT));
     let line = with_option(line, switch(alloc, JSON, JSON_ABOUT));
     with_files(alloc, line)
 }

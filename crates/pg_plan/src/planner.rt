@@ -49,8 +49,8 @@ const NO_TELLING: &str = "error: --most goes with --all alone, by digits alone, 
     For more information, try '--help'.\n";
 
 const CONFLICT: &str = "error: --json, --bytes, --order, --svg and --first exclude one another, \
-    and so do --first and\n  --checkers, --single and --progress, and --quiet and each of --output, \
-    --bytes, --order and --svg;\n  several files exclude --json, --bytes and --svg\n\n\
+    and so do --first and\n  each of --all and --checkers, --single and --progress, and --quiet \
+    and each of --output, --bytes, --order and --svg;\n  several files exclude --json, --bytes and --svg\n\n\
     For more information, try '--help'.\n";
 
 /// The version, which is given by a text of this program's own.
@@ -161,14 +161,17 @@ fn mixes_files(own: &ArgMatches<'_>) -> bool
 }
 
 /// Whether of two options one has no effect beside the other.
+#[tactic(auto, unfolding(crate::specs::Commands::has_conflict))]
 fn has_conflict(own: &ArgMatches<'_>) -> bool
     ensures { result ≡ has_conflict (options_of own.now) }
 {
     let first = has(own, FIRST);
+    let all = has(own, ALL);
     let counted = text_of(own, CHECKERS).is_some();
     let single = has(own, SINGLE);
     let progress = has(own, PROGRESS);
-    says_twice(own) || first && counted || single && progress || is_unheard(own) || mixes_files(own)
+    let is_told_of_one = first && (all || counted);
+    says_twice(own) || is_told_of_one || single && progress || is_unheard(own) || mixes_files(own)
 }
 
 /// Which events the options ask for.
@@ -209,6 +212,7 @@ fn asked_of_check(own: &ArgMatches<'_>) -> Option<CheckOptions>
     Some(CheckOptions {
         checkers: checkers_in(own)?,
         all: has(own, ALL),
+        first: has(own, FIRST),
         json: has(own, JSON),
     })
 }

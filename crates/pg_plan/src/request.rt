@@ -19,6 +19,9 @@ pub struct CheckOptions {
     pub checkers: Checkers,
     /// Whether all events are judged, and the bad ones summed up.
     pub all: bool,
+    /// Whether the record is read only up to the first event that is rejected. A plan that asks for
+    /// it has one checker, and asks for neither all events nor JSON.
+    pub first: bool,
     /// Whether JSON is written in the place of text.
     pub json: bool,
 }

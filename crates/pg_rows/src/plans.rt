@@ -66,6 +66,7 @@ fn checked(number: u32, all: bool, progress: bool) -> Option<Plan> {
     let asked = CheckOptions {
         checkers: Checkers::new(number)?,
         all,
+        first: false,
         json: false,
     };
     Some(Plan {
@@ -279,6 +280,7 @@ fn plain_check() -> Command {
     Command::Check(CheckOptions {
         checkers: Checkers::default(),
         all: false,
+        first: false,
         json: false,
     })
 }

@@ -5,7 +5,7 @@ ghost use Rattle.pg_progress.specs.Seats.{counts};
 
 use pg_codec::Watched;
 use pg_follow::{Counter, Teller};
-use pg_progress::{Counts, Onlooker};
+use pg_progress::{Counts, Observer};
 use std::alloc::{AllocError, Global};
 use std::test::Fail;
 

@@ -7,12 +7,13 @@ use Rattle.pg_plan.specs.declared.request.Command.{Command}
 use Rattle.pg_plan.specs.declared.request.Command.TheVariants.{Check, Certify, Run, RunOf}
 use Rattle.pg_plan.specs.declared.request.Command.TheVariants.{Explain, Show, Upgrade, Merge}
 use Rattle.pg_plan.specs.declared.request.CertifyOptions.{CertifyOptions}
+use Rattle.pg_plan.specs.declared.request.CheckOptions.{CheckOptions}
 use Rattle.pg_plan.specs.declared.request.ExplainOptions.{ExplainOptions}
 use Rattle.pg_plan.specs.declared.request.Telling.{Telling}
 use Rattle.pg_plan.specs.declared.request.Telling.TheVariants.{First, All, Picture}
 use Rattle.pg_report.specs.declared.error.AuditError.TheVariants.{Device}
 use Rattle.pg_report.specs.Changes.{Change, Fails}
-use Rattle.pg_answers.specs.Firsts.{CertifiesFirst}
+use Rattle.pg_answers.specs.Firsts.{CertifiesFirst, ChecksFirst}
 use Rattle.pg_answers.specs.Naming.{NamesRecord}
 use Rattle.pg_answers.specs.RunOf.{ShowsRun}
 use Rattle.pg_answers.specs.Upgrades.{Upgrades}
@@ -64,10 +65,15 @@ CertifiesBy asked false true = CertifiesFirst
 CertifiesBy asked false false =
     AnswersRecord questions.Certify (format_of asked.json) asked.checkers
 
+-- its report, or that of what was read up to the first bad event
+abbrev pub ChecksBy : CheckOptions → Bool → Streams → ℕ → Type 0
+ChecksBy asked true = ChecksFirst
+ChecksBy asked false =
+    AnswersRecord (check_question asked.all) (format_of asked.json) asked.checkers
+
 -- what a command does: the form of the answer changes nothing else
 abbrev pub DoesPlain : Command → Streams → ℕ → Type 0
-DoesPlain (Check asked) s status =
-    AnswersRecord (check_question asked.all) (format_of asked.json) asked.checkers s status
+DoesPlain (Check asked) s status = ChecksBy asked asked.first s status
 DoesPlain (Certify asked) s status = CertifiesBy asked asked.bytes asked.first s status
 DoesPlain (Run asked) s status = ⊥
 DoesPlain RunOf s status = ShowsRun s status

@@ -15,7 +15,7 @@ use pg_codec::{IntakeError, Sink, Source, pull_all, put_all, write_record};
 use pg_event::Record;
 use pg_plan::{Checkers, RunOptions};
 use pg_pool::OpenGate;
-use pg_progress::Onlooker;
+use pg_progress::Observer;
 use pg_report::{Crew, Report};
 use pg_runner::{RunError, RunResult, run_single};
 use pg_script::Script;
@@ -69,14 +69,14 @@ fn write_trace<O: Sink>(output: &mut O, trace: &Record) -> Result<(), GuestError
 }
 
 /// A run of a script by a thread for each processor, whose record so many checkers judge. The
-/// onlooker sees how far it has come.
-fn run_by_threads<T: AllocGlobal + Threads + Wait + Sync, P: Onlooker + Drop>(
+/// observer sees how far it has come.
+fn run_by_threads<T: AllocGlobal + Threads + Wait + Sync, P: Observer + Drop>(
     rt: &T,
     checkers: Checkers,
     script: &Script,
-    onlooker: P,
+    observer: P,
 ) -> Result<RunResult, RunError>
-    requires { P.told onlooker ≡ counts 0 0 }
+    requires { P.told observer ≡ counts 0 0 }
     ensures ok { IfOk result (λ run. IsThreadsRun script.now run) }
     ensures formed { IfOk result (λ run. IsRecord (record_of run.trace)) }
     ensures err { IfErr result IsWant }
@@ -87,17 +87,17 @@ fn run_by_threads<T: AllocGlobal + Threads + Wait + Sync, P: Onlooker + Drop>(
         checkers: checkers.number() as u32,
         gate: &OpenGate,
     };
-    run_guest_followed(&crew, script, &OpenGate, onlooker)
+    run_guest_followed(&crew, script, &OpenGate, observer)
 }
 
 /// A run of a script by the calling thread alone, or by a thread for each processor.
-fn run_by<T: AllocGlobal + Threads + Wait + Sync, P: Onlooker + Drop>(
+fn run_by<T: AllocGlobal + Threads + Wait + Sync, P: Observer + Drop>(
     rt: &T,
     asked: &RunOptions,
     script: &Script,
-    onlooker: P,
+    observer: P,
 ) -> Result<RunResult, RunError>
-    requires { P.told onlooker ≡ counts 0 0 }
+    requires { P.told observer ≡ counts 0 0 }
     ensures ok { IfOk result (λ run. IsResultBy asked.now.single script.now run) }
     ensures formed { IfOk result (λ run. IsRecord (record_of run.trace)) }
     ensures err { IfErr result (StopsBy asked.now.single) }
@@ -105,7 +105,7 @@ fn run_by<T: AllocGlobal + Threads + Wait + Sync, P: Onlooker + Drop>(
     if asked.single {
         run_single(rt.alloc(), script)
     } else {
-        run_by_threads(rt, asked.checkers, script, onlooker)
+        run_by_threads(rt, asked.checkers, script, observer)
     }
 }
 
@@ -114,9 +114,9 @@ pub(crate) fn run_script<
     T: AllocGlobal + Threads + Wait + Sync,
     R: Source,
     O: Sink,
-    P: Onlooker + Drop,
->(rt: &T, asked: &RunOptions, input: &mut R, output: &mut O, onlooker: P) -> Result<(), GuestError>
-    requires { P.told onlooker ≡ counts 0 0 }
+    P: Observer + Drop,
+>(rt: &T, asked: &RunOptions, input: &mut R, output: &mut O, observer: P) -> Result<(), GuestError>
+    requires { P.told observer ≡ counts 0 0 }
     ensures { IsGuestRun asked.now.single asked.now.bytes
         (drawn R.Source input.old input.new) (filled O.Sink output.old output.new) result }
 {
@@ -124,7 +124,7 @@ pub(crate) fn run_script<
         Ok(script) => script,
         Err(error) => return Err(error),
     };
-    let run = match run_by(rt, asked, &script, onlooker) {
+    let run = match run_by(rt, asked, &script, observer) {
         Ok(run) => run,
         Err(error) => return Err(GuestError::Run(error)),
     };

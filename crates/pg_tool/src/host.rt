@@ -16,5 +16,5 @@ pub struct Host<'a, F, G, P> {
     /// Set, before anything is read or opened, where the reading of a record is to be told of.
     pub reading: &'a Cell<bool>,
     /// Sees how far a guest's processors have come, each with a thread of its own.
-    pub onlooker: P,
+    pub observer: P,
 }

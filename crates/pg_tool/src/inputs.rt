@@ -15,7 +15,7 @@ use pg_auditing::{REFUSED, UNOPENED, YES, tell_input, tell_unopened};
 use pg_codec::{Sink, Source};
 use pg_ordering::merge;
 use pg_plan::{Command, Invocation, Plan};
-use pg_progress::{Nobody, Onlooker};
+use pg_progress::{Nobody, Observer};
 use pg_span_codec::Peeked;
 use std::alloc::{AllocGlobal, Global};
 use std::sync::Wait;
@@ -25,22 +25,22 @@ use std::thread::Threads;
 const STANDARD_INPUT: &str = "standard input";
 
 /// Does what a plan says that reads one input.
-fn perform<T: AllocGlobal + Threads + Wait + Sync, R: Source, O: Sink, E: Sink, P: Onlooker + Drop>(
+fn perform<T: AllocGlobal + Threads + Wait + Sync, R: Source, O: Sink, E: Sink, P: Observer + Drop>(
     rt: &T,
     plan: &Plan,
     input: &mut Peeked<R>,
     output: &mut O,
     errors: &mut E,
-    onlooker: P,
+    observer: P,
 ) -> u8
     requires logs { widening_of plan.now.command ≡ None }
-    requires onlooker { P.told onlooker ≡ counts 0 0 }
+    requires observer { P.told observer ≡ counts 0 0 }
     ensures { DoesCommand plan.now.command (streams ⟦<Peeked<R> as Source>⟧ O.Sink E.Sink
         (input.old, output.old, errors.old) (input.new, output.new, errors.new)) result }
 {
     match &plan.command {
         Command::Run(asked) => if plan.progress {
-            run_followed(rt, asked, input, output, errors, onlooker)
+            run_followed(rt, asked, input, output, errors, observer)
         } else {
             run(rt, asked, input, output, errors)
         },
@@ -90,7 +90,7 @@ fn perform_named<
     R: Source,
     O: Sink,
     E: Sink,
-    P: Onlooker + Drop,
+    P: Observer + Drop,
 >(
     rt: &T,
     plan: &Plan,
@@ -98,14 +98,14 @@ fn perform_named<
     input: &mut Peeked<R>,
     output: &mut O,
     errors: &mut E,
-    onlooker: P,
+    observer: P,
 ) -> u8
     requires logs { widening_of plan.now.command ≡ None }
-    requires onlooker { P.told onlooker ≡ counts 0 0 }
+    requires observer { P.told observer ≡ counts 0 0 }
     ensures { DoesInput plan.now.command name.now (streams ⟦<Peeked<R> as Source>⟧ O.Sink E.Sink
         (input.old, output.old, errors.old) (input.new, output.new, errors.new)) result }
 {
-    let status = perform(rt, plan, input, output, errors, onlooker);
+    let status = perform(rt, plan, input, output, errors, observer);
     name_input(is_input_named(&plan.command, status), name, errors);
     status
 }
@@ -117,17 +117,17 @@ fn perform_on<
     S: Source + Drop,
     O: Sink,
     E: Sink,
-    P: Onlooker + Drop,
->(rt: &T, plan: &Plan, name: &str, opener: &F, output: &mut O, errors: &mut E, onlooker: P) -> u8
+    P: Observer + Drop,
+>(rt: &T, plan: &Plan, name: &str, opener: &F, output: &mut O, errors: &mut E, observer: P) -> u8
     requires logs { widening_of plan.now.command ≡ None }
     requires opener { F.IsAlwaysCallable opener.now }
-    requires onlooker { P.told onlooker ≡ counts 0 0 }
+    requires observer { P.told observer ≡ counts 0 0 }
     ensures { DoesNamed (opens F.Fn ⟦<Peeked<S> as Source>⟧ opener.now)
         plan.now.command name.now
         (filled O.Sink output.old output.new) (filled E.Sink errors.old errors.new) result }
 {
     match opener(name) {
-        Some(mut file) => perform_named(rt, plan, name, &mut file, output, errors, onlooker),
+        Some(mut file) => perform_named(rt, plan, name, &mut file, output, errors, observer),
         None => {
             tell_unopened(errors, name);
             UNOPENED
@@ -199,19 +199,19 @@ fn perform_asked<
     R: Source,
     O: Sink,
     E: Sink,
-    P: Onlooker + Drop,
+    P: Observer + Drop,
 >(
     rt: &T,
     asked: &Invocation<'_>,
     opener: &F,
-    onlooker: P,
+    observer: P,
     input: &mut Peeked<R>,
     output: &mut O,
     errors: &mut E,
 ) -> u8
     requires logs { widening_of asked.now.plan.command ≡ None }
     requires opener { F.IsAlwaysCallable opener.now }
-    requires onlooker { P.told onlooker ≡ counts 0 0 }
+    requires observer { P.told observer ≡ counts 0 0 }
     ensures { DoesFile (opens F.Fn ⟦<Peeked<S> as Source>⟧ opener.now)
         (input.new ≡ input.old) asked.now
         (streams ⟦<Peeked<R> as Source>⟧ O.Sink E.Sink
@@ -226,10 +226,10 @@ fn perform_asked<
                 input,
                 output,
                 errors,
-                onlooker,
+                observer,
             )
         }
-        Some(name) => perform_on(rt, &asked.plan, name, opener, output, errors, onlooker),
+        Some(name) => perform_on(rt, &asked.plan, name, opener, output, errors, observer),
     }
 }
 
@@ -248,19 +248,19 @@ fn perform_files<
     R: Source,
     O: Sink,
     E: Sink,
-    P: Onlooker + Drop,
+    P: Observer + Drop,
 >(
     rt: &T,
     asked: &Invocation<'_>,
     opener: &F,
-    onlooker: P,
+    observer: P,
     input: &mut Peeked<R>,
     output: &mut O,
     errors: &mut E,
 ) -> u8
     requires logs { widening_of asked.now.plan.command ≡ None }
     requires opener { F.IsAlwaysCallable opener.now }
-    requires onlooker { P.told onlooker ≡ counts 0 0 }
+    requires observer { P.told observer ≡ counts 0 0 }
     ensures { DoesFiles (has_several asked.now)
         (opens F.Fn ⟦<Peeked<S> as Source>⟧ opener.now) (input.new ≡ input.old) asked.now
         (streams ⟦<Peeked<R> as Source>⟧ O.Sink E.Sink
@@ -276,7 +276,7 @@ fn perform_files<
             errors,
         )
     } else {
-        perform_asked(rt, asked, opener, onlooker, input, output, errors)
+        perform_asked(rt, asked, opener, observer, input, output, errors)
     }
 }
 
@@ -288,18 +288,18 @@ pub(crate) fn perform_all<
     R: Source,
     O: Sink,
     E: Sink,
-    P: Onlooker + Drop,
+    P: Observer + Drop,
 >(
     rt: &T,
     asked: &Invocation<'_>,
     opener: &F,
-    onlooker: P,
+    observer: P,
     input: &mut Peeked<R>,
     output: &mut O,
     errors: &mut E,
 ) -> u8
     requires opener { F.IsAlwaysCallable opener.now }
-    requires onlooker { P.told onlooker ≡ counts 0 0 }
+    requires observer { P.told observer ≡ counts 0 0 }
     ensures { DoesAsked (opens F.Fn ⟦<Peeked<S> as Source>⟧ opener.now)
         (input.new ≡ input.old) asked.now
         (streams ⟦<Peeked<R> as Source>⟧ O.Sink E.Sink
@@ -307,6 +307,6 @@ pub(crate) fn perform_all<
 {
     match widening_of(&asked.plan.command) {
         Some(error) => merge_asked(rt.alloc(), asked, error, opener, output, errors),
-        None => perform_files(rt, asked, opener, onlooker, input, output, errors),
+        None => perform_files(rt, asked, opener, observer, input, output, errors),
     }
 }

@@ -15,7 +15,7 @@ use crate::nowhere::Nowhere;
 use pg_auditing::{UNCREATED, USAGE, tell_text, tell_uncreated};
 use pg_codec::{Sink, Source};
 use pg_plan::{Command, Invocation};
-use pg_progress::Onlooker;
+use pg_progress::Observer;
 use pg_span_codec::Peeked;
 use std::alloc::AllocGlobal;
 use std::sync::Wait;
@@ -52,24 +52,24 @@ fn perform_unheard<
     S: Source + Drop,
     R: Source,
     E: Sink,
-    P: Onlooker + Drop,
+    P: Observer + Drop,
 >(
     rt: &T,
     asked: &Invocation<'_>,
     opener: &F,
-    onlooker: P,
+    observer: P,
     input: &mut Peeked<R>,
     errors: &mut E,
 ) -> u8
     requires opener { F.IsAlwaysCallable opener.now }
-    requires onlooker { P.told onlooker ≡ counts 0 0 }
+    requires observer { P.told observer ≡ counts 0 0 }
     ensures { DoesUnheard (DoesAsked (opens F.Fn ⟦<Peeked<S> as Source>⟧ opener.now)
         (input.new ≡ input.old) asked.now)
         (drawn ⟦<Peeked<R> as Source>⟧ input.old input.new)
         (filled E.Sink errors.old errors.new) result }
 {
     let mut nowhere = Nowhere;
-    perform_all(rt, asked, opener, onlooker, input, &mut nowhere, errors)
+    perform_all(rt, asked, opener, observer, input, &mut nowhere, errors)
 }
 
 /// Does what words ask for, and writes it to standard output, unless that is unfit for it.
@@ -80,19 +80,19 @@ fn perform_loudly<
     R: Source,
     O: Sink,
     E: Sink,
-    P: Onlooker + Drop,
+    P: Observer + Drop,
 >(
     rt: &T,
     asked: &Invocation<'_>,
     is_unfit: bool,
     opener: &F,
-    onlooker: P,
+    observer: P,
     input: &mut Peeked<R>,
     output: &mut O,
     errors: &mut E,
 ) -> u8
     requires opener { F.IsAlwaysCallable opener.now }
-    requires onlooker { P.told onlooker ≡ counts 0 0 }
+    requires observer { P.told observer ≡ counts 0 0 }
     ensures { DoesLoudly (DoesAsked (opens F.Fn ⟦<Peeked<S> as Source>⟧ opener.now)
         (input.new ≡ input.old) asked.now) is_unfit (input.new ≡ input.old)
         (streams ⟦<Peeked<R> as Source>⟧ O.Sink E.Sink
@@ -101,7 +101,7 @@ fn perform_loudly<
     if is_unfit {
         refuse_terminal(errors)
     } else {
-        perform_all(rt, asked, opener, onlooker, input, output, errors)
+        perform_all(rt, asked, opener, observer, input, output, errors)
     }
 }
 
@@ -113,19 +113,19 @@ fn perform_heard<
     R: Source,
     O: Sink,
     E: Sink,
-    P: Onlooker + Drop,
+    P: Observer + Drop,
 >(
     rt: &T,
     asked: &Invocation<'_>,
     is_terminal: bool,
     opener: &F,
-    onlooker: P,
+    observer: P,
     input: &mut Peeked<R>,
     output: &mut O,
     errors: &mut E,
 ) -> u8
     requires opener { F.IsAlwaysCallable opener.now }
-    requires onlooker { P.told onlooker ≡ counts 0 0 }
+    requires observer { P.told observer ≡ counts 0 0 }
     ensures { DoesHeard (DoesAsked (opens F.Fn ⟦<Peeked<S> as Source>⟧ opener.now)
         (input.new ≡ input.old) asked.now) asked.now.plan is_terminal (input.new ≡ input.old)
         (streams ⟦<Peeked<R> as Source>⟧ O.Sink E.Sink
@@ -134,9 +134,9 @@ fn perform_heard<
     let bytes = writes_bytes(&asked.plan.command);
     let is_unfit = is_terminal && bytes;
     if asked.plan.quiet {
-        perform_unheard(rt, asked, opener, onlooker, input, errors)
+        perform_unheard(rt, asked, opener, observer, input, errors)
     } else {
-        perform_loudly(rt, asked, is_unfit, opener, onlooker, input, output, errors)
+        perform_loudly(rt, asked, is_unfit, opener, observer, input, output, errors)
     }
 }
 
@@ -149,27 +149,27 @@ fn perform_into<
     W: Sink + Drop,
     R: Source,
     E: Sink,
-    P: Onlooker + Drop,
+    P: Observer + Drop,
 >(
     rt: &T,
     asked: &Invocation<'_>,
     name: &str,
     opener: &F,
     creator: &G,
-    onlooker: P,
+    observer: P,
     input: &mut Peeked<R>,
     errors: &mut E,
 ) -> u8
     requires opener { F.IsAlwaysCallable opener.now }
     requires creator { G.IsAlwaysCallable creator.now }
-    requires onlooker { P.told onlooker ≡ counts 0 0 }
+    requires observer { P.told observer ≡ counts 0 0 }
     ensures { Redirects (DoesAsked (opens F.Fn ⟦<Peeked<S> as Source>⟧ opener.now)
         (input.new ≡ input.old) asked.now) (makes G.Fn W.Sink creator.now)
         (input.new ≡ input.old) name.now (drawn ⟦<Peeked<R> as Source>⟧ input.old input.new)
         (filled E.Sink errors.old errors.new) result }
 {
     match creator(name) {
-        Some(mut file) => perform_all(rt, asked, opener, onlooker, input, &mut file, errors),
+        Some(mut file) => perform_all(rt, asked, opener, observer, input, &mut file, errors),
         None => {
             tell_uncreated(errors, name);
             UNCREATED
@@ -187,7 +187,7 @@ pub(crate) fn perform_out<
     R: Source,
     O: Sink,
     E: Sink,
-    P: Onlooker + Drop,
+    P: Observer + Drop,
 >(
     rt: &T,
     asked: &Invocation<'_>,
@@ -198,25 +198,25 @@ pub(crate) fn perform_out<
 ) -> u8
     requires opener { F.IsAlwaysCallable host.opener }
     requires creator { G.IsAlwaysCallable host.creator }
-    requires onlooker { P.told host.onlooker ≡ counts 0 0 }
+    requires observer { P.told host.observer ≡ counts 0 0 }
     ensures { DoesOut (opens F.Fn ⟦<Peeked<S> as Source>⟧ host.entry.opener)
         (makes G.Fn W.Sink host.entry.creator) host.entry.is_terminal (input.new ≡ input.old)
         asked.now (streams ⟦<Peeked<R> as Source>⟧ O.Sink E.Sink
         (input.old, output.old, errors.old) (input.new, output.new, errors.new)) result }
 {
     let is_terminal = host.is_terminal;
-    let onlooker = host.onlooker;
+    let observer = host.observer;
     let opener = &host.opener;
     let creator = &host.creator;
     match asked.output {
-        Some(name) => perform_into(rt, asked, name, opener, creator, onlooker, input, errors),
+        Some(name) => perform_into(rt, asked, name, opener, creator, observer, input, errors),
         None => {
             perform_heard(
                 rt,
                 asked,
                 is_terminal,
                 opener,
-                onlooker,
+                observer,
                 input,
                 output,
                 errors,

@@ -17,7 +17,7 @@ use crate::outputs::perform_out;
 use pg_auditing::{MEMORY, REFUSED, USAGE, YES, tell, tell_memory, tell_text};
 use pg_codec::{Sink, Source, put_all};
 use pg_plan::{Command, Invocation, Plan, RunOptions, Usage};
-use pg_progress::{Nobody, Onlooker};
+use pg_progress::{Nobody, Observer};
 use pg_report::AuditError;
 use pg_runner::RunError;
 use pg_script::{ScriptError, ScriptRefusal};
@@ -67,23 +67,23 @@ fn tell_run<E: Sink>(errors: &mut E, answer: Result<(), GuestError>) -> u8
 /// Runs the guest script on `input`, each of its processors in a thread, or all in this one, and
 /// writes the report of the run's record to `output`, or that record; or one line to `errors` that
 /// says why there is none. It gives the exit status: 0 a run, which is a yes, 2 refused, 3 memory
-/// or a thread. The onlooker, which was told nothing before, sees how far threads have come.
+/// or a thread. The observer, which was told nothing before, sees how far threads have come.
 pub fn run_followed<
     T: AllocGlobal + Threads + Wait + Sync,
     R: Source,
     O: Sink,
     E: Sink,
-    P: Onlooker + Drop,
->(rt: &T, asked: &RunOptions, input: &mut R, output: &mut O, errors: &mut E, onlooker: P) -> u8
-    requires { P.told onlooker ≡ counts 0 0 }
+    P: Observer + Drop,
+>(rt: &T, asked: &RunOptions, input: &mut R, output: &mut O, errors: &mut E, observer: P) -> u8
+    requires { P.told observer ≡ counts 0 0 }
     ensures { RunsGuest asked.now.single asked.now.bytes (streams R.Source O.Sink E.Sink
         (input.old, output.old, errors.old) (input.new, output.new, errors.new)) result }
 {
-    let answer = run_script(rt, asked, input, output, onlooker);
+    let answer = run_script(rt, asked, input, output, observer);
     tell_run(errors, answer)
 }
 
-/// The same, with no onlooker.
+/// The same, with no observer.
 pub fn run<T: AllocGlobal + Threads + Wait + Sync, R: Source, O: Sink, E: Sink>(
     rt: &T,
     asked: &RunOptions,
@@ -148,7 +148,7 @@ fn tell_usage<O: Sink, E: Sink>(why: Usage, output: &mut O, errors: &mut E) -> u
 /// file, what it reads where the words name none, and what it writes to. It gives the exit status,
 /// which is 64 where the words are no command of it, or ask for bytes on a terminal, 66 where a
 /// file can't be opened, and 73 where the file for the output can't be created. Where the words ask
-/// for progress the host, whose onlooker was told nothing before, comes to know how far a record
+/// for progress the host, whose observer was told nothing before, comes to know how far a record
 /// was read, or a run has come: telling of it is up to who made the host.
 pub fn pcid_audit_followed<
     T: AllocGlobal + Threads + Wait + Sync,
@@ -159,7 +159,7 @@ pub fn pcid_audit_followed<
     R: Source,
     O: Sink,
     E: Sink,
-    P: Onlooker + Drop,
+    P: Observer + Drop,
 >(
     rt: &T,
     planned: Result<Invocation<'_>, Usage>,
@@ -170,7 +170,7 @@ pub fn pcid_audit_followed<
 ) -> u8
     requires opener { F.IsAlwaysCallable host.opener }
     requires creator { G.IsAlwaysCallable host.creator }
-    requires onlooker { P.told host.onlooker ≡ counts 0 0 }
+    requires observer { P.told host.observer ≡ counts 0 0 }
     ensures { Answers planned.entry (opens F.Fn ⟦<Peeked<S> as Source>⟧ host.entry.opener)
         (makes G.Fn W.Sink host.entry.creator) host.entry.is_terminal (input.new ≡ input.old)
         (streams ⟦<Peeked<R> as Source>⟧ O.Sink E.Sink
@@ -215,7 +215,7 @@ pub fn pcid_audit<
         creator,
         is_terminal: false,
         reading: &Cell::new(false),
-        onlooker: Nobody,
+        observer: Nobody,
     };
     pcid_audit_followed(rt, planned, host, input, output, errors)
 }

@@ -4,7 +4,7 @@ ghost use Rattle.std.specs.Prelude.{◌≡◌, true};
 ghost use Rattle.pg_report.specs.Changes.{filled};
 ghost use Rattle.pg_auditing.specs.Streams.{streams};
 ghost use Rattle.pg_ordering.specs.Answers.{OrdersRecord};
-ghost use Rattle.pg_tool.specs.Records.{CertifiesBy, DoesPlain};
+ghost use Rattle.pg_tool.specs.Records.{CertifiesBy, ChecksBy, DoesPlain};
 ghost use Rattle.pg_tool.specs.Records.{asked_of, told_of, RefusesSpans, DoesSpanned};
 ghost use Rattle.pg_tool.specs.Records.{DoesOfRecord, reads_record};
 ghost use Rattle.pg_tool.specs.Records.{check_question, telling_question, question_of};
@@ -14,7 +14,7 @@ ghost use Rattle.pg_auditing.specs.Refusals.{Tells};
 
 use crate::answers::answer;
 use crate::format::Format;
-use pg_answers::{Question, certify_first, name_moments, run_of, upgrade};
+use pg_answers::{Question, certify_first, check_first, name_moments, run_of, upgrade};
 use pg_auditing::{REFUSED, tell, tell_spans};
 use pg_codec::{Sink, Source};
 use pg_json_answers::tell_json;
@@ -69,6 +69,27 @@ fn check_question(asked: &CheckOptions) -> Question
     }
 }
 
+/// Judges the record with one order on `input`, and writes its report, or that of what was read up
+/// to the first bad event.
+fn check_by<T: AllocGlobal + Threads + Wait + Sync, R: Source, O: Sink, E: Sink>(
+    rt: &T,
+    asked: &CheckOptions,
+    input: &mut R,
+    output: &mut O,
+    errors: &mut E,
+) -> u8
+    ensures { ChecksBy asked.now asked.now.first (streams R.Source O.Sink E.Sink
+        (input.old, output.old, errors.old) (input.new, output.new, errors.new)) result }
+{
+    if asked.first {
+        check_first(rt.alloc(), input, output, errors)
+    } else {
+        let question = check_question(asked);
+        let format = format_of(asked.json);
+        answer(rt, asked.checkers, question, format, input, output, errors)
+    }
+}
+
 /// What `explain` is asked of bad events: a picture shows the first.
 fn telling_question(telling: Telling) -> Question
     ensures { result ≡ telling_question telling }
@@ -109,11 +130,7 @@ fn do_of_plain<T: AllocGlobal + Threads + Wait + Sync, R: Source, O: Sink, E: Si
 {
     let alloc = rt.alloc();
     match command {
-        Command::Check(asked) => {
-            let question = check_question(asked);
-            let format = format_of(asked.json);
-            answer(rt, asked.checkers, question, format, input, output, errors)
-        }
+        Command::Check(asked) => check_by(rt, asked, input, output, errors),
         Command::Certify(asked) => certify_by(rt, asked, input, output, errors),
         Command::RunOf => run_of(alloc, input, output, errors),
         Command::Explain(asked) => {

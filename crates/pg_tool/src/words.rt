@@ -13,7 +13,7 @@ use crate::program::pcid_audit_followed;
 use pg_auditing::tell_no_words;
 use pg_codec::{Sink, Source};
 use pg_plan::{NoWords, plan, words_of};
-use pg_progress::Onlooker;
+use pg_progress::Observer;
 use pg_span_codec::Peeked;
 use std::alloc::AllocGlobal;
 use std::sync::Wait;
@@ -30,7 +30,7 @@ pub fn pcid_audit_of_words<
     R: Source,
     O: Sink,
     E: Sink,
-    P: Onlooker + Drop,
+    P: Observer + Drop,
 >(
     rt: &T,
     words: &[&str],
@@ -41,7 +41,7 @@ pub fn pcid_audit_of_words<
 ) -> u8
     requires opener { F.IsAlwaysCallable host.opener }
     requires creator { G.IsAlwaysCallable host.creator }
-    requires onlooker { P.told host.onlooker ≡ counts 0 0 }
+    requires observer { P.told host.observer ≡ counts 0 0 }
     ensures { AnswersWords (texts words.now) (opens F.Fn ⟦<Peeked<S> as Source>⟧ host.entry.opener)
         (makes G.Fn W.Sink host.entry.creator) host.entry.is_terminal (input.new ≡ input.old)
         (streams ⟦<Peeked<R> as Source>⟧ O.Sink E.Sink
@@ -63,7 +63,7 @@ pub fn pcid_audit_of_arguments<
     R: Source,
     O: Sink,
     E: Sink,
-    P: Onlooker + Drop,
+    P: Observer + Drop,
 >(
     rt: &T,
     arguments: Result<Vec<String>, NoWords>,
@@ -74,7 +74,7 @@ pub fn pcid_audit_of_arguments<
 ) -> u8
     requires opener { F.IsAlwaysCallable host.opener }
     requires creator { G.IsAlwaysCallable host.creator }
-    requires onlooker { P.told host.onlooker ≡ counts 0 0 }
+    requires observer { P.told host.observer ≡ counts 0 0 }
     ensures { AnswersArguments arguments
         (opens F.Fn ⟦<Peeked<S> as Source>⟧ host.entry.opener)
         (makes G.Fn W.Sink host.entry.creator) host.entry.is_terminal (input.new ≡ input.old)
