@@ -31,6 +31,13 @@ $ check --json
 > "verdict":"no"}
 ? 1
 
+== a_no_by_two_checkers
+$ check --json -j 2
+< @stale_leaf
+>+ {"event":6,"events":7,"format":1,"reason":5,"reason_name":"translation dropped","segments":1,
+> "verdict":"no"}
+? 1
+
 == all_rejections
 $ check --all --json
 < @stale_leaf
@@ -72,6 +79,12 @@ $ explain --all --json
 >+ "cpus":[0],"first":6,"pages":["0x5000"],"reason":5,"reason_name":"translation dropped"}],
 > "verdict":"no"}
 ? 1
+
+== certified_by_two_checkers
+$ certify --json -j 2
+< @fresh_walk
+> {"events":5,"format":1,"segments":1,"verdict":"yes"}
+? 0
 
 == certified
 $ certify --json

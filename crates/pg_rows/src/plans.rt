@@ -84,6 +84,18 @@ fn plans_of_check(rt: HostRuntime) {
     }
 }
 
+#[test]
+fn plan_of_a_check_up_to_the_first_bad_event(rt: HostRuntime) {
+    let asked = CheckOptions {
+        checkers: Checkers::default(),
+        all: false,
+        first: true,
+        json: false,
+    };
+    let wanted = Some(quiet(Command::Check(asked)));
+    assert!(rt; asks_for(rt.alloc(), &["check", "--first"], wanted));
+}
+
 /// Command lines of `certify`: how many checkers they ask for, whether for the record, for the
 /// order, for JSON, and for an answer at the first rejection.
 const CERTIFIED: [(&[&str], u32, [bool; 4]); 7] = [
@@ -400,7 +412,7 @@ fn names_of_logs(rt: HostRuntime) -> Result<(), Fail> {
 }
 
 /// Command lines that are refused.
-const FAULTS: [&[&str]; 78] = [
+const FAULTS: [&[&str]; 81] = [
     &["merge"],
     &["merge", "--error", "3"],
     &["merge", "--error", "-3", "a.log"],
@@ -471,6 +483,9 @@ const FAULTS: [&[&str]; 78] = [
     &["certify", "--first", "--bytes"],
     &["certify", "--first", "--order"],
     &["certify", "--first", "-j", "1"],
+    &["check", "--first", "--all"],
+    &["check", "--first", "--json"],
+    &["check", "--first", "-j", "2"],
     &["explain", "--json", "--svg"],
     &["run", "--single", "--progress"],
     &["run-of", "-j", "2"],
