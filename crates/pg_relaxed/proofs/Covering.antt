@@ -72,7 +72,7 @@ abbrev pub Enters : Spanned → List Edge → ℕ → ℕ → ℕ → ℕ → Kn
 Enters s edges p la next ended k = (order : List ℕ) (past : List Step) → IsOrder s order → Keeps order edges → Came s order past → IsFront s p order (count past) next → HasEntered p past → IsThere s p la order past ended k
 
 -- what is in a cache after a step
-in_pushed : {X : Type 0} (p q : ℕ) (x y : X) (old : ℕ → List X) → IsIn x (changed_at p (λ xs. y ∷ xs) old q) → ((q ≡ p) × (y ≡ x)) ⊎ IsIn x (old q)
+pub in_pushed : {X : Type 0} (p q : ℕ) (x y : X) (old : ℕ → List X) → IsIn x (changed_at p (λ xs. y ∷ xs) old q) → ((q ≡ p) × (y ≡ x)) ⊎ IsIn x (old q)
 in_pushed p q x y old h =
     elim (cases_Bool (q == p)) [
       | inl t ↦ elim (rw t at h) as (λ _. ((q ≡ p) × (y ≡ x)) ⊎ IsIn x (old q)) [ inl e ↦ inl (eqb-true q p t, e) | inr i ↦ inr i ]
@@ -90,7 +90,7 @@ in_filtered test x (y ∷ ys) h =
       | inr f ↦ let more = in_filtered test x ys (rw f at h) in (inr more.0, more.1)
     ]
 
-in_dropped : {X : Type 0} (p q : ℕ) (test : X → Bool) (x : X) (old : ℕ → List X) → IsIn x (changed_at p (filter test) old q) → IsIn x (old q)
+pub in_dropped : {X : Type 0} (p q : ℕ) (test : X → Bool) (x : X) (old : ℕ → List X) → IsIn x (changed_at p (filter test) old q) → IsIn x (old q)
 in_dropped p q test x old h =
     elim (cases_Bool (q == p)) [
       | inl t ↦ (in_filtered test x (old q) (rw t at h)).0

@@ -36,12 +36,12 @@ use Rattle.pg_relaxed.proofs.Covering.{IsThere, Covers, readable}
 use Rattle.pg_relaxed.proofs.Entering.{HasEnded, own_precedes}
 
 -- what is given by a function was given something
-mapped_some : {X Y : Type 0} (f : X → Y) (o : Option X) (y : Y) → option_map f o ≡ Some y → (x : X) × (o ≡ Some x) × (f x ≡ y)
+pub mapped_some : {X Y : Type 0} (f : X → Y) (o : Option X) (y : Y) → option_map f o ≡ Some y → (x : X) × (o ≡ Some x) × (f x ≡ y)
 mapped_some f None y h = absurd (cc)
 mapped_some f (Some x) y h = (x, refl, cc)
 
 -- the events at the beginning of a list
-at_take : (count n : ℕ) (events : List Event) → n < count → slice_get (take count events) n ≡ slice_get events n
+pub at_take : (count n : ℕ) (events : List Event) → n < count → slice_get (take count events) n ≡ slice_get events n
 at_take zero n events lt = absurd (omega (arith, lt))
 at_take (suc count) n [] lt = refl
 at_take (suc count) zero (e ∷ es) lt = refl
@@ -56,7 +56,7 @@ there_is (e ∷ es) (suc i) lt = there_is es i (omega (arith, lt))
 one_more : (events : List Event) (i : ℕ) (order : List ℕ) (e : Event) → slice_get events i ≡ Some e → ordered events (i ∷ order) ≡ e ∷ ordered events order
 one_more events i order e there = ap (λ o. option_to_list o ++ ordered events order) there
 
-ordered_at : (events : List Event) (order : List ℕ) → ((k i : ℕ) → slice_get order k ≡ Some i → i < length events) → (k i : ℕ) (e : Event) →
+pub ordered_at : (events : List Event) (order : List ℕ) → ((k i : ℕ) → slice_get order k ≡ Some i → i < length events) → (k i : ℕ) (e : Event) →
     slice_get order k ≡ Some i → slice_get events i ≡ Some e → slice_get (ordered events order) k ≡ Some e
 ordered_at events [] low k i e place there = absurd (cc)
 ordered_at events (j ∷ order) low zero i e place there =
@@ -77,7 +77,7 @@ ordered_from events (j ∷ order) low (suc k) e h =
     ordered_from events order (λ a b g. low (suc a) b g) k e (sym (ap (λ es. slice_get es (suc k)) (one_more events j order first.0 first.1)) ∙ h)
 
 -- an event may come whatever its moments
-may_bare : (head : Head) (st : State) (e : Event) → MayCome head st e → MayCome head st (without_moments e)
+pub may_bare : (head : Head) (st : State) (e : Event) → MayCome head st e → MayCome head st (without_moments e)
 may_bare head st (Write p addr value) h = h
 may_bare head st (Access p flags la outcome ws) h = h
 may_bare head st (Assist p flags la word ws) h = h

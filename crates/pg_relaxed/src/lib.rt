@@ -7,6 +7,7 @@ mod caches;
 mod deduced;
 mod edge;
 mod held;
+mod impossible;
 mod precede;
 mod refuter;
 mod slot;
@@ -15,4 +16,5 @@ mod words;
 
 pub use deduced::{Refuted, refute_near};
 pub use edge::Edge;
+pub use impossible::first_not_given;
 pub use refuter::refute;
