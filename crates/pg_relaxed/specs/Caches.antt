@@ -1,6 +1,6 @@
 -- What a processor may have cached for an address while it stands between two of its events, in
 -- whichever order (Intel SDM, vol. 3, 4.10.2 to 4.10.4).
-use Rattle.std.specs.Prelude.{◌≡◌, ℕ, Bool, true, false, not, List, ◌++◌, Some}
+use Rattle.std.specs.Prelude.{◌≡◌, ℕ, Bool, true, false, not, ◌&&◌, ◌||◌, List, ◌++◌, Some}
 use Rattle.pg_entry.specs.declared.AccessKind.{AccessKind}
 use Rattle.pg_entry.specs.declared.Cause.{Cause}
 use Rattle.pg_entry.specs.declared.Cause.TheVariants as causes
@@ -12,17 +12,19 @@ use Rattle.pg_entry.specs.Kinds.{table_of, kind_of}
 use Rattle.pg_entry.specs.Permission.{joined, fault_code}
 use Rattle.pg_event.specs.declared.control.Control.{Control}
 use Rattle.pg_event.specs.declared.event.Event.{Event}
+use Rattle.pg_event.specs.declared.event.Event.TheVariants as events
 use Rattle.pg_event.specs.declared.event.Outcome.{Outcome}
 use Rattle.pg_event.specs.declared.event.Outcome.TheVariants as outcomes
 use Rattle.pg_event.specs.declared.event.Want.{Want}
 use Rattle.pg_event.specs.declared.event.Want.TheVariants as wants
 use Rattle.pg_event.specs.declared.walk.Parent.{Parent}
 use Rattle.pg_entry.specs.declared.Cfg.{Cfg}
+use Rattle.pg_event.specs.Form.{access_kind, says_dirty}
 use Rattle.pg_event.specs.Heads.{Head}
 use Rattle.pg_event.specs.Invalidation.{structure_key}
 use Rattle.pg_event.specs.Invalidation.{must_drop_structure, must_drop_translation}
 use Rattle.pg_event.specs.Walk.{entry_address, below, root_of}
-use Rattle.pg_event.specs.Wants.{is_table}
+use Rattle.pg_event.specs.Wants.{want_of, is_wanted, may_dirty, is_table}
 use Rattle.pg_machine.specs.declared.step.Translation.{Translation}
 use Rattle.pg_machine.specs.Machine.{IsIn, Answers, is_usable, translation_at}
 use Rattle.pg_spanned.specs.Orders.{Spanned}
@@ -131,3 +133,29 @@ CannotCome s slot la k access outcome wants.Absent =
 CannotCome s slot la k access outcome wants.Reserved =
     HasNoFault s slot la k access outcome kinds.Reserved causes.Reserved
 CannotCome s slot la k access outcome wants.Present = Unit {0}
+
+-- an assist may update an entry that a walk reads in a table: it is present and has no reserved
+-- bits, and where D is set it is a leaf whose rights allow the access (4.8)
+abbrev pub may_update_entry : Cfg → AccessKind → Bool → Table → ℕ → Bool
+may_update_entry cfg access with_dirty t entry =
+    is_wanted wants.Present (kind_of cfg t.level entry)
+    && (not with_dirty || may_dirty cfg access (joined t.from.rights entry)
+    (kind_of cfg t.level entry))
+
+-- no known table has a word that an assist may update, at this address
+abbrev pub HasNoUpdate : Spanned → Slot → ℕ → Known → AccessKind → ℕ → Bool → Type 0
+HasNoUpdate s slot la k access word with_dirty = (t : Table) (entry : ℕ) → IsIn t k.tables →
+    t.pcid ≡ k.control.pcid → word ≡ word_in la t → MayHold s slot (word_in la t) entry →
+    may_update_entry s.head.cfg access with_dirty t entry ≡ true → ⊥
+
+-- nothing that is known gives an event, which names a walk
+abbrev pub IsNotGiven : Spanned → Slot → ℕ → Known → Event → Type 0
+IsNotGiven s slot la k (events.Write p addr value) = Unit {0}
+IsNotGiven s slot la k (events.Access p flags address outcome moments) =
+    CannotCome s slot la k (access_kind flags) outcome (want_of outcome)
+IsNotGiven s slot la k (events.Assist p flags address word moments) =
+    HasNoUpdate s slot la k (access_kind flags) word (says_dirty flags)
+IsNotGiven s slot la k (events.MovCr3 p operand) = Unit {0}
+IsNotGiven s slot la k (events.Invlpg p address) = Unit {0}
+IsNotGiven s slot la k (events.Invpcid p kind pcid address) = Unit {0}
+IsNotGiven s slot la k (events.MovCr4Pge p on) = Unit {0}

@@ -3,7 +3,8 @@
 use Rattle.std.specs.Prelude.{◌≡◌, ℕ, ◌+◌, List, Some, take, slice_get}
 use Rattle.pg_event.specs.declared.event.Event.{Event}
 use Rattle.pg_event.specs.declared.event.Outcome.{Outcome}
-use Rattle.pg_event.specs.declared.event.Event.TheVariants.{Access}
+use Rattle.pg_event.specs.declared.event.Event.TheVariants.{Write, Access, Assist, MovCr3, Invlpg}
+use Rattle.pg_event.specs.declared.event.Event.TheVariants.{Invpcid, MovCr4Pge}
 use Rattle.pg_machine.specs.declared.step.Step.{Step}
 use Rattle.pg_machine.specs.Machine.{IsRun, visible}
 use Rattle.pg_run_of.specs.Converse.{AreSameButMoments}
@@ -30,3 +31,17 @@ IsAccess events i p flags la outcome =
 abbrev pub IsSomeAccess : List Event → ℕ → Type 0
 IsSomeAccess events i =
     (p flags la : ℕ) × (outcome : Outcome) × IsAccess events i p flags la outcome
+
+-- an event names a walk for this linear address: it is an access or an assist
+abbrev pub NamesWalk : ℕ → Event → Type 0
+NamesWalk la (Write p addr value) = ⊥
+NamesWalk la (Access p flags address outcome moments) = address ≡ la
+NamesWalk la (Assist p flags address word moments) = address ≡ la
+NamesWalk la (MovCr3 p operand) = ⊥
+NamesWalk la (Invlpg p address) = ⊥
+NamesWalk la (Invpcid p kind pcid address) = ⊥
+NamesWalk la (MovCr4Pge p on) = ⊥
+
+-- event i names a walk for this linear address
+abbrev pub NamesWalkAt : List Event → ℕ → ℕ → Type 0
+NamesWalkAt events i la = (e : Event) × (slice_get events i ≡ Some e) × NamesWalk la e

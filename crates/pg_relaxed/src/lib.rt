@@ -12,6 +12,7 @@ mod precede;
 mod refuter;
 mod slot;
 mod table;
+mod updates;
 mod words;
 
 pub use deduced::{Refuted, refute_near};
