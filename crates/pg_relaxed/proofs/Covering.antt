@@ -145,7 +145,7 @@ module _ (s : Spanned) (slot : Slot) (la : ℕ) (k : Known) (filled : IsFilled s
 
   module _ (holds : (a : ℕ) → MayHold s slot a (st.memory a)) where
     taken : (level : Level) (b : ℕ) (from : Parent) → Agree level b la → MayRead st slot.p b level from →
-        IsTaken s.head.cfg la k (record { level = level; pcid = (st.control slot.p).pcid; from = from }) (entry_now st b level from)
+        IsTaken s.head.version s.head.cfg la k (record { level = level; pcid = (st.control slot.p).pcid; from = from }) (entry_now st b level from)
     taken level b from agree may =
         let t : Table = record { level = level; pcid = (st.control slot.p).pcid; from = from } in
         let value : st.memory (word_in la t) ≡ entry_now st b level from = ap st.memory (sym (same_address from.table level b la agree)) in
@@ -164,7 +164,7 @@ module _ (s : Spanned) (slot : Slot) (la : ℕ) (k : Known) (filled : IsFilled s
                 let agree : Agree level b la = subst (λ l. Agree l b la) (sym parts.depth) parts.agree in
                 let may : MayRead st slot.p b level from = subst (λ r. MayRead st r b level from) (sym e.0) found.1.1 in
                 let is : is_table (kind_of s.head.cfg level entry) ≡ true = ap is_table found.1.3 in
-                let got : IsIn (table_below level (st.control slot.p).pcid to) k.tables = (taken level b from agree may).table is in
+                let got : IsIn (table_below level (st.control slot.p).pcid to) k.tables = (taken level b from agree may).table found.1.2 is in
                 let own : (st.control slot.p).pcid ≡ pcid = ap (λ r. (st.control r).pcid) e.0 ∙ parts.context in
                 subst (λ l. IsIn (table_below l pcid f) k.tables) parts.depth
                 (subst (λ g. IsIn (table_below level pcid g) k.tables) parts.table
@@ -200,7 +200,7 @@ module _ (s : Spanned) (slot : Slot) (la : ℕ) (k : Known) (filled : IsFilled s
                 ∙ (ap (give la) finds.3
                 ∙ (ap (λ n. let y : Translation = record { key = record { pcid = (st.control q).pcid; shift = shift; number = n; global = g && (st.control q).pge }; frame = frame; rights = joined from.rights entry; dirty = dirty entry } in Some y) (sym number)
                 ∙ ap Some e.1)) in
-                (taken level b from agree may).leaf x gives
+                (taken level b from agree may).leaf finds.2 x gives
             | inr i ↦ known.translations x i matches
           ];
         })

@@ -20,7 +20,8 @@ use Rattle.pg_event.specs.declared.event.Want.TheVariants as wants
 use Rattle.pg_event.specs.declared.walk.Parent.{Parent}
 use Rattle.pg_entry.specs.declared.Cfg.{Cfg}
 use Rattle.pg_event.specs.Form.{access_kind, says_dirty}
-use Rattle.pg_event.specs.Heads.{Head}
+use Rattle.pg_event.specs.Heads.{Head, may_cache}
+use Rattle.pg_event.specs.declared.version.Version.{Version}
 use Rattle.pg_event.specs.Invalidation.{structure_key}
 use Rattle.pg_event.specs.Invalidation.{must_drop_structure, must_drop_translation}
 use Rattle.pg_event.specs.Walk.{entry_address, below, root_of}
@@ -51,11 +52,13 @@ table_below up pcid from = record { level = below up; pcid = pcid; from = from }
 abbrev pub word_in : ℕ → Table → ℕ
 word_in la t = entry_address t.from.table t.level la
 
--- what an entry gives to a walk that reads it in a table is known
-pub record IsTaken (cfg : Cfg) (la : ℕ) (k : Known) (t : Table) (entry : ℕ) : Type 0 where
-  pub table : is_table (kind_of cfg t.level entry) ≡ true →
+-- what an entry gives to a walk that reads it in a table is known, where it may be cached: in records
+-- with assists it has A (4.8)
+pub record IsTaken (version : Version) (cfg : Cfg) (la : ℕ) (k : Known) (t : Table) (entry : ℕ) :
+    Type 0 where
+  pub table : may_cache version entry ≡ true → is_table (kind_of cfg t.level entry) ≡ true →
       IsIn (table_below t.level t.pcid (table_by cfg.m t.from entry)) k.tables
-  pub leaf : (x : Translation) → translation_at k.control la (joined t.from.rights entry) entry
+  pub leaf : may_cache version entry ≡ true → (x : Translation) → translation_at k.control la (joined t.from.rights entry) entry
       (kind_of cfg t.level entry) ≡ Some x → IsIn x k.translations
 
 -- the root is known, and what each entry gives that a word may hold in the slot
@@ -63,7 +66,7 @@ pub record IsFilled (s : Spanned) (slot : Slot) (la : ℕ) (k : Known) : Type 0 
   pub root : IsIn (record { level = Four; pcid = k.control.pcid; from = root_of k.control })
       k.tables
   pub each : (t : Table) (entry : ℕ) → IsIn t k.tables → t.pcid ≡ k.control.pcid →
-      MayHold s slot (word_in la t) entry → IsTaken s.head.cfg la k t entry
+      MayHold s slot (word_in la t) entry → IsTaken s.head.version s.head.cfg la k t entry
 
 -- nothing that was known before is forgotten
 pub record Grows (k l : Known) : Type 0 where

@@ -6,7 +6,7 @@ ghost use Rattle.pg_entry.specs.Kinds.{kind_of};
 ghost use Rattle.pg_event.specs.Form.{processor_of};
 ghost use Rattle.pg_event.specs.Values.{started};
 ghost use Rattle.pg_event.specs.Wants.{want_of};
-ghost use Rattle.pg_machine.specs.Machine.{Answers, IsIn, is_usable};
+ghost use Rattle.pg_machine.specs.Machine.{Answers, IsIn, is_usable, may_serve};
 ghost use Rattle.pg_relaxed.specs.Caches.{CannotCome, HasNoFault, HasNoAnswer, known_of, kind_for};
 ghost use Rattle.pg_relaxed.specs.Caches.{IsNotGiven};
 ghost use Rattle.pg_relaxed.specs.Caches.{word_in};
@@ -22,10 +22,10 @@ use crate::slot::Slot;
 use crate::table::Table;
 use crate::updates::{Update, has_no_update};
 use crate::words::Words;
-use pg_entry::{AccessKind, Cause, Entry, Kind, allowed, classify, error_code, page_offset};
+use pg_entry::{AccessKind, Cause, Entry, Kind, Op, allowed, classify, error_code, page_offset};
 use pg_event::{
-    Control, Event, Header, Outcome, Want, access_kind, entry_address, loaded, processor_of,
-    says_dirty, translation_matches, want_of,
+    Control, Event, Header, Outcome, Version, Want, access_kind, entry_address, loaded,
+    processor_of, says_dirty, translation_matches, want_of,
 };
 use pg_machine::Translation;
 use pg_spanned::SpannedRun;
@@ -69,6 +69,17 @@ fn started(header: &Header, p: u16) -> Control
     }
 }
 
+/// Whether a translation may be used for a write: where dirty flags are judged, its leaf had D
+/// (Intel SDM, vol. 3, 4.8).
+fn may_serve(version: Version, access: AccessKind, translation: &Translation) -> bool
+    ensures { result ≡ may_serve version access translation.now }
+{
+    match version {
+        Version::One => true,
+        Version::Two => !matches!(access.op, Op::Write) || translation.dirty,
+    }
+}
+
 /// Whether a translation may be used for an access and gives it this outcome.
 fn gives(
     header: &Header,
@@ -93,7 +104,9 @@ fn gives(
     let is_allowed = allowed(header.cfg, translation.rights, access);
     match outcome {
         Outcome::Page(page) => {
-            is_allowed && page == translation.frame + page_offset(la, key.shift)
+            is_allowed
+                && may_serve(header.version, access, translation)
+                && page == translation.frame + page_offset(la, key.shift)
         }
         Outcome::Fault(code) => !is_allowed
             && code == error_code(header.cfg, access, Cause::Denied),
