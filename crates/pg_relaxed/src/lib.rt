@@ -17,5 +17,5 @@ mod words;
 
 pub use deduced::{Refuted, refute_near};
 pub use edge::Edge;
-pub use impossible::first_not_given;
+pub use impossible::{first_not_given, may_be_given};
 pub use refuter::refute;
