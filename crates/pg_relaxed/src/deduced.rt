@@ -22,6 +22,9 @@ const MOST_LOOKS: u64 = 100_000_000;
 /// So many events on each side of one are looked at.
 const MOST_NEAR: usize = 64;
 
+/// And so many where those refute none.
+const MOST_FAR: usize = 4096;
+
 /// An event to which in no order a run of the machine comes, by its number.
 #[derive(Drop)]
 pub struct Refuted {
@@ -147,10 +150,31 @@ fn refute_own(
     Ok(None)
 }
 
+/// The same of each processor, among so many events on each side of one.
+fn refute_within(
+    alloc: Global,
+    run: &SpannedRun,
+    number: u32,
+    most: usize,
+) -> Result<Option<Refuted>, AllocError>
+    requires { most ≤ 4096 }
+    ensures { IfOk result (λ found. IfSome found (IsRefuted run.now)) }
+{
+    let to = (number as usize + most).min(run.len()) as u32;
+    let from = number.saturating_sub(most as u32);
+    let mut words = Words::new(alloc, MOST_LOOKS);
+    for p in 0..run.header().processors.len() {
+        if let Some(refuted) = refute_own(run, &mut words, p as u16, from, to)? {
+            return Ok(Some(refuted));
+        }
+    }
+    Ok(None)
+}
+
 /// An event near another, by its number, to which in no order a run of the machine comes, so that
 /// no order has a run. It asks what `refute` does of the accesses near it, but where a write may
 /// come on both sides of one, and no run comes to the access on one side, it goes on with the
-/// other. `None` says nothing.
+/// other. Those within 64 events are asked first, then those within 4,096. `None` says nothing.
 ///
 /// It fails only where memory is refused. Each access and each such write takes as long as `refute`
 /// does, up to a limit of all.
@@ -161,13 +185,8 @@ pub fn refute_near(
 ) -> Result<Option<Refuted>, AllocError>
     ensures { IfOk result (λ found. IfSome found (IsRefuted run.now)) }
 {
-    let to = (number as usize + MOST_NEAR).min(run.len()) as u32;
-    let from = number.saturating_sub(MOST_NEAR as u32);
-    let mut words = Words::new(alloc, MOST_LOOKS);
-    for p in 0..run.header().processors.len() {
-        if let Some(refuted) = refute_own(run, &mut words, p as u16, from, to)? {
-            return Ok(Some(refuted));
-        }
+    if let Some(refuted) = refute_within(alloc, run, number, MOST_NEAR)? {
+        return Ok(Some(refuted));
     }
-    Ok(None)
+    refute_within(alloc, run, number, MOST_FAR)
 }
