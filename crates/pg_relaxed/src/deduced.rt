@@ -22,8 +22,8 @@ const MOST_LOOKS: u64 = 100_000_000;
 /// So many events on each side of one are looked at.
 const MOST_NEAR: usize = 64;
 
-/// And so many where those refute none.
-const MOST_FAR: usize = 4096;
+/// Where those refute none, all events of a run of so many are looked at.
+const MOST_SMALL: usize = 4096;
 
 /// An event to which in no order a run of the machine comes, by its number.
 #[derive(Drop)]
@@ -180,7 +180,7 @@ fn refute_within(
 /// An event near another, by its number, to which in no order a run of the machine comes, so that
 /// no order has a run. It asks what `refute` does of the accesses and assists near it, but where a
 /// write may come on both sides of one, and no run comes to that on one side, it goes on with the
-/// other. Those within 64 events are asked first, then those within 4,096. `None` says nothing.
+/// other. Those within 64 events are asked first, and then, in a run of at most 4,096 events, all. `None` says nothing.
 ///
 /// It fails only where memory is refused. Each of them and each such write takes as long as `refute`
 /// does, up to a limit of all.
@@ -194,5 +194,8 @@ pub fn refute_near(
     if let Some(refuted) = refute_within(alloc, run, number, MOST_NEAR)? {
         return Ok(Some(refuted));
     }
-    refute_within(alloc, run, number, MOST_FAR)
+    if run.len() > MOST_SMALL {
+        return Ok(None);
+    }
+    refute_within(alloc, run, number, MOST_SMALL)
 }
