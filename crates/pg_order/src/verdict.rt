@@ -111,8 +111,8 @@ fn verdict_near(alloc: Global, run: &SpannedRun, number: u32) -> Result<Verdict,
     }
 }
 
-/// The verdict by all orders of few events, whose no tells this event. Where they are too many to be
-/// tried, the verdict by what is sure of the orders near it.
+/// The verdict by all orders of few events, whose no tells this event. Where they are too many to
+/// be tried, the verdict by what is sure of the orders near it.
 fn verdict_of_all(alloc: Global, run: &SpannedRun, number: u32) -> Result<Verdict, AllocError>
     requires search { NeedsSearch run.now }
     requires within { number < length run.now.events }
@@ -186,8 +186,8 @@ fn verdict_of_several(alloc: Global, run: &SpannedRun) -> Result<Verdict, AllocE
 /// of the least event that no memory gives, as `first_not_given` of `pg_relaxed` tells. Where there
 /// is none, the order in which the events ended is tried first, then a search. It is a no where in
 /// no order a run comes to an event that waits when the search gives up, as far as `refute` of
-/// `pg_relaxed` tells; where a run of at most 64 events has no order with a run, as far as a trial of
-/// all goes; or where no run comes to an access near the first event that waits, as far as
+/// `pg_relaxed` tells; where a run of at most 64 events has no order with a run, as far as a trial
+/// of all goes; or where no run comes to an access near the first event that waits, as far as
 /// `refute_near` tells.
 ///
 /// It fails only where memory is refused.

@@ -52,13 +52,14 @@ table_below up pcid from = record { level = below up; pcid = pcid; from = from }
 abbrev pub word_in : ℕ → Table → ℕ
 word_in la t = entry_address t.from.table t.level la
 
--- what an entry gives to a walk that reads it in a table is known, where it may be cached: in records
--- with assists it has A (4.8)
+-- what an entry gives to a walk that reads it in a table is known, where it may be cached: in
+-- records with assists it has A (4.8)
 pub record IsTaken (version : Version) (cfg : Cfg) (la : ℕ) (k : Known) (t : Table) (entry : ℕ) :
     Type 0 where
   pub table : may_cache version entry ≡ true → is_table (kind_of cfg t.level entry) ≡ true →
       IsIn (table_below t.level t.pcid (table_by cfg.m t.from entry)) k.tables
-  pub leaf : may_cache version entry ≡ true → (x : Translation) → translation_at k.control la (joined t.from.rights entry) entry
+  pub leaf : may_cache version entry ≡ true → (x : Translation) →
+      translation_at k.control la (joined t.from.rights entry) entry
       (kind_of cfg t.level entry) ≡ Some x → IsIn x k.translations
 
 -- the root is known, and what each entry gives that a word may hold in the slot

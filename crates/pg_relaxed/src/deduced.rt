@@ -180,10 +180,11 @@ fn refute_within(
 /// An event near another, by its number, to which in no order a run of the machine comes, so that
 /// no order has a run. It asks what `refute` does of the accesses and assists near it, but where a
 /// write may come on both sides of one, and no run comes to that on one side, it goes on with the
-/// other. Those within 64 events are asked first, and then, in a run of at most 4,096 events, all. `None` says nothing.
+/// other. Those within 64 events are asked first, and then, in a run of at most 4,096 events, all.
+/// `None` says nothing.
 ///
-/// It fails only where memory is refused. Each of them and each such write takes as long as `refute`
-/// does, up to a limit of all.
+/// It fails only where memory is refused. Each of them and each such write takes as long as
+/// `refute` does, up to a limit of all.
 pub fn refute_near(
     alloc: Global,
     run: &SpannedRun,

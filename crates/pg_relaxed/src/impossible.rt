@@ -72,8 +72,8 @@ fn may_update(la: u64, word: u64, with_dirty: bool) -> bool
         || may_read_at(la, word, Level::One)
 }
 
-/// Whether some memory gives an event: not an access with a code or an offset that none gives it, nor
-/// an assist of a word that no walk for its address reads (Intel SDM, vol. 3, 4.5 to 4.8).
+/// Whether some memory gives an event: not an access with a code or an offset that none gives it,
+/// nor an assist of a word that no walk for its address reads (Intel SDM, vol. 3, 4.5 to 4.8).
 pub fn may_be_given(cfg: Cfg, event: &Event) -> bool
     ensures { result ≡ may_be_given cfg event.now }
 {

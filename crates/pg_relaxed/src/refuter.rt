@@ -353,8 +353,8 @@ pub(crate) fn refute_so(
 }
 
 /// Whether in no order of its events a run of the machine comes to this event, by its number, so
-/// that no order has a run. It asks accesses and assists. A no says nothing: it is the answer for an
-/// event that names no walk too, and where too much would have to be looked at.
+/// that no order has a run. It asks accesses and assists. A no says nothing: it is the answer for
+/// an event that names no walk too, and where too much would have to be looked at.
 ///
 /// It fails only where memory is refused. It takes time by the events of the processor before the
 /// event, and by the writes to the words that walks for its address read.

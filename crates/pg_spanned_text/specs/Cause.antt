@@ -1,7 +1,7 @@
 -- Why in every order an event does not come to pass, a fact a line.
 --
 --     event: LINE                            the event, as it is shown with its span
---     no memory gives it: ..                 why, where no memory gives the event, whatever the order
+--     no memory gives it: ..                 why no memory gives the event, where none does
 --     read after: LINE                       the last event of its processor that drops each
 --                                            translation of its page under its PCID: what it uses
 --                                            was read after that. Without one, no such line

@@ -200,8 +200,9 @@ fn push_event(
 }
 
 /// Why in every order the event with this number does not come to pass, where no order of the run's
-/// events has a run: why no memory gives it, where none does; after which event of its processor it reads the entries of its page, which
-/// values these may have there, and which they can't have any more. Nothing for a number that no
+/// events has a run: why no memory gives it, where none does; after which event of its processor
+/// it reads the entries of its page, which values these may have there, and which they can't have
+/// any more. Nothing for a number that no
 /// event has, and the event's own line for one that names no walk.
 ///
 /// It takes a few passes over the events, and one for each table that a walk may come to: 65 for
