@@ -29,7 +29,7 @@ impl Trier {
 }
 
 /// The addresses of all accesses.
-fn linears_of(events: &[Event]) -> Vec<u64> {
+pub fn linears_of(events: &[Event]) -> Vec<u64> {
     let linears: BTreeSet<u64> = events.iter().filter_map(|event| match event.deed {
         Deed::Access { linear, .. } | Deed::Assist { linear, .. } => Some(linear),
         _ => None,

@@ -5,7 +5,8 @@
 //! usage: records machine|system|shadow|unlocked VERSION PROCESSORS WIDTH CUT EVENTS SEED [BUG]
 //!                [--ordered|--truth]
 //!        records racy VERSION SEED
-//!        records truth FILE
+//!        records changed VERSION SEED
+//!        records truth FILE [STEPS]
 //!
 //! VERSION is 3 or 4. The first form writes a run on standard output. Of `machine` few words are
 //! written by all at random, and `system` is a small operating system with TLB shootdowns (runs.rs);
@@ -21,7 +22,10 @@
 //! the run is written, of version 1 or 2, each event with the placeholder 0 for its moments; with
 //! --truth whether the machine may do the events in that order.
 //!
-//! `racy` writes a small record at random. `truth` tries all orders of one: `yes` or `no`.
+//! `racy` writes a small record at random, and `changed` a short run of which one event is changed.
+//! `truth` tries all orders of a record: `yes` or `no`, or with STEPS `unknown` where so many do not
+//! tell.
+mod changed;
 mod events;
 mod machine;
 mod orders;
@@ -151,6 +155,18 @@ fn racy(version: u64, seed: u64) -> Vec<u8> {
     encode(&run.machine.settings, &events, &backs)
 }
 
+fn read(name: &str) -> Vec<u8> {
+    let mut bytes = vec![];
+    std::fs::File::open(name).and_then(|mut file| file.read_to_end(&mut bytes)).expect("a record");
+    bytes
+}
+
+/// What is true as far as so many steps tell, by a thread whose stack has room for them.
+fn truth_in_a_thread(bytes: Vec<u8>, steps: u64) -> Vec<u8> {
+    let trial = std::thread::Builder::new().stack_size(1 << 30).spawn(move || changed::truth_within(&bytes, steps));
+    trial.expect("a thread").join().expect("an answer").map_or(b"unknown\n".to_vec(), told)
+}
+
 fn told(is_true: bool) -> Vec<u8> { if is_true { b"yes\n".to_vec() } else { b"no\n".to_vec() } }
 
 fn main() -> ExitCode {
@@ -158,10 +174,14 @@ fn main() -> ExitCode {
     let bytes = match words.first().map(|word| word.as_str()) {
         Some("machine" | "system" | "shadow" | "unlocked") if words.len() >= 7 => run_of(&words),
         Some("racy") if words.len() == 3 => racy(words[1].parse().unwrap(), words[2].parse().unwrap()),
-        Some("truth") if words.len() == 2 => {
-            let mut bytes = vec![];
-            std::fs::File::open(&words[1]).and_then(|mut file| file.read_to_end(&mut bytes)).expect("a record");
-            told(truth(&bytes))
+        Some("changed") if words.len() == 3 => {
+            let (settings, events, backs) = changed::changed_run(words[1].parse().unwrap(), words[2].parse().unwrap());
+            encode(&settings, &events, &backs)
+        }
+        Some("truth") if words.len() == 2 => told(truth(&read(&words[1]))),
+        Some("truth") if words.len() == 3 => {
+            let steps = words[2].parse().unwrap();
+            truth_in_a_thread(read(&words[1]), steps)
         }
         _ => { eprintln!("usage: see the head of records.rs"); return ExitCode::FAILURE }
     };

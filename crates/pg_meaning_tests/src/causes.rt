@@ -26,7 +26,16 @@ const ABSENT: Written = Written::Access {
     at: &[0],
 };
 
-const CASES: [Case; 7] = [
+/// Processor 1 reads in supervisor mode, and the code of the fault has the bit of user mode.
+const SUPERVISOR_AS_USER: Written = Written::Access {
+    p: 1,
+    flags: 0,
+    la: 0x6123,
+    outcome: Outcome::Fault(4),
+    at: &[0],
+};
+
+const CASES: [Case; 8] = [
     Case {
         name: "an old leaf behind an INVLPG that began behind the write",
         events: &[(REMAP, 0), (OWN_INVLPG, 0), (OLD_READ, 0)],
@@ -89,6 +98,18 @@ may read: level 2 [0x3000] = 0x4007 table, written by event 2
 may read: level 1 [0x4028] = 0x9007 leaf 0x9000, written by event 3
 may read: level 1 [0x4028] = 0xb007 leaf 0xb000, written by event 6
 can't read: [0x4028] = 0x0, written by event 5: event 6 overwrites it and comes before event 7
+",
+    },
+    Case {
+        name: "a page fault of user mode, and a supervisor's read",
+        events: &[(SUPERVISOR_AS_USER, 0)],
+        number: 5,
+        told: "event: 5 cpu 1 super read 0x6123 -> fault 0x4 (user) began 5
+no memory gives it: no cause of a page fault gives such an access this code
+may read: level 4 [0x1000] = 0x2007 table, written by event 0
+may read: level 3 [0x2000] = 0x3007 table, written by event 1
+may read: level 2 [0x3000] = 0x4007 table, written by event 2
+may read: level 1 [0x4030] = 0xa007 leaf 0xa000, written by event 4
 ",
     },
     Case {

@@ -9,6 +9,8 @@ mod certificates;
 #[cfg(test)]
 mod explanations;
 #[cfg(test)]
+mod given;
+#[cfg(test)]
 mod machine;
 #[cfg(test)]
 mod orders;

@@ -38,6 +38,15 @@ pub(crate) const OWN_INVLPG: Written = Written::Invlpg(1, 0x5000);
 
 pub(crate) const REMAP: Written = Written::Write(0, 0x4028, 0xb007);
 
+/// Processor 1 reads the page that is there from the replacement on.
+pub(crate) const NEW_READ: Written = Written::Access {
+    p: 1,
+    flags: READ,
+    la: 0x5123,
+    outcome: Outcome::Page(0xb123),
+    at: &[0],
+};
+
 /// Processor 1 reads a page that nothing maps, and its error code lacks the bit of user mode.
 const WRONG_CODE: Written = Written::Access {
     p: 1,
@@ -56,7 +65,7 @@ const OWN_WRONG_CODE: Written = Written::Access {
     at: &[0],
 };
 
-const CASES: [Case; 7] = [
+const CASES: [Case; 8] = [
     Case {
         name: "one order alone, which has a run",
         events: &[(REMAP, 0), (OLD_READ, 0), (INVLPG, 0)],
@@ -88,9 +97,15 @@ const CASES: [Case; 7] = [
         order: &[],
     },
     Case {
-        name: "a wrong error code, and all orders tried",
+        name: "a wrong error code, which no memory gives",
         events: &[(WRONG_CODE, 1)],
-        told: Told::NoneOfAll(5),
+        told: Told::Never(5),
+        order: &[],
+    },
+    Case {
+        name: "a read of the new page and then of the old one, and all orders tried",
+        events: &[(NEW_READ, 0), (OWN_INVLPG, 0), (OLD_READ, 0), (REMAP, 3)],
+        told: Told::NoneOfAll(7),
         order: &[],
     },
     Case {
@@ -112,9 +127,18 @@ pub(crate) fn push(run: &mut SpannedRun, written: &Written, back: u32) -> Result
     }
 }
 
-/// The mapping, and these events after it.
+/// The mapping, and these events after it, in a record of version 3.
 pub(crate) fn run_of(alloc: Global, events: &[Spanned]) -> Result<SpannedRun, Fail> {
-    let header = header_of(alloc, Version::One, 2)?;
+    run_in(alloc, Version::One, events)
+}
+
+/// The same in a record of version 3, or with assists of version 4.
+pub(crate) fn run_in(
+    alloc: Global,
+    version: Version,
+    events: &[Spanned],
+) -> Result<SpannedRun, Fail> {
+    let header = header_of(alloc, version, 2)?;
     if !header.is_in_range() {
         return Err(Fail::from("no header"));
     }

@@ -1,4 +1,4 @@
-use crate::orders::{OLD_READ, OWN_INVLPG, REMAP, Spanned, run_of};
+use crate::orders::{NEW_READ, OLD_READ, OWN_INVLPG, REMAP, Spanned, run_of};
 use crate::written::{INVLPG, READ, Written};
 use pg_event::Outcome;
 use pg_relaxed::{Edge, refute, refute_near};
@@ -12,15 +12,6 @@ struct Case {
     /// Whether no order can witness it.
     refuted: bool,
 }
-
-/// Processor 1 reads the page that is mapped at event 5.
-const NEW_READ: Written = Written::Access {
-    p: 1,
-    flags: READ,
-    la: 0x5123,
-    outcome: Outcome::Page(0xb123),
-    at: &[0],
-};
 
 /// Processor 1 reads a page that nobody maps.
 const UNMAPPED_READ: Written = Written::Access {

@@ -1,9 +1,10 @@
 -- What is told of a record with no one order.
-use Rattle.std.specs.Prelude.{ℕ, ◌<◌, ◌≤◌, List, length}
+use Rattle.std.specs.Prelude.{◌≡◌, ℕ, ◌<◌, ◌≤◌, List, length}
 use Rattle.pg_certify.specs.Certified.{CanBeCertified, IsDenied, HasRunButMoments}
 use Rattle.pg_spanned.specs.Orders.{Spanned, IsOrder, ordered}
 use Rattle.pg_spanned.specs.Laws.{ends, EachPrecedesNext}
 use Rattle.pg_relaxed.specs.declared.edge.Edge.{Edge}
+use Rattle.pg_relaxed.specs.Impossible.{IsFirstNotGiven}
 use Rattle.pg_relaxed.specs.Orders.{NeverComes}
 use Rattle.pg_relaxed.specs.Supposed.{AreDeduced, AreOfEarlier}
 use Rattle.pg_order.specs.Runs.{HasOrderedRun}
@@ -55,3 +56,15 @@ IsVerdict s (Yes order) = IsOrderedRun s order.items
 IsVerdict s (Never event edges) = HasNoRunTo s event edges.items
 IsVerdict s (NoneOfAll event) = HasNoOrderedRun s event
 IsVerdict s (Undecided event) = IsUndecided s event
+
+-- the verdict says that no run comes to event i
+abbrev pub TellsNever : ℕ → Verdict → Type 0
+TellsNever i (Yes order) = ⊥
+TellsNever i (Never event edges) = event ≡ i
+TellsNever i (NoneOfAll event) = ⊥
+TellsNever i (Undecided event) = ⊥
+
+-- where there are several orders, the verdict tells the least event that no memory gives
+abbrev pub TellsNotGiven : Spanned → Verdict → Type 0
+TellsNotGiven s verdict =
+    (EachPrecedesNext s → ⊥) → (i : ℕ) → IsFirstNotGiven s i → TellsNever i verdict

@@ -5,13 +5,13 @@ ghost use Rattle.std.specs.List.{range_with_len};
 ghost use Rattle.pg_certify.specs.Certified.{HasRunButMoments};
 ghost use Rattle.pg_spanned.specs.Laws.{ends, EachPrecedesNext};
 ghost use Rattle.pg_spanned.specs.Orders.{ordered};
-ghost use Rattle.pg_order.specs.Verdicts.{IsVerdict, NeedsSearch};
+ghost use Rattle.pg_order.specs.Verdicts.{IsVerdict, NeedsSearch, TellsNotGiven};
 
 use crate::in_order::{InOrder, certify_in_order};
 use crate::trying::{Tried, try_orders};
 use pg_arrange::{Sought, find_order};
 use pg_certify::denied_events_have_no_run;
-use pg_relaxed::{Edge, Refuted, refute, refute_near};
+use pg_relaxed::{Edge, Refuted, first_not_given, refute, refute_near};
 use pg_spanned::{SpannedRun, ends_are_an_order, has_one_order, no_other_order};
 use std::alloc::{AllocError, Global};
 
@@ -111,7 +111,8 @@ fn verdict_near(alloc: Global, run: &SpannedRun, number: u32) -> Result<Verdict,
     }
 }
 
-/// The verdict by all orders of few events. The event is told of a no.
+/// The verdict by all orders of few events, whose no tells this event. Where they are too many to
+/// be tried, the verdict by what is sure of the orders near it.
 fn verdict_of_all(alloc: Global, run: &SpannedRun, number: u32) -> Result<Verdict, AllocError>
     requires search { NeedsSearch run.now }
     requires within { number < length run.now.events }
@@ -121,13 +122,13 @@ fn verdict_of_all(alloc: Global, run: &SpannedRun, number: u32) -> Result<Verdic
     match try_orders(alloc, run)? {
         Tried::Whole(order) => Ok(Verdict::Yes(order)),
         Tried::NoOrder => Ok(Verdict::NoneOfAll(number as u64)),
-        Tried::Spent => Ok(Verdict::Undecided(number as u64)),
+        Tried::Spent => verdict_near(alloc, run, number),
     }
 }
 
 /// The verdict of a run whose search gave up with these events waiting: a no, where in no order a
-/// run comes to one of them, or to an access near the first, or where all orders of few events were
-/// tried.
+/// run comes to one of them, where all orders of few events were tried, or where in no order a run
+/// comes to an access near the first.
 fn verdict_of_waiting(
     alloc: Global,
     run: &SpannedRun,
@@ -164,21 +165,12 @@ fn verdict_in(alloc: Global, run: &SpannedRun, order: Vec<u32>) -> Result<Verdic
     }
 }
 
-/// Looks for an order of the events of a run in which some run of the machine has them. A yes has
-/// the order, in which `moments_in_order` names the moments. Where the events have one order alone
-/// the answer is a yes or a no, and so it is where there are at most eight events. Else the order
-/// in which the events ended is tried first, then a search. It is a no where in no order a run
-/// comes to an event that waits when the search gives up, as far as `refute` of `pg_relaxed` tells;
-/// where a run of at most 64 events has no order with a run; or where a run of more events has an
-/// access near the first that waits to which no run comes, as far as `refute_near` tells.
-///
-/// It fails only where memory is refused.
-pub fn find_ordered_run(alloc: Global, run: &SpannedRun) -> Result<Verdict, AllocError>
+/// The verdict of a run whose events have several orders: of the order in which they ended, or of a
+/// search.
+fn verdict_of_several(alloc: Global, run: &SpannedRun) -> Result<Verdict, AllocError>
+    requires { EachPrecedesNext run.now → ⊥ }
     ensures { IfOk result (IsVerdict run.now) }
 {
-    if has_one_order(run) {
-        return verdict_in_only_order(alloc, run);
-    }
     if let Some(verdict) = yes_in_ends(alloc, run)? {
         return Ok(verdict);
     }
@@ -186,4 +178,28 @@ pub fn find_ordered_run(alloc: Global, run: &SpannedRun) -> Result<Verdict, Allo
         Sought::Order(order) => verdict_in(alloc, run, order),
         Sought::Stuck(waiting) => verdict_of_waiting(alloc, run, &waiting),
     }
+}
+
+/// Looks for an order of the events of a run in which some run of the machine has them. A yes has
+/// the order, in which `moments_in_order` names the moments. Where the events have one order alone
+/// the answer is a yes or a no, and so it is where there are at most eight events. Else it is a no
+/// of the least event that no memory gives, as `first_not_given` of `pg_relaxed` tells. Where there
+/// is none, the order in which the events ended is tried first, then a search. It is a no where in
+/// no order a run comes to an event that waits when the search gives up, as far as `refute` of
+/// `pg_relaxed` tells; where a run of at most 64 events has no order with a run, as far as a trial
+/// of all goes; or where no run comes to an access near the first event that waits, as far as
+/// `refute_near` tells.
+///
+/// It fails only where memory is refused.
+pub fn find_ordered_run(alloc: Global, run: &SpannedRun) -> Result<Verdict, AllocError>
+    ensures verdict { IfOk result (IsVerdict run.now) }
+    ensures given { IfOk result (TellsNotGiven run.now) }
+{
+    if has_one_order(run) {
+        return verdict_in_only_order(alloc, run);
+    }
+    if let Some(number) = first_not_given(run) {
+        return Ok(Verdict::Never(number as u64, Vec::new(alloc)));
+    }
+    verdict_of_several(alloc, run)
 }

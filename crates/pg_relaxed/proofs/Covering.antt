@@ -72,7 +72,7 @@ abbrev pub Enters : Spanned → List Edge → ℕ → ℕ → ℕ → ℕ → Kn
 Enters s edges p la next ended k = (order : List ℕ) (past : List Step) → IsOrder s order → Keeps order edges → Came s order past → IsFront s p order (count past) next → HasEntered p past → IsThere s p la order past ended k
 
 -- what is in a cache after a step
-in_pushed : {X : Type 0} (p q : ℕ) (x y : X) (old : ℕ → List X) → IsIn x (changed_at p (λ xs. y ∷ xs) old q) → ((q ≡ p) × (y ≡ x)) ⊎ IsIn x (old q)
+pub in_pushed : {X : Type 0} (p q : ℕ) (x y : X) (old : ℕ → List X) → IsIn x (changed_at p (λ xs. y ∷ xs) old q) → ((q ≡ p) × (y ≡ x)) ⊎ IsIn x (old q)
 in_pushed p q x y old h =
     elim (cases_Bool (q == p)) [
       | inl t ↦ elim (rw t at h) as (λ _. ((q ≡ p) × (y ≡ x)) ⊎ IsIn x (old q)) [ inl e ↦ inl (eqb-true q p t, e) | inr i ↦ inr i ]
@@ -90,7 +90,7 @@ in_filtered test x (y ∷ ys) h =
       | inr f ↦ let more = in_filtered test x ys (rw f at h) in (inr more.0, more.1)
     ]
 
-in_dropped : {X : Type 0} (p q : ℕ) (test : X → Bool) (x : X) (old : ℕ → List X) → IsIn x (changed_at p (filter test) old q) → IsIn x (old q)
+pub in_dropped : {X : Type 0} (p q : ℕ) (test : X → Bool) (x : X) (old : ℕ → List X) → IsIn x (changed_at p (filter test) old q) → IsIn x (old q)
 in_dropped p q test x old h =
     elim (cases_Bool (q == p)) [
       | inl t ↦ (in_filtered test x (old q) (rw t at h)).0
@@ -145,7 +145,7 @@ module _ (s : Spanned) (slot : Slot) (la : ℕ) (k : Known) (filled : IsFilled s
 
   module _ (holds : (a : ℕ) → MayHold s slot a (st.memory a)) where
     taken : (level : Level) (b : ℕ) (from : Parent) → Agree level b la → MayRead st slot.p b level from →
-        IsTaken s.head.cfg la k (record { level = level; pcid = (st.control slot.p).pcid; from = from }) (entry_now st b level from)
+        IsTaken s.head.version s.head.cfg la k (record { level = level; pcid = (st.control slot.p).pcid; from = from }) (entry_now st b level from)
     taken level b from agree may =
         let t : Table = record { level = level; pcid = (st.control slot.p).pcid; from = from } in
         let value : st.memory (word_in la t) ≡ entry_now st b level from = ap st.memory (sym (same_address from.table level b la agree)) in
@@ -164,7 +164,7 @@ module _ (s : Spanned) (slot : Slot) (la : ℕ) (k : Known) (filled : IsFilled s
                 let agree : Agree level b la = subst (λ l. Agree l b la) (sym parts.depth) parts.agree in
                 let may : MayRead st slot.p b level from = subst (λ r. MayRead st r b level from) (sym e.0) found.1.1 in
                 let is : is_table (kind_of s.head.cfg level entry) ≡ true = ap is_table found.1.3 in
-                let got : IsIn (table_below level (st.control slot.p).pcid to) k.tables = (taken level b from agree may).table is in
+                let got : IsIn (table_below level (st.control slot.p).pcid to) k.tables = (taken level b from agree may).table found.1.2 is in
                 let own : (st.control slot.p).pcid ≡ pcid = ap (λ r. (st.control r).pcid) e.0 ∙ parts.context in
                 subst (λ l. IsIn (table_below l pcid f) k.tables) parts.depth
                 (subst (λ g. IsIn (table_below level pcid g) k.tables) parts.table
@@ -200,7 +200,7 @@ module _ (s : Spanned) (slot : Slot) (la : ℕ) (k : Known) (filled : IsFilled s
                 ∙ (ap (give la) finds.3
                 ∙ (ap (λ n. let y : Translation = record { key = record { pcid = (st.control q).pcid; shift = shift; number = n; global = g && (st.control q).pge }; frame = frame; rights = joined from.rights entry; dirty = dirty entry } in Some y) (sym number)
                 ∙ ap Some e.1)) in
-                (taken level b from agree may).leaf x gives
+                (taken level b from agree may).leaf finds.2 x gives
             | inr i ↦ known.translations x i matches
           ];
         })

@@ -6,7 +6,7 @@ use Rattle.std.proofs.lemmas.Bool.{cases_lt}
 use Rattle.std.proofs.lemmas.List.{take-take, take-map}
 use Rattle.std.proofs.lemmas.Option.{slice_get-get_or, slice_get_within}
 use Rattle.pg_event.specs.declared.event.Event.{Event}
-use Rattle.pg_event.specs.declared.event.Event.TheVariants.{Write, Access}
+use Rattle.pg_event.specs.declared.event.Event.TheVariants.{Write}
 use Rattle.pg_machine.specs.Machine.{visible}
 use Rattle.pg_run_of.specs.Converse.{without_moments}
 use Rattle.pg_spanned.specs.Orders.{Spanned, IsOrder, StandsBefore, ordered}
@@ -14,7 +14,7 @@ use Rattle.pg_spanned.proofs.Orders.{are_all}
 use Rattle.pg_spanned.proofs.Places.{stands_once, some_same}
 use Rattle.pg_relaxed.specs.declared.edge.Edge.{Edge}
 use Rattle.pg_relaxed.specs.Memory.{IsWrite}
-use Rattle.pg_relaxed.specs.Orders.{RunComesTo, NeverComes, IsSomeAccess}
+use Rattle.pg_relaxed.specs.Orders.{RunComesTo, NeverComes, NamesWalk, NamesSomeWalk}
 use Rattle.pg_relaxed.specs.Supposed.{Keeps, NeverComesSo, AreSure, IsUpTo, IsRace, IsDeduced, AreDeduced, AddsEdgesOf}
 
 -- both are events, and not the same
@@ -23,16 +23,17 @@ record AreApart (s : Spanned) (edge : Edge) : Type 0 where
   second : edge.second < length s.events
   other : edge.first ≡ edge.second → ⊥
 
-no_write_is_an_access : (events : List Event) (i : ℕ) → IsWrite events i → IsSomeAccess events i → ⊥
-no_write_is_an_access events i write access =
-    let both : Some (Write write.1.1.0 write.0 write.1.0) ≡ Some (Access access.0 access.1 access.2 access.3 access.4.0) = sym write.1.1.1 ∙ access.4.1 in
-    absurd (cc)
+no_write_names_a_walk : (events : List Event) (i : ℕ) → IsWrite events i → NamesSomeWalk events i → ⊥
+no_write_names_a_walk events i write walk =
+    let both : Some walk.1.0 ≡ Some (Write write.1.1.0 write.0 write.1.0) = sym walk.1.1 ∙ write.1.1.1 in
+    let same : walk.1.0 ≡ Write write.1.1.0 write.0 write.1.0 = cc in
+    subst (NamesWalk walk.0) same walk.1.2
 
 apart : (s : Spanned) (edge : Edge) → IsRace s edge → AreApart s edge
 apart s edge race = record {
   first = slice_get_within s.events edge.first _ race.write.1.1.1;
-  second = slice_get_within s.events edge.second _ race.access.4.1;
-  other = λ same. no_write_is_an_access s.events edge.second (subst (IsWrite s.events) same race.write) race.access;
+  second = slice_get_within s.events edge.second _ race.walk.1.1;
+  other = λ same. no_write_names_a_walk s.events edge.second (subst (IsWrite s.events) same race.write) race.walk;
 }
 
 -- a run that comes to a place of an order comes to the places before it

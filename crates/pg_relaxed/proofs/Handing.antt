@@ -1,18 +1,15 @@
 -- What is known is handed on over an event, and tells at last that an event cannot come.
-use Rattle.std.proofs.Common.{◌≡◌, ℕ, suc, ◌+◌, ◌<◌, List, max, length, refl, ap, ◌∙◌, subst, arith, inl, inr, Some}
+use Rattle.std.proofs.Common.{◌≡◌, ℕ, suc, ◌+◌, ◌<◌, List, max, length, ap, ◌∙◌, subst, arith, inl, inr, Some}
 use Rattle.std.specs.Prelude.{slice_get}
 use Rattle.std.proofs.lemmas.Bool.{cases_lt}
 use Rattle.pg_event.specs.declared.event.Event.{Event}
-use Rattle.pg_event.specs.declared.event.Event.TheVariants.{Access}
-use Rattle.pg_event.specs.declared.event.Outcome.{Outcome}
-use Rattle.pg_event.specs.Form.{access_kind, processor_of}
+use Rattle.pg_event.specs.Form.{processor_of}
 use Rattle.pg_event.specs.Values.{controlled}
-use Rattle.pg_event.specs.Wants.{want_of}
 use Rattle.pg_spanned.specs.Orders.{Spanned, ended_before}
 use Rattle.pg_relaxed.specs.declared.edge.Edge.{Edge}
 use Rattle.pg_relaxed.specs.declared.slot.Slot.{Slot}
-use Rattle.pg_relaxed.specs.Caches.{Known, Grows, IsFilled, IsLeft, CannotCome}
-use Rattle.pg_relaxed.specs.Orders.{IsAccess}
+use Rattle.pg_relaxed.specs.Caches.{Known, Grows, IsFilled, IsLeft, IsNotGiven}
+use Rattle.pg_relaxed.specs.Orders.{NamesWalk}
 use Rattle.pg_relaxed.specs.Supposed.{NeverComesSo}
 use Rattle.pg_relaxed.proofs.History.{own_at, processor_at}
 use Rattle.pg_relaxed.proofs.Covering.{Covers, Enters, fill_covers}
@@ -47,12 +44,12 @@ hands_over s edges p la c ended x k there other enters =
     subst (λ n. Enters s edges p la n ended k) next (skips s edges p la c ended k (λ own. other (processor_at s.events p c x there own)) enters)
 
 -- at the event itself
-pub cannot_run : (s : Spanned) (la : ℕ) (f : Known) (slot : Slot) → IsFilled s slot la f → (flags : ℕ) (outcome : Outcome) (at_event : Slot) →
-    CannotCome s at_event la f (access_kind flags) outcome (want_of outcome) → at_event.p ≡ slot.p → at_event.next ≡ slot.next → at_event.edges.now ≡ slot.edges.now →
-    (k : Known) → IsAccess s.events slot.next slot.p flags la outcome → slot.next < length s.events →
+pub cannot_run : (s : Spanned) (la : ℕ) (f : Known) (slot : Slot) → IsFilled s slot la f → (asked : Event) (at_event : Slot) →
+    IsNotGiven s at_event la f asked → at_event.p ≡ slot.p → at_event.next ≡ slot.next → at_event.edges.now ≡ slot.edges.now →
+    (k : Known) → slice_get s.events slot.next ≡ Some asked → processor_of asked ≡ slot.p → NamesWalk la asked → slot.next < length s.events →
     Enters s slot.edges.now slot.p la slot.next slot.ended k → Grows k f → at_event.ended ≡ max slot.ended (ended_before s slot.next) → NeverComesSo s slot.edges.now slot.next
-cannot_run s la f slot filled flags outcome at_event cannot same_p same_next same_edges k access within enters grows is order place orders keeps at run =
+cannot_run s la f slot filled asked at_event cannot same_p same_next same_edges k there mine walk within enters grows is order place orders keeps at run =
     let covers : Covers s slot.edges.now slot.p la slot.next slot.ended f =
-    fill_covers s slot la k f (own_at s.events slot.p slot.next (Access slot.p flags la outcome access.0) access.1 refl) enters grows filled in
-    no_run s slot la flags outcome access.0 f at_event access.1 filled covers same_p same_next same_edges (has_ended s slot.next slot.ended at_event.ended within is) cannot order orders keeps
+    fill_covers s slot la k f (own_at s.events slot.p slot.next asked there mine) enters grows filled in
+    no_run s slot la asked f at_event there mine walk filled covers same_p same_next same_edges (has_ended s slot.next slot.ended at_event.ended within is) cannot order orders keeps
     place at run.0 run.1 run.2

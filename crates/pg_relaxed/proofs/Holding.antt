@@ -15,11 +15,11 @@ use Rattle.pg_machine.specs.declared.step.Step.{Step}
 use Rattle.pg_machine.specs.declared.step.Step.TheVariants.{Fill4, Fill3, Fill2, FillLeaf, Drop, Do}
 use Rattle.pg_machine.specs.declared.step.Translation.{Translation}
 use Rattle.pg_machine.specs.Machine.{State, with_leaf, without}
-use Rattle.pg_spanned.specs.Orders.{Spanned, MustPrecede, IsOrder}
+use Rattle.pg_spanned.specs.Orders.{Spanned, MustPrecede, StandsBefore, IsOrder}
 use Rattle.pg_relaxed.specs.declared.slot.Slot.{Slot}
-use Rattle.pg_relaxed.specs.Memory.{Writes, WritesTo, IsOwn, IsPast, IsSupposedPast, IsSupposedLater, MayBeLeft, MayHold}
+use Rattle.pg_relaxed.specs.Memory.{Writes, WritesTo, IsOwn, IsPast, IsSupposedPast, IsSupposedLater, IsToCome, SetsFlags, MayBeLast, MayBeLeft, MayBeMarked, MayHold}
 use Rattle.pg_relaxed.specs.Supposed.{Keeps}
-use Rattle.pg_relaxed.proofs.History.{state_after, count, IsAt, Came, Before, IsFront, before_more, before_less, front, front_by, not_before}
+use Rattle.pg_relaxed.proofs.History.{state_after, count, IsAt, Came, Before, IsFront, before_more, before_less, once, front, front_by, not_before}
 use Rattle.pg_relaxed.proofs.Same.{written_same}
 
 -- a write of the value has come, and none that must follow it
@@ -32,28 +32,49 @@ pub record IsLast (s : Spanned) (order : List ℕ) (w a v j : ℕ) : Type 0 wher
 abbrev pub Left : Spanned → List ℕ → ℕ → ℕ → ℕ → Type 0
 Left s order w a v = ((j : ℕ) × IsLast s order w a v j) ⊎ ((v ≡ 0) × ((i : ℕ) → WritesTo s.events a i → Before order w i → ⊥))
 
--- that, or that with the flags that assists have set since
+-- an assist of the word has come after the last write
+pub record HasSet (s : Spanned) (order : List ℕ) (w a : ℕ) (flag : Bool) (m j : ℕ) : Type 0 where
+  pub sets : SetsFlags s.events a flag j
+  pub came : Before order w j
+  pub behind : StandsBefore order m j
+
+-- assists have set flags in what the last write has left
+abbrev pub Marked : Spanned → List ℕ → ℕ → ℕ → ℕ → Bool → Type 0
+Marked s order w a v flag =
+    ((m : ℕ) × IsLast s order w a v m × (j : ℕ) × HasSet s order w a flag m j)
+    ⊎ ((v ≡ 0) × ((i : ℕ) → WritesTo s.events a i → Before order w i → ⊥))
+
+-- what the last write has left, or that with the flags that assists have set since
 abbrev pub Holds : Spanned → List ℕ → ℕ → ℕ → ℕ → Type 0
-Holds s order w a v = Left s order w a v ⊎ ((u : ℕ) × Left s order w a u × (flag : Bool) × (v ≡ marked flag u))
+Holds s order w a v = Left s order w a v ⊎ ((u : ℕ) × (flag : Bool) × Marked s order w a u flag × (v ≡ marked flag u))
 
 some_event : (x y : Event) → Some x ≡ Some y → x ≡ y
 some_event x y h = cc
 
 -- an event that does not write to the word
+last_by_other : (s : Spanned) (order : List ℕ) (w a v i m : ℕ) → slice_get order w ≡ Some i → (WritesTo s.events a i → ⊥) → IsLast s order w a v m → IsLast s order (suc w) a v m
+last_by_other s order w a v i m here none h = record {
+  writes = h.writes;
+  came = before_more order w m h.came;
+  last = λ x to before must. h.last x to (before_less order w i x here (λ e. none (subst (WritesTo s.events a) e to)) before) must;
+}
+
+none_by_other : (s : Spanned) (order : List ℕ) (w a i : ℕ) → slice_get order w ≡ Some i → (WritesTo s.events a i → ⊥) → ((x : ℕ) → WritesTo s.events a x → Before order w x → ⊥) →
+    (x : ℕ) → WritesTo s.events a x → Before order (suc w) x → ⊥
+none_by_other s order w a i here none h x to before = h x to (before_less order w i x here (λ e. none (subst (WritesTo s.events a) e to)) before)
+
 left_by_other : (s : Spanned) (order : List ℕ) (w a v i : ℕ) → slice_get order w ≡ Some i → (WritesTo s.events a i → ⊥) → Left s order w a v → Left s order (suc w) a v
-left_by_other s order w a v i here none (inl h) = inl (
-  h.0,
-  record {
-    writes = h.1.writes;
-    came = before_more order w h.0 h.1.came;
-    last = λ x to before must. h.1.last x to (before_less order w i x here (λ e. none (subst (WritesTo s.events a) e to)) before) must;
-  },
-)
-left_by_other s order w a v i here none (inr h) = inr (h.0, λ x to before. h.1 x to (before_less order w i x here (λ e. none (subst (WritesTo s.events a) e to)) before))
+left_by_other s order w a v i here none (inl h) = inl (h.0, last_by_other s order w a v i h.0 here none h.1)
+left_by_other s order w a v i here none (inr h) = inr (h.0, none_by_other s order w a i here none h.1)
+
+marked_by_other : (s : Spanned) (order : List ℕ) (w a v i : ℕ) (flag : Bool) → slice_get order w ≡ Some i → (WritesTo s.events a i → ⊥) → Marked s order w a v flag → Marked s order (suc w) a v flag
+marked_by_other s order w a v i flag here none (inl h) =
+    inl (h.0, last_by_other s order w a v i h.0 here none h.1, h.2, record { sets = h.3.sets; came = before_more order w h.2 h.3.came; behind = h.3.behind })
+marked_by_other s order w a v i flag here none (inr h) = inr (h.0, none_by_other s order w a i here none h.1)
 
 other_event : (s : Spanned) (order : List ℕ) (w a v i : ℕ) → slice_get order w ≡ Some i → (WritesTo s.events a i → ⊥) → Holds s order w a v → Holds s order (suc w) a v
 other_event s order w a v i here none (inl h) = inl (left_by_other s order w a v i here none h)
-other_event s order w a v i here none (inr h) = inr (h.0, left_by_other s order w a h.0 i here none h.1, h.2, h.3)
+other_event s order w a v i here none (inr h) = inr (h.0, h.1, marked_by_other s order w a h.0 i h.1 here none h.2, h.3)
 
 not_itself : (s : Spanned) (order : List ℕ) → IsOrder s order → (i : ℕ) → MustPrecede s i i → ⊥
 not_itself s order is i must =
@@ -87,9 +108,29 @@ marked_again true false u = or_assoc u 32 96
 marked_again false true u = or_assoc u 96 32
 marked_again false false u = or_assoc u 32 32
 
-marked_left : (s : Spanned) (order : List ℕ) (w a v : ℕ) (d : Bool) → Holds s order w a v → Holds s order w a (marked d v)
-marked_left s order w a v d (inl h) = inr (v, h, d, refl)
-marked_left s order w a v d (inr h) = inr (h.0, h.1, d || h.2, ap (marked d) h.3 ∙ marked_again d h.2 h.0)
+-- an assist of the word comes after the last write
+has_set : (s : Spanned) (order : List ℕ) (w a v m i : ℕ) (d : Bool) → slice_get order w ≡ Some i → SetsFlags s.events a d i → IsLast s order w a v m → HasSet s order (suc w) a d m i
+has_set s order w a v m i d here sets last = record {
+  sets = sets;
+  came = (w, omega arith, here);
+  behind = let came : Before order w m = last.came in record { place = came.0; later = w; rises = came.1; first = came.2; second = here };
+}
+
+set_more : (s : Spanned) (order : List ℕ) (w a m j : ℕ) (d : Bool) → HasSet s order w a d m j → HasSet s order (suc w) a d m j
+set_more s order w a m j d h = record { sets = h.sets; came = before_more order w j h.came; behind = h.behind }
+
+-- flags that are set where some were set before
+set_again : (s : Spanned) (order : List ℕ) (w a v i : ℕ) (d b : Bool) → slice_get order w ≡ Some i → SetsFlags s.events a d i → (WritesTo s.events a i → ⊥) → Marked s order w a v b → Marked s order (suc w) a v (d || b)
+set_again s order w a v i true b here sets none (inl h) = inl (h.0, last_by_other s order w a v i h.0 here none h.1, i, has_set s order w a v h.0 i true here sets h.1)
+set_again s order w a v i false b here sets none (inl h) = inl (h.0, last_by_other s order w a v i h.0 here none h.1, h.2, set_more s order w a h.0 h.2 b h.3)
+set_again s order w a v i d b here sets none (inr h) = inr (h.0, none_by_other s order w a i here none h.1)
+
+marked_event : (s : Spanned) (order : List ℕ) (w a v i : ℕ) (d : Bool) → slice_get order w ≡ Some i → SetsFlags s.events a d i → (WritesTo s.events a i → ⊥) → Holds s order w a v → Holds s order (suc w) a (marked d v)
+marked_event s order w a v i d here sets none (inl (inl h)) =
+    inr (v, d, inl (h.0, last_by_other s order w a v i h.0 here none h.1, i, has_set s order w a v h.0 i d here sets h.1), refl)
+marked_event s order w a v i d here sets none (inl (inr h)) = inr (v, d, inr (h.0, none_by_other s order w a i here none h.1), refl)
+marked_event s order w a v i d here sets none (inr h) =
+    inr (h.0, d || h.1, set_again s order w a h.0 i d h.1 here sets none h.2, ap (marked d) h.3 ∙ marked_again d h.1 h.0)
 
 after_write : (s : Spanned) (order : List ℕ) → IsOrder s order → (w a v i : ℕ) (x : Event) → slice_get order w ≡ Some i → slice_get s.events i ≡ Some x →
     Holds s order w a v → Holds s order (suc w) a (written a v x)
@@ -101,10 +142,12 @@ after_write s order is w a v i (Write q addr new) here there h =
     ]
 after_write s order is w a v i (Access q flags la outcome ws) here there h = other_event s order w a v i here (no_write s a i _ there (λ r u e. absurd (cc))) h
 after_write s order is w a v i (Assist q flags la word ws) here there h =
-    let still : Holds s order (suc w) a v = other_event s order w a v i here (no_write s a i _ there (λ r u e. absurd (cc))) h in
+    let none : WritesTo s.events a i → ⊥ = no_write s a i _ there (λ r u e. absurd (cc)) in
     elim (cases_Bool (word == a)) [
-      | inl t ↦ subst (Holds s order (suc w) a) (sym (ap (λ b. cond b (marked (says_dirty flags) v) v) t)) (marked_left s order (suc w) a v (says_dirty flags) still)
-      | inr f ↦ subst (Holds s order (suc w) a) (sym (ap (λ b. cond b (marked (says_dirty flags) v) v) f)) still
+      | inl t ↦
+          let sets : SetsFlags s.events a (says_dirty flags) i = (Assist q flags la word ws, there, (q, flags, la, ws, ap (λ n. Assist q flags la n ws) (eqb-true word a t), refl)) in
+          subst (Holds s order (suc w) a) (sym (ap (λ b. cond b (marked (says_dirty flags) v) v) t)) (marked_event s order w a v i (says_dirty flags) here sets none h)
+      | inr f ↦ subst (Holds s order (suc w) a) (sym (ap (λ b. cond b (marked (says_dirty flags) v) v) f)) (other_event s order w a v i here none h)
     ]
 after_write s order is w a v i (MovCr3 q operand) here there h = other_event s order w a v i here (no_write s a i _ there (λ r u e. absurd (cc))) h
 after_write s order is w a v i (Invlpg q la) here there h = other_event s order w a v i here (no_write s a i _ there (λ r u e. absurd (cc))) h
@@ -149,35 +192,54 @@ module _ (s : Spanned) (order : List ℕ) (is : IsOrder s order) (slot : Slot) (
       let lt : h.edge.first < slot.next = here.below h.edge.first h.own first in
       omega (arith, lt, h.waits)
 
--- what is left in an order may be left in the slot
-may_be_left : (s : Spanned) (order : List ℕ) → IsOrder s order → (slot : Slot) (w a v : ℕ) → IsOwn s.events slot.p slot.next → IsFront s slot.p order w slot.next →
-    ((j : ℕ) → j < slot.ended → Before order w j) → Keeps order slot.edges.now → Left s order w a v → MayBeLeft s slot a v
-may_be_left s order is slot w a v own here ended keeps h =
-    let next_left : Before order w slot.next → ⊥ = λ b. let lt : slot.next < slot.next = here.below slot.next own b in omega (arith, lt) in
-    let past_came : (i : ℕ) → IsPast s slot i → Before order w i = λ i past. elim past [
-      | inl lt ↦ ended i lt
-      | inr other ↦ elim other [ inl mine ↦ here.come i mine.1 mine.0 | inr supposed ↦ supposed_past s order is slot w here keeps i supposed ]
-    ] in
-    elim h [
-      | inl m ↦ inl (
-        m.0,
-        record {
-          writes = m.1.writes;
-          came = λ to_come. elim to_come [
-            | inl e ↦ next_left (subst (Before order w) e m.1.came)
-            | inr other ↦ elim other [
-              | inl must ↦ next_left (front s order is w slot.next m.0 m.1.came must)
-              | inr supposed ↦ supposed_later s order is slot w here keeps m.0 supposed m.1.came
-            ]
-          ];
-          last = λ i to past must. m.1.last i to (past_came i past) must;
-        },
-      )
-      | inr z ↦ inr (z.0, λ i to past. z.1 i to (past_came i past))
+module _ (s : Spanned) (order : List ℕ) (is : IsOrder s order) (slot : Slot) (w : ℕ) (own : IsOwn s.events slot.p slot.next) (here : IsFront s slot.p order w slot.next)
+    (ended : (j : ℕ) → j < slot.ended → Before order w j) (keeps : Keeps order slot.edges.now) where
+  next_left : Before order w slot.next → ⊥
+  next_left b = let lt : slot.next < slot.next = here.below slot.next own b in omega (arith, lt)
+
+  past_came : (i : ℕ) → IsPast s slot i → Before order w i
+  past_came i past = elim past [
+    | inl lt ↦ ended i lt
+    | inr other ↦ elim other [ inl mine ↦ here.come i mine.1 mine.0 | inr supposed ↦ supposed_past s order is slot w here keeps i supposed ]
+  ]
+
+  -- what has come in the order is not to come
+  not_to_come : (i : ℕ) → Before order w i → IsToCome s slot i → ⊥
+  not_to_come i came to_come = elim to_come [
+    | inl e ↦ next_left (subst (Before order w) e came)
+    | inr other ↦ elim other [
+      | inl must ↦ next_left (front s order is w slot.next i came must)
+      | inr supposed ↦ supposed_later s order is slot w here keeps i supposed came
     ]
+  ]
+
+  may_be_last : (a v m : ℕ) → IsLast s order w a v m → MayBeLast s slot a v m
+  may_be_last a v m h = record {
+    writes = h.writes;
+    came = not_to_come m h.came;
+    last = λ i to past must. h.last i to (past_came i past) must;
+  }
+
+  -- an event that comes after another need not precede it
+  need_not : (m j : ℕ) → StandsBefore order m j → MustPrecede s j m → ⊥
+  need_not m j b must =
+      let turned : StandsBefore order j m = is.keeps j m must in
+      let first : b.place ≡ turned.later = once s order is b.place turned.later m b.first turned.second in
+      let second : b.later ≡ turned.place = once s order is b.later turned.place j b.second turned.first in
+      omega (arith, b.rises, turned.rises, first, second)
+
+  -- what is left in an order may be left in the slot
+  may_be_left : (a v : ℕ) → Left s order w a v → MayBeLeft s slot a v
+  may_be_left a v (inl h) = inl (h.0, may_be_last a v h.0 h.1)
+  may_be_left a v (inr h) = inr (h.0, λ i to past. h.1 i to (past_came i past))
+
+  may_be_marked : (a v : ℕ) (flag : Bool) → Marked s order w a v flag → MayBeMarked s slot a v flag
+  may_be_marked a v flag (inl h) =
+      inl (h.0, may_be_last a v h.0 h.1, h.2, record { sets = h.3.sets; came = not_to_come h.2 h.3.came; behind = need_not h.0 h.2 h.3.behind })
+  may_be_marked a v flag (inr h) = inr (h.0, λ i to past. h.1 i to (past_came i past))
 
 -- what holds in an order may hold in the slot
 pub may_hold : (s : Spanned) (order : List ℕ) → IsOrder s order → (slot : Slot) (w a v : ℕ) → IsOwn s.events slot.p slot.next → IsFront s slot.p order w slot.next →
     ((j : ℕ) → j < slot.ended → Before order w j) → Keeps order slot.edges.now → Holds s order w a v → MayHold s slot a v
-may_hold s order is slot w a v own here ended keeps (inl h) = inl (may_be_left s order is slot w a v own here ended keeps h)
-may_hold s order is slot w a v own here ended keeps (inr h) = inr (h.0, may_be_left s order is slot w a h.0 own here ended keeps h.1, h.2, h.3)
+may_hold s order is slot w a v own here ended keeps (inl h) = inl (may_be_left s order is slot w own here ended keeps a v h)
+may_hold s order is slot w a v own here ended keeps (inr h) = inr (h.0, h.1, may_be_marked s order is slot w own here ended keeps a h.0 h.1 h.2, h.3)

@@ -10,3 +10,4 @@ mod Listing
 mod Passing
 mod Handing
 pub mod Deducing
+mod NotGiven

@@ -9,6 +9,7 @@ use Rattle.pg_entry.specs.Kinds.{kind_of}
 use Rattle.pg_entry.specs.Permission.{joined}
 use Rattle.pg_event.specs.declared.control.Control.{Control}
 use Rattle.pg_event.specs.declared.event.Event.{Event}
+use Rattle.pg_event.specs.declared.version.Version.{Version}
 use Rattle.pg_event.specs.declared.walk.Parent.{Parent}
 use Rattle.pg_event.specs.Invalidation.{structure_key, must_drop_structure, must_drop_translation}
 use Rattle.pg_machine.specs.declared.step.Translation.{Translation}
@@ -76,10 +77,10 @@ pub grows_by : (k l : Known) → Extends k l → Grows k l
 grows_by k l more = record { control = more.control; tables = table_still k l more; translations = translation_still k l more }
 
 -- what was taken stays taken
-pub taken_still : (cfg : Cfg) (la : ℕ) (k l : Known) (t : Table) (entry : ℕ) → Extends k l → IsTaken cfg la k t entry → IsTaken cfg la l t entry
-taken_still cfg la k l t entry more taken = record {
-  table = λ h. table_still k l more _ (taken.table h);
-  leaf = λ x h. translation_still k l more x (taken.leaf x (ap (λ (c : Control). translation_at c la (joined t.from.rights entry) entry (kind_of cfg t.level entry)) (sym more.control) ∙ h));
+pub taken_still : (version : Version) (cfg : Cfg) (la : ℕ) (k l : Known) (t : Table) (entry : ℕ) → Extends k l → IsTaken version cfg la k t entry → IsTaken version cfg la l t entry
+taken_still version cfg la k l t entry more taken = record {
+  table = λ cached h. table_still k l more _ (taken.table cached h);
+  leaf = λ cached x h. translation_still k l more x (taken.leaf cached x (ap (λ (c : Control). translation_at c la (joined t.from.rights entry) entry (kind_of cfg t.level entry)) (sym more.control) ∙ h));
 }
 
 -- the first tables stay where they are
@@ -94,14 +95,14 @@ got_at xs i x y e h = subst (λ z. z ≡ get_or xs i z) (sym e) h
 
 -- what the first tables give is known
 abbrev pub AreTaken : Spanned → Slot → ℕ → ℕ → Known → List Table → Type 0
-AreTaken s slot la pcid k tables = (t : Table) → IsIn t tables → t.pcid ≡ pcid → (entry : ℕ) → MayHold s slot (word_in la t) entry → IsTaken s.head.cfg la k t entry
+AreTaken s slot la pcid k tables = (t : Table) → IsIn t tables → t.pcid ≡ pcid → (entry : ℕ) → MayHold s slot (word_in la t) entry → IsTaken s.head.version s.head.cfg la k t entry
 
 pub taken_more : (s : Spanned) (slot : Slot) (la pcid : ℕ) (a b : Known) (n : ℕ) (x : Table) → Extends a b → n < length a.tables → x ≡ get_or a.tables n x → AreTaken s slot la pcid a (take n a.tables) →
-    (x.pcid ≡ pcid → (entry : ℕ) → MayHold s slot (word_in la x) entry → IsTaken s.head.cfg la b x entry) → AreTaken s slot la pcid b (take (n + 1) b.tables)
+    (x.pcid ≡ pcid → (entry : ℕ) → MayHold s slot (word_in la x) entry → IsTaken s.head.version s.head.cfg la b x entry) → AreTaken s slot la pcid b (take (n + 1) b.tables)
 taken_more s slot la pcid a b n x more lt is before here t h =
     let front : take (n + 1) b.tables ≡ take (n + 1) a.tables = front_still a b (n + 1) more (omega (arith, lt)) in
-    one_more (λ (y : Table). y.pcid ≡ pcid → (entry : ℕ) → MayHold s slot (word_in la y) entry → IsTaken s.head.cfg la b y entry) a.tables n x lt is
-    (λ y i p entry may. taken_still s.head.cfg la a b y entry more (before y i p entry may)) here t (subst (IsIn t) front h)
+    one_more (λ (y : Table). y.pcid ≡ pcid → (entry : ℕ) → MayHold s slot (word_in la y) entry → IsTaken s.head.version s.head.cfg la b y entry) a.tables n x lt is
+    (λ y i p entry may. taken_still s.head.version s.head.cfg la a b y entry more (before y i p entry may)) here t (subst (IsIn t) front h)
 
 pub filled_by : (s : Spanned) (slot : Slot) (la : ℕ) (k l : Known) (n : ℕ) → Extends k l → IsIn (record { level = Four; pcid = k.control.pcid; from = root_of k.control }) l.tables →
     length l.tables ≤ n → AreTaken s slot la k.control.pcid l (take n l.tables) → IsFilled s slot la l

@@ -1,5 +1,5 @@
 -- An event that nothing known gives has no run in any order.
-use Rattle.std.proofs.Common.{◌≡◌, ℕ, zero, suc, ◌+◌, ◌<◌, ◌≤◌, true, List, [], ◌∷◌, ◌++◌, length, take, refl, ap, sym, ◌∙◌, subst, arith, inl, inr, Option, Some, None}
+use Rattle.std.proofs.Common.{◌≡◌, ℕ, zero, suc, ◌+◌, ◌<◌, ◌≤◌, true, false, Bool, ◌&&◌, List, [], ◌∷◌, ◌++◌, length, take, refl, ap, sym, ◌∙◌, subst, arith, inl, inr, Option, Some, None}
 use Rattle.std.specs.Prelude.{slice_get}
 use Rattle.std.specs.Option.{option_map, option_to_list}
 use Rattle.std.proofs.lemmas.Bool.{cases_eq, cases_lt, and_parts}
@@ -14,21 +14,23 @@ use Rattle.pg_event.specs.declared.event.Event.TheVariants.{Write, Access, Assis
 use Rattle.pg_event.specs.declared.event.Outcome.{Outcome}
 use Rattle.pg_event.specs.declared.event.Want.{Want}
 use Rattle.pg_event.specs.declared.event.Want.TheVariants as wants
-use Rattle.pg_event.specs.Form.{access_kind}
+use Rattle.pg_entry.specs.declared.AccessKind.{AccessKind}
+use Rattle.pg_event.specs.Form.{access_kind, processor_of, says_dirty}
 use Rattle.pg_event.specs.Heads.{Head}
 use Rattle.pg_event.specs.Invalidation.{translation_matches}
 use Rattle.pg_event.specs.Wants.{want_of}
 use Rattle.pg_machine.specs.declared.step.Step.{Step}
 use Rattle.pg_machine.specs.declared.step.Step.TheVariants.{Fill4, Fill3, Fill2, FillLeaf, Drop, Do}
-use Rattle.pg_machine.specs.Machine.{State, HasOutcome, MayCome, Faults, RunsFrom, IsRun, visible, is_usable, entry_now}
+use Rattle.pg_machine.specs.Machine.{State, HasOutcome, MayAssist, MayCome, Faults, RunsFrom, IsRun, visible, is_usable, entry_now}
 use Rattle.pg_run_of.specs.Converse.{without_moments, AreSameButMoments}
 use Rattle.pg_spanned.specs.Orders.{Spanned, IsOrder, ordered}
 use Rattle.pg_spanned.proofs.Orders.{order_within}
 use Rattle.pg_spanned.proofs.Places.{some_same}
 use Rattle.pg_relaxed.specs.declared.slot.Slot.{Slot}
 use Rattle.pg_relaxed.specs.declared.table.Table.{Table}
-use Rattle.pg_relaxed.specs.Caches.{Known, word_in, IsFilled, HasNoFault, CannotCome}
+use Rattle.pg_relaxed.specs.Caches.{Known, word_in, IsFilled, HasNoFault, CannotCome, HasNoUpdate, IsNotGiven}
 use Rattle.pg_relaxed.specs.Memory.{IsOwn, MayHold}
+use Rattle.pg_relaxed.specs.Orders.{NamesWalk}
 use Rattle.pg_relaxed.specs.Supposed.{Keeps}
 use Rattle.pg_relaxed.proofs.History.{state_after, count, IsAt, Came, Before, IsFront, front, front_next, not_before, own_at}
 use Rattle.pg_relaxed.proofs.Holding.{memory_holds, may_hold}
@@ -36,12 +38,12 @@ use Rattle.pg_relaxed.proofs.Covering.{IsThere, Covers, readable}
 use Rattle.pg_relaxed.proofs.Entering.{HasEnded, own_precedes}
 
 -- what is given by a function was given something
-mapped_some : {X Y : Type 0} (f : X → Y) (o : Option X) (y : Y) → option_map f o ≡ Some y → (x : X) × (o ≡ Some x) × (f x ≡ y)
+pub mapped_some : {X Y : Type 0} (f : X → Y) (o : Option X) (y : Y) → option_map f o ≡ Some y → (x : X) × (o ≡ Some x) × (f x ≡ y)
 mapped_some f None y h = absurd (cc)
 mapped_some f (Some x) y h = (x, refl, cc)
 
 -- the events at the beginning of a list
-at_take : (count n : ℕ) (events : List Event) → n < count → slice_get (take count events) n ≡ slice_get events n
+pub at_take : (count n : ℕ) (events : List Event) → n < count → slice_get (take count events) n ≡ slice_get events n
 at_take zero n events lt = absurd (omega (arith, lt))
 at_take (suc count) n [] lt = refl
 at_take (suc count) zero (e ∷ es) lt = refl
@@ -56,7 +58,7 @@ there_is (e ∷ es) (suc i) lt = there_is es i (omega (arith, lt))
 one_more : (events : List Event) (i : ℕ) (order : List ℕ) (e : Event) → slice_get events i ≡ Some e → ordered events (i ∷ order) ≡ e ∷ ordered events order
 one_more events i order e there = ap (λ o. option_to_list o ++ ordered events order) there
 
-ordered_at : (events : List Event) (order : List ℕ) → ((k i : ℕ) → slice_get order k ≡ Some i → i < length events) → (k i : ℕ) (e : Event) →
+pub ordered_at : (events : List Event) (order : List ℕ) → ((k i : ℕ) → slice_get order k ≡ Some i → i < length events) → (k i : ℕ) (e : Event) →
     slice_get order k ≡ Some i → slice_get events i ≡ Some e → slice_get (ordered events order) k ≡ Some e
 ordered_at events [] low k i e place there = absurd (cc)
 ordered_at events (j ∷ order) low zero i e place there =
@@ -76,8 +78,12 @@ ordered_from events (j ∷ order) low (suc k) e h =
     let first = there_is events j (low 0 j refl) in
     ordered_from events order (λ a b g. low (suc a) b g) k e (sym (ap (λ es. slice_get es (suc k)) (one_more events j order first.0 first.1)) ∙ h)
 
+and_both : (a b : Bool) → a ≡ true → b ≡ true → (a && b) ≡ true
+and_both true b h k = k
+and_both false b h k = absurd (cc)
+
 -- an event may come whatever its moments
-may_bare : (head : Head) (st : State) (e : Event) → MayCome head st e → MayCome head st (without_moments e)
+pub may_bare : (head : Head) (st : State) (e : Event) → MayCome head st e → MayCome head st (without_moments e)
 may_bare head st (Write p addr value) h = h
 may_bare head st (Access p flags la outcome ws) h = h
 may_bare head st (Assist p flags la word ws) h = h
@@ -86,15 +92,15 @@ may_bare head st (Invlpg p la) h = h
 may_bare head st (Invpcid p kind pcid la) h = h
 may_bare head st (MovCr4Pge p on) h = h
 
-module _ (s : Spanned) (slot : Slot) (la flags : ℕ) (outcome : Outcome) (ws : List ℕ) (k : Known) (at_event : Slot)
-    (there : slice_get s.events slot.next ≡ Some (Access slot.p flags la outcome ws)) (filled : IsFilled s slot la k) (covers : Covers s slot.edges.now slot.p la slot.next slot.ended k)
+module _ (s : Spanned) (slot : Slot) (la : ℕ) (asked : Event) (k : Known) (at_event : Slot)
+    (there : slice_get s.events slot.next ≡ Some asked) (mine : processor_of asked ≡ slot.p) (walk : NamesWalk la asked) (filled : IsFilled s slot la k) (covers : Covers s slot.edges.now slot.p la slot.next slot.ended k)
     (same_p : at_event.p ≡ slot.p) (same_next : at_event.next ≡ slot.next) (same_edges : at_event.edges.now ≡ slot.edges.now) (more : HasEnded s slot.next slot.ended at_event.ended)
-    (cannot : CannotCome s at_event la k (access_kind flags) outcome (want_of outcome)) (order : List ℕ) (is : IsOrder s order) (keeps : Keeps order slot.edges.now) where
+    (cannot : IsNotGiven s at_event la k asked) (order : List ℕ) (is : IsOrder s order) (keeps : Keeps order slot.edges.now) where
   own : IsOwn s.events slot.p slot.next
-  own = own_at s.events slot.p slot.next (Access slot.p flags la outcome ws) there refl
+  own = own_at s.events slot.p slot.next asked there mine
 
   within : slot.next < length s.events
-  within = slice_get_within s.events slot.next (Access slot.p flags la outcome ws) there
+  within = slice_get_within s.events slot.next asked there
 
   here_front : (w : ℕ) → slice_get order w ≡ Some slot.next → IsFront s slot.p order w slot.next
   here_front w place = record {
@@ -121,35 +127,62 @@ module _ (s : Spanned) (slot : Slot) (la flags : ℕ) (outcome : Outcome) (ws : 
       (subst (Keeps order) (sym same_edges) keeps)
       (memory_holds s order is past came a)
 
-  no_fault : (past : List Step) → Came s order past → slice_get order (count past) ≡ Some slot.next → (kind : Kind) (cause : Cause) →
-      HasNoFault s at_event la k (access_kind flags) outcome kind cause → Faults s.head (state_after s.head past) slot.p la kind cause (access_kind flags) outcome → ⊥
-  no_fault past came place kind cause free f =
+  no_fault : (past : List Step) → Came s order past → slice_get order (count past) ≡ Some slot.next → (access : AccessKind) (outcome : Outcome) (kind : Kind) (cause : Cause) →
+      HasNoFault s at_event la k access outcome kind cause → Faults s.head (state_after s.head past) slot.p la kind cause access outcome → ⊥
+  no_fault past came place access outcome kind cause free f =
       let st : State = state_after s.head past in
       let t : IsThere s slot.p la order past slot.ended k = covers order past is keeps came (here_front (count past) place) in
       let x : Table = record { level = f.0; pcid = (st.control slot.p).pcid; from = f.1 } in
       free x (entry_now st la f.0 f.1) (readable s slot la k filled st t.known f.0 la f.1 refl f.2) (ap (λ (c : Control). c.pcid) t.known.control)
       (holds_at past came place t (word_in la x)) f.3 f.4
 
-  no_outcome : (past : List Step) → Came s order past → slice_get order (count past) ≡ Some slot.next → (want : Want) →
-      CannotCome s at_event la k (access_kind flags) outcome want → HasOutcome s.head (state_after s.head past) slot.p la (access_kind flags) outcome want → ⊥
-  no_outcome past came place wants.Leaf cannot h =
+  no_outcome : (past : List Step) → Came s order past → slice_get order (count past) ≡ Some slot.next → (access : AccessKind) (outcome : Outcome) (want : Want) →
+      CannotCome s at_event la k access outcome want → HasOutcome s.head (state_after s.head past) slot.p la access outcome want → ⊥
+  no_outcome past came place access outcome wants.Leaf none h =
       let st : State = state_after s.head past in
       let t : IsThere s slot.p la order past slot.ended k = covers order past is keeps came (here_front (count past) place) in
       let usable : is_usable k.control la h.0 ≡ true = ap (λ c. is_usable c la h.0) (sym t.known.control) ∙ h.2 in
       let parts = and_parts (translation_matches h.0.key la) _ usable in
-      cannot h.0 (t.known.translations h.0 h.1 parts.0) usable h.3
-  no_outcome past came place wants.Absent cannot h = no_fault past came place kinds.Absent causes.Absent cannot h
-  no_outcome past came place wants.Reserved cannot h = no_fault past came place kinds.Reserved causes.Reserved cannot h
-  no_outcome past came place wants.Present cannot h = h
+      none h.0 (t.known.translations h.0 h.1 parts.0) usable h.3
+  no_outcome past came place access outcome wants.Absent none h = no_fault past came place access outcome kinds.Absent causes.Absent none h
+  no_outcome past came place access outcome wants.Reserved none h = no_fault past came place access outcome kinds.Reserved causes.Reserved none h
+  no_outcome past came place access outcome wants.Present none h = h
+
+  no_update : (past : List Step) → Came s order past → slice_get order (count past) ≡ Some slot.next → (access : AccessKind) (word : ℕ) (with_dirty : Bool) →
+      HasNoUpdate s at_event la k access word with_dirty → MayAssist s.head (state_after s.head past) slot.p la access word with_dirty → ⊥
+  no_update past came place access word with_dirty none h =
+      let st : State = state_after s.head past in
+      let t : IsThere s slot.p la order past slot.ended k = covers order past is keeps came (here_front (count past) place) in
+      let x : Table = record { level = h.0; pcid = (st.control slot.p).pcid; from = h.1 } in
+      none x (entry_now st la h.0 h.1) (readable s slot la k filled st t.known h.0 la h.1 refl h.2) (ap (λ (c : Control). c.pcid) t.known.control)
+      h.3 (holds_at past came place t (word_in la x)) (and_both _ _ h.4 h.5)
+
+  none_comes : (past : List Step) → Came s order past → slice_get order (count past) ≡ Some slot.next → (e : Event) → processor_of e ≡ slot.p → NamesWalk la e →
+      IsNotGiven s at_event la k e → MayCome s.head (state_after s.head past) (without_moments e) → ⊥
+  none_comes past came place (Write p addr value) is_own names none h = names
+  none_comes past came place (Access p flags address outcome ws) is_own names none h =
+      let access : AccessKind = access_kind flags in
+      no_outcome past came place access outcome (want_of outcome) none
+      (subst (λ q. HasOutcome s.head (state_after s.head past) q la access outcome (want_of outcome)) is_own
+      (subst (λ a. HasOutcome s.head (state_after s.head past) p a access outcome (want_of outcome)) names h))
+  none_comes past came place (Assist p flags address word ws) is_own names none h =
+      let access : AccessKind = access_kind flags in
+      no_update past came place access word (says_dirty flags) none
+      (subst (λ q. MayAssist s.head (state_after s.head past) q la access word (says_dirty flags)) is_own
+      (subst (λ a. MayAssist s.head (state_after s.head past) p a access word (says_dirty flags)) names h))
+  none_comes past came place (MovCr3 p operand) is_own names none h = names
+  none_comes past came place (Invlpg p address) is_own names none h = names
+  none_comes past came place (Invpcid p kind pcid address) is_own names none h = names
+  none_comes past came place (MovCr4Pge p on) is_own names none h = names
 
   no_event : (past : List Step) → Came s order past → (e : Event) → IsAt s order (count past) e → slice_get order (count past) ≡ Some slot.next →
       MayCome s.head (state_after s.head past) e → ⊥
   no_event past came e at place may =
       let number : at.number ≡ slot.next = some_same at.number slot.next (sym at.place ∙ place) in
-      let this : Some at.event ≡ Some (Access slot.p flags la outcome ws) = sym at.there ∙ (ap (slice_get s.events) number ∙ there) in
-      let event : at.event ≡ Access slot.p flags la outcome ws = cc in
-      let bare : without_moments e ≡ Access slot.p flags la outcome [] = at.same ∙ ap without_moments event in
-      no_outcome past came place (want_of outcome) cannot
+      let this : Some at.event ≡ Some asked = sym at.there ∙ (ap (slice_get s.events) number ∙ there) in
+      let event : at.event ≡ asked = cc in
+      let bare : without_moments e ≡ without_moments asked = at.same ∙ ap without_moments event in
+      none_comes past came place asked mine walk cannot
       (subst (λ x. MayCome s.head (state_after s.head past) x) bare (may_bare s.head (state_after s.head past) e may))
 
   goes : (n : ℕ) (steps past : List Step) → Came s order past → RunsFrom s.head (state_after s.head past) steps →
@@ -175,7 +208,7 @@ module _ (s : Spanned) (slot : Slot) (la flags : ℕ) (outcome : Outcome) (ws : 
       AreSameButMoments (take (place + 1) (ordered s.events order)) (take (place + 1) (visible steps)) → ⊥
   no_run place at steps run same =
       let low : (a b : ℕ) → slice_get order a ≡ Some b → b < length s.events = λ a b h. order_within s order is a b h in
-      let mine : slice_get (ordered s.events order) place ≡ Some (Access slot.p flags la outcome ws) = ordered_at s.events order low place slot.next _ at there in
+      let first_of : slice_get (ordered s.events order) place ≡ Some asked = ordered_at s.events order low place slot.next _ at there in
       let seen : (n : ℕ) → n ≤ place → option_map without_moments (slice_get (ordered s.events order) n) ≡ option_map without_moments (slice_get (visible steps) n) =
       λ n le.
       let lt : n < place + 1 = omega (arith, le) in
@@ -183,7 +216,7 @@ module _ (s : Spanned) (slot : Slot) (la flags : ℕ) (outcome : Outcome) (ws : 
       let second = slice_get-map without_moments (take (place + 1) (visible steps)) n in
       ap (option_map without_moments) (sym (at_take (place + 1) n (ordered s.events order) lt))
       ∙ (sym first ∙ (ap (λ (xs : List Event). slice_get xs n) same ∙ (second ∙ ap (option_map without_moments) (at_take (place + 1) n (visible steps) lt)))) in
-      let theirs = mapped_some without_moments (slice_get (visible steps) place) _ (sym (seen place (omega arith)) ∙ ap (option_map without_moments) mine) in
+      let theirs = mapped_some without_moments (slice_get (visible steps) place) _ (sym (seen place (omega arith)) ∙ ap (option_map without_moments) first_of) in
       let zero_first : (n : ℕ) → n ≡ 0 + n = λ n. omega arith in
       goes place steps [] tt run (λ n e le h.
       let ours = mapped_some without_moments (slice_get (ordered s.events order) n) (without_moments e) (seen n le ∙ ap (option_map without_moments) h) in

@@ -1,6 +1,6 @@
 -- What a processor may have cached for an address while it stands between two of its events, in
 -- whichever order (Intel SDM, vol. 3, 4.10.2 to 4.10.4).
-use Rattle.std.specs.Prelude.{◌≡◌, ℕ, Bool, true, false, not, List, ◌++◌, Some}
+use Rattle.std.specs.Prelude.{◌≡◌, ℕ, Bool, true, false, not, ◌&&◌, ◌||◌, List, ◌++◌, Some}
 use Rattle.pg_entry.specs.declared.AccessKind.{AccessKind}
 use Rattle.pg_entry.specs.declared.Cause.{Cause}
 use Rattle.pg_entry.specs.declared.Cause.TheVariants as causes
@@ -12,17 +12,20 @@ use Rattle.pg_entry.specs.Kinds.{table_of, kind_of}
 use Rattle.pg_entry.specs.Permission.{joined, fault_code}
 use Rattle.pg_event.specs.declared.control.Control.{Control}
 use Rattle.pg_event.specs.declared.event.Event.{Event}
+use Rattle.pg_event.specs.declared.event.Event.TheVariants as events
 use Rattle.pg_event.specs.declared.event.Outcome.{Outcome}
 use Rattle.pg_event.specs.declared.event.Outcome.TheVariants as outcomes
 use Rattle.pg_event.specs.declared.event.Want.{Want}
 use Rattle.pg_event.specs.declared.event.Want.TheVariants as wants
 use Rattle.pg_event.specs.declared.walk.Parent.{Parent}
 use Rattle.pg_entry.specs.declared.Cfg.{Cfg}
-use Rattle.pg_event.specs.Heads.{Head}
+use Rattle.pg_event.specs.Form.{access_kind, says_dirty}
+use Rattle.pg_event.specs.Heads.{Head, may_cache}
+use Rattle.pg_event.specs.declared.version.Version.{Version}
 use Rattle.pg_event.specs.Invalidation.{structure_key}
 use Rattle.pg_event.specs.Invalidation.{must_drop_structure, must_drop_translation}
 use Rattle.pg_event.specs.Walk.{entry_address, below, root_of}
-use Rattle.pg_event.specs.Wants.{is_table}
+use Rattle.pg_event.specs.Wants.{want_of, is_wanted, may_dirty, is_table}
 use Rattle.pg_machine.specs.declared.step.Translation.{Translation}
 use Rattle.pg_machine.specs.Machine.{IsIn, Answers, is_usable, translation_at}
 use Rattle.pg_spanned.specs.Orders.{Spanned}
@@ -49,11 +52,14 @@ table_below up pcid from = record { level = below up; pcid = pcid; from = from }
 abbrev pub word_in : ℕ → Table → ℕ
 word_in la t = entry_address t.from.table t.level la
 
--- what an entry gives to a walk that reads it in a table is known
-pub record IsTaken (cfg : Cfg) (la : ℕ) (k : Known) (t : Table) (entry : ℕ) : Type 0 where
-  pub table : is_table (kind_of cfg t.level entry) ≡ true →
+-- what an entry gives to a walk that reads it in a table is known, where it may be cached: in
+-- records with assists it has A (4.8)
+pub record IsTaken (version : Version) (cfg : Cfg) (la : ℕ) (k : Known) (t : Table) (entry : ℕ) :
+    Type 0 where
+  pub table : may_cache version entry ≡ true → is_table (kind_of cfg t.level entry) ≡ true →
       IsIn (table_below t.level t.pcid (table_by cfg.m t.from entry)) k.tables
-  pub leaf : (x : Translation) → translation_at k.control la (joined t.from.rights entry) entry
+  pub leaf : may_cache version entry ≡ true → (x : Translation) →
+      translation_at k.control la (joined t.from.rights entry) entry
       (kind_of cfg t.level entry) ≡ Some x → IsIn x k.translations
 
 -- the root is known, and what each entry gives that a word may hold in the slot
@@ -61,7 +67,7 @@ pub record IsFilled (s : Spanned) (slot : Slot) (la : ℕ) (k : Known) : Type 0 
   pub root : IsIn (record { level = Four; pcid = k.control.pcid; from = root_of k.control })
       k.tables
   pub each : (t : Table) (entry : ℕ) → IsIn t k.tables → t.pcid ≡ k.control.pcid →
-      MayHold s slot (word_in la t) entry → IsTaken s.head.cfg la k t entry
+      MayHold s slot (word_in la t) entry → IsTaken s.head.version s.head.cfg la k t entry
 
 -- nothing that was known before is forgotten
 pub record Grows (k l : Known) : Type 0 where
@@ -131,3 +137,29 @@ CannotCome s slot la k access outcome wants.Absent =
 CannotCome s slot la k access outcome wants.Reserved =
     HasNoFault s slot la k access outcome kinds.Reserved causes.Reserved
 CannotCome s slot la k access outcome wants.Present = Unit {0}
+
+-- an assist may update an entry that a walk reads in a table: it is present and has no reserved
+-- bits, and where D is set it is a leaf whose rights allow the access (4.8)
+abbrev pub may_update_entry : Cfg → AccessKind → Bool → Table → ℕ → Bool
+may_update_entry cfg access with_dirty t entry =
+    is_wanted wants.Present (kind_of cfg t.level entry)
+    && (not with_dirty || may_dirty cfg access (joined t.from.rights entry)
+    (kind_of cfg t.level entry))
+
+-- no known table has a word that an assist may update, at this address
+abbrev pub HasNoUpdate : Spanned → Slot → ℕ → Known → AccessKind → ℕ → Bool → Type 0
+HasNoUpdate s slot la k access word with_dirty = (t : Table) (entry : ℕ) → IsIn t k.tables →
+    t.pcid ≡ k.control.pcid → word ≡ word_in la t → MayHold s slot (word_in la t) entry →
+    may_update_entry s.head.cfg access with_dirty t entry ≡ true → ⊥
+
+-- nothing that is known gives an event, which names a walk
+abbrev pub IsNotGiven : Spanned → Slot → ℕ → Known → Event → Type 0
+IsNotGiven s slot la k (events.Write p addr value) = Unit {0}
+IsNotGiven s slot la k (events.Access p flags address outcome moments) =
+    CannotCome s slot la k (access_kind flags) outcome (want_of outcome)
+IsNotGiven s slot la k (events.Assist p flags address word moments) =
+    HasNoUpdate s slot la k (access_kind flags) word (says_dirty flags)
+IsNotGiven s slot la k (events.MovCr3 p operand) = Unit {0}
+IsNotGiven s slot la k (events.Invlpg p address) = Unit {0}
+IsNotGiven s slot la k (events.Invpcid p kind pcid address) = Unit {0}
+IsNotGiven s slot la k (events.MovCr4Pge p on) = Unit {0}

@@ -3,3 +3,4 @@ pub mod Memory
 pub mod Caches
 pub mod Words
 pub mod Supposed
+pub mod Impossible

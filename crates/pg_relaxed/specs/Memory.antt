@@ -3,8 +3,8 @@ use Rattle.std.specs.Prelude.{◌≡◌, ℕ, ◌<◌, ◌≤◌, ◌⊎◌, Boo
 use Rattle.std.specs.Option.{option_map}
 use Rattle.pg_entry.specs.Kinds.{marked}
 use Rattle.pg_event.specs.declared.event.Event.{Event}
-use Rattle.pg_event.specs.declared.event.Event.TheVariants.{Write}
-use Rattle.pg_event.specs.Form.{processor_of}
+use Rattle.pg_event.specs.declared.event.Event.TheVariants.{Write, Assist}
+use Rattle.pg_event.specs.Form.{processor_of, says_dirty}
 use Rattle.pg_machine.specs.Machine.{IsIn}
 use Rattle.pg_spanned.specs.Orders.{Spanned, MustPrecede}
 use Rattle.pg_relaxed.specs.declared.edge.Edge.{Edge}
@@ -66,9 +66,34 @@ MayBeUnwritten s slot a = (i : ℕ) → WritesTo s.events a i → IsPast s slot 
 abbrev pub MayBeLeft : Spanned → Slot → ℕ → ℕ → Type 0
 MayBeLeft s slot a v = ((j : ℕ) × MayBeLast s slot a v j) ⊎ ((v ≡ 0) × MayBeUnwritten s slot a)
 
+-- an event is an assist of the word: it sets A, and D beside it or not
+abbrev pub SetsFlagsOf : ℕ → Bool → Event → Type 0
+SetsFlagsOf a with_dirty e = (p flags la : ℕ) × (moments : List ℕ)
+    × (e ≡ Assist p flags la a moments) × (says_dirty flags ≡ with_dirty)
+
+-- event j is an assist of the word
+abbrev pub SetsFlags : List Event → ℕ → Bool → ℕ → Type 0
+SetsFlags events a with_dirty j =
+    (e : Event) × (slice_get events j ≡ Some e) × SetsFlagsOf a with_dirty e
+
+-- event j may have set flags in the word since write m
+pub record MayHaveSet (s : Spanned) (slot : Slot) (a : ℕ) (with_dirty : Bool) (m j : ℕ) :
+    Type 0 where
+  pub sets : SetsFlags s.events a with_dirty j
+  pub came : IsToCome s slot j → ⊥
+  pub behind : MustPrecede s j m → ⊥
+
+-- assists may have set flags in what the last write has left. An unwritten word may have them
+-- without an assist: it is absent all the same
+abbrev pub MayBeMarked : Spanned → Slot → ℕ → ℕ → Bool → Type 0
+MayBeMarked s slot a v with_dirty =
+    ((m : ℕ) × MayBeLast s slot a v m × (j : ℕ) × MayHaveSet s slot a with_dirty m j)
+    ⊎ ((v ≡ 0) × MayBeUnwritten s slot a)
+
 -- the word may hold the value in the slot: what a write left, or that with the flags that assists
 -- may have set since (Intel SDM, vol. 3, 4.8)
 abbrev pub MayHold : Spanned → Slot → ℕ → ℕ → Type 0
 MayHold s slot a v =
     MayBeLeft s slot a v
-    ⊎ ((u : ℕ) × MayBeLeft s slot a u × (with_dirty : Bool) × (v ≡ marked with_dirty u))
+    ⊎ ((u : ℕ) × (with_dirty : Bool) × MayBeMarked s slot a u with_dirty
+    × (v ≡ marked with_dirty u))

@@ -2,8 +2,8 @@
 -- vol. 3, 4.10).
 use Rattle.std.specs.Prelude.{◌≡◌, ℕ, ◌+◌, List, Some, take, slice_get}
 use Rattle.pg_event.specs.declared.event.Event.{Event}
-use Rattle.pg_event.specs.declared.event.Outcome.{Outcome}
-use Rattle.pg_event.specs.declared.event.Event.TheVariants.{Access}
+use Rattle.pg_event.specs.declared.event.Event.TheVariants.{Write, Access, Assist, MovCr3, Invlpg}
+use Rattle.pg_event.specs.declared.event.Event.TheVariants.{Invpcid, MovCr4Pge}
 use Rattle.pg_machine.specs.declared.step.Step.{Step}
 use Rattle.pg_machine.specs.Machine.{IsRun, visible}
 use Rattle.pg_run_of.specs.Converse.{AreSameButMoments}
@@ -21,12 +21,20 @@ abbrev pub NeverComes : Spanned → ℕ → Type 0
 NeverComes s i = (order : List ℕ) (place : ℕ) → IsOrder s order →
     slice_get order place ≡ Some i → RunComesTo s order place → ⊥
 
--- event i is this access, whatever its moments
-abbrev pub IsAccess : List Event → ℕ → ℕ → ℕ → ℕ → Outcome → Type 0
-IsAccess events i p flags la outcome =
-    (moments : List ℕ) × (slice_get events i ≡ Some (Access p flags la outcome moments))
+-- an event names a walk for this linear address: it is an access or an assist
+abbrev pub NamesWalk : ℕ → Event → Type 0
+NamesWalk la (Write p addr value) = ⊥
+NamesWalk la (Access p flags address outcome moments) = address ≡ la
+NamesWalk la (Assist p flags address word moments) = address ≡ la
+NamesWalk la (MovCr3 p operand) = ⊥
+NamesWalk la (Invlpg p address) = ⊥
+NamesWalk la (Invpcid p kind pcid address) = ⊥
+NamesWalk la (MovCr4Pge p on) = ⊥
 
--- event i is an access
-abbrev pub IsSomeAccess : List Event → ℕ → Type 0
-IsSomeAccess events i =
-    (p flags la : ℕ) × (outcome : Outcome) × IsAccess events i p flags la outcome
+-- event i names a walk for this linear address
+abbrev pub NamesWalkAt : List Event → ℕ → ℕ → Type 0
+NamesWalkAt events i la = (e : Event) × (slice_get events i ≡ Some e) × NamesWalk la e
+
+-- event i is an access or an assist
+abbrev pub NamesSomeWalk : List Event → ℕ → Type 0
+NamesSomeWalk events i = (la : ℕ) × NamesWalkAt events i la

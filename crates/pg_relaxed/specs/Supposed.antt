@@ -6,7 +6,7 @@ use Rattle.pg_spanned.specs.Orders.{AreOfOneProcessor}
 use Rattle.pg_relaxed.specs.declared.deduced.Refuted.{Refuted}
 use Rattle.pg_relaxed.specs.declared.edge.Edge.{Edge}
 use Rattle.pg_relaxed.specs.Memory.{IsWrite}
-use Rattle.pg_relaxed.specs.Orders.{RunComesTo, NeverComes, IsSomeAccess}
+use Rattle.pg_relaxed.specs.Orders.{RunComesTo, NeverComes, NamesSomeWalk}
 
 -- an order is as supposed
 abbrev pub Keeps : List ℕ → List Edge → Type 0
@@ -26,10 +26,10 @@ AreSure s edges i = (order : List ℕ) (place : ℕ) → IsOrder s order →
 abbrev pub IsUpTo : Spanned → ℕ → ℕ → Type 0
 IsUpTo s j i = (j ≡ i) ⊎ MustPrecede s j i
 
--- a write and an access, each of which may come first
+-- a write and an access or assist, each of which may come first
 pub record IsRace (s : Spanned) (edge : Edge) : Type 0 where
   pub write : IsWrite s.events edge.first
-  pub access : IsSomeAccess s.events edge.second
+  pub walk : NamesSomeWalk s.events edge.second
   pub before : MustPrecede s edge.first edge.second → ⊥
   pub behind : MustPrecede s edge.second edge.first → ⊥
 

@@ -15,8 +15,9 @@ use crate::table::Table;
 use crate::words::Words;
 use pg_entry::{Cfg, Entry, Kind, Level, classify, combine, dirty, table_of};
 use pg_event::{
-    Control, Event, Parent, below, controlled, entry_address, must_drop_structure,
-    must_drop_translation, processor_of, root_of, structure_key, translation_key,
+    Control, Event, Parent, Version, below, controlled, entry_address, may_cache,
+    must_drop_structure, must_drop_translation, processor_of, root_of, structure_key,
+    translation_key,
 };
 use pg_machine::Translation;
 use pg_spanned::SpannedRun;
@@ -119,12 +120,22 @@ impl Caches {
         Ok(())
     }
 
-    /// What an entry gives that is read in a table.
-    fn take(&mut self, cfg: Cfg, la: u64, table: Table, entry: Entry) -> Result<(), AllocError>
+    /// What an entry gives that is read in a table, where it may be cached.
+    fn take(
+        &mut self,
+        version: Version,
+        cfg: Cfg,
+        la: u64,
+        table: Table,
+        entry: Entry,
+    ) -> Result<(), AllocError>
         requires width { (36 ≤ cfg.m) × (cfg.m ≤ 52) }
         ensures more { OnOk result (Extends (known_of self.old) (known_of self.new)) }
-        ensures taken { OnOk result (IsTaken cfg la (known_of self.new) table entry.0) }
+        ensures taken { OnOk result (IsTaken version cfg la (known_of self.new) table entry.0) }
     {
+        if !may_cache(version, entry) {
+            return Ok(());
+        }
         match classify(cfg, table.level, entry) {
             Kind::Table { .. } => self.add_table(Table {
                 level: below(table.level),
@@ -154,6 +165,7 @@ impl Caches {
     /// What each of the entries gives.
     fn take_all(
         &mut self,
+        version: Version,
         cfg: Cfg,
         la: u64,
         table: Table,
@@ -162,10 +174,10 @@ impl Caches {
         requires width { (36 ≤ cfg.m) × (cfg.m ≤ 52) }
         ensures more { OnOk result (Extends (known_of self.old) (known_of self.new)) }
         ensures taken { OnOk result ((entry : ℕ) → IsIn entry entries.now →
-            IsTaken cfg la (known_of self.new) table entry) }
+            IsTaken version cfg la (known_of self.new) table entry) }
     {
         for entry in entries {
-            self.take(cfg, la, table, Entry(*entry))?;
+            self.take(version, cfg, la, table, Entry(*entry))?;
         }
         Ok(())
     }
@@ -185,14 +197,20 @@ impl Caches {
         ensures more { OnOk result (Extends (known_of self.old) (known_of self.new)) }
         ensures taken { IfOk result (λ whole. IsTrue whole → (entry : ℕ) →
             MayHold run.now slot.entry (word_in la table) entry →
-            IsTaken run.now.head.cfg la (known_of self.new) table entry) }
+            IsTaken run.now.head.version run.now.head.cfg la (known_of self.new) table entry) }
     {
         let address = entry_address(table.from.table, table.level, la);
         if !words.look(run, slot, address)? {
             return Ok(false);
         }
-        let cfg = run.header().cfg;
-        self.take_all(cfg, la, table, words.values.as_slice())?;
+        let header = run.header();
+        self.take_all(
+            header.version,
+            header.cfg,
+            la,
+            table,
+            words.values.as_slice(),
+        )?;
         Ok(true)
     }
 

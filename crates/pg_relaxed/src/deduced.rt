@@ -1,9 +1,9 @@
-//! What is sure of the orders around an event: on which side of an access of the processor a write
-//! stands, where no run comes to the access on the other side.
+//! What is sure of the orders around an event: on which side of an access or an assist of the
+//! processor a write stands, where no run comes to it on the other side.
 
 ghost use Rattle.std.specs.Prelude.{◌≡◌, ℕ, ◌<◌, ◌≤◌, length, IfOk, OnOk, IfSome, IsTrue};
 ghost use Rattle.pg_relaxed.specs.Memory.{IsOwn, IsWrite};
-ghost use Rattle.pg_relaxed.specs.Orders.{IsSomeAccess};
+ghost use Rattle.pg_relaxed.specs.Orders.{NamesSomeWalk};
 ghost use Rattle.pg_relaxed.specs.Supposed.{AreSure, IsUpTo, IsRace, AreDeduced, IsRefuted};
 ghost use Rattle.pg_relaxed.specs.Supposed.{AddsEdgesOf};
 ghost use Rattle.pg_relaxed.specs.Words.{AreWordsOf};
@@ -22,6 +22,9 @@ const MOST_LOOKS: u64 = 100_000_000;
 /// So many events on each side of one are looked at.
 const MOST_NEAR: usize = 64;
 
+/// Where those refute none, all events of a run of so many are looked at.
+const MOST_SMALL: usize = 4096;
+
 /// An event to which in no order a run of the machine comes, by its number.
 #[derive(Drop)]
 pub struct Refuted {
@@ -31,7 +34,8 @@ pub struct Refuted {
     pub edges: Vec<Edge>,
 }
 
-/// Adds that an event comes before an access, where no run comes to the access the other way round.
+/// Adds that an event comes before an access or an assist, where no run comes to that the other way
+/// round.
 fn deduce(
     run: &SpannedRun,
     words: &mut Words,
@@ -66,46 +70,50 @@ fn is_write(run: &SpannedRun, number: u32) -> bool
     matches!(run.events()[number as usize], Event::Write { .. })
 }
 
-fn is_access(run: &SpannedRun, number: u32) -> bool
+/// Whether an event is an access or an assist.
+fn names_walk(run: &SpannedRun, number: u32) -> bool
     requires { number < length run.now.events }
-    ensures { IsTrue result → IsSomeAccess run.now.events number }
+    ensures { IsTrue result → NamesSomeWalk run.now.events number }
 {
-    matches!(run.events()[number as usize], Event::Access { .. })
+    matches!(
+        run.events()[number as usize],
+        Event::Access { .. } | Event::Assist { .. }
+    )
 }
 
-/// Whether an event is a write that may come on both sides of an access.
-fn may_come_on_both_sides(run: &SpannedRun, access: u32, write: u32) -> bool
-    requires access { access < length run.now.events }
-    requires is_access { IsSomeAccess run.now.events access }
+/// Whether an event is a write that may come on both sides of an access or an assist.
+fn may_come_on_both_sides(run: &SpannedRun, asked: u32, write: u32) -> bool
+    requires asked { asked < length run.now.events }
+    requires walk { NamesSomeWalk run.now.events asked }
     requires write { write < length run.now.events }
-    ensures { IsTrue result → IsRace run.now (record { first = write; second = access }) }
+    ensures { IsTrue result → IsRace run.now (record { first = write; second = asked }) }
 {
-    is_write(run, write) && !must_precede(run, write, access) && !must_precede(run, access, write)
+    is_write(run, write) && !must_precede(run, write, asked) && !must_precede(run, asked, write)
 }
 
-/// Adds what is sure of the writes around an access.
+/// Adds what is sure of the writes around an access or an assist.
 fn deduce_around(
     run: &SpannedRun,
     words: &mut Words,
     edges: &mut Vec<Edge>,
-    access: u32,
+    asked: u32,
 ) -> Result<(), AllocError>
-    requires access { access < length run.now.events }
-    requires is_access { IsSomeAccess run.now.events access }
+    requires asked { asked < length run.now.events }
+    requires walk { NamesSomeWalk run.now.events asked }
     requires words { AreWordsOf run.now.events words.old.words.items }
     ensures words { OnOk result (AreWordsOf run.now.events words.new.words.items) }
-    ensures sure { OnOk result ((i : ℕ) → IsUpTo run.now access i →
+    ensures sure { OnOk result ((i : ℕ) → IsUpTo run.now asked i →
         AreSure run.now edges.old.items i → AreSure run.now edges.new.items i) }
-    ensures deduced { OnOk result (AreSure run.now edges.old.items access →
+    ensures deduced { OnOk result (AreSure run.now edges.old.items asked →
         AreDeduced run.now edges.old.items → AreDeduced run.now edges.new.items) }
-    ensures more { OnOk result (AddsEdgesOf access edges.old.items edges.new.items) }
+    ensures more { OnOk result (AddsEdgesOf asked edges.old.items edges.new.items) }
 {
-    let end = (access as usize + MOST_NEAR).min(run.len()) as u32;
-    for write in ended_before(run, access)..end {
-        if may_come_on_both_sides(run, access, write) {
+    let end = (asked as usize + MOST_NEAR).min(run.len()) as u32;
+    for write in ended_before(run, asked)..end {
+        if may_come_on_both_sides(run, asked, write) {
             let edge = Edge {
                 first: write,
-                second: access,
+                second: asked,
             };
             deduce(run, words, edges, edge)?;
         }
@@ -113,16 +121,17 @@ fn deduce_around(
     Ok(())
 }
 
-/// Whether an event is an access of a processor.
-fn is_own_access(run: &SpannedRun, p: u16, number: u32) -> bool
+/// Whether an event is an access or an assist of a processor.
+fn is_own_walk(run: &SpannedRun, p: u16, number: u32) -> bool
     requires { number < length run.now.events }
     ensures own { IsTrue result → IsOwn run.now.events p number }
-    ensures access { IsTrue result → IsSomeAccess run.now.events number }
+    ensures walk { IsTrue result → NamesSomeWalk run.now.events number }
 {
-    is_access(run, number) && is_own(run.events(), p, number)
+    names_walk(run, number) && is_own(run.events(), p, number)
 }
 
-/// The first access of a processor among these events to which no run comes, as far as is seen.
+/// The first access or assist of a processor among these events to which no run comes, as far as is
+/// seen.
 fn refute_own(
     run: &SpannedRun,
     words: &mut Words,
@@ -137,7 +146,7 @@ fn refute_own(
 {
     let mut edges = Vec::new(words.alloc);
     for number in from..to {
-        if is_own_access(run, p, number) {
+        if is_own_walk(run, p, number) {
             if refute_so(run, words, &edges, number)? {
                 return Ok(Some(Refuted { number, edges }));
             }
@@ -147,22 +156,18 @@ fn refute_own(
     Ok(None)
 }
 
-/// An event near another, by its number, to which in no order a run of the machine comes, so that
-/// no order has a run. It asks what `refute` does of the accesses near it, but where a write may
-/// come on both sides of one, and no run comes to the access on one side, it goes on with the
-/// other. `None` says nothing.
-///
-/// It fails only where memory is refused. Each access and each such write takes as long as `refute`
-/// does, up to a limit of all.
-pub fn refute_near(
+/// The same of each processor, among so many events on each side of one.
+fn refute_within(
     alloc: Global,
     run: &SpannedRun,
     number: u32,
+    most: usize,
 ) -> Result<Option<Refuted>, AllocError>
+    requires { most ≤ 4096 }
     ensures { IfOk result (λ found. IfSome found (IsRefuted run.now)) }
 {
-    let to = (number as usize + MOST_NEAR).min(run.len()) as u32;
-    let from = number.saturating_sub(MOST_NEAR as u32);
+    let to = (number as usize + most).min(run.len()) as u32;
+    let from = number.saturating_sub(most as u32);
     let mut words = Words::new(alloc, MOST_LOOKS);
     for p in 0..run.header().processors.len() {
         if let Some(refuted) = refute_own(run, &mut words, p as u16, from, to)? {
@@ -170,4 +175,28 @@ pub fn refute_near(
         }
     }
     Ok(None)
+}
+
+/// An event near another, by its number, to which in no order a run of the machine comes, so that
+/// no order has a run. It asks what `refute` does of the accesses and assists near it, but where a
+/// write may come on both sides of one, and no run comes to that on one side, it goes on with the
+/// other. Those within 64 events are asked first, and then, in a run of at most 4,096 events, all.
+/// `None` says nothing.
+///
+/// It fails only where memory is refused. Each of them and each such write takes as long as
+/// `refute` does, up to a limit of all.
+pub fn refute_near(
+    alloc: Global,
+    run: &SpannedRun,
+    number: u32,
+) -> Result<Option<Refuted>, AllocError>
+    ensures { IfOk result (λ found. IfSome found (IsRefuted run.now)) }
+{
+    if let Some(refuted) = refute_within(alloc, run, number, MOST_NEAR)? {
+        return Ok(Some(refuted));
+    }
+    if run.len() > MOST_SMALL {
+        return Ok(None);
+    }
+    refute_within(alloc, run, number, MOST_SMALL)
 }

@@ -7,12 +7,15 @@ mod caches;
 mod deduced;
 mod edge;
 mod held;
+mod impossible;
 mod precede;
 mod refuter;
 mod slot;
 mod table;
+mod updates;
 mod words;
 
 pub use deduced::{Refuted, refute_near};
 pub use edge::Edge;
+pub use impossible::{first_not_given, may_be_given};
 pub use refuter::refute;

@@ -1,16 +1,17 @@
 //! Whether no order of the events of a run can witness one of them.
 
 ghost use Rattle.std.specs.Prelude.{◌≡◌, ℕ, ◌<◌, ◌≤◌, ◌^◌, length, IfOk, OnOk, IsTrue, IsFalse};
-ghost use Rattle.std.specs.Prelude.{slice_get, true};
+ghost use Rattle.std.specs.Prelude.{slice_get, true, Some};
 ghost use Rattle.pg_entry.specs.Kinds.{kind_of};
-ghost use Rattle.pg_event.specs.Form.{access_kind};
+ghost use Rattle.pg_event.specs.Form.{processor_of};
 ghost use Rattle.pg_event.specs.Values.{started};
 ghost use Rattle.pg_event.specs.Wants.{want_of};
-ghost use Rattle.pg_machine.specs.Machine.{Answers, IsIn, is_usable};
+ghost use Rattle.pg_machine.specs.Machine.{Answers, IsIn, is_usable, may_serve};
 ghost use Rattle.pg_relaxed.specs.Caches.{CannotCome, HasNoFault, HasNoAnswer, known_of, kind_for};
+ghost use Rattle.pg_relaxed.specs.Caches.{IsNotGiven};
 ghost use Rattle.pg_relaxed.specs.Caches.{word_in};
 ghost use Rattle.pg_relaxed.specs.Memory.{MayHold};
-ghost use Rattle.pg_relaxed.specs.Orders.{NeverComes, IsAccess};
+ghost use Rattle.pg_relaxed.specs.Orders.{NeverComes, NamesWalk};
 ghost use Rattle.pg_relaxed.specs.Supposed.{NeverComesSo};
 ghost use Rattle.pg_relaxed.specs.Words.{AreWordsOf};
 
@@ -19,11 +20,12 @@ use crate::edge::Edge;
 use crate::precede::ended_before;
 use crate::slot::Slot;
 use crate::table::Table;
+use crate::updates::{Update, has_no_update};
 use crate::words::Words;
-use pg_entry::{AccessKind, Cause, Entry, Kind, allowed, classify, error_code, page_offset};
+use pg_entry::{AccessKind, Cause, Entry, Kind, Op, allowed, classify, error_code, page_offset};
 use pg_event::{
-    Control, Header, Outcome, Request, Want, entry_address, loaded, processor_of,
-    translation_matches, want_of,
+    Control, Event, Header, Outcome, Version, Want, access_kind, entry_address, loaded,
+    processor_of, says_dirty, translation_matches, want_of,
 };
 use pg_machine::Translation;
 use pg_spanned::SpannedRun;
@@ -32,11 +34,17 @@ use std::alloc::{AllocError, Global};
 /// So much is looked at for one event.
 const MOST_LOOKS: u64 = 100_000_000;
 
+/// The walk that an event of a processor names.
+#[derive(Clone, Copy)]
+struct Walk {
+    number: u32,
+    p: u16,
+    la: u64,
+}
+
 /// The access that an event is.
 #[derive(Clone, Copy)]
 struct Asked {
-    number: u32,
-    p: u16,
     kind: AccessKind,
     la: u64,
     outcome: Outcome,
@@ -58,6 +66,17 @@ fn started(header: &Header, p: u16) -> Control
             pcid: 0,
             pge: false,
         }
+    }
+}
+
+/// Whether a translation may be used for a write: where dirty flags are judged, its leaf had D
+/// (Intel SDM, vol. 3, 4.8).
+fn may_serve(version: Version, access: AccessKind, translation: &Translation) -> bool
+    ensures { result ≡ may_serve version access translation.now }
+{
+    match version {
+        Version::One => true,
+        Version::Two => !matches!(access.op, Op::Write) || translation.dirty,
     }
 }
 
@@ -85,7 +104,9 @@ fn gives(
     let is_allowed = allowed(header.cfg, translation.rights, access);
     match outcome {
         Outcome::Page(page) => {
-            is_allowed && page == translation.frame + page_offset(la, key.shift)
+            is_allowed
+                && may_serve(header.version, access, translation)
+                && page == translation.frame + page_offset(la, key.shift)
         }
         Outcome::Fault(code) => !is_allowed
             && code == error_code(header.cfg, access, Cause::Denied),
@@ -206,22 +227,59 @@ fn cannot_come(
     }
 }
 
-/// Whether no order of a run that is as supposed can witness an access.
-fn refute_access(
+/// Whether nothing that is known gives an event, which names a walk for this linear address.
+fn is_not_given(
+    run: &SpannedRun,
+    words: &mut Words,
+    caches: &Caches,
+    slot: Slot<'_>,
+    la: u64,
+    asked: &Event,
+) -> Result<bool, AllocError>
+    requires words { AreWordsOf run.now.events words.old.words.items }
+    ensures words { OnOk result (AreWordsOf run.now.events words.new.words.items) }
+    ensures cannot { IfOk result (λ cannot. IsTrue cannot →
+        IsNotGiven run.now slot.entry la (known_of caches.now) asked.now) }
+{
+    match *asked {
+        Event::Access { flags, outcome, .. } => {
+            let kind = access_kind(flags);
+            cannot_come(run, words, caches, slot, Asked { kind, la, outcome })
+        }
+        Event::Assist { flags, word, .. } => {
+            let update = Update {
+                kind: access_kind(flags),
+                word,
+                dirty: says_dirty(flags),
+            };
+            has_no_update(run, words, caches, slot, la, update)
+        }
+        Event::Write { .. }
+        | Event::MovCr3 { .. }
+        | Event::Invlpg { .. }
+        | Event::Invpcid { .. }
+        | Event::MovCr4Pge { .. } => Ok(false),
+    }
+}
+
+/// Whether no order of a run that is as supposed can witness an event, which names a walk.
+fn refute_walk(
     run: &SpannedRun,
     words: &mut Words,
     edges: &[Edge],
-    asked: Asked,
+    walk: Walk,
+    asked: &Event,
 ) -> Result<bool, AllocError>
-    requires there { (flags : ℕ) × (access_kind flags ≡ asked.kind)
-        × IsAccess run.now.events asked.number asked.p flags asked.la asked.outcome }
-    requires count { asked.number < length run.now.events }
+    requires there { slice_get run.now.events walk.number ≡ Some asked.now }
+    requires own { processor_of asked.now ≡ walk.p }
+    requires names { NamesWalk walk.la asked.now }
+    requires count { walk.number < length run.now.events }
     requires words { AreWordsOf run.now.events words.old.words.items }
     ensures words { OnOk result (AreWordsOf run.now.events words.new.words.items) }
     ensures never { IfOk result (λ refuted. IsTrue refuted →
-        NeverComesSo run.now edges.now asked.number) }
+        NeverComesSo run.now edges.now walk.number) }
 {
-    let Asked { number, p, la, .. } = asked;
+    let Walk { number, p, la } = walk;
     if !words.may_look(number as u64) {
         return Ok(false);
     }
@@ -260,7 +318,7 @@ fn refute_access(
         ended: ended.max(ended_before(run, number)),
         edges,
     };
-    cannot_come(run, words, &caches, at_event, asked)
+    is_not_given(run, words, &caches, at_event, la, asked)
 }
 
 /// Whether in no order of its events that is as supposed a run of the machine comes to this event,
@@ -280,30 +338,23 @@ pub(crate) fn refute_so(
     if number as usize >= run.len() {
         return Ok(false);
     }
-    let event = &run.events()[number as usize];
-    match event.request() {
-        Request::Access {
-            kind,
-            la,
-            outcome,
-            ..
-        } => {
-            let asked = Asked {
-                number,
-                p: processor_of(event),
-                kind,
-                la,
-                outcome,
-            };
-            refute_access(run, words, edges, asked)
+    let asked = &run.events()[number as usize];
+    let p = processor_of(asked);
+    match *asked {
+        Event::Access { la, .. } | Event::Assist { la, .. } => {
+            refute_walk(run, words, edges, Walk { number, p, la }, asked)
         }
-        Request::Update { .. } | Request::Nothing => Ok(false),
+        Event::Write { .. }
+        | Event::MovCr3 { .. }
+        | Event::Invlpg { .. }
+        | Event::Invpcid { .. }
+        | Event::MovCr4Pge { .. } => Ok(false),
     }
 }
 
 /// Whether in no order of its events a run of the machine comes to this event, by its number, so
-/// that no order has a run. A no says nothing: it is the answer for an event that is no access too,
-/// and where too much would have to be looked at.
+/// that no order has a run. It asks accesses and assists. A no says nothing: it is the answer for
+/// an event that names no walk too, and where too much would have to be looked at.
 ///
 /// It fails only where memory is refused. It takes time by the events of the processor before the
 /// event, and by the writes to the words that walks for its address read.

@@ -1,16 +1,18 @@
 //! What words may hold in a slot.
 
 ghost use Rattle.std.specs.Prelude.{◌≡◌, ◌⊎◌, ℕ, ◌<◌, ◌^◌, [], length, IfOk, OnOk, IsTrue, IsFalse};
-ghost use Rattle.std.specs.Prelude.{IfSome, IfNone};
+ghost use Rattle.std.specs.Prelude.{IfSome, IfNone, Bool};
 ghost use Rattle.pg_machine.specs.Machine.{IsIn};
-ghost use Rattle.pg_relaxed.specs.Memory.{MayBeLeft, MayHold, IsToCome};
-ghost use Rattle.pg_relaxed.specs.Words.{AreWritesTo, AreWordsOf, IsOverwritten, IsWritten};
-ghost use Rattle.pg_relaxed.specs.Words.{WritesValue, AreBelow, IsPlaceOf, AreAllIn, IsMarkedIn};
+ghost use Rattle.pg_relaxed.specs.Memory.{MayHold, IsToCome, SetsFlagsOf};
+ghost use Rattle.pg_relaxed.specs.Words.{AreWritesTo, IsWordOf, AreWordsOf, IsOverwritten};
+ghost use Rattle.pg_relaxed.specs.Words.{IsWritten, WritesValue, AreBelow, IsPlaceOf, AreAllIn};
+ghost use Rattle.pg_relaxed.specs.Words.{IsMarkedIn, AreAssistsOf, AreAssistsBelow, IsNotSet};
+ghost use Rattle.pg_relaxed.specs.Words.{IsFlaggedIn, IsHeldIn};
 
 use crate::precede::{ended_before, must_precede};
 use crate::slot::{Slot, is_past, is_to_come};
 use pg_entry::{Entry, marked};
-use pg_event::{Event, MemoryChange};
+use pg_event::{Event, MemoryChange, says_dirty};
 use pg_spanned::SpannedRun;
 use std::alloc::{AllocError, Global};
 
@@ -29,11 +31,19 @@ pub(crate) struct Written {
     pub value: u64,
 }
 
-/// All writes to a word, as they ended.
+/// An assist of a word: the number of its event, and whether it sets D beside A.
+#[derive(Clone, Copy)]
+pub(crate) struct Assisted {
+    pub number: u32,
+    pub dirty: bool,
+}
+
+/// All writes to a word and all assists of it, as they ended.
 #[derive(Drop)]
 pub(crate) struct Word {
     pub address: u64,
     pub writes: Vec<Written>,
+    pub assists: Vec<Assisted>,
 }
 
 /// The words that were looked at, and what the last of them may hold.
@@ -41,8 +51,6 @@ pub(crate) struct Word {
 pub(crate) struct Words {
     pub alloc: Global,
     pub words: Vec<Word>,
-    /// What the last write may have left.
-    left_there: Vec<u64>,
     pub values: Vec<u64>,
     /// So much more may be looked at.
     left: u64,
@@ -74,6 +82,45 @@ fn writes_to(alloc: Global, events: &[Event], address: u64) -> Result<Vec<Writte
         }
     }
     Ok(writes)
+}
+
+/// The flags that an event sets in a word: whether D beside A.
+fn flags_set(event: &Event, address: u64) -> Option<bool>
+    ensures some { IfSome result (λ dirty. SetsFlagsOf address dirty event.now) }
+    ensures none { IfNone result ((dirty : Bool) → SetsFlagsOf address dirty event.now → ⊥) }
+{
+    match *event {
+        Event::Assist { flags, word, .. } => {
+            if word == address {
+                Some(says_dirty(flags))
+            } else {
+                None
+            }
+        }
+        Event::Write { .. }
+        | Event::Access { .. }
+        | Event::MovCr3 { .. }
+        | Event::Invlpg { .. }
+        | Event::Invpcid { .. }
+        | Event::MovCr4Pge { .. } => None,
+    }
+}
+
+/// The assists of a word.
+fn assists_of(alloc: Global, events: &[Event], address: u64) -> Result<Vec<Assisted>, AllocError>
+    requires { length events.now < 2 ^ 32 }
+    ensures { IfOk result (λ assists. AreAssistsOf events.now address assists.items) }
+{
+    let mut assists = Vec::new(alloc);
+    for (number, event) in events.iter().enumerate() {
+        if let Some(dirty) = flags_set(event, address) {
+            assists.push(Assisted {
+                number: number as u32,
+                dirty,
+            })?;
+        }
+    }
+    Ok(assists)
 }
 
 /// Whether one of the first of these writes must follow event j and has come.
@@ -137,31 +184,6 @@ fn overwritten_below(run: &SpannedRun, slot: Slot<'_>, writes: &[Written]) -> u3
     bound
 }
 
-/// The values that the last write to a word may have left in a slot, put into a list.
-fn put_values(
-    run: &SpannedRun,
-    slot: Slot<'_>,
-    word: &Word,
-    values: &mut Vec<u64>,
-) -> Result<(), AllocError>
-    requires { AreWritesTo run.now.events word.now.address word.now.writes.items }
-    ensures { OnOk result ((value : ℕ) → MayBeLeft run.now slot.entry word.now.address value →
-        IsIn value values.new.items) }
-{
-    let writes = word.writes.as_slice();
-    let bound = overwritten_below(run, slot, writes);
-    for (place, written) in writes.iter().enumerate() {
-        // Those that follow come later in the list.
-        if may_be_last(run, slot, bound, &writes[place..], *written) {
-            values.push(written.value)?;
-        }
-    }
-    if !is_written(run, slot, writes) {
-        values.push(0)?;
-    }
-    Ok(())
-}
-
 /// Adds a value, and what it is once assists set its flags.
 fn push_marked(value: u64, values: &mut Vec<u64>) -> Result<(), AllocError>
     ensures more { OnOk result (AreAllIn values.old.items values.new.items) }
@@ -173,12 +195,92 @@ fn push_marked(value: u64, values: &mut Vec<u64>) -> Result<(), AllocError>
     Ok(())
 }
 
-/// Adds each of the values, and what it is once assists set its flags.
-fn push_all_marked(left: &[u64], values: &mut Vec<u64>) -> Result<(), AllocError>
-    ensures { OnOk result ((value : ℕ) → IsIn value left.now → IsMarkedIn value values.new.items) }
+/// Whether an assist that sets such flags may have come between a write and a slot.
+fn may_be_set(
+    run: &SpannedRun,
+    slot: Slot<'_>,
+    assists: &[Assisted],
+    write: u32,
+    dirty: bool,
+) -> bool
+    requires within { write < length run.now.events }
+    requires assists { AreAssistsBelow (length run.now.events) assists.now }
+    ensures { IsFalse result → IsNotSet run.now slot.entry assists.now write dirty }
 {
-    for value in left {
-        push_marked(*value, values)?;
+    for assist in assists {
+        if assist.dirty == dirty
+            && !is_to_come(run, slot, assist.number)
+            && !must_precede(run, assist.number, write)
+        {
+            return true;
+        }
+    }
+    false
+}
+
+/// Adds the value of a write with such flags, where an assist that sets them may have come since.
+fn push_flagged(
+    run: &SpannedRun,
+    slot: Slot<'_>,
+    assists: &[Assisted],
+    written: Written,
+    dirty: bool,
+    values: &mut Vec<u64>,
+) -> Result<(), AllocError>
+    requires within { written.number < length run.now.events }
+    requires assists { AreAssistsBelow (length run.now.events) assists.now }
+    ensures more { OnOk result (AreAllIn values.old.items values.new.items) }
+    ensures flagged { OnOk result
+        (IsFlaggedIn run.now slot.entry assists.now written values.new.items dirty) }
+{
+    if may_be_set(run, slot, assists, written.number, dirty) {
+        values.push(marked(Entry(written.value), dirty).0)?;
+    }
+    Ok(())
+}
+
+/// Adds the value of a write, and what it is once assists that may have come since set its flags.
+fn push_held(
+    run: &SpannedRun,
+    slot: Slot<'_>,
+    assists: &[Assisted],
+    written: Written,
+    values: &mut Vec<u64>,
+) -> Result<(), AllocError>
+    requires within { written.number < length run.now.events }
+    requires assists { AreAssistsBelow (length run.now.events) assists.now }
+    ensures more { OnOk result (AreAllIn values.old.items values.new.items) }
+    ensures held { OnOk result
+        (IsHeldIn run.now slot.entry assists.now written values.new.items) }
+{
+    values.push(written.value)?;
+    push_flagged(run, slot, assists, written, false, values)?;
+    push_flagged(run, slot, assists, written, true, values)?;
+    Ok(())
+}
+
+/// The values that a word may hold in a slot, put into a list.
+fn put_values(
+    run: &SpannedRun,
+    slot: Slot<'_>,
+    word: &Word,
+    values: &mut Vec<u64>,
+) -> Result<(), AllocError>
+    requires { IsWordOf run.now.events word.now }
+    ensures { OnOk result ((value : ℕ) → MayHold run.now slot.entry word.now.address value →
+        IsIn value values.new.items) }
+{
+    let writes = word.writes.as_slice();
+    let assists = word.assists.as_slice();
+    let bound = overwritten_below(run, slot, writes);
+    for (place, written) in writes.iter().enumerate() {
+        // Those that follow come later in the list.
+        if may_be_last(run, slot, bound, &writes[place..], *written) {
+            push_held(run, slot, assists, *written, values)?;
+        }
+    }
+    if !is_written(run, slot, writes) {
+        push_marked(0, values)?;
     }
     Ok(())
 }
@@ -203,7 +305,6 @@ impl Words {
         Words {
             alloc,
             words: Vec::new(alloc),
-            left_there: Vec::new(alloc),
             values: Vec::new(alloc),
             left: most,
         }
@@ -232,7 +333,12 @@ impl Words {
         }
         let place = self.words.len();
         let writes = writes_to(self.alloc, events, address)?;
-        self.words.push(Word { address, writes })?;
+        let assists = assists_of(self.alloc, events, address)?;
+        self.words.push(Word {
+            address,
+            writes,
+            assists,
+        })?;
         Ok(place)
     }
 
@@ -250,16 +356,15 @@ impl Words {
             MayHold run.now slot.entry address value → IsIn value self.new.values.items) }
     {
         let place = self.place_of(run.events(), address)?;
-        self.left_there.clear();
         self.values.clear();
         let word = &self.words[place];
-        let looks = word.writes.len() as u64 + LOOKS;
+        let count = (word.writes.len() as u64).saturating_add(word.assists.len() as u64);
+        let looks = count.saturating_add(LOOKS);
         if self.left < looks {
             return Ok(false);
         }
         self.left -= looks;
-        put_values(run, slot, word, &mut self.left_there)?;
-        push_all_marked(&self.left_there, &mut self.values)?;
+        put_values(run, slot, word, &mut self.values)?;
         Ok(true)
     }
 }

@@ -1,6 +1,7 @@
 -- Why in every order an event does not come to pass, a fact a line.
 --
 --     event: LINE                            the event, as it is shown with its span
+--     no memory gives it: ..                 why no memory gives the event, where none does
 --     read after: LINE                       the last event of its processor that drops each
 --                                            translation of its page under its PCID: what it uses
 --                                            was read after that. Without one, no such line
@@ -13,10 +14,16 @@
 -- An event that names no walk has its own line alone.
 use Rattle.std.specs.Prelude.{ℕ, Bool, if◌then◌else◌, List, [], ◌++◌, Option, Some, None, codes}
 use Rattle.std.specs.Prelude.{slice_get}
+use Rattle.pg_entry.specs.declared.Cfg.{Cfg}
 use Rattle.pg_event.specs.declared.event.Event.{Event}
+use Rattle.pg_event.specs.declared.event.Event.TheVariants.{Write, Access, Assist, MovCr3, Invlpg}
+use Rattle.pg_event.specs.declared.event.Event.TheVariants.{Invpcid, MovCr4Pge}
+use Rattle.pg_event.specs.declared.event.Outcome.{Outcome}
+use Rattle.pg_event.specs.declared.event.Outcome.TheVariants.{Page, Fault}
 use Rattle.pg_event.specs.declared.version.Version.{Version}
 use Rattle.pg_event.specs.declared.version.Version.TheVariants as versions
 use Rattle.pg_event.specs.Heads.{Head}
+use Rattle.pg_relaxed.specs.Impossible.{may_be_given}
 use Rattle.pg_spanned.specs.Orders.{Spanned, ended_before}
 use Rattle.pg_spanned_text.specs.declared.parts.ReadAfter.{ReadAfter}
 use Rattle.pg_spanned_text.specs.declared.seen.Seen.{Seen}
@@ -55,7 +62,34 @@ abbrev pub entries_text : Head → List Seen → List Seen → List ℕ
 entries_text head may cannot =
     may_lines head.cfg 0 may ++ (version_text head.version ++ cannot_lines 0 cannot)
 
+-- ---- what no memory gives
+
+abbrev pub refused_outcome : Outcome → List ℕ
+refused_outcome (Page page) =
+    codes "no memory gives it: the address has another offset in its page\n"
+refused_outcome (Fault code) =
+    codes "no memory gives it: no cause of a page fault gives such an access this code\n"
+
+-- why no memory gives an event, where none does
+abbrev pub refused_text : Event → List ℕ
+refused_text (Write p addr value) = []
+refused_text (Access p flags la outcome moments) = refused_outcome outcome
+refused_text (Assist p flags la word moments) =
+    codes "no memory gives it: no walk for this address sets these flags in this word\n"
+refused_text (MovCr3 p operand) = []
+refused_text (Invlpg p la) = []
+refused_text (Invpcid p kind pcid la) = []
+refused_text (MovCr4Pge p on) = []
+
+abbrev pub given_text : Cfg → Event → List ℕ
+given_text cfg e = if may_be_given cfg e then [] else refused_text e
+
 -- ---- the whole
+
+-- the event, and why no memory gives it
+abbrev pub head_text : Spanned → ℕ → Event → List ℕ
+head_text s number e =
+    codes "event: " ++ (numbered_line s number e ++ given_text s.head.cfg e)
 
 abbrev pub parts_text : Spanned → Parts → List ℕ
 parts_text s parts =
@@ -67,8 +101,7 @@ walk_text s event (Some la) = parts_text s (parts_of s event la)
 
 abbrev pub event_text : Spanned → ℕ → Event → List ℕ
 event_text s number e =
-    codes "event: " ++ (numbered_line s number e
-    ++ walk_text s (span_of s number e) (walked_address e))
+    head_text s number e ++ walk_text s (span_of s number e) (walked_address e)
 
 abbrev pub event_text_of : Spanned → ℕ → Option Event → List ℕ
 event_text_of s number None = []

@@ -7,6 +7,7 @@ ghost use Rattle.pg_spanned_text.specs.Spans.{span_of};
 ghost use Rattle.pg_spanned_text.specs.Parts.{parts_in};
 ghost use Rattle.pg_spanned_text.specs.Cause.{numbered_line, after_name, after_event, after_text};
 ghost use Rattle.pg_spanned_text.specs.Cause.{version_text, entries_text, parts_text, walk_text};
+ghost use Rattle.pg_spanned_text.specs.Cause.{refused_text, given_text, head_text};
 ghost use Rattle.pg_spanned_text.specs.Cause.{event_text, cause_text};
 
 use crate::lines::push_began;
@@ -14,7 +15,9 @@ use crate::parts::{ReadAfter, WalkCause, walk_cause, walked_address};
 use crate::seen::Seen;
 use crate::seen_lines::{push_cannot_lines, push_may_lines};
 use crate::span::{ended_before, event_of};
-use pg_event::{Event, Header, Version};
+use pg_entry::Cfg;
+use pg_event::{Event, Header, Outcome, Version};
+use pg_relaxed::may_be_given;
 use pg_spanned::SpannedRun;
 use std::alloc::{AllocError, Global};
 
@@ -125,6 +128,58 @@ fn push_walk(
     push_parts(text, run, &cause)
 }
 
+/// Why no memory gives an event, where none does.
+fn refused_text(event: &Event) -> &'static str
+    ensures { result.now ≡ refused_text event.now }
+{
+    match *event {
+        Event::Access {
+            outcome: Outcome::Page(_),
+            ..
+        } => "no memory gives it: the address has another offset in its page\n",
+        Event::Access {
+            outcome: Outcome::Fault(_),
+            ..
+        } => "no memory gives it: no cause of a page fault gives such an access this code\n",
+        Event::Assist { .. } => {
+            "no memory gives it: no walk for this address sets these flags in this word\n"
+        }
+        Event::Write { .. }
+        | Event::MovCr3 { .. }
+        | Event::Invlpg { .. }
+        | Event::Invpcid { .. }
+        | Event::MovCr4Pge { .. } => "",
+    }
+}
+
+/// Appends why no memory gives an event, where none does.
+fn push_given(text: &mut String, cfg: Cfg, event: &Event) -> Result<(), AllocError>
+    ensures { OnOk result
+        (string_bytes text.new ≡ string_bytes text.old ++ given_text cfg event.now) }
+{
+    if may_be_given(cfg, event) {
+        return Ok(());
+    }
+    text.push_str(refused_text(event))
+}
+
+/// Appends the event, and why no memory gives it, where none does.
+fn push_head(
+    text: &mut String,
+    run: &SpannedRun,
+    number: u32,
+    event: &Event,
+) -> Result<(), AllocError>
+    requires { number < length run.now.events }
+    ensures { OnOk result
+        (string_bytes text.new ≡ string_bytes text.old ++ head_text run.now number event.now) }
+{
+    let cfg = run.header().cfg;
+    text.push_str("event: ")?;
+    push_numbered(text, run, number, event)?;
+    push_given(text, cfg, event)
+}
+
 /// Appends why in every order an event does not come to pass.
 fn push_event(
     alloc: Global,
@@ -137,8 +192,7 @@ fn push_event(
     ensures { OnOk result
         (string_bytes text.new ≡ string_bytes text.old ++ event_text run.now number event.now) }
 {
-    text.push_str("event: ")?;
-    push_numbered(text, run, number, event)?;
+    push_head(text, run, number, event)?;
     match walked_address(event) {
         None => Ok(()),
         Some(la) => push_walk(alloc, text, run, number, event, la),
@@ -146,8 +200,9 @@ fn push_event(
 }
 
 /// Why in every order the event with this number does not come to pass, where no order of the run's
-/// events has a run: after which event of its processor it reads the entries of its page, which
-/// values these may have there, and which they can't have any more. Nothing for a number that no
+/// events has a run: why no memory gives it, where none does; after which event of its processor
+/// it reads the entries of its page, which values these may have there, and which they can't have
+/// any more. Nothing for a number that no
 /// event has, and the event's own line for one that names no walk.
 ///
 /// It takes a few passes over the events, and one for each table that a walk may come to: 65 for

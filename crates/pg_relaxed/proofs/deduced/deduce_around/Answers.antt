@@ -13,14 +13,14 @@ loop-write-preserved c = elim c.if-may_come_on_both_sides.branch [
     words = subst (λ (v : Words). AreWordsOf c.args.run.now.events v.words.items) (sym w.words-is) w.in_ok-deduce.ensures.words;
     sure = λ i up sure. subst (λ (v : Vec Edge Global). AreSure c.args.run.now v.items i) (sym w.edges-is) (w.in_ok-deduce.ensures.sure i up (c.loop-write.invariant.sure i up sure));
     deduced = λ sure are. subst (λ (v : Vec Edge Global). AreDeduced c.args.run.now v.items) (sym w.edges-is)
-        (w.in_ok-deduce.ensures.deduced (c.loop-write.invariant.sure c.args.access (inl refl) sure) (c.loop-write.invariant.deduced sure are));
-    more = subst (λ (v : Vec Edge Global). AddsEdgesOf c.args.access c.args.edges.now.items v.items) (sym w.edges-is)
-        (adds_on c.args.access c.args.edges.now.items c.loop-write.edges.items w.deduce.new.edges.items c.loop-write.invariant.more w.in_ok-deduce.ensures.more);
+        (w.in_ok-deduce.ensures.deduced (c.loop-write.invariant.sure c.args.asked (inl refl) sure) (c.loop-write.invariant.deduced sure are));
+    more = subst (λ (v : Vec Edge Global). AddsEdgesOf c.args.asked c.args.edges.now.items v.items) (sym w.edges-is)
+        (adds_on c.args.asked c.args.edges.now.items c.loop-write.edges.items w.deduce.new.edges.items c.loop-write.invariant.more w.in_ok-deduce.ensures.more);
   }
   | else-may_come_on_both_sides w ↦ record {
     words = subst (λ (v : Words). AreWordsOf c.args.run.now.events v.words.items) (sym w.words-is) c.loop-write.invariant.words;
     sure = λ i up sure. subst (λ (v : Vec Edge Global). AreSure c.args.run.now v.items i) (sym w.edges-is) (c.loop-write.invariant.sure i up sure);
     deduced = λ sure are. subst (λ (v : Vec Edge Global). AreDeduced c.args.run.now v.items) (sym w.edges-is) (c.loop-write.invariant.deduced sure are);
-    more = subst (λ (v : Vec Edge Global). AddsEdgesOf c.args.access c.args.edges.now.items v.items) (sym w.edges-is) c.loop-write.invariant.more;
+    more = subst (λ (v : Vec Edge Global). AddsEdgesOf c.args.asked c.args.edges.now.items v.items) (sym w.edges-is) c.loop-write.invariant.more;
   }
 ]

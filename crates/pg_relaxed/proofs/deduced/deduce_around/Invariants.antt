@@ -6,7 +6,7 @@ use Rattle.pg_relaxed.proofs.deduced.deduce_around.Given as goal
 abbrev pub invariant-loop-write : goal.invariant-loop-write
 invariant-loop-write l = record {
   words : AreWordsOf l.run.events l.words.words.items;
-  sure : (i : ℕ) → IsUpTo l.run l.access i → AreSure l.run l.fn.edges.items i → AreSure l.run l.edges.items i;
-  deduced : AreSure l.run l.fn.edges.items l.access → AreDeduced l.run l.fn.edges.items → AreDeduced l.run l.edges.items;
-  more : AddsEdgesOf l.access l.fn.edges.items l.edges.items;
+  sure : (i : ℕ) → IsUpTo l.run l.asked i → AreSure l.run l.fn.edges.items i → AreSure l.run l.edges.items i;
+  deduced : AreSure l.run l.fn.edges.items l.asked → AreDeduced l.run l.fn.edges.items → AreDeduced l.run l.edges.items;
+  more : AddsEdgesOf l.asked l.fn.edges.items l.edges.items;
 }

@@ -5,4 +5,4 @@ use Rattle.pg_relaxed.proofs.Listing.{IsSeen}
 use Rattle.pg_relaxed.proofs.words.put_values.Given as goal
 
 abbrev pub invariant-loop-place : goal.invariant-loop-place
-invariant-loop-place l = (w : Written) → IsIn w (take l.place l.writes) → IsSeen l.run l.slot l.writes l.values.items w
+invariant-loop-place l = (w : Written) → IsIn w (take l.place l.writes) → IsSeen l.run l.slot l.writes l.assists l.values.items w

@@ -15,5 +15,5 @@ invariant-loop-place l = record {
   words : AreWordsOf l.run.events l.words.words.items;
   within : l.place ≤ length l.self.tables.items;
   taken : (t : Table) → IsIn t (take l.place l.self.tables.items) → t.pcid ≡ l.fn.self.control.pcid → (entry : ℕ) → MayHold l.run l.slot (word_in l.la t) entry →
-      IsTaken l.run.head.cfg l.la (known_of l.self) t entry;
+      IsTaken l.run.head.version l.run.head.cfg l.la (known_of l.self) t entry;
 }

@@ -13,6 +13,6 @@ loop-entry-preserved c =
     let new : Known = known_of c.take.new.self in
     record {
       more = extends_on (known_of c.args.self.now) old new c.loop-entry.invariant.more c.in_ok-take.ensures.more;
-      taken = one_more_get (λ (e : ℕ). IsTaken c.args.cfg c.args.la new c.args.table e) c.args.entries.now c.loop-entry.entry-index 0 c.loop-entry-test.true
-          (λ e h. taken_still c.args.cfg c.args.la old new c.args.table e c.in_ok-take.ensures.more (c.loop-entry.invariant.taken e h)) c.in_ok-take.ensures.taken;
+      taken = one_more_get (λ (e : ℕ). IsTaken c.args.version c.args.cfg c.args.la new c.args.table e) c.args.entries.now c.loop-entry.entry-index 0 c.loop-entry-test.true
+          (λ e h. taken_still c.args.version c.args.cfg c.args.la old new c.args.table e c.in_ok-take.ensures.more (c.loop-entry.invariant.taken e h)) c.in_ok-take.ensures.taken;
     }

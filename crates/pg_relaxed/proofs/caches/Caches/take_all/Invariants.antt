@@ -6,5 +6,5 @@ use Rattle.pg_relaxed.proofs.caches.Caches.take_all.Given as goal
 abbrev pub invariant-loop-entry : goal.invariant-loop-entry
 invariant-loop-entry l = record {
   more : Extends (known_of l.fn.self) (known_of l.self);
-  taken : (entry : ℕ) → IsIn entry (take l.entry-index l.entries) → IsTaken l.cfg l.la (known_of l.self) l.table entry;
+  taken : (entry : ℕ) → IsIn entry (take l.entry-index l.entries) → IsTaken l.version l.cfg l.la (known_of l.self) l.table entry;
 }

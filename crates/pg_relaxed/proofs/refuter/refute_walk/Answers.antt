@@ -2,53 +2,45 @@ use Rattle.std.proofs.Common.{◌≡◌, ◌+◌, ◌<◌, ◌≤◌, ◌^◌, �
 use Rattle.std.specs.Prelude.{IfOk, IsTrue, slice_get}
 use Rattle.std.proofs.lemmas.Option.{slice_get-get_or}
 use Rattle.pg_event.specs.declared.control.Control.{Control}
-use Rattle.pg_entry.specs.declared.AccessKind.{AccessKind}
 use Rattle.pg_event.specs.declared.event.Event.{Event}
-use Rattle.pg_event.specs.declared.event.Outcome.{Outcome}
-use Rattle.pg_relaxed.specs.declared.slot.Slot.{Slot}
-use Rattle.pg_event.specs.Form.{processor_of, access_kind}
+use Rattle.pg_event.specs.Form.{processor_of}
 use Rattle.pg_event.specs.Heads.{Head}
 use Rattle.pg_event.specs.Values.{controlled, started}
-use Rattle.pg_event.specs.Wants.{want_of}
 use Rattle.pg_machine.proofs.Bounds.{root-controlled}
 use Rattle.pg_spanned.specs.Orders.{Spanned, ended_before}
 use Rattle.pg_relaxed.specs.declared.caches.Caches.{Caches}
 use Rattle.pg_relaxed.specs.declared.words.Words.{Words}
-use Rattle.pg_relaxed.specs.Caches.{Known, Grows, CannotCome, known_of}
+use Rattle.pg_relaxed.specs.Caches.{Known, Grows, IsNotGiven, known_of}
 use Rattle.pg_relaxed.specs.Supposed.{NeverComesSo}
 use Rattle.pg_relaxed.specs.Words.{AreWordsOf}
 use Rattle.pg_relaxed.proofs.Covering.{Enters}
 use Rattle.pg_relaxed.proofs.Entering.{starts}
 use Rattle.pg_relaxed.proofs.Handing.{hands_on, hands_over, cannot_run}
-use Rattle.pg_relaxed.proofs.refuter.refute_access.Goals as goal
-use Rattle.pg_relaxed.proofs.refuter.refute_access.Goals.{then-processor_of-p+in_ok-fill+else-not-branch, else-processor_of-p}
+use Rattle.pg_relaxed.proofs.refuter.refute_walk.Goals as goal
+use Rattle.pg_relaxed.proofs.refuter.refute_walk.Goals.{then-processor_of-p+in_ok-fill+else-not-branch, else-processor_of-p}
 
 if_ok : {E : Type 0} (P Q : Bool → Type 0) → ((b : Bool) → P b → Q b) → (r : Result Bool E) → IfOk r P → IfOk r Q
 if_ok P Q f (Ok b) h = f b h
 if_ok P Q f (Err e) h = tt
 
--- the kind of the access that its flags say
-by_flags : (s : Spanned) (slot : Slot) (la : ℕ) (f : Known) (flags : ℕ) (kind : AccessKind) (outcome : Outcome) → access_kind flags ≡ kind → CannotCome s slot la f kind outcome (want_of outcome) → CannotCome s slot la f (access_kind flags) outcome (want_of outcome)
-by_flags s slot la f flags kind outcome says h = subst (λ (k : AccessKind). CannotCome s slot la f k outcome (want_of outcome)) (sym says) h
-
 pub loop-next-init : goal.loop-next-init
 loop-next-init c =
     let s : Spanned = c.args.run.now in
-    let p : ℕ = c.args.asked.p in
+    let p : ℕ = c.args.walk.p in
     let empty : Control → Known = λ d. record { control = d; tables = []; translations = [] } in
     let control : c.started.result ≡ started s.head.cfg.m (slice_get s.head.processors p) =
     c.started.ensures.value ∙ ap (λ (h : Head). started h.cfg.m (slice_get h.processors p)) c.header-header.ensures.header in
     record {
       words = subst (AreWordsOf s.events) (sym c.may_look.ensures) c.requires.words;
       root = subst (λ (k : Known). k.control.root < 2 ^ 52) (sym c.new-caches.ensures) c.started.ensures.within;
-      enters = subst (Enters s c.args.edges.now p c.args.asked.la 0 0) (sym (c.new-caches.ensures ∙ ap empty control)) (starts s c.args.edges.now p c.args.asked.la);
+      enters = subst (Enters s c.args.edges.now p c.args.walk.la 0 0) (sym (c.new-caches.ensures ∙ ap empty control)) (starts s c.args.edges.now p c.args.walk.la);
     }
 
 pub loop-next-preserved : goal.loop-next-preserved
 loop-next-preserved c =
     let s : Spanned = c.args.run.now in
-    let p : ℕ = c.args.asked.p in
-    let la : ℕ = c.args.asked.la in
+    let p : ℕ = c.args.walk.p in
+    let la : ℕ = c.args.walk.la in
     let n : ℕ = c.loop-next.next in
     let e : Event = c.index-events-next.result in
     let within : n < length s.events = omega (arith, c.loop-next-test.true, c.requires.count) in
@@ -92,17 +84,15 @@ loop-next-preserved c =
 pub returns-clause-never : goal.returns-clause-never
 returns-clause-never c =
     let s : Spanned = c.args.run.now in
-    let p : ℕ = c.args.asked.p in
-    let la : ℕ = c.args.asked.la in
-    let i : ℕ = c.args.asked.number in
+    let p : ℕ = c.args.walk.p in
+    let la : ℕ = c.args.walk.la in
+    let i : ℕ = c.args.walk.number in
     let end : c.loop-next.next ≡ i = omega (arith, c.loop-next-test.false, c.loop-next.auto.next-end) in
     let before : Known = known_of c.loop-next.caches in
     let filled : Known = known_of c.fill-2.new.self in
     let later : c.max.result ≡ max c.loop-next.ended (ended_before s i) = c.max.ensures ∙ ap (max c.loop-next.ended) c.ended_before-2.ensures.count in
-    let outcome : Outcome = c.args.asked.outcome in
-    let access = c.requires.there in
-    let yes_means : (b : Bool) → (IsTrue b → CannotCome s _ la filled c.args.asked.kind outcome (want_of outcome)) → IsTrue b → NeverComesSo s c.args.edges.now i =
-    λ b h yes. cannot_run s la filled _ (c.in_ok-fill-2.ensures.filled c.if-not-branch-2.false) access.0 outcome _ (by_flags s _ la filled access.0 c.args.asked.kind outcome access.1 (h yes)) refl refl refl before access.2 c.requires.count
+    let yes_means : (b : Bool) → (IsTrue b → IsNotGiven s _ la filled c.args.asked.now) → IsTrue b → NeverComesSo s c.args.edges.now i =
+    λ b h is_true. cannot_run s la filled _ (c.in_ok-fill-2.ensures.filled c.if-not-branch-2.false) c.args.asked.now _ (h is_true) refl refl refl before c.requires.there c.requires.own c.requires.names c.requires.count
     (subst (λ (k : ℕ). Enters s c.args.edges.now p la k c.loop-next.ended before) end c.loop-next.invariant.enters)
     (c.in_ok-fill-2.ensures.grows c.if-not-branch-2.false) later in
-    if_ok _ (λ refuted. IsTrue refuted → NeverComesSo s c.args.edges.now i) yes_means c.cannot_come.result c.cannot_come.ensures.cannot
+    if_ok _ (λ refuted. IsTrue refuted → NeverComesSo s c.args.edges.now i) yes_means c.is_not_given.result c.is_not_given.ensures.cannot
