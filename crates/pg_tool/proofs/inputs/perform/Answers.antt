@@ -1,7 +1,7 @@
 use Rattle.std.proofs.Common.{◌≡◌, rules, true}
 use Rattle.pg_tool.specs.Records.{reads_record}
 use Rattle.pg_tool.proofs.Performed.{by_record}
-use Rattle.pg_tool.proofs.program.perform.Goals as goal
+use Rattle.pg_tool.proofs.inputs.perform.Goals as goal
 
 pub returns-in-Check : goal.returns-in-Check
 returns-in-Check g c =
