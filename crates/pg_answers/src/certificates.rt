@@ -126,9 +126,9 @@ fn certify_as_read<R: Source>(alloc: Global, input: &mut R) -> Result<Answer, Au
 }
 
 /// Whether some run of the machine has the events of the record that `input` has left. If no run
-/// has them, also why: the least event that no moments witness, what its processor would have read then,
-/// and when the event would last have been witnessed. One checker certifies a record as it is read;
-/// several share the events of one that was read whole.
+/// has them, also why: the least event that no moments witness, what its processor would have read
+/// then, and when the event would last have been witnessed. One checker certifies a record as it is
+/// read; several share the events of one that was read whole.
 pub(crate) fn certify<T: AllocGlobal + Threads + Wait + Sync, R: Source>(
     rt: &T,
     checkers: Checkers,

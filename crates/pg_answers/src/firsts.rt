@@ -1,6 +1,7 @@
 //! Whether some run of the machine has a record's events, answered at the first that is denied.
 
-ghost use Rattle.std.specs.Prelude.{◌≡◌, [], ℕ, List, Option, Err, OnOk, IfOk, IfErr, IfSome, is_some};
+ghost use Rattle.std.specs.Prelude.{◌≡◌, [], ℕ, List, Option, Err, OnOk, IfOk, IfErr, IfSome};
+ghost use Rattle.std.specs.Prelude.{is_some};
 ghost use Rattle.pg_event.specs.Spelling.{Recorded};
 ghost use Rattle.pg_codec.specs.declared.stage.Stage.TheVariants.{Start};
 ghost use Rattle.pg_codec.specs.Streams.{FailsWithDevice};

@@ -65,8 +65,8 @@ pub fn run_over<T: AllocGlobal + Threads + Wait + Sync>(
     run_on(rt, words, &mut input, output, errors)
 }
 
-/// Whether the program ended and wrote as the case says. A refusal's fixed line is followed by those
-/// that say it in words and name the input.
+/// Whether the program ended and wrote as the case says. A refusal's fixed line is followed by
+/// those that say it in words and name the input.
 pub fn is_answered<'a>(case: Case<'a>, status: u8, output: &[u8], line: &[u8]) -> bool {
     status == case.status && output == case.output && is_told(case.line, status, line)
 }

@@ -50,7 +50,8 @@ const NO_TELLING: &str = "error: --most goes with --all alone, by digits alone, 
 
 const CONFLICT: &str = "error: --json, --bytes, --order, --svg and --first exclude one another, \
     and so do --first and\n  each of --all and --checkers, --single and --progress, and --quiet \
-    and each of --output, --bytes, --order and --svg;\n  several files exclude --json, --bytes and --svg\n\n\
+    and each of --output, --bytes, --order and --svg;\n  several files exclude --json, --bytes \
+    and --svg\n\n\
     For more information, try '--help'.\n";
 
 /// The version, which is given by a text of this program's own.

@@ -1,4 +1,4 @@
--- What the whole program answers, by what its words ask for, or by why they ask for nothing.
+-- What the whole program answers, by what its arguments ask for, or by why they ask for nothing.
 use Rattle.std.specs.Prelude.{◌≡◌, ◌⊎◌, ◌&&◌, ℕ, Bool, true, false, not, nat_eq, nat_lt, max}
 use Rattle.std.specs.Prelude.{List, [], ◌∷◌, length, Option, Some, None, codes}
 use Rattle.std.specs.Prelude.{MatchOption, map, Result, Ok, Err, string_bytes}

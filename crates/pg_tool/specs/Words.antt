@@ -20,7 +20,8 @@ use Rattle.pg_plan.specs.declared.words.NoWords.TheVariants as unread
 use Rattle.pg_tool.specs.Answers.{Answers, Opening}
 use Rattle.pg_tool.specs.Outputs.{Making}
 
--- words ask for this plan, for this file, these files and logs, and this output, and for no others
+-- the arguments ask for this plan, this file, these files and logs, and this output, and for no
+-- others
 pub record AreAskedBy (words : List Text) (asked : Invocation) : Type 0 where
   pub plan : AsksOnly words asked.plan (option_map (λ s. s.now) asked.file)
   pub files : map (λ s. s.now) asked.files.items ≡ files_in (subcommand_of command_line words)

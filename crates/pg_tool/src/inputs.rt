@@ -191,7 +191,7 @@ fn merge_asked<F: Fn(&str) -> Option<S>, S: Source + Drop, O: Sink, E: Sink>(
     merge(alloc, asked.logs.as_slice(), error, opener, output, errors)
 }
 
-/// Does what words ask for of one input: that of the program, or the file that they name.
+/// Does what the arguments ask for of one input: that of the program, or the file that they name.
 fn perform_asked<
     T: AllocGlobal + Threads + Wait + Sync,
     F: Fn(&str) -> Option<Peeked<S>>,
@@ -240,7 +240,7 @@ fn has_several(asked: &Invocation<'_>) -> bool
     asked.files.len() > 1
 }
 
-/// Does what words ask for of one input, or of several files.
+/// Does what the arguments ask for of one input, or of several files.
 fn perform_files<
     T: AllocGlobal + Threads + Wait + Sync,
     F: Fn(&str) -> Option<Peeked<S>>,
@@ -280,7 +280,7 @@ fn perform_files<
     }
 }
 
-/// Does what words ask for.
+/// Does what the arguments ask for.
 pub(crate) fn perform_all<
     T: AllocGlobal + Threads + Wait + Sync,
     F: Fn(&str) -> Option<Peeked<S>>,

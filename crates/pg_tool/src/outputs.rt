@@ -45,7 +45,7 @@ fn refuse_terminal<E: Sink>(errors: &mut E) -> u8
     USAGE
 }
 
-/// Does what words ask for, and writes it nowhere.
+/// Does what the arguments ask for, and writes it nowhere.
 fn perform_unheard<
     T: AllocGlobal + Threads + Wait + Sync,
     F: Fn(&str) -> Option<Peeked<S>>,
@@ -72,7 +72,7 @@ fn perform_unheard<
     perform_all(rt, asked, opener, observer, input, &mut nowhere, errors)
 }
 
-/// Does what words ask for, and writes it to standard output, unless that is unfit for it.
+/// Does what the arguments ask for, and writes it to standard output, unless that is unfit for it.
 fn perform_loudly<
     T: AllocGlobal + Threads + Wait + Sync,
     F: Fn(&str) -> Option<Peeked<S>>,
@@ -105,7 +105,7 @@ fn perform_loudly<
     }
 }
 
-/// Does what words ask for that name no file for the output.
+/// Does what the arguments ask for that name no file for the output.
 fn perform_heard<
     T: AllocGlobal + Threads + Wait + Sync,
     F: Fn(&str) -> Option<Peeked<S>>,
@@ -140,7 +140,7 @@ fn perform_heard<
     }
 }
 
-/// Does what words ask for, and writes it to the file of that name.
+/// Does what the arguments ask for, and writes it to the file of that name.
 fn perform_into<
     T: AllocGlobal + Threads + Wait + Sync,
     F: Fn(&str) -> Option<Peeked<S>>,
@@ -177,7 +177,7 @@ fn perform_into<
     }
 }
 
-/// Does what words ask for, and writes it where they say.
+/// Does what the arguments ask for, and writes it where they say.
 pub(crate) fn perform_out<
     T: AllocGlobal + Threads + Wait + Sync,
     F: Fn(&str) -> Option<Peeked<S>>,

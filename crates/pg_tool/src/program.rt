@@ -1,4 +1,4 @@
-//! The program by what its words ask for: a command, and what it reads.
+//! The program by what its arguments ask for: a command, and what it reads.
 
 ghost use Rattle.std.specs.Prelude.{◌≡◌, false};
 ghost use Rattle.pg_progress.specs.Seats.{counts};
@@ -146,9 +146,8 @@ fn tell_usage<O: Sink, E: Sink>(why: Usage, output: &mut O, errors: &mut E) -> u
 
 /// The whole program, over any streams: what `plan` made of the words after its name, what opens a
 /// file, what it reads where the words name none, and what it writes to. It gives the exit status,
-/// which is 64 where the words are no command of it, or ask for bytes on a terminal, 66 where a
-/// file can't be opened, and 73 where the file for the output can't be created. Where the words ask
-/// for progress the host, whose observer was told nothing before, comes to know how far a record
+/// which is 64 if they are no command of it, or ask for bytes on a terminal, 66 if a file can't be
+/// opened, and 73 if the file for the output can't be created. Where progress is asked for the host, whose observer was told nothing before, comes to know how far a record
 /// was read, or a run has come: telling of it is up to who made the host.
 pub fn pcid_audit_followed<
     T: AllocGlobal + Threads + Wait + Sync,

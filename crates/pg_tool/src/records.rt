@@ -171,7 +171,7 @@ fn in_json(json: bool, question: Question) -> Option<Question>
     if json { Some(question) } else { None }
 }
 
-/// Whether `certify` writes its report as JSON: the report alone, and neither a record nor an order.
+/// Whether `certify` writes its report as JSON: the report alone, neither a record nor an order.
 fn is_json(asked: &CertifyOptions) -> bool
     ensures { result ≡ is_json asked.now }
 {
