@@ -147,8 +147,9 @@ fn tell_usage<O: Sink, E: Sink>(why: Usage, output: &mut O, errors: &mut E) -> u
 /// The whole program, over any streams: what `plan` made of the words after its name, what opens a
 /// file, what it reads where the words name none, and what it writes to. It gives the exit status,
 /// which is 64 if they are no command of it, or ask for bytes on a terminal, 66 if a file can't be
-/// opened, and 73 if the file for the output can't be created. Where progress is asked for the host, whose observer was told nothing before, comes to know how far a record
-/// was read, or a run has come: telling of it is up to who made the host.
+/// opened, and 73 if the file for the output can't be created. Where progress is asked for, the
+/// host, whose observer was told nothing before, comes to know how far a record was read, or a run
+/// has come: telling of it is up to who made the host.
 pub fn pcid_audit_followed<
     T: AllocGlobal + Threads + Wait + Sync,
     F: Fn(&str) -> Option<Peeked<S>>,
