@@ -8,8 +8,9 @@ use Rattle.pg_auditing.specs.Refusals.{StaysSame, Tells}
 use Rattle.pg_auditing.specs.Streams.{Streams}
 use Rattle.pg_spanned.specs.Orders.{Spanned}
 use Rattle.pg_ordering.specs.declared.reading.Unread.{Unread}
-use Rattle.pg_ordering.specs.declared.told.Told.{Told}
-use Rattle.pg_ordering.specs.Answers.{IsSo, told_status}
+use Rattle.pg_order.specs.declared.verdict.Verdict.{Verdict}
+use Rattle.pg_order.specs.Verdicts.{IsVerdict}
+use Rattle.pg_ordering.specs.Answers.{status_of}
 use Rattle.pg_ordering.specs.Readings.{ReadsRun, DeviceTold}
 use Rattle.pg_json.specs.Tree.{json_line}
 use Rattle.pg_answers.specs.declared.question.Question.{Question}
@@ -17,7 +18,7 @@ use Rattle.pg_answers.specs.declared.question.Question.TheVariants.{Check, Check
 use Rattle.pg_answers.specs.declared.question.Question.TheVariants.{Explain, ExplainAll, Show}
 use Rattle.pg_json_answers.specs.Refusals.{error_json, spans_json}
 use Rattle.pg_json_spans.specs.Refusals.{Refuses, WantsMemory, TellsUnread}
-use Rattle.pg_json_spans.specs.Told.{told_json}
+use Rattle.pg_json_spans.specs.Verdicts.{verdict_json}
 use Rattle.pg_json_spans.specs.Lines.{spanned_json_lines}
 
 -- a text was written to standard output, and the status is this one; or the output failed, and it
@@ -30,15 +31,15 @@ GivesLine text good output errors status =
 
 -- ---- whether some order has a run
 
-abbrev pub GivesTold : Spanned → Told → Change → Change → ℕ → Type 0
-GivesTold s told output errors status =
-    GivesLine (json_line (told_json s told)) (told_status told) output errors status
+abbrev pub GivesVerdict : Spanned → Verdict → Change → Change → ℕ → Type 0
+GivesVerdict s verdict output errors status =
+    GivesLine (json_line (verdict_json s verdict)) (status_of verdict) output errors status
     ⊎ WantsMemory output errors status
 
--- of a run an answer that is so is given, or memory ran out
+-- a verdict on a run that is so is given, or memory ran out
 abbrev pub AnswersRun : Spanned → Change → Change → ℕ → Type 0
 AnswersRun s output errors status =
-    ((told : Told) × IsSo s told × GivesTold s told output errors status)
+    ((verdict : Verdict) × IsVerdict s verdict × GivesVerdict s verdict output errors status)
     ⊎ WantsMemory output errors status
 
 abbrev pub OrderFollows : Result Spanned Unread → Change → Change → ℕ → Type 0

@@ -1,5 +1,5 @@
 pub mod Refusals
 pub mod Lines
 pub mod Causes
-pub mod Told
+pub mod Verdicts
 pub mod Answers

@@ -3,35 +3,23 @@
 ghost use Rattle.std.specs.Prelude.{◌≡◌};
 ghost use Rattle.pg_report.specs.Changes.{filled};
 ghost use Rattle.pg_auditing.specs.Streams.{streams};
-ghost use Rattle.pg_ordering.specs.Answers.{told_status, IsSo};
-ghost use Rattle.pg_json_spans.specs.Answers.{GivesLine, GivesTold, GivesShown, AnswersRun};
+ghost use Rattle.pg_ordering.specs.Answers.{status_of};
+ghost use Rattle.pg_json_spans.specs.Answers.{GivesLine, GivesVerdict, GivesShown, AnswersRun};
 ghost use Rattle.pg_json_spans.specs.Answers.{OrdersJson, ShowsJson, AnswersSpans};
 
 use crate::lines::spanned_json_lines;
 use crate::refusals::{tell_memory, tell_spans, tell_unread};
-use crate::told::{told_line, told_of};
+use crate::verdict::verdict_line;
 use pg_answers::Question;
-use pg_auditing::{NO, REFUSED, YES};
+use pg_auditing::{REFUSED, YES};
 use pg_codec::{Sink, Source, put_all};
 use pg_event::Selection;
 use pg_json_answers::tell_json;
-use pg_ordering::{Told, read_run};
+use pg_order::{Verdict, find_ordered_run};
+use pg_ordering::{read_run, status_of};
 use pg_report::AuditError;
 use pg_spanned::SpannedRun;
 use std::alloc::Global;
-
-/// Of what is undecided.
-const UNDECIDED: u8 = 4;
-
-fn told_status(told: &Told) -> u8
-    ensures { result ≡ told_status told.now }
-{
-    match told {
-        Told::Yes => YES,
-        Told::Never(..) | Told::NoneOfAll(_) => NO,
-        Told::Undecided(_) => UNDECIDED,
-    }
-}
 
 /// Writes a text to standard output, and gives the status, which is this one where that works.
 fn give_line<O: Sink, E: Sink>(output: &mut O, errors: &mut E, text: &str, good: u8) -> u8
@@ -47,19 +35,19 @@ fn give_line<O: Sink, E: Sink>(output: &mut O, errors: &mut E, text: &str, good:
     }
 }
 
-/// Writes what is told of a run.
-fn give_told<O: Sink, E: Sink>(
+/// Writes a verdict on a run.
+fn give_verdict<O: Sink, E: Sink>(
     alloc: Global,
     run: &SpannedRun,
-    told: &Told,
+    verdict: &Verdict,
     output: &mut O,
     errors: &mut E,
 ) -> u8
-    ensures { GivesTold run.now told.now
+    ensures { GivesVerdict run.now verdict.now
         (filled O.Sink output.old output.new) (filled E.Sink errors.old errors.new) result }
 {
-    match told_line(alloc, run, told) {
-        Ok(text) => give_line(output, errors, text.as_str(), told_status(told)),
+    match verdict_line(alloc, run, verdict) {
+        Ok(text) => give_line(output, errors, text.as_str(), status_of(verdict)),
         Err(_) => tell_memory(output, errors),
     }
 }
@@ -74,8 +62,8 @@ fn answer_run<O: Sink, E: Sink>(
     ensures { AnswersRun run.now
         (filled O.Sink output.old output.new) (filled E.Sink errors.old errors.new) result }
 {
-    match told_of(alloc, run) {
-        Ok(told) => give_told(alloc, run, &told, output, errors),
+    match find_ordered_run(alloc, run) {
+        Ok(verdict) => give_verdict(alloc, run, &verdict, output, errors),
         Err(_) => tell_memory(output, errors),
     }
 }

@@ -3,7 +3,7 @@
 ghost use Rattle.std.specs.Prelude.{◌≡◌, map, IfOk};
 ghost use Rattle.serde_json.specs.View.{view};
 ghost use Rattle.pg_json.specs.Tree.{data_of};
-ghost use Rattle.pg_json_spans.specs.Told.{edge_json, edges_json};
+ghost use Rattle.pg_json_spans.specs.Verdicts.{edge_json, edges_json};
 
 use pg_json::{list_of, put_count};
 use pg_relaxed::Edge;

@@ -7,6 +7,6 @@ mod cause;
 mod edges;
 mod lines;
 mod refusals;
-mod told;
+mod verdict;
 
 pub use answers::answer_spans_json;

@@ -1,23 +1,10 @@
--- What is told of a run, and written.
-use Rattle.std.proofs.Common.{◌≡◌, ◌≢◌, ◌<◌, ◌+◌, ◌++◌, ℕ, List, [], ◌∷◌, length, take, get_or, codes, decimal, refl, ap, ◌∙◌}
+-- What is written of a run.
+use Rattle.std.proofs.Common.{◌≡◌, ◌<◌, ◌+◌, ◌++◌, ℕ, List, [], ◌∷◌, length, take, get_or, codes, decimal, ap, ◌∙◌}
 use Rattle.std.specs.List.{flat_map}
 use Rattle.std.proofs.lemmas.Grind.{flat_map-append}
 use Rattle.std.proofs.lemmas.List.{append-nil, take_more}
-use Rattle.pg_report.specs.Changes.{Change}
-use Rattle.pg_spanned.specs.Orders.{Spanned}
-use Rattle.pg_ordering.specs.declared.told.Asked.{Asked}
-use Rattle.pg_ordering.specs.declared.told.Told.{Told}
-use Rattle.pg_ordering.specs.declared.told.Told.TheVariants.{Yes, Never, NoneOfAll, Undecided}
-use Rattle.pg_ordering.specs.Answers.{Gives, GivesOther}
 use Rattle.pg_ordering.specs.Texts.{edge_line, order_text}
 use Rattle.pg_relaxed.specs.declared.edge.Edge.{Edge}
-
--- what is no yes is given as that
-pub gives_other : (asked : Asked) (s : Spanned) (told : Told) (output errors : Change) (status : ℕ) → told ≢ Yes → GivesOther asked s told output errors status → Gives asked s told output errors status
-gives_other asked s Yes output errors status other gives = absurd (other refl)
-gives_other asked s (Never n edges) output errors status other gives = gives
-gives_other asked s (NoneOfAll n) output errors status other gives = gives
-gives_other asked s (Undecided n) output errors status other gives = gives
 
 pub order_more : (order : List ℕ) (k : ℕ) → k < length order → order_text (take (k + 1) order) ≡ order_text (take k order) ++ (decimal (get_or order k 0) ++ codes "\n")
 order_more order k within =

@@ -6,8 +6,9 @@ use Rattle.pg_run_of.specs.Law.{HasRun}
 use Rattle.pg_certify.specs.Certified.{IsCertified, HasRunButMoments}
 use Rattle.pg_spanned.specs.Orders.{Spanned, IsOrder, ordered}
 use Rattle.pg_span_codec.specs.Spelling.{IsSpelled}
-use Rattle.pg_order.specs.Runs.{HasOrderedRun}
-use Rattle.pg_order.specs.Verdicts.{HasNoRunTo, HasNoOrderedRun, IsUndecided}
+use Rattle.pg_order.specs.declared.verdict.Verdict.{Verdict}
+use Rattle.pg_order.specs.declared.verdict.Verdict.TheVariants.{Yes, Never, NoneOfAll, Undecided}
+use Rattle.pg_order.specs.Verdicts.{IsVerdict}
 use Rattle.pg_report.specs.declared.error.AuditError.TheVariants as audits
 use Rattle.pg_report.specs.Audits.{SpellsOne}
 use Rattle.pg_report.specs.Changes.{Change, Fails, Works, Adds, AddsSome}
@@ -15,27 +16,17 @@ use Rattle.pg_auditing.specs.Refusals.{StaysSame, Tells, refusal_line}
 use Rattle.pg_auditing.specs.Streams.{Streams}
 use Rattle.pg_ordering.specs.declared.reading.Unread.{Unread}
 use Rattle.pg_ordering.specs.declared.reading.Unread.TheVariants.{Refused, Device, Memory}
-use Rattle.pg_ordering.specs.declared.told.Asked.{Asked}
-use Rattle.pg_ordering.specs.declared.told.Asked.TheVariants.{Report, Picture, Record, Order}
-use Rattle.pg_ordering.specs.declared.told.Told.{Told}
-use Rattle.pg_ordering.specs.declared.told.Told.TheVariants.{Yes, Never, NoneOfAll, Undecided}
+use Rattle.pg_ordering.specs.declared.asked.Asked.{Asked}
+use Rattle.pg_ordering.specs.declared.asked.Asked.TheVariants.{Report, Picture, Record, Order}
 use Rattle.pg_ordering.specs.Readings.{ReadsRun, DeviceTold}
 use Rattle.pg_ordering.specs.Refusals.{spans_line}
-use Rattle.pg_ordering.specs.Texts.{told_text, drawn_text, order_text}
+use Rattle.pg_ordering.specs.Texts.{report_text, drawn_text, order_text}
 
--- what is told is so: in some order of the events some run of the machine has them, or in none;
--- where they have one order alone it is one of both, and what is undecided says nothing else
-abbrev pub IsSo : Spanned → Told → Type 0
-IsSo s Yes = HasOrderedRun s
-IsSo s (Never n edges) = HasNoRunTo s n edges.items
-IsSo s (NoneOfAll n) = HasNoOrderedRun s n
-IsSo s (Undecided n) = IsUndecided s n
-
-abbrev pub told_status : Told → ℕ
-told_status Yes = 0
-told_status (Never n edges) = 1
-told_status (NoneOfAll n) = 1
-told_status (Undecided n) = 4
+abbrev pub status_of : Verdict → ℕ
+status_of (Yes order) = 0
+status_of (Never n edges) = 1
+status_of (NoneOfAll n) = 1
+status_of (Undecided n) = 4
 
 -- a text was written to standard output, and the status is this one; or the output failed, and it
 -- is 2
@@ -56,21 +47,21 @@ abbrev pub WantsMemory : Change → Change → ℕ → Type 0
 WantsMemory output errors status =
     StaysSame output × Tells errors (refusal_line audits.Memory) × (status ≡ 3)
 
-abbrev pub GivesReport : Spanned → Told → Change → Change → ℕ → Type 0
-GivesReport s told output errors status =
-    GivesOut (told_text s told) (told_status told) output errors status
+abbrev pub GivesReport : Spanned → Verdict → Change → Change → ℕ → Type 0
+GivesReport s verdict output errors status =
+    GivesOut (report_text s verdict) (status_of verdict) output errors status
     ⊎ WantsMemory output errors status
 
 -- the picture of the cause that the report would tell, or the report where it tells none of one
 -- event
-abbrev pub GivesPicture : Spanned → Told → Change → Change → ℕ → Type 0
-GivesPicture s told output errors status =
-    GivesOut (drawn_text s told) (told_status told) output errors status
+abbrev pub GivesPicture : Spanned → Verdict → Change → Change → ℕ → Type 0
+GivesPicture s verdict output errors status =
+    GivesOut (drawn_text s verdict) (status_of verdict) output errors status
     ⊎ WantsMemory output errors status
 
-abbrev pub GivesReportAside : Spanned → Told → Change → Change → ℕ → Type 0
-GivesReportAside s told output errors status =
-    GivesError (told_text s told) (told_status told) output errors status
+abbrev pub GivesReportAside : Spanned → Verdict → Change → Change → ℕ → Type 0
+GivesReportAside s verdict output errors status =
+    GivesError (report_text s verdict) (status_of verdict) output errors status
     ⊎ WantsMemory output errors status
 
 abbrev pub GivesOrder : List ℕ → Change → Change → ℕ → Type 0
@@ -100,33 +91,37 @@ GivesRecord s output errors status =
     × GivesOut (record_bytes named) 0 output errors status)
     ⊎ WantsMemory output errors status
 
--- what is written of a yes: its report; or such a record; or such an order
-abbrev pub GivesYes : Asked → Spanned → Change → Change → ℕ → Type 0
-GivesYes Report s output errors status = GivesReport s Yes output errors status
-GivesYes Picture s output errors status = GivesReport s Yes output errors status
-GivesYes Record s output errors status = GivesRecord s output errors status
-GivesYes Order s output errors status =
-    (order : List ℕ) × (found : List Event) × IsCertifiedIn s order found
-    × GivesOrder order output errors status
+-- such a record of a yes; or the report of another verdict to standard error
+abbrev pub GivesNamed : Spanned → Verdict → Change → Change → ℕ → Type 0
+GivesNamed s (Yes order) output errors status = GivesRecord s output errors status
+GivesNamed s (Never n edges) output errors status =
+    GivesReportAside s (Never n edges) output errors status
+GivesNamed s (NoneOfAll n) output errors status =
+    GivesReportAside s (NoneOfAll n) output errors status
+GivesNamed s (Undecided n) output errors status =
+    GivesReportAside s (Undecided n) output errors status
 
--- the report of another answer goes to standard output where the report was asked for, and to
--- standard error where the record or an order was; where a picture was, it is written
-abbrev pub GivesOther : Asked → Spanned → Told → Change → Change → ℕ → Type 0
-GivesOther Report s told output errors status = GivesReport s told output errors status
-GivesOther Picture s told output errors status = GivesPicture s told output errors status
-GivesOther Record s told output errors status = GivesReportAside s told output errors status
-GivesOther Order s told output errors status = GivesReportAside s told output errors status
+-- the order of a yes; or the same report
+abbrev pub GivesOrdered : Spanned → Verdict → Change → Change → ℕ → Type 0
+GivesOrdered s (Yes order) output errors status = GivesOrder order.items output errors status
+GivesOrdered s (Never n edges) output errors status =
+    GivesReportAside s (Never n edges) output errors status
+GivesOrdered s (NoneOfAll n) output errors status =
+    GivesReportAside s (NoneOfAll n) output errors status
+GivesOrdered s (Undecided n) output errors status =
+    GivesReportAside s (Undecided n) output errors status
 
-abbrev pub Gives : Asked → Spanned → Told → Change → Change → ℕ → Type 0
-Gives asked s Yes = GivesYes asked s
-Gives asked s (Never n edges) = GivesOther asked s (Never n edges)
-Gives asked s (NoneOfAll n) = GivesOther asked s (NoneOfAll n)
-Gives asked s (Undecided n) = GivesOther asked s (Undecided n)
+-- what is asked for of a verdict: its report, its picture, a record or an order
+abbrev pub Gives : Asked → Spanned → Verdict → Change → Change → ℕ → Type 0
+Gives Report s verdict output errors status = GivesReport s verdict output errors status
+Gives Picture s verdict output errors status = GivesPicture s verdict output errors status
+Gives Record s verdict output errors status = GivesNamed s verdict output errors status
+Gives Order s verdict output errors status = GivesOrdered s verdict output errors status
 
--- of a run an answer that is so is given, or memory ran out
+-- a verdict on a run that is so is given, or memory ran out
 abbrev pub AnswersRun : Asked → Spanned → Change → Change → ℕ → Type 0
 AnswersRun asked s output errors status =
-    ((told : Told) × IsSo s told × Gives asked s told output errors status)
+    ((verdict : Verdict) × IsVerdict s verdict × Gives asked s verdict output errors status)
     ⊎ WantsMemory output errors status
 
 -- no run was read: nothing was written, and the line of the reason is told

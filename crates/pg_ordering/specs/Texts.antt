@@ -3,12 +3,12 @@ use Rattle.std.specs.Prelude.{ℕ, List, [], ◌++◌, length, codes, decimal}
 use Rattle.std.specs.List.{flat_map}
 use Rattle.std.specs.Int.{div_ceil}
 use Rattle.pg_report.specs.Text.{counts_text}
+use Rattle.pg_order.specs.declared.verdict.Verdict.{Verdict}
+use Rattle.pg_order.specs.declared.verdict.Verdict.TheVariants.{Yes, Never, NoneOfAll, Undecided}
 use Rattle.pg_relaxed.specs.declared.edge.Edge.{Edge}
 use Rattle.pg_spanned.specs.Orders.{Spanned}
 use Rattle.pg_spanned_text.specs.Cause.{cause_text}
 use Rattle.pg_spanned_text.specs.Picture.{picture_text}
-use Rattle.pg_ordering.specs.declared.told.Told.{Told}
-use Rattle.pg_ordering.specs.declared.told.Told.TheVariants.{Yes, Never, NoneOfAll, Undecided}
 
 -- how many segments hold all events
 abbrev pub segments_of : Spanned → ℕ
@@ -22,8 +22,8 @@ abbrev pub no_text : ℕ → List ℕ
 no_text n = codes "verdict: no\nevent: " ++ (decimal n ++ codes "\nreason: 15 no order\n")
 
 -- the verdict, and at which event it was come to
-abbrev pub head_text : Told → List ℕ
-head_text Yes = codes "verdict: yes\n"
+abbrev pub head_text : Verdict → List ℕ
+head_text (Yes order) = codes "verdict: yes\n"
 head_text (Never n edges) = no_text n
 head_text (NoneOfAll n) = no_text n
 head_text (Undecided n) = codes "verdict: undecided\nevent: " ++ (decimal n ++ codes "\n")
@@ -38,23 +38,23 @@ edge_line edge = codes "deduced: event " ++ (decimal edge.first
     ++ (codes " comes before event " ++ (decimal edge.second
     ++ (codes ", or no run comes to event " ++ (decimal edge.second ++ codes "\n")))))
 
--- why no order has a run, where that is told
-abbrev pub cause_of : Spanned → Told → List ℕ
-cause_of s Yes = []
+-- why no order has a run, where that is verdict
+abbrev pub cause_of : Spanned → Verdict → List ℕ
+cause_of s (Yes order) = []
 cause_of s (Never n edges) = cause_text s n ++ flat_map edge_line edges.items
 cause_of s (NoneOfAll n) = none_of_all
 cause_of s (Undecided n) = []
 
 -- the report, and after a no its cause
-abbrev pub told_text : Spanned → Told → List ℕ
-told_text s told = head_text told ++ counts_of s ++ cause_of s told
+abbrev pub report_text : Spanned → Verdict → List ℕ
+report_text s verdict = head_text verdict ++ counts_of s ++ cause_of s verdict
 
 -- the picture of the cause, where that is of one event, and else the report
-abbrev pub drawn_text : Spanned → Told → List ℕ
-drawn_text s Yes = told_text s Yes
+abbrev pub drawn_text : Spanned → Verdict → List ℕ
+drawn_text s (Yes order) = report_text s (Yes order)
 drawn_text s (Never n edges) = picture_text s n
-drawn_text s (NoneOfAll n) = told_text s (NoneOfAll n)
-drawn_text s (Undecided n) = told_text s (Undecided n)
+drawn_text s (NoneOfAll n) = report_text s (NoneOfAll n)
+drawn_text s (Undecided n) = report_text s (Undecided n)
 
 -- the number of each event of an order, a line each
 abbrev pub order_text : List ℕ → List ℕ

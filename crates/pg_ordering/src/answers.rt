@@ -1,22 +1,22 @@
 //! Whether the events of a record with spans have an order in which some run of the machine has
 //! them, as `certify` writes it.
 
-ghost use Rattle.std.specs.Prelude.{◌≡◌, ◌≢◌, ◌<◌, ◌^◌, length};
+ghost use Rattle.std.specs.Prelude.{◌≡◌, ◌<◌, ◌^◌, length};
 ghost use Rattle.pg_check.specs.Kept.{AreWellFormed};
 ghost use Rattle.pg_event.specs.Spelling.{IsHead, record_bytes};
 ghost use Rattle.pg_report.specs.Changes.{drawn, filled};
 ghost use Rattle.pg_spanned.specs.Spanned.{IsSpanned};
-ghost use Rattle.pg_order.specs.Verdicts.{IsOrderedRun};
+ghost use Rattle.pg_order.specs.Verdicts.{IsOrderedRun, IsVerdict};
 ghost use Rattle.pg_auditing.specs.Streams.{streams};
 ghost use Rattle.pg_ordering.specs.Answers.{GivesOut, GivesError, AnswersRun, OrdersRecord};
-ghost use Rattle.pg_ordering.specs.Answers.{GivesReport, GivesReportAside, IsSo, WantsMemory};
-ghost use Rattle.pg_ordering.specs.Answers.{GivesPicture, GivesRecord};
-ghost use Rattle.pg_ordering.specs.Answers.{told_status, GivesOrder, TellsUnread};
+ghost use Rattle.pg_ordering.specs.Answers.{Gives, GivesNamed, GivesOrdered, GivesReport};
+ghost use Rattle.pg_ordering.specs.Answers.{GivesReportAside, GivesPicture, GivesRecord};
+ghost use Rattle.pg_ordering.specs.Answers.{GivesOrder, TellsUnread, WantsMemory, status_of};
 
+use crate::asked::Asked;
 use crate::reading::{Unread, read_run};
 use crate::refusals::tell_refusal;
-use crate::texts::{drawn_text, order_text, told_text};
-use crate::told::{Asked, Told};
+use crate::texts::{drawn_text, order_text, report_text};
 use pg_auditing::{MEMORY, NO, REFUSED, YES, tell};
 use pg_codec::{Sink, Source, put_all, write_record};
 use pg_event::{Event, Header};
@@ -28,13 +28,14 @@ use std::alloc::Global;
 /// Of what is undecided.
 const UNDECIDED: u8 = 4;
 
-fn told_status(told: &Told) -> u8
-    ensures { result ≡ told_status told.now }
+/// The exit status of a verdict: 0 yes, 1 no, 4 undecided.
+pub fn status_of(verdict: &Verdict) -> u8
+    ensures { result ≡ status_of verdict.now }
 {
-    match told {
-        Told::Yes => YES,
-        Told::Never(..) | Told::NoneOfAll(_) => NO,
-        Told::Undecided(_) => UNDECIDED,
+    match verdict {
+        Verdict::Yes(_) => YES,
+        Verdict::Never(..) | Verdict::NoneOfAll(_) => NO,
+        Verdict::Undecided(_) => UNDECIDED,
     }
 }
 
@@ -76,19 +77,19 @@ fn give_error<O: Sink, E: Sink>(output: &mut O, errors: &mut E, text: &str, good
     }
 }
 
-/// Writes the report of what is told of a run.
+/// Writes the report of a verdict on a run.
 fn give_report<O: Sink, E: Sink>(
     alloc: Global,
     run: &SpannedRun,
-    told: &Told,
+    verdict: &Verdict,
     output: &mut O,
     errors: &mut E,
 ) -> u8
-    ensures { GivesReport run.now told.now
+    ensures { GivesReport run.now verdict.now
         (filled O.Sink output.old output.new) (filled E.Sink errors.old errors.new) result }
 {
-    match told_text(alloc, run, told) {
-        Ok(text) => give_out(output, errors, text.as_bytes(), told_status(told)),
+    match report_text(alloc, run, verdict) {
+        Ok(text) => give_out(output, errors, text.as_bytes(), status_of(verdict)),
         Err(_) => tell_memory(output, errors),
     }
 }
@@ -97,15 +98,15 @@ fn give_report<O: Sink, E: Sink>(
 fn give_picture<O: Sink, E: Sink>(
     alloc: Global,
     run: &SpannedRun,
-    told: &Told,
+    verdict: &Verdict,
     output: &mut O,
     errors: &mut E,
 ) -> u8
-    ensures { GivesPicture run.now told.now
+    ensures { GivesPicture run.now verdict.now
         (filled O.Sink output.old output.new) (filled E.Sink errors.old errors.new) result }
 {
-    match drawn_text(alloc, run, told) {
-        Ok(text) => give_out(output, errors, text.as_bytes(), told_status(told)),
+    match drawn_text(alloc, run, verdict) {
+        Ok(text) => give_out(output, errors, text.as_bytes(), status_of(verdict)),
         Err(_) => tell_memory(output, errors),
     }
 }
@@ -114,15 +115,15 @@ fn give_picture<O: Sink, E: Sink>(
 fn give_report_aside<O: Sink, E: Sink>(
     alloc: Global,
     run: &SpannedRun,
-    told: &Told,
+    verdict: &Verdict,
     output: &mut O,
     errors: &mut E,
 ) -> u8
-    ensures { GivesReportAside run.now told.now
+    ensures { GivesReportAside run.now verdict.now
         (filled O.Sink output.old output.new) (filled E.Sink errors.old errors.new) result }
 {
-    match told_text(alloc, run, told) {
-        Ok(text) => give_error(output, errors, text.as_str(), told_status(told)),
+    match report_text(alloc, run, verdict) {
+        Ok(text) => give_error(output, errors, text.as_str(), status_of(verdict)),
         Err(_) => tell_memory(output, errors),
     }
 }
@@ -179,46 +180,64 @@ fn give_named<O: Sink, E: Sink>(
     }
 }
 
-/// Writes what is asked for of events that have an order with a run.
-fn answer_yes<O: Sink, E: Sink>(
+/// Writes the record of a yes in the order that was found, or the report of another verdict to
+/// standard error.
+fn give_named_if<O: Sink, E: Sink>(
     alloc: Global,
-    asked: Asked,
     run: &SpannedRun,
-    order: &[u32],
+    verdict: &Verdict,
     output: &mut O,
     errors: &mut E,
 ) -> u8
-    requires { IsOrderedRun run.now order.now }
-    ensures { AnswersRun asked run.now
+    requires { IsVerdict run.now verdict.now }
+    ensures { GivesNamed run.now verdict.now
         (filled O.Sink output.old output.new) (filled E.Sink errors.old errors.new) result }
 {
-    match asked {
-        Asked::Report => give_report(alloc, run, &Told::Yes, output, errors),
-        Asked::Picture => give_report(alloc, run, &Told::Yes, output, errors),
-        Asked::Record => give_named(alloc, run, order, output, errors),
-        Asked::Order => give_order(alloc, order, output, errors),
+    match verdict {
+        Verdict::Yes(order) => give_named(alloc, run, order, output, errors),
+        Verdict::Never(..) => give_report_aside(alloc, run, verdict, output, errors),
+        Verdict::NoneOfAll(_) => give_report_aside(alloc, run, verdict, output, errors),
+        Verdict::Undecided(_) => give_report_aside(alloc, run, verdict, output, errors),
     }
 }
 
-/// Writes the report of what is no yes.
-fn answer_other<O: Sink, E: Sink>(
+/// Writes the order of a yes, or the report of another verdict to standard error.
+fn give_order_if<O: Sink, E: Sink>(
     alloc: Global,
-    asked: Asked,
     run: &SpannedRun,
-    told: &Told,
+    verdict: &Verdict,
     output: &mut O,
     errors: &mut E,
 ) -> u8
-    requires told { IsSo run.now told.now }
-    requires other { told.now ≢ Told.Yes }
-    ensures { AnswersRun asked run.now
+    ensures { GivesOrdered run.now verdict.now
+        (filled O.Sink output.old output.new) (filled E.Sink errors.old errors.new) result }
+{
+    match verdict {
+        Verdict::Yes(order) => give_order(alloc, order, output, errors),
+        Verdict::Never(..) => give_report_aside(alloc, run, verdict, output, errors),
+        Verdict::NoneOfAll(_) => give_report_aside(alloc, run, verdict, output, errors),
+        Verdict::Undecided(_) => give_report_aside(alloc, run, verdict, output, errors),
+    }
+}
+
+/// Writes what is asked for of a verdict on a run.
+fn give_verdict<O: Sink, E: Sink>(
+    alloc: Global,
+    asked: Asked,
+    run: &SpannedRun,
+    verdict: &Verdict,
+    output: &mut O,
+    errors: &mut E,
+) -> u8
+    requires { IsVerdict run.now verdict.now }
+    ensures { Gives asked run.now verdict.now
         (filled O.Sink output.old output.new) (filled E.Sink errors.old errors.new) result }
 {
     match asked {
-        Asked::Report => give_report(alloc, run, told, output, errors),
-        Asked::Picture => give_picture(alloc, run, told, output, errors),
-        Asked::Record => give_report_aside(alloc, run, told, output, errors),
-        Asked::Order => give_report_aside(alloc, run, told, output, errors),
+        Asked::Report => give_report(alloc, run, verdict, output, errors),
+        Asked::Picture => give_picture(alloc, run, verdict, output, errors),
+        Asked::Record => give_named_if(alloc, run, verdict, output, errors),
+        Asked::Order => give_order_if(alloc, run, verdict, output, errors),
     }
 }
 
@@ -234,23 +253,7 @@ fn answer_run<O: Sink, E: Sink>(
         (filled O.Sink output.old output.new) (filled E.Sink errors.old errors.new) result }
 {
     match find_ordered_run(alloc, run) {
-        Ok(Verdict::Yes(order)) => answer_yes(alloc, asked, run, &order, output, errors),
-        Ok(Verdict::Never(event, edges)) => {
-            answer_other(
-                alloc,
-                asked,
-                run,
-                &Told::Never(event, edges),
-                output,
-                errors,
-            )
-        }
-        Ok(Verdict::NoneOfAll(event)) => {
-            answer_other(alloc, asked, run, &Told::NoneOfAll(event), output, errors)
-        }
-        Ok(Verdict::Undecided(event)) => {
-            answer_other(alloc, asked, run, &Told::Undecided(event), output, errors)
-        }
+        Ok(verdict) => give_verdict(alloc, asked, run, &verdict, output, errors),
         Err(_) => tell_memory(output, errors),
     }
 }

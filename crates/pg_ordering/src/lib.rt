@@ -3,17 +3,17 @@
 #![tactic(auto)]
 
 mod answers;
+mod asked;
 mod logs;
 mod merging;
 mod reading;
 mod refusals;
 mod showing;
 mod texts;
-mod told;
 
-pub use answers::certify_spanned;
+pub use answers::{certify_spanned, status_of};
+pub use asked::Asked;
 pub use merging::merge;
 pub use reading::{Unread, read_run};
 pub use showing::show_spanned;
 pub use texts::segments_of;
-pub use told::{Asked, Told};

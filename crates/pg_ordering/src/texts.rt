@@ -2,10 +2,10 @@
 
 ghost use Rattle.std.specs.Prelude.{◌≡◌, ◌++◌, IfOk, OnOk, codes, decimal, string_bytes};
 ghost use Rattle.std.specs.List.{flat_map};
-ghost use Rattle.pg_ordering.specs.Texts.{told_text, order_text, segments_of, counts_of};
+ghost use Rattle.pg_ordering.specs.Texts.{report_text, order_text, segments_of, counts_of};
 ghost use Rattle.pg_ordering.specs.Texts.{head_text, cause_of, none_of_all, drawn_text, edge_line};
 
-use crate::told::Told;
+use pg_order::Verdict;
 use pg_relaxed::Edge;
 use pg_spanned::SpannedRun;
 use pg_spanned_text::{cause_picture, cause_text};
@@ -22,15 +22,15 @@ pub fn segments_of(run: &SpannedRun) -> u64
 }
 
 /// What stands before the counts, where the answer is no yes.
-fn head_of(alloc: Global, told: &Told) -> Result<String, AllocError>
-    ensures { IfOk result (λ t. string_bytes t ≡ head_text told.now) }
+fn head_of(alloc: Global, verdict: &Verdict) -> Result<String, AllocError>
+    ensures { IfOk result (λ t. string_bytes t ≡ head_text verdict.now) }
 {
-    match told {
-        Told::Yes => format!(in alloc; "verdict: yes\n"),
-        Told::Never(event, _) | Told::NoneOfAll(event) => {
+    match verdict {
+        Verdict::Yes(_) => format!(in alloc; "verdict: yes\n"),
+        Verdict::Never(event, _) | Verdict::NoneOfAll(event) => {
             format!(in alloc; "verdict: no\nevent: {event}\nreason: 15 no order\n")
         }
-        Told::Undecided(event) => format!(in alloc; "verdict: undecided\nevent: {event}\n"),
+        Verdict::Undecided(event) => format!(in alloc; "verdict: undecided\nevent: {event}\n"),
     }
 }
 
@@ -70,41 +70,51 @@ fn push_cause(
     alloc: Global,
     text: &mut String,
     run: &SpannedRun,
-    told: &Told,
+    verdict: &Verdict,
 ) -> Result<(), AllocError>
     ensures { OnOk result
-        (string_bytes text.new ≡ string_bytes text.old ++ cause_of run.now told.now) }
+        (string_bytes text.new ≡ string_bytes text.old ++ cause_of run.now verdict.now) }
 {
-    match told {
-        Told::Never(event, edges) => {
+    match verdict {
+        Verdict::Never(event, edges) => {
             let cause = cause_text(alloc, run, *event)?;
             text.push_str(cause.as_str())?;
             let lines = edge_lines(alloc, edges)?;
             text.push_str(lines.as_str())
         }
-        Told::NoneOfAll(_) => text.push_str(NONE_OF_ALL),
-        Told::Yes | Told::Undecided(_) => Ok(()),
+        Verdict::NoneOfAll(_) => text.push_str(NONE_OF_ALL),
+        Verdict::Yes(_) | Verdict::Undecided(_) => Ok(()),
     }
 }
 
-/// The report of what is told of a run, and after a no its cause.
-pub(crate) fn told_text(alloc: Global, run: &SpannedRun, told: &Told) -> Result<String, AllocError>
-    ensures { IfOk result (λ t. string_bytes t ≡ told_text run.now told.now) }
+/// The report of a verdict on a run, and after a no its cause.
+pub(crate) fn report_text(
+    alloc: Global,
+    run: &SpannedRun,
+    verdict: &Verdict,
+) -> Result<String, AllocError>
+    ensures { IfOk result (λ t. string_bytes t ≡ report_text run.now verdict.now) }
 {
-    let mut text = head_of(alloc, told)?;
+    let mut text = head_of(alloc, verdict)?;
     let counts = counts_of(alloc, run)?;
     text.push_str(counts.as_str())?;
-    push_cause(alloc, &mut text, run, told)?;
+    push_cause(alloc, &mut text, run, verdict)?;
     Ok(text)
 }
 
 /// The picture of the cause, where that is of one event, and else the report.
-pub(crate) fn drawn_text(alloc: Global, run: &SpannedRun, told: &Told) -> Result<String, AllocError>
-    ensures { IfOk result (λ t. string_bytes t ≡ drawn_text run.now told.now) }
+pub(crate) fn drawn_text(
+    alloc: Global,
+    run: &SpannedRun,
+    verdict: &Verdict,
+) -> Result<String, AllocError>
+    ensures { IfOk result (λ t. string_bytes t ≡ drawn_text run.now verdict.now) }
 {
-    match told {
-        Told::Never(event, _) => cause_picture(alloc, run, *event),
-        Told::Yes | Told::NoneOfAll(_) | Told::Undecided(_) => told_text(alloc, run, told),
+    match verdict {
+        Verdict::Never(event, _) => cause_picture(alloc, run, *event),
+        Verdict::Yes(_) | Verdict::NoneOfAll(_) | Verdict::Undecided(_) => report_text(
+            alloc, run, verdict,
+        ),
     }
 }
 

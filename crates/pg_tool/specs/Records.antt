@@ -26,8 +26,8 @@ use Rattle.pg_json_answers.specs.Refusals.{error_json}
 use Rattle.pg_json_spans.specs.Answers.{AnswersSpans}
 use Rattle.pg_ordering.specs.Answers.{OrdersRecord}
 use Rattle.pg_ordering.specs.Shown.{ShowsSpans}
-use Rattle.pg_ordering.specs.declared.told.Asked.{Asked}
-use Rattle.pg_ordering.specs.declared.told.Asked.TheVariants as asking
+use Rattle.pg_ordering.specs.declared.asked.Asked.{Asked}
+use Rattle.pg_ordering.specs.declared.asked.Asked.TheVariants as asking
 use Rattle.pg_span_codec.specs.Versions.{says_spans}
 use Rattle.pg_tool.specs.declared.format.Format.{Format}
 use Rattle.pg_tool.specs.declared.format.Format.TheVariants as formats

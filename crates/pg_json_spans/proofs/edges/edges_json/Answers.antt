@@ -1,6 +1,6 @@
 use Rattle.std.proofs.Common.{◌∙◌, sym, map}
 use Rattle.pg_json.proofs.Lists.{fused}
-use Rattle.pg_json_spans.specs.Told.{edge_json}
+use Rattle.pg_json_spans.specs.Verdicts.{edge_json}
 use Rattle.pg_json_spans.proofs.edges.edges_json.Goals as goal
 
 pub returns : goal.returns

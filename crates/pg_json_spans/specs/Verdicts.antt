@@ -1,4 +1,4 @@
--- What is told of a record with no one order, as JSON. The fields are
+-- A verdict on a record with no one order, as JSON. The fields are
 --
 --     verdict              yes, no or undecided
 --     event                the event of a no, or at which the search gave up
@@ -12,8 +12,8 @@
 use Rattle.std.specs.Prelude.{ℕ, Bool, true, false, List, map, length, codes}
 use Rattle.pg_spanned.specs.Orders.{Spanned}
 use Rattle.pg_relaxed.specs.declared.edge.Edge.{Edge}
-use Rattle.pg_ordering.specs.declared.told.Told.{Told}
-use Rattle.pg_ordering.specs.declared.told.Told.TheVariants.{Yes, Never, NoneOfAll, Undecided}
+use Rattle.pg_order.specs.declared.verdict.Verdict.{Verdict}
+use Rattle.pg_order.specs.declared.verdict.Verdict.TheVariants.{Yes, Never, NoneOfAll, Undecided}
 use Rattle.pg_ordering.specs.Texts.{segments_of}
 use Rattle.pg_json.specs.Tree.{Json, nothing, flag, count, text, list, object, elements}
 use Rattle.pg_json.specs.Tree.{Fields, no_fields, field}
@@ -35,8 +35,8 @@ abbrev pub never_fields : Spanned → ℕ → List Edge → Fields
 never_fields s n edges =
     field (codes "deduced") (edges_json edges) (why_fields (cause_json s n) false)
 
-abbrev pub cause_fields : Spanned → Told → Fields
-cause_fields s Yes = no_fields
+abbrev pub cause_fields : Spanned → Verdict → Fields
+cause_fields s (Yes order) = no_fields
 cause_fields s (Never n edges) = never_fields s n edges.items
 cause_fields s (NoneOfAll n) = why_fields nothing true
 cause_fields s (Undecided n) = no_fields
@@ -45,12 +45,12 @@ abbrev pub with_undecided : ℕ → Fields → Fields
 with_undecided event others =
     field (codes "verdict") (text (codes "undecided")) (field (codes "event") (count event) others)
 
-abbrev pub with_told : Told → Fields → Fields
-with_told Yes others = with_yes others
-with_told (Never n edges) others = with_no n 15 (codes "no order") others
-with_told (NoneOfAll n) others = with_no n 15 (codes "no order") others
-with_told (Undecided n) others = with_undecided n others
+abbrev pub with_verdict : Verdict → Fields → Fields
+with_verdict (Yes order) others = with_yes others
+with_verdict (Never n edges) others = with_no n 15 (codes "no order") others
+with_verdict (NoneOfAll n) others = with_no n 15 (codes "no order") others
+with_verdict (Undecided n) others = with_undecided n others
 
-abbrev pub told_json : Spanned → Told → Json
-told_json s told =
-    object (with_told told (with_counts (length s.events) (segments_of s) (cause_fields s told)))
+abbrev pub verdict_json : Spanned → Verdict → Json
+verdict_json s verdict =
+    object (with_verdict verdict (with_counts (length s.events) (segments_of s) (cause_fields s verdict)))

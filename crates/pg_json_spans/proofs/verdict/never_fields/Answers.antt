@@ -3,8 +3,8 @@ use Rattle.serde_json.specs.Data.{Data, Members, put}
 use Rattle.serde_json.specs.View.{members_view}
 use Rattle.pg_json.specs.Tree.{data_of}
 use Rattle.pg_json_spans.specs.Causes.{cause_json}
-use Rattle.pg_json_spans.specs.Told.{edges_json}
-use Rattle.pg_json_spans.proofs.told.never_fields.Goals as goal
+use Rattle.pg_json_spans.specs.Verdicts.{edges_json}
+use Rattle.pg_json_spans.proofs.verdict.never_fields.Goals as goal
 
 pub returns : goal.returns
 returns c =

@@ -1,0 +1,13 @@
+/// What is written of an answer.
+#[derive(Clone, Copy, Debug, PartialEq, Eq)]
+pub enum Asked {
+    /// The report.
+    Report,
+    /// Of a no to whose event no run comes the picture of its cause, and else the report.
+    Picture,
+    /// Of a yes the record of version 1 or 2 in the order that was found, with moments that witness
+    /// its events.
+    Record,
+    /// Of a yes the order: the number of each event, a line each.
+    Order,
+}
