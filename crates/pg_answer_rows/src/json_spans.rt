@@ -44,7 +44,8 @@ $ certify --json
 >+ "word":"0x1000","written_by":0},{"is":"table","level":3,"value":"0x3007","word":"0x2000",
 >+ "written_by":1},{"is":"table","level":2,"value":"0x4007","word":"0x3000","written_by":2},
 >+ {"is":"leaf","level":1,"page":"0xa000","value":"0xa007","word":"0x4028","written_by":4}],
->+ "read_after":{"address":"0x5000","began":5,"cpu":1,"event":5,"kind":"invlpg"}},"deduced":[],
+>+ "no_memory_gives":false,"read_after":{"address":"0x5000","began":5,"cpu":1,"event":5,
+>+ "kind":"invlpg"}},"deduced":[],
 > "event":6,"events":7,"format":1,"reason":15,"reason_name":"no order","segments":1,"verdict":"no"}
 ? 1
 
@@ -58,7 +59,8 @@ $ explain --all --json
 >+ "word":"0x1000","written_by":0},{"is":"table","level":3,"value":"0x3007","word":"0x2000",
 >+ "written_by":1},{"is":"table","level":2,"value":"0x4007","word":"0x3000","written_by":2},
 >+ {"is":"leaf","level":1,"page":"0xa000","value":"0xa007","word":"0x4028","written_by":4}],
->+ "read_after":{"address":"0x5000","began":5,"cpu":1,"event":5,"kind":"invlpg"}},"deduced":[],
+>+ "no_memory_gives":false,"read_after":{"address":"0x5000","began":5,"cpu":1,"event":5,
+>+ "kind":"invlpg"}},"deduced":[],
 > "event":6,"events":7,"format":1,"reason":15,"reason_name":"no order","segments":1,"verdict":"no"}
 ? 1
 
@@ -72,7 +74,8 @@ $ certify --json
 >+ "word":"0x1000","written_by":0},{"is":"table","level":3,"value":"0x3027","word":"0x2000",
 >+ "written_by":1},{"is":"table","level":2,"value":"0x4027","word":"0x3000","written_by":2},
 >+ {"is":"leaf","level":1,"page":"0xa000","value":"0xa067","word":"0x4028","written_by":4}],
->+ "read_after":{"began":5,"cpu":1,"event":5,"kind":"cr3","operand":"0x1001"}},"deduced":[],
+>+ "no_memory_gives":false,"read_after":{"began":5,"cpu":1,"event":5,"kind":"cr3",
+>+ "operand":"0x1001"}},"deduced":[],
 > "event":6,"events":7,"format":1,"reason":15,"reason_name":"no order","segments":1,"verdict":"no"}
 ? 1
 
@@ -86,7 +89,8 @@ $ explain --json
 >+ "value":"0x0","word":"0x8000","written_by":null},{"is":"table","level":3,"value":"0x3007",
 >+ "word":"0x2000","written_by":1},{"is":"table","level":2,"value":"0x4007","word":"0x3000",
 >+ "written_by":2},{"is":"leaf","level":1,"page":"0x9000","value":"0x9007","word":"0x4028",
->+ "written_by":3}],"read_after":null},"deduced":[],"event":5,"events":6,"format":1,"reason":15,
+>+ "written_by":3}],"no_memory_gives":false,"read_after":null},"deduced":[],"event":5,"events":6,
+>+ "format":1,"reason":15,
 > "reason_name":"no order","segments":1,"verdict":"no"}
 ? 1
 
@@ -108,7 +112,8 @@ $ certify --json
 >+ "value":"0x3007","word":"0x2000","written_by":1},{"is":"table","level":2,"value":"0x4007",
 >+ "word":"0x3000","written_by":2},{"is":"leaf","level":1,"page":"0x9000","value":"0x9007",
 >+ "word":"0x4028","written_by":3},{"is":"leaf","level":1,"page":"0xa000","value":"0xa007",
->+ "word":"0x4028","written_by":70}],"read_after":{"address":"0x5000","began":68,"cpu":1,"event":68,
+>+ "word":"0x4028","written_by":70}],"no_memory_gives":false,"read_after":{"address":"0x5000",
+>+ "began":68,"cpu":1,"event":68,
 >+ "kind":"invlpg"}},"deduced":[{"first":70,"second":67}],"event":69,"events":71,"format":1,
 >+ "reason":15,
 > "reason_name":"no order","segments":1,"verdict":"no"}

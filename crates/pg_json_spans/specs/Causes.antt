@@ -2,6 +2,7 @@
 -- of the text are written (`Parts` of `pg_spanned_text`). The fields are
 --
 --     event                the event, with its span
+--     no_memory_gives      whether no memory gives the event
 --     read_after           the event behind which its walk reads in every order, with its span, or
 --                          null
 --     if_not_global        whether global translations may stay there
@@ -14,7 +15,7 @@
 --
 -- An event that names no walk has the first alone. Both lists are whole, where the text cuts them.
 use Rattle.std.specs.Prelude.{ℕ, Bool, true, false, List, map, Option, Some, None, codes}
-use Rattle.std.specs.Prelude.{slice_get}
+use Rattle.std.specs.Prelude.{not, slice_get}
 use Rattle.pg_entry.specs.declared.Cfg.{Cfg}
 use Rattle.pg_entry.specs.declared.Kind.{Kind}
 use Rattle.pg_entry.specs.declared.Kind.TheVariants as kinds
@@ -23,6 +24,7 @@ use Rattle.pg_event.specs.declared.event.Event.{Event}
 use Rattle.pg_event.specs.declared.version.Version.{Version}
 use Rattle.pg_event.specs.declared.version.Version.TheVariants as versions
 use Rattle.pg_explain.specs.Names.{level_number}
+use Rattle.pg_relaxed.specs.Impossible.{may_be_given}
 use Rattle.pg_spanned.specs.Orders.{Spanned}
 use Rattle.pg_spanned_text.specs.declared.parts.ReadAfter.{ReadAfter}
 use Rattle.pg_spanned_text.specs.declared.seen.Gone.{Gone}
@@ -99,7 +101,9 @@ parts_fields s parts =
 
 abbrev pub walk_fields : Spanned → ℕ → Event → Option ℕ → Fields
 walk_fields s number e None = no_fields
-walk_fields s number e (Some la) = parts_fields s (parts_of s (span_of s number e) la)
+walk_fields s number e (Some la) =
+    field (codes "no_memory_gives") (flag (not (may_be_given s.head.cfg e)))
+    (parts_fields s (parts_of s (span_of s number e) la))
 
 abbrev pub event_cause : Spanned → ℕ → Event → Json
 event_cause s number e = object (

@@ -16,6 +16,7 @@ use pg_event::{Event, Version};
 use pg_explain::level_number;
 use pg_json::{Fields, list_of, put_count, put_flag, put_hex};
 use pg_json_causes::{number_json, put_held};
+use pg_relaxed::may_be_given;
 use pg_spanned::SpannedRun;
 use pg_spanned_text::{Gone, ReadAfter, Seen, WalkCause, event_of, walk_cause, walked_address};
 use serde_json::{Map, Value, put};
@@ -205,7 +206,10 @@ fn walk_fields(
         None => Ok(Map::new(alloc)),
         Some(la) => {
             let cause = walk_cause(alloc, run, number, event, la)?;
-            parts_fields(alloc, run, &cause)
+            let mut fields = parts_fields(alloc, run, &cause)?;
+            let is_given = may_be_given(run.header().cfg, event);
+            put_flag(&mut fields, alloc, "no_memory_gives", !is_given)?;
+            Ok(fields)
         }
     }
 }
