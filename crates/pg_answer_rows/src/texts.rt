@@ -31,17 +31,21 @@ const HELP: &str =
 /// Of `check`.
 const CHECK_HELP: &str = "Check whether the moments of a record justify its events\n\
     \n\
-    Usage: pcid-audit check [OPTIONS] [FILE]\n\
+    Usage: pcid-audit check [OPTIONS] [FILE]...\n\
     \n\
     Arguments:\n\
-    \x20 [FILE]  The file to read; standard input by default, or for -\n\
+    \x20 [FILE]...  The files to read; of several each line begins with the file's name; standard \
+    input by default, or for -\n\
     \n\
     Options:\n\
-    \x20 -j, --checkers <N>  Number of checkers that judge the record, 1 to 64 (default 1)\n\
-    \x20     --all           Judge every event, and write a summary after the report\n\
-    \x20     --json          Write JSON instead of text\n\
-    \x20     --progress      Report each second how many events were read, on standard error\n\
-    \x20 -h, --help          Print help\n";
+    \x20 -j, --checkers <N>   Number of checkers that judge the record, 1 to 64 (default 1)\n\
+    \x20     --all            Judge every event, and write a summary after the report\n\
+    \x20     --first          Answer at the first event that is rejected, and read no further\n\
+    \x20     --json           Write JSON instead of text\n\
+    \x20     --progress       Report each second how many events were read, on standard error\n\
+    \x20     --output <FILE>  Write to this file instead of standard output, which - stands for\n\
+    \x20 -q, --quiet          Write nothing to standard output: the exit status is the answer\n\
+    \x20 -h, --help           Print help\n";
 
 /// Of what is no number, address or page.
 const NO_NUMBER: &str =
@@ -88,20 +92,27 @@ pub const TEXTS: [Told; 12] = [
         words: &["help", "certify"],
         text: "Find out whether any run has the events of a record, whatever its moments\n\
         \n\
-        Usage: pcid-audit certify [OPTIONS] [FILE]\n\
+        Usage: pcid-audit certify [OPTIONS] [FILE]...\n\
         \n\
         Arguments:\n\
-        \x20 [FILE]  The file to read; standard input by default, or for -\n\
+        \x20 [FILE]...  The files to read; of several each line begins with the file's name; \
+        standard input by default, or for -\n\
         \n\
         Options:\n\
-        \x20 -j, --checkers <N>  Number of checkers that judge the record, 1 to 64 (default 1)\n\
-        \x20     --bytes         Write the record with the moments found, instead of the report\n\
-        \x20     --order         For a record with spans, write the order found, one event number \
-        a line\n\
-        \x20     --first         Answer at the first event that is rejected, and read no further\n\
-        \x20     --json          Write JSON instead of text\n\
-        \x20     --progress      Report each second how many events were read, on standard error\n\
-        \x20 -h, --help          Print help\n",
+        \x20 -j, --checkers <N>   Number of checkers that judge the record, 1 to 64 (default 1)\n\
+        \x20     --bytes          Write the record with the moments found, instead of the report\n\
+        \x20     --order          For a record with spans, write the order found, one event \
+        number a line\n\
+        \x20     --first          Answer at the first event that is rejected, and read no \
+        further\n\
+        \x20     --json           Write JSON instead of text\n\
+        \x20     --progress       Report each second how many events were read, on standard \
+        error\n\
+        \x20     --output <FILE>  Write to this file instead of standard output, which - stands \
+        for\n\
+        \x20 -q, --quiet          Write nothing to standard output: the exit status is the \
+        answer\n\
+        \x20 -h, --help           Print help\n",
     },
     Told {
         words: &["help", "merge"],
@@ -113,9 +124,13 @@ pub const TEXTS: [Told; 12] = [
         \x20 <LOG>...  The logs, one for each processor\n\
         \n\
         Options:\n\
-        \x20     --error <N>  Ticks by which each span is widened at both ends, for clocks that \
-        differ (default 0)\n\
-        \x20 -h, --help       Print help\n",
+        \x20     --error <N>      Ticks by which each span is widened at both ends, for clocks \
+        that differ (default 0)\n\
+        \x20     --output <FILE>  Write to this file instead of standard output, which - stands \
+        for\n\
+        \x20 -q, --quiet          Write nothing to standard output: the exit status is the \
+        answer\n\
+        \x20 -h, --help           Print help\n",
     },
     Told {
         words: &["help", "run"],
@@ -127,12 +142,16 @@ pub const TEXTS: [Told; 12] = [
         \x20 [FILE]  The file to read; standard input by default, or for -\n\
         \n\
         Options:\n\
-        \x20 -j, --checkers <N>  Number of checkers that judge the record, 1 to 64 (default 1)\n\
-        \x20     --single        Execute the script's lines in order, on one thread\n\
-        \x20     --bytes         Write the record instead of its report\n\
-        \x20     --progress      Report each million events recorded, on standard error; \
-        not with --single\n\
-        \x20 -h, --help          Print help\n",
+        \x20 -j, --checkers <N>   Number of checkers that judge the record, 1 to 64 (default 1)\n\
+        \x20     --single         Execute the script's lines in order, on one thread\n\
+        \x20     --bytes          Write the record instead of its report\n\
+        \x20     --progress       Report each million events recorded, on standard error; not \
+        with --single\n\
+        \x20     --output <FILE>  Write to this file instead of standard output, which - stands \
+        for\n\
+        \x20 -q, --quiet          Write nothing to standard output: the exit status is the \
+        answer\n\
+        \x20 -h, --help           Print help\n",
     },
     Told {
         words: &["help", "run-of"],
@@ -144,26 +163,37 @@ pub const TEXTS: [Told; 12] = [
         \x20 [FILE]  The file to read; standard input by default, or for -\n\
         \n\
         Options:\n\
-        \x20     --progress  Report each second how many events were read, on standard error\n\
-        \x20 -h, --help      Print help\n",
+        \x20     --progress       Report each second how many events were read, on standard \
+        error\n\
+        \x20     --output <FILE>  Write to this file instead of standard output, which - stands \
+        for\n\
+        \x20 -q, --quiet          Write nothing to standard output: the exit status is the \
+        answer\n\
+        \x20 -h, --help           Print help\n",
     },
     Told {
         words: &["help", "explain"],
         text: "Write the report of a record, and the cause of a rejection\n\
         \n\
-        Usage: pcid-audit explain [OPTIONS] [FILE]\n\
+        Usage: pcid-audit explain [OPTIONS] [FILE]...\n\
         \n\
         Arguments:\n\
-        \x20 [FILE]  The file to read; standard input by default, or for -\n\
+        \x20 [FILE]...  The files to read; of several each line begins with the file's name; \
+        standard input by default, or for -\n\
         \n\
         Options:\n\
-        \x20     --all       Explain every bad event, and write a summary\n\
-        \x20     --most <N>  With --all, explain at most this many bad events, 1 to \
-        1000000 (default 100) [alias: --limit]\n\
-        \x20     --svg       Draw the first bad event as an SVG, instead of writing text\n\
-        \x20     --json      Write JSON instead of text\n\
-        \x20     --progress  Report each second how many events were read, on standard error\n\
-        \x20 -h, --help      Print help\n",
+        \x20     --all            Explain every bad event, and write a summary\n\
+        \x20     --most <N>       With --all, explain at most this many bad events, 1 to 1000000 \
+        (default 100) [alias: --limit]\n\
+        \x20     --svg            Draw the first bad event as an SVG, instead of writing text\n\
+        \x20     --json           Write JSON instead of text\n\
+        \x20     --progress       Report each second how many events were read, on standard \
+        error\n\
+        \x20     --output <FILE>  Write to this file instead of standard output, which - stands \
+        for\n\
+        \x20 -q, --quiet          Write nothing to standard output: the exit status is the \
+        answer\n\
+        \x20 -h, --help           Print help\n",
     },
     Told {
         words: &["help", "show"],
@@ -175,14 +205,19 @@ pub const TEXTS: [Told; 12] = [
         \x20 [FILE]  The file to read; standard input by default, or for -\n\
         \n\
         Options:\n\
-        \x20     --cpu <P>     Write only events of this processor\n\
-        \x20     --page <HEX>  Write only events that concern the 4-KB page of this linear \
+        \x20     --cpu <P>        Write only events of this processor\n\
+        \x20     --page <HEX>     Write only events that concern the 4-KB page of this linear \
         address\n\
-        \x20     --word <HEX>  Write only writes and assists of the word at this physical address\n\
-        \x20     --from <A>    Number of the first event to write (default 0)\n\
-        \x20     --to <B>      Number of the last event to write (default: the last event)\n\
-        \x20     --json        Write JSON instead of text, an object a line\n\
-        \x20 -h, --help        Print help\n",
+        \x20     --word <HEX>     Write only writes and assists of the word at this physical \
+        address\n\
+        \x20     --from <A>       Number of the first event to write (default 0)\n\
+        \x20     --to <B>         Number of the last event to write (default: the last event)\n\
+        \x20     --json           Write JSON instead of text, an object a line\n\
+        \x20     --output <FILE>  Write to this file instead of standard output, which - stands \
+        for\n\
+        \x20 -q, --quiet          Write nothing to standard output: the exit status is the \
+        answer\n\
+        \x20 -h, --help           Print help\n",
     },
     Told {
         words: &["help", "upgrade"],
@@ -194,8 +229,13 @@ pub const TEXTS: [Told; 12] = [
         \x20 [FILE]  The file to read; standard input by default, or for -\n\
         \n\
         Options:\n\
-        \x20     --progress  Report each second how many events were read, on standard error\n\
-        \x20 -h, --help      Print help\n",
+        \x20     --progress       Report each second how many events were read, on standard \
+        error\n\
+        \x20     --output <FILE>  Write to this file instead of standard output, which - stands \
+        for\n\
+        \x20 -q, --quiet          Write nothing to standard output: the exit status is the \
+        answer\n\
+        \x20 -h, --help           Print help\n",
     },
     Told {
         words: &["--version"],
@@ -211,7 +251,7 @@ pub const FAULTS: [Told; 21] = [
         \n\
         \x20 tip: to pass '--version' as a value, use '-- --version'\n\
         \n\
-        Usage: pcid-audit check [OPTIONS] [FILE]\n\
+        Usage: pcid-audit check [OPTIONS] [FILE]...\n\
         \n\
         For more information, try '--help'.\n",
     },
@@ -248,7 +288,7 @@ pub const FAULTS: [Told; 21] = [
         \n\
         \x20 tip: to pass '--single' as a value, use '-- --single'\n\
         \n\
-        Usage: pcid-audit check [OPTIONS] [FILE]\n\
+        Usage: pcid-audit check [OPTIONS] [FILE]...\n\
         \n\
         For more information, try '--help'.\n",
     },
@@ -258,7 +298,7 @@ pub const FAULTS: [Told; 21] = [
         \n\
         \x20 tip: a similar argument exists: '--checkers'\n\
         \n\
-        Usage: pcid-audit check --checkers <N> [FILE]\n\
+        Usage: pcid-audit check --checkers <N> [FILE]...\n\
         \n\
         For more information, try '--help'.\n",
     },
@@ -288,7 +328,7 @@ pub const FAULTS: [Told; 21] = [
         words: &["check", "--checkers", "2", "--checkers", "2"],
         text: "error: the argument '--checkers <N>' cannot be used multiple times\n\
         \n\
-        Usage: pcid-audit check [OPTIONS] [FILE]\n\
+        Usage: pcid-audit check [OPTIONS] [FILE]...\n\
         \n\
         For more information, try '--help'.\n",
     },
@@ -296,7 +336,7 @@ pub const FAULTS: [Told; 21] = [
         words: &["check", "--all=yes"],
         text: "error: unexpected value 'yes' for '--all' found; no more were expected\n\
         \n\
-        Usage: pcid-audit check --all [FILE]\n\
+        Usage: pcid-audit check --all [FILE]...\n\
         \n\
         For more information, try '--help'.\n",
     },
@@ -332,7 +372,7 @@ pub const FAULTS: [Told; 21] = [
         \n\
         \x20 tip: to pass '--from' as a value, use '-- --from'\n\
         \n\
-        Usage: pcid-audit explain [OPTIONS] [FILE]\n\
+        Usage: pcid-audit explain [OPTIONS] [FILE]...\n\
         \n\
         For more information, try '--help'.\n",
     },
