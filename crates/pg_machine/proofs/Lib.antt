@@ -2,6 +2,7 @@ pub mod Bounds
 pub mod Changes
 pub mod Guards
 pub mod Members
+pub mod Newest
 pub mod NoRun
 pub mod Outcomes
 pub mod Processors

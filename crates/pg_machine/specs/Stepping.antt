@@ -24,7 +24,8 @@ use Rattle.pg_event.specs.declared.meaning.Request.{Request}
 use Rattle.pg_event.specs.declared.meaning.Request.TheVariants as requests
 use Rattle.pg_event.specs.declared.meaning.MemoryChange.{MemoryChange}
 use Rattle.pg_event.specs.declared.meaning.MemoryChange.TheVariants as changes
-use Rattle.pg_event.specs.Meaning.{request_of, change_of}
+use Rattle.pg_event.specs.declared.invalidation.Invalidation.{Invalidation}
+use Rattle.pg_event.specs.Meaning.{request_of, change_of, takes_structure, takes_translation}
 use Rattle.pg_event.specs.declared.walk.Parent.{Parent}
 use Rattle.pg_event.specs.Heads.{Head}
 use Rattle.pg_event.specs.Form.{processor_of, is_canonical, broken_rule}
@@ -151,6 +152,13 @@ has_outcome head writes processor access la outcome wants.Reserved =
     faults_by head.cfg access causes.Reserved outcome
     && finds head.cfg writes processor la (soughts.Entry wants.Reserved)
 has_outcome head writes processor access la outcome wants.Present = false
+
+-- what a processor has without what an invalidation takes out
+abbrev pub without_taken : Invalidation → ProcessorState → ProcessorState
+without_taken by processor = record processor {
+  structures = filter (λ x. not (takes_structure by x.key)) processor.structures;
+  translations = filter (λ x. not (takes_translation by x.key)) processor.translations;
+}
 
 -- what the processor of an event has after it
 abbrev pub processor_after : ℕ → Event → ProcessorState → ProcessorState

@@ -22,7 +22,7 @@ use std::alloc::{AllocError, Global};
 use std::marker::Model;
 
 /// A machine of several processors under 4-level paging with PCIDs (Intel SDM, vol. 3, 4.10), which
-/// takes one step after another. It is slow and plain: it lists what its memory and caches hold.
+/// takes one step after another. It is plain: it lists what was written and what its caches hold.
 #[derive(Debug, Drop)]
 pub struct Machine {
     header: Header,

@@ -6,6 +6,7 @@ ghost use Rattle.pg_machine.specs.Stepping.{started_processor, leading_entry, ha
 ghost use Rattle.pg_machine.specs.Stepping.{has_translation, is_root, leads, may_read, has_member};
 ghost use Rattle.pg_machine.specs.Stepping.{without_member, finds, leads_to_sought, answers};
 ghost use Rattle.pg_machine.specs.Stepping.{has_answer, faults_by, has_outcome, processor_after};
+ghost use Rattle.pg_machine.specs.Stepping.{without_taken};
 
 use crate::cached::{CachedStructure, CachedTranslation};
 use crate::memory::Memory;
@@ -13,31 +14,31 @@ use crate::sought::{Sought, is_sought, leads_to_sought};
 use crate::step::{Member, Structure, Translation};
 use pg_entry::{AccessKind, Cause, Cfg, Level, Op, allowed, error_code};
 use pg_event::{
-    Control, Event, Header, Outcome, Parent, Version, Want, controlled, loaded,
-    must_drop_structure, must_drop_translation, processor_of, root_of, structure_key,
-    translation_matches, want_of,
+    Control, Event, Header, Invalidation, Outcome, Parent, Version, Want, controlled, loaded,
+    processor_of, root_of, structure_key, translation_matches, want_of,
 };
 use std::alloc::{AllocError, Global};
 use std::marker::Model;
 
-/// A logical processor: its control registers and its caches, newest entry first.
+/// A logical processor: its control registers and its caches.
 #[derive(Debug, Drop)]
 pub(crate) struct Processor {
     control: Control,
+    /// Oldest first, so that adding one moves no other. Most are asked for soon after they came.
     structures: Vec<CachedStructure>,
     translations: Vec<CachedTranslation>,
 }
 
 impl Model for Processor {
-    ghost use Rattle.std.specs.Prelude.{◌<◌, ◌^◌};
+    ghost use Rattle.std.specs.Prelude.{◌<◌, ◌^◌, reverse};
     ghost use Rattle.pg_machine.specs.Listed.{ProcessorState};
 
     ghost Value = { ProcessorState };
 
     ghost view = { λ p. record {
       control = p.control;
-      structures = p.structures.items;
-      translations = p.translations.items;
+      structures = reverse p.structures.items;
+      translations = reverse p.translations.items;
     } };
 
     ghost invariant = { λ p. p.control.root < 2 ^ 52 };
@@ -67,12 +68,7 @@ impl Processor {
         ensures value { result ≡ has_structure self.now wanted.now }
         ensures within { IsTrue result → wanted.now.table < 2 ^ 52 }
     {
-        for x in &self.structures {
-            if same_structure(wanted, &x.get()) {
-                return true;
-            }
-        }
-        false
+        is_among(wanted, &self.structures)
     }
 
     fn has_translation(&self, wanted: &Translation) -> bool
@@ -80,6 +76,7 @@ impl Processor {
     {
         self.translations
             .iter()
+            .rev()
             .any(|x| same_translation(wanted, &x.get()))
     }
 
@@ -128,7 +125,7 @@ impl Processor {
             (self.new ≡ record self.old { structures = structure ∷ self.old.structures }) }
         ensures err { OnErr result (self.new ≡ self.old) }
     {
-        self.structures.insert(0, CachedStructure::new(structure))?;
+        self.structures.push(CachedStructure::new(structure))?;
         Ok(())
     }
 
@@ -139,8 +136,7 @@ impl Processor {
             (self.new ≡ record self.old { translations = translation ∷ self.old.translations }) }
         ensures err { OnErr result (self.new ≡ self.old) }
     {
-        self.translations
-            .insert(0, CachedTranslation::new(translation))?;
+        self.translations.push(CachedTranslation::new(translation))?;
         Ok(())
     }
 
@@ -201,7 +197,7 @@ impl Processor {
         ensures { result ≡ has_answer header.now self.now access la outcome }
     {
         let control = self.control;
-        self.translations.iter().any(|x| {
+        self.translations.iter().rev().any(|x| {
             let translation = x.get();
             is_usable(control, la, &translation)
                 && answers(header, access, la, outcome, &translation)
@@ -225,7 +221,36 @@ impl Processor {
             self.now.structures }
     {
         let pcid = self.control.pcid;
-        self.structures.iter().any(|x| leads_to_sought(cfg, memory, la, sought, pcid, &x.get()))
+        self.structures.iter().rev().any(|x| leads_to_sought(
+            cfg,
+            memory,
+            la,
+            sought,
+            pcid,
+            &x.get(),
+        ))
+    }
+
+    /// Drops what an invalidation takes out.
+    fn drop_taken(&mut self, by: Invalidation)
+        ensures { self.new ≡ without_taken by self.old }
+    {
+        self.structures.retain(|x| !by.takes_structure(x.get().key));
+        self.translations
+            .retain(|x| !by.takes_translation(x.get().key));
+    }
+
+    /// What `drop_taken` does. Most events invalidate nothing, and go over no entry.
+    fn drop_by(&mut self, by: Invalidation)
+        ensures { self.new ≡ without_taken by self.old }
+    {
+        match by {
+            Invalidation::Nothing => {}
+            Invalidation::Address { .. }
+            | Invalidation::Page { .. }
+            | Invalidation::Pcid(_)
+            | Invalidation::Everything { .. } => self.drop_taken(by),
+        }
     }
 
     /// The processor after an event of its own.
@@ -234,12 +259,22 @@ impl Processor {
         ensures { self.new ≡ processor_after maxphyaddr event.now self.old }
     {
         let control = self.control;
-        self.structures
-            .retain(|x| !must_drop_structure(control, event, x.get().key));
-        self.translations
-            .retain(|x| !must_drop_translation(control, event, x.get().key));
+        self.drop_by(event.invalidation(control));
         self.control = controlled(maxphyaddr, processor_of(event), control, event);
     }
+}
+
+/// Whether one of these entries is this one. The last are asked first.
+fn is_among(wanted: &Structure, entries: &[CachedStructure]) -> bool
+    ensures value { result ≡ list_any (same_structure wanted.now) entries.now }
+    ensures within { IsTrue result → wanted.now.table < 2 ^ 52 }
+{
+    for i in (0..entries.len()).rev() {
+        if same_structure(wanted, &entries[i].get()) {
+            return true;
+        }
+    }
+    false
 }
 
 fn same_structure(a: &Structure, b: &Structure) -> bool
