@@ -1,17 +1,81 @@
 -- The bad events of a run, one by one.
-use Rattle.std.proofs.Common.{◌≡◌, ℕ, zero, suc, ◌+◌, ◌<◌, ◌≤◌, List, [], ◌∷◌, ◌++◌, length, take, drop, get_or, Option, Some, None, refl, sym, ap, ◌∙◌, subst, arith, append_assoc, length-drop, inl, inr}
+use Rattle.std.proofs.Common.{◌≡◌, ℕ, zero, suc, ◌+◌, ◌-◌, ◌<◌, ◌≤◌, List, [], ◌∷◌, length, take, drop, get_or, Option, Some, None, refl, sym, ap, ◌∙◌, arith, length-drop, inl, inr}
 use Rattle.std.specs.Prelude.{slice_get, option_and_then}
 use Rattle.std.specs.List.{AllByRecursion, Contains}
 use Rattle.std.proofs.lemmas.Bool.{cases_lt}
-use Rattle.std.proofs.lemmas.List.{drop_more}
+use Rattle.std.proofs.lemmas.List.{take_rest}
 use Rattle.std.proofs.lemmas.List.Elements.{All-from_recursion, All-get_or, All-contains, Contains-append_right}
-use Rattle.std.proofs.lemmas.Option.{slice_get-get_or, slice_get_within}
+use Rattle.std.proofs.lemmas.Option.{same_Some, slice_get_within}
 use Rattle.pg_event.specs.declared.event.Event.{Event}
 use Rattle.pg_event.specs.declared.event.Reason.{Reason}
 use Rattle.pg_event.specs.Heads.{Head}
-use Rattle.pg_event.specs.Witness.{failing, failing_event}
+use Rattle.pg_event.specs.Witness.{failing, failing_event, first_some, first_bad_from, first_bad}
 use Rattle.pg_explain.specs.declared.bad_events.Bad.{Bad}
 use Rattle.pg_explain.specs.Bads.{bad_of, with_bad, bads_from, bads, IsBad, BadsAreExact}
+
+-- ---- none before the first
+
+with_none : (n : ℕ) (e : Event) (o : Option Reason) (rest : Option (ℕ × Reason)) (others : List Bad) → (rest ≡ None → others ≡ []) → first_some n o rest ≡ None → with_bad n e o others ≡ []
+with_none n e None rest others none h = none h
+with_none n e (Some reason) rest others none h = cc
+
+none_from : (head : Head) (events : List Event) (n : ℕ) (es : List Event) → first_bad_from head events n es ≡ None → bads_from head events n es ≡ []
+none_from head events n [] h = refl
+none_from head events n (e ∷ es) h =
+    with_none n e (failing_event head events n e) (first_bad_from head events (n + 1) es) (bads_from head events (n + 1) es) (none_from head events (n + 1) es) h
+
+pub no_bads : (head : Head) (events : List Event) → first_bad head events ≡ None → bads head events ≡ []
+no_bads head events h = none_from head events 0 events h
+
+-- of these events, from number n on, the one with this number is the first bad one
+record BeginAt (head : Head) (events : List Event) (n : ℕ) (es : List Event) (at : ℕ) : Type 0 where
+  low : n ≤ at
+  within : at - n < length es
+  bads : bads_from head events n es ≡ bads_from head events at (drop (at - n) es)
+
+begin_here : (head : Head) (events : List Event) (n : ℕ) (e : Event) (es : List Event) (at : ℕ) → n ≡ at → BeginAt head events n (e ∷ es) at
+begin_here head events n e es at same =
+    let none : 0 ≡ at - n = omega (arith, same) in
+    record {
+      low = omega (arith, same);
+      within = omega (arith, same);
+      bads = ap (λ k. bads_from head events k (e ∷ es)) same ∙ ap (λ k. bads_from head events at (drop k (e ∷ es))) none;
+    }
+
+begin_later : (head : Head) (events : List Event) (n : ℕ) (e : Event) (es : List Event) (at : ℕ) → failing_event head events n e ≡ None → BeginAt head events (n + 1) es at → BeginAt head events n (e ∷ es) at
+begin_later head events n e es at good h =
+    let low = h.low in
+    let within = h.within in
+    let next : suc (at - (n + 1)) ≡ at - n = omega (arith, low) in
+    record {
+      low = omega (arith, low);
+      within = omega (arith, low, within);
+      bads = ap (λ o. with_bad n e o (bads_from head events (n + 1) es)) good ∙ (h.bads ∙ ap (λ k. bads_from head events at (drop k (e ∷ es))) next);
+    }
+
+begin_by : (head : Head) (events : List Event) (n : ℕ) (e : Event) (es : List Event) (at : ℕ) (reason : Reason) (o : Option Reason) → failing_event head events n e ≡ o →
+    first_some n o (first_bad_from head events (n + 1) es) ≡ Some (at, reason) → (first_bad_from head events (n + 1) es ≡ Some (at, reason) → BeginAt head events (n + 1) es at) → BeginAt head events n (e ∷ es) at
+begin_by head events n e es at reason None is h later = begin_later head events n e es at is (later h)
+begin_by head events n e es at reason (Some r) is h later =
+    begin_here head events n e es at (ap (λ (x : ℕ × Reason). x.0) (same_Some (n, r) (at, reason) h))
+
+begins : (head : Head) (events : List Event) (n : ℕ) (es : List Event) (at : ℕ) (reason : Reason) → first_bad_from head events n es ≡ Some (at, reason) → BeginAt head events n es at
+begins head events n [] at reason h = absurd cc
+begins head events n (e ∷ es) at reason h =
+    begin_by head events n e es at reason (failing_event head events n e) refl h (begins head events (n + 1) es at reason)
+
+pub first_within : (head : Head) (events : List Event) (at : ℕ) (reason : Reason) → first_bad head events ≡ Some (at, reason) → at ≤ length events
+first_within head events at reason h = let within = (begins head events 0 events at reason h).within in omega (arith, within)
+
+pub bads_begin : (head : Head) (events : List Event) (at : ℕ) (reason : Reason) → first_bad head events ≡ Some (at, reason) → bads head events ≡ bads_from head events at (drop at events)
+bads_begin head events at reason h =
+    let all : at - 0 ≡ at = omega arith in
+    (begins head events 0 events at reason h).bads ∙ ap (λ k. bads_from head events at (drop k events)) all
+
+pub all_dropped : (P : Event → Type 0) (n : ℕ) (es : List Event) → AllByRecursion P es → AllByRecursion P (drop n es)
+all_dropped P zero es all = all
+all_dropped P (suc n) [] all = tt
+all_dropped P (suc n) (e ∷ es) all = all_dropped P n es all.1
 
 -- a list from one of its places on
 drop_head : {A : Type 0} (xs : List A) (n : ℕ) (x : A) (rest : List A) → x ∷ rest ≡ drop n xs → (slice_get xs n ≡ Some x) × (rest ≡ drop (n + 1) xs)
@@ -23,28 +87,9 @@ drop_head (y ∷ ys) (suc n) x rest e =
     let more : suc (n + 1) ≡ suc n + 1 = omega arith in
     (below.0, below.1 ∙ ap (λ k. drop k (y ∷ ys)) more)
 
--- what is left of the events, where the next one was judged
-pub bads_next : (head : Head) (events : List Event) (i : ℕ) (d : Event) (o : Option Reason) → i < length events → failing head events i ≡ o →
-    bads_from head events i (drop i events) ≡ with_bad i (get_or events i d) o (bads_from head events (i + 1) (drop (i + 1) events))
-bads_next head events i d o l f =
-    let e = get_or events i d in
-    let at : slice_get events i ≡ Some e = slice_get-get_or events i d l in
-    let is : failing_event head events i e ≡ o = ap (option_and_then (failing_event head events i)) (sym at) ∙ f in
-    ap (bads_from head events i) (drop_more events i d l)
-    ∙ ap (λ (x : Option Reason). with_bad i e x (bads_from head events (i + 1) (drop (i + 1) events))) is
-
--- the next event, where a reason fails for it, and where none does
-pub judged_bad : (head : Head) (events : List Event) (i : ℕ) (e : Event) (reason : Reason) (before : List Bad) → i < length events → e ≡ get_or events i e → failing head events i ≡ Some reason →
-    before ++ bads_from head events i (drop i events) ≡ bads head events → (before ++ bad_of i e reason ∷ []) ++ bads_from head events (i + 1) (drop (i + 1) events) ≡ bads head events
-judged_bad head events i e reason before l is f so =
-    let rest = bads_from head events (i + 1) (drop (i + 1) events) in
-    append_assoc before (bad_of i e reason ∷ []) rest
-    ∙ (ap (λ (x : Event). before ++ bad_of i x reason ∷ rest) is
-    ∙ (ap (λ (xs : List Bad). before ++ xs) (sym (bads_next head events i e (Some reason) l f)) ∙ so))
-
-pub judged_good : (head : Head) (events : List Event) (i : ℕ) (e : Event) (before : List Bad) → i < length events → failing head events i ≡ None →
-    before ++ bads_from head events i (drop i events) ≡ bads head events → before ++ bads_from head events (i + 1) (drop (i + 1) events) ≡ bads head events
-judged_good head events i e before l f so = ap (λ (xs : List Bad). before ++ xs) (sym (bads_next head events i e None l f)) ∙ so
+-- some events from one of their places on
+pub rest_of : (all es : List Event) (n : ℕ) → es ≡ all → take (length es - n) (drop n es) ≡ drop n all
+rest_of all es n same = take_rest es n ∙ ap (drop n) same
 
 -- ---- each of them is bad
 
