@@ -8,5 +8,5 @@ mod line;
 mod teller;
 
 pub use counter::Counter;
-pub use followed::Followed;
+pub use followed::{Followed, Signals};
 pub use teller::Teller;
