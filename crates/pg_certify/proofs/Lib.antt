@@ -1,7 +1,7 @@
 mod Gathered
 mod Founds
 mod Meaning
-mod Shares
+mod Segments
 pub mod Windows
 mod Accounts
 pub mod Named

@@ -15,7 +15,7 @@ use Rattle.pg_search.specs.Law.{names_moments, with_moments, AreWitness, CanBeWi
 use Rattle.pg_search.specs.Changes.{kept_of, AreKeptOf, WitnessedAmongKept}
 use Rattle.pg_search.proofs.Stepping.{take_next}
 use Rattle.pg_certify.specs.Certified.{IsFoundFor, IsUnwitnessed, IsDenied, CanBeCertified}
-use Rattle.pg_certify.specs.Shares.{end_of}
+use Rattle.pg_certify.specs.Segments.{end_of}
 use Rattle.pg_certify.specs.Windows.{Findings, IsCertifying, MayCome, CanBeAmong, IsDeniedAmong, IsFirstDenied, IsJudgedWindow, with_window, after_window}
 use Rattle.pg_certify.proofs.Founds.{named, found_witness}
 use Rattle.pg_certify.proofs.Gathered.{there_within}

@@ -1,4 +1,4 @@
 pub mod Certified
-pub mod Shares
+pub mod Segments
 pub mod Windows
 pub mod Accounts

@@ -9,7 +9,7 @@ use Rattle.pg_check.specs.Kept.{AreWellFormed}
 use Rattle.pg_search.specs.Law.{names_moments, AreWitness, CanBeWitnessed}
 use Rattle.pg_search.specs.Changes.{kept_of, AreKeptOf}
 use Rattle.pg_certify.specs.Certified.{IsUnwitnessed, IsDenied}
-use Rattle.pg_certify.specs.Shares.{end_of}
+use Rattle.pg_certify.specs.Segments.{end_of}
 
 -- its settings with the events that are kept, how many were read, and the least that no moments
 -- witness

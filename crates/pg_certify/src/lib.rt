@@ -19,7 +19,6 @@ mod laws;
 mod mapped;
 mod named_events;
 mod pages;
-mod share;
 mod walk;
 mod whole;
 mod window;

@@ -6,3 +6,4 @@ pub mod Placed
 pub mod Rules
 pub mod Seats
 pub mod Times
+pub mod Verdicts

@@ -1,94 +1,86 @@
 -- Verdicts at their places: each number of a round is one that a checker took, or one that is left.
-use Rattle.std.proofs.Common.{All, Contains, ◌≡◌, ℕ, zero, suc, ◌+◌, ◌-◌, ◌≤◌, ◌<◌, ◌||◌, nat_lt, Bool, true, false, true≢false, cond, not, List, [], ◌∷◌, length, map, filter, set, get_or, None, sym, refl, ap, ◌∙◌, subst, arith}
+use Rattle.std.proofs.Common.{All, Contains, ◌≡◌, ℕ, zero, suc, ◌+◌, ◌-◌, ◌≤◌, ◌<◌, ◌||◌, nat_lt, Bool, true, false, true≢false, cond, not, List, [], ◌∷◌, ◌++◌, length, map, filter, set, get_or, sym, refl, ap, ◌∙◌, subst, arith}
 use Rattle.std.specs.List.{range_with_len}
-use Rattle.std.proofs.lemmas.List.{get_or-set_same, get_or-set_other, length-set, ext_get_or, length-map, get_or-map}
+use Rattle.std.proofs.lemmas.List.{get_or-set_same, get_or-set_other, length-set, map-append}
 use Rattle.std.proofs.lemmas.List.Elements.{All-nil, All-head, All-tail, All-append, All-map, All-weaker, All-filter, All-from_get_or, Contains-append_left, Contains-append_right}
-use Rattle.std.proofs.lemmas.List.FromFn.{length-map-range_with_len, get_or-map-range_with_len, length-range_with_len, get_or-range_with_len}
+use Rattle.std.proofs.lemmas.List.FromFn.{length-map-range_with_len, length-range_with_len, get_or-range_with_len}
 use Rattle.std.proofs.Math.Decide.{ℕ_discrete}
-use Rattle.pg_check.specs.declared.stretch.SegmentVerdict.{SegmentVerdict}
 use Rattle.pg_pool.specs.declared.checker.Done.{Done}
 use Rattle.pg_pool.specs.declared.round.Round.{Round}
+use Rattle.pg_pool.specs.declared.told.Told.{Told}
 use Rattle.pg_pool.specs.Rounds.{round, IsIn, numbers, visited}
 use Rattle.pg_pool.specs.Seats.{Checker, has_taken, is_taken, round_of, untaken, AreOfOneRound, AreAtStart, seat_at_start, part_at_start}
-use Rattle.pg_pool.specs.Verdicts.{Found, verdict, verdicts_of, IsVerdict, placed}
-use Rattle.pg_pool.specs.Work.{HasJudged, IsDone, IsFreshIn, all_verdicts}
+use Rattle.pg_pool.specs.Verdicts.{AreVerdicts, IsTold, numbers_of, placed}
+use Rattle.pg_pool.specs.Work.{HasJudged, IsDone, IsFreshIn, all_told}
 use Rattle.pg_pool.proofs.Deals.{none_taken}
 use Rattle.pg_pool.proofs.Seats.{times_taken-none}
 
--- a checker has judged by these
-abbrev pub Judges : {B : Type 0} → Found → Round → Done B → Type 0
-Judges found r d = HasJudged found r d.seat d.verdicts.items
+-- a checker tells what is so
+abbrev pub Judges : {B V : Type 0} → (ℕ → V → Type 0) → Round → Done B V → Type 0
+Judges tells r d = HasJudged tells r d.seat d.told.items
 
-no_verdict : SegmentVerdict
-no_verdict = record { number = 0; first_bad = None }
+-- at the place of a number stands what is so of it
+record StandsAt {V : Type 0} (tells : ℕ → V → Type 0) (r : Round) (verdicts : List V) (n : ℕ) : Type 0 where
+  pub at : (d : V) → tells n (get_or verdicts (n - r.first) d)
 
--- the verdict of a number stands at its place
-record StandsAt (found : Found) (r : Round) (verdicts : List SegmentVerdict) (n : ℕ) : Type 0 where
-  pub at : get_or verdicts (n - r.first) no_verdict ≡ verdict found n
-
-length-placed : (first : ℕ) (old more : List SegmentVerdict) → length (placed first old more) ≡ length old
+length-placed : {V : Type 0} (first : ℕ) (old : List V) (more : List (Told V)) → length (placed first old more) ≡ length old
 length-placed first old [] = refl
-length-placed first old (v ∷ vs) = length-placed first (set old (v.number - first) v) vs ∙ length-set old (v.number - first) v
+length-placed first old (t ∷ ts) = length-placed first (set old (t.number - first) t.verdict) ts ∙ length-set old (t.number - first) t.verdict
 
-module _ (found : Found) (r : Round) where
-  -- one verdict more
-  puts : (old : List SegmentVerdict) (v : SegmentVerdict) (n : ℕ) → length old ≡ r.last - r.first → IsVerdict found r v → v.number ≡ n → StandsAt found r (set old (v.number - r.first) v) n
-  puts old v n size is same = record {
-    at = ap (λ (k : ℕ). get_or (set old (v.number - r.first) v) (k - r.first) no_verdict) (sym same)
-        ∙ get_or-set_same old (v.number - r.first) v no_verdict (omega (arith, size, is.0.0, is.0.1))
-        ∙ is.1
-        ∙ ap (verdict found) same;
+module _ {V : Type 0} (tells : ℕ → V → Type 0) (r : Round) where
+  -- one is told more
+  puts : (old : List V) (t : Told V) (n : ℕ) → length old ≡ r.last - r.first → IsTold tells r t → t.number ≡ n → StandsAt tells r (set old (t.number - r.first) t.verdict) n
+  puts old t n size is same = record {
+    at = λ d.
+        let there : get_or (set old (t.number - r.first) t.verdict) (n - r.first) d ≡ t.verdict =
+        ap (λ (k : ℕ). get_or (set old (t.number - r.first) t.verdict) (k - r.first) d) (sym same)
+        ∙ get_or-set_same old (t.number - r.first) t.verdict d (omega (arith, size, is.0.0, is.0.1)) in
+        subst (tells n) (sym there) (subst (λ (k : ℕ). tells k t.verdict) same is.1);
   }
 
-  keeps : (old : List SegmentVerdict) (v : SegmentVerdict) (n : ℕ) → length old ≡ r.last - r.first → IsVerdict found r v → IsIn r n → StandsAt found r old n → StandsAt found r (set old (v.number - r.first) v) n
-  keeps old v n size is within stands = elim (ℕ_discrete n v.number) [
-    | yes e ↦ puts old v n size is (sym e)
-    | no apart ↦ record { at = get_or-set_other old (v.number - r.first) (n - r.first) v no_verdict (λ e. apart (omega (arith, e, is.0.0, within.0))) ∙ stands.at }
+  keeps : (old : List V) (t : Told V) (n : ℕ) → length old ≡ r.last - r.first → IsTold tells r t → IsIn r n → StandsAt tells r old n → StandsAt tells r (set old (t.number - r.first) t.verdict) n
+  keeps old t n size is within stands = elim (ℕ_discrete n t.number) [
+    | yes e ↦ puts old t n size is (sym e)
+    | no apart ↦ record {
+      at = λ d. subst (tells n) (sym (get_or-set_other old (t.number - r.first) (n - r.first) t.verdict d (λ e. apart (omega (arith, e, is.0.0, within.0))))) (stands.at d);
+    }
   ]
 
-  stays : (old more : List SegmentVerdict) (n : ℕ) → length old ≡ r.last - r.first → All (IsVerdict found r) more → IsIn r n → StandsAt found r old n → StandsAt found r (placed r.first old more) n
+  stays : (old : List V) (more : List (Told V)) (n : ℕ) → length old ≡ r.last - r.first → All (IsTold tells r) more → IsIn r n → StandsAt tells r old n → StandsAt tells r (placed r.first old more) n
   stays old [] n size all within stands = stands
-  stays old (v ∷ vs) n size all within stands =
-      stays (set old (v.number - r.first) v) vs n (length-set old (v.number - r.first) v ∙ size) (All-tail (IsVerdict found r) v vs all) within
-      (keeps old v n size (All-head (IsVerdict found r) v vs all) within stands)
+  stays old (t ∷ ts) n size all within stands =
+      stays (set old (t.number - r.first) t.verdict) ts n (length-set old (t.number - r.first) t.verdict ∙ size) (All-tail (IsTold tells r) t ts all) within
+      (keeps old t n size (All-head (IsTold tells r) t ts all) within stands)
 
-  -- what is among the verdicts stands at its place
-  comes : (old more : List SegmentVerdict) (n : ℕ) → length old ≡ r.last - r.first → All (IsVerdict found r) more → IsIn r n → Contains more (verdict found n) → StandsAt found r (placed r.first old more) n
+  -- what is told stands at its place
+  comes : (old : List V) (more : List (Told V)) (n : ℕ) → length old ≡ r.last - r.first → All (IsTold tells r) more → IsIn r n → Contains (numbers_of more) n → StandsAt tells r (placed r.first old more) n
   comes old [] n size all within (k, less, is) = absurd (omega arith)
-  comes old (v ∷ vs) n size all within (zero, less, is) =
-      stays (set old (v.number - r.first) v) vs n (length-set old (v.number - r.first) v ∙ size) (All-tail (IsVerdict found r) v vs all) within
-      (puts old v n size (All-head (IsVerdict found r) v vs all) (ap (λ (u : SegmentVerdict). u.number) is))
-  comes old (v ∷ vs) n size all within (suc k, less, is) =
-      comes (set old (v.number - r.first) v) vs n (length-set old (v.number - r.first) v ∙ size) (All-tail (IsVerdict found r) v vs all) within (k, omega (arith, less), is)
+  comes old (t ∷ ts) n size all within (zero, less, is) =
+      stays (set old (t.number - r.first) t.verdict) ts n (length-set old (t.number - r.first) t.verdict ∙ size) (All-tail (IsTold tells r) t ts all) within
+      (puts old t n size (All-head (IsTold tells r) t ts all) is)
+  comes old (t ∷ ts) n size all within (suc k, less, is) =
+      comes (set old (t.number - r.first) t.verdict) ts n (length-set old (t.number - r.first) t.verdict ∙ size) (All-tail (IsTold tells r) t ts all) within (k, omega (arith, less), is)
 
-  -- verdicts of which each stands at its place
-  complete : (verdicts : List SegmentVerdict) → length verdicts ≡ r.last - r.first → ((n : ℕ) → IsIn r n → StandsAt found r verdicts n) → verdicts ≡ verdicts_of found r
-  complete verdicts size all =
-      ext_get_or no_verdict verdicts (verdicts_of found r) (size ∙ sym (length-map-range_with_len (verdict found) r.first (r.last - r.first)))
-      (λ i less.
-      let inside : i < r.last - r.first = omega (arith, less, size) in
-      let e : r.first + i - r.first ≡ i = omega arith in
-      ap (λ (k : ℕ). get_or verdicts k no_verdict) (sym e) ∙ (all (r.first + i) (omega arith, omega (arith, inside))).at
-      ∙ sym (get_or-map-range_with_len (verdict found) r.first (r.last - r.first) i (r.first + i) no_verdict inside refl))
+  -- what was told is of the round
+  pub told_within : (first size : ℕ) (told : List (Told V)) → first ≡ r.first → size ≡ r.last - r.first → r.first ≤ r.last → All (IsTold tells r) told → All (λ t. IsIn (round first (first + size)) t.number) told
+  told_within first size told low is ordered all =
+      All-weaker (IsTold tells r) (λ (t : Told V). IsIn (round first (first + size)) t.number) (λ t so. (omega (arith, low, so.0.0), omega (arith, low, is, ordered, so.0.1))) told all
 
-  all_right : {B : Type 0} (done : List (Done B)) → All (Judges found r) done → All (IsVerdict found r) (all_verdicts done)
-  all_right [] all = All-nil (IsVerdict found r)
+  all_right : {B : Type 0} (done : List (Done B V)) → All (Judges tells r) done → All (IsTold tells r) (all_told done)
+  all_right [] all = All-nil (IsTold tells r)
   all_right (d ∷ ds) all =
-      All-append (IsVerdict found r) d.verdicts.items (all_verdicts ds) (All-head (Judges found r) d ds all).right (all_right ds (All-tail (Judges found r) d ds all))
+      All-append (IsTold tells r) d.told.items (all_told ds) (All-head (Judges tells r) d ds all).right (all_right ds (All-tail (Judges tells r) d ds all))
 
-  -- a number that was taken has its verdict
-  taken_has : {B : Type 0} (done : List (Done B)) (n : ℕ) → All (Judges found r) done → is_taken (map (λ d. d.seat) done) n ≡ true → Contains (all_verdicts done) (verdict found n)
+  -- of a number that was taken something is told
+  taken_has : {B : Type 0} (done : List (Done B V)) (n : ℕ) → All (Judges tells r) done → is_taken (map (λ d. d.seat) done) n ≡ true → Contains (numbers_of (all_told done)) n
   taken_has [] n all taken = absurd (true≢false (sym taken))
-  taken_has (d ∷ ds) n all taken = go (has_taken d.seat n) refl (taken_has ds n (All-tail (Judges found r) d ds all))
+  taken_has (d ∷ ds) n all taken = subst (λ (l : List ℕ). Contains l n) (sym (map-append (λ (t : Told V). t.number) d.told.items (all_told ds))) (go (has_taken d.seat n) refl (taken_has ds n (All-tail (Judges tells r) d ds all)))
     where
-      go : (b : Bool) → has_taken d.seat n ≡ b → (is_taken (map (λ d. d.seat) ds) n ≡ true → Contains (all_verdicts ds) (verdict found n)) → Contains (all_verdicts (d ∷ ds)) (verdict found n)
-      go true e ih = Contains-append_left d.verdicts.items (all_verdicts ds) (verdict found n) ((All-head (Judges found r) d ds all).whole n e)
+      go : (b : Bool) → has_taken d.seat n ≡ b → (is_taken (map (λ d. d.seat) ds) n ≡ true → Contains (numbers_of (all_told ds)) n) → Contains (numbers_of d.told.items ++ numbers_of (all_told ds)) n
+      go true e ih = Contains-append_left (numbers_of d.told.items) (numbers_of (all_told ds)) n ((All-head (Judges tells r) d ds all).whole n e)
       go false e ih =
-          Contains-append_right d.verdicts.items (all_verdicts ds) (verdict found n)
+          Contains-append_right (numbers_of d.told.items) (numbers_of (all_told ds)) n
           (ih (subst (λ (b : Bool). (b || is_taken (map (λ d. d.seat) ds) n) ≡ true) e taken))
-
-contains_map : {A B : Type 0} (f : A → B) (xs : List A) (x : A) → Contains xs x → Contains (map f xs) (f x)
-contains_map f xs x (k, less, is) = (k, omega (arith, less, length-map xs f), get_or-map f xs k x (f x) less ∙ ap f is)
 
 contains_next : {A : Type 0} (y : A) (xs : List A) (x : A) → Contains xs x → Contains (y ∷ xs) x
 contains_next y xs x (k, less, is) = (suc k, omega (arith, less), is)
@@ -123,79 +115,73 @@ left_within r seats left of is =
     subst (λ (l : List ℕ). All (IsIn r) l) (sym is)
     (All-filter (λ n. not (is_taken seats n)) (IsIn r) (numbers (round_of seats)) (subst (λ (q : Round). All (IsIn r) (numbers q)) (sym of) (numbers-within r)))
 
-left_has : (found : Found) (r : Round) (seats : List Checker) (n : ℕ) → round_of seats ≡ r → is_taken seats n ≡ false → IsIn r n → Contains (map (verdict found) (untaken seats)) (verdict found n)
-left_has found r seats n of free within =
-    contains_map (verdict found) (untaken seats) n
-    (contains_filter (λ m. not (is_taken seats m)) (numbers (round_of seats)) n (ap not free)
-    (subst (λ (q : Round). Contains (numbers q) n) (sym of) (contains_range n r.first (r.last - r.first) within.0 (omega (arith, within.0, within.1)))))
+left_has : (r : Round) (seats : List Checker) (n : ℕ) → round_of seats ≡ r → is_taken seats n ≡ false → IsIn r n → Contains (untaken seats) n
+left_has r seats n of free within =
+    contains_filter (λ m. not (is_taken seats m)) (numbers (round_of seats)) n (ap not free)
+    (subst (λ (q : Round). Contains (numbers q) n) (sym of) (contains_range n r.first (r.last - r.first) within.0 (omega (arith, within.0, within.1))))
 
-round_of_judges : {B : Type 0} (found : Found) (r : Round) (done : List (Done B)) → 0 < length done → All (Judges found r) done → round_of (map (λ d. d.seat) done) ≡ r
-round_of_judges found r [] some all = absurd (omega arith)
-round_of_judges found r (d ∷ ds) some all = (All-head (Judges found r) d ds all).round
+module _ {B V : Type 0} (tells : ℕ → V → Type 0) (r : Round) where
+  round_of_judges : (done : List (Done B V)) → 0 < length done → All (Judges tells r) done → round_of (map (λ d. d.seat) done) ≡ r
+  round_of_judges [] some all = absurd (omega arith)
+  round_of_judges (d ∷ ds) some all = (All-head (Judges tells r) d ds all).round
 
-module _ {B : Type 0} (found : Found) (r : Round) where
-  pub judged_within : (done : List (Done B)) (seats : List Checker) (left : List ℕ) → 0 < length done → All (Judges found r) done → seats ≡ map (λ d. d.seat) done → left ≡ untaken seats → All (IsIn r) left
-  judged_within done seats left some all of is = left_within r seats left (ap round_of of ∙ round_of_judges found r done some all) is
+  pub judged_within : (done : List (Done B V)) (seats : List Checker) (left : List ℕ) → 0 < length done → All (Judges tells r) done → seats ≡ map (λ d. d.seat) done → left ≡ untaken seats → All (IsIn r) left
+  judged_within done seats left some all of is = left_within r seats left (ap round_of of ∙ round_of_judges done some all) is
 
-  pub one_round : (done : List (Done B)) → 0 < length done → All (Judges found r) done → AreOfOneRound (map (λ d. d.seat) done)
+  pub one_round : (done : List (Done B V)) → 0 < length done → All (Judges tells r) done → AreOfOneRound (map (λ d. d.seat) done)
   one_round done some all =
-      let first = round_of_judges found r done some all in
+      let first = round_of_judges done some all in
       let P : Checker → Type 0 = λ s. s.round ≡ round_of (map (λ d. d.seat) done) in
-      All-map P (λ (d : Done B). d.seat) done (All-weaker (Judges found r) (λ (d : Done B). P d.seat) (λ d is. is.round ∙ sym first) done all)
+      All-map P (λ (d : Done B V). d.seat) done (All-weaker (Judges tells r) (λ (d : Done B V). P d.seat) (λ d is. is.round ∙ sym first) done all)
 
-  -- the verdicts of a checker are of the round
-  pub verdicts_within : (first size : ℕ) (done : List (Done B)) → first ≡ r.first → size ≡ r.last - r.first → r.first ≤ r.last → All (Judges found r) done →
-      All (λ d. All (λ v. IsIn (round first (first + size)) v.number) d.verdicts.items) done
-  verdicts_within first size done low is ordered all =
-      All-weaker (Judges found r) (λ (d : Done B). All (λ v. IsIn (round first (first + size)) v.number) d.verdicts.items)
-      (λ d judged. All-weaker (IsVerdict found r) (λ (v : SegmentVerdict). IsIn (round first (first + size)) v.number) (λ v verdict. (omega (arith, low, verdict.0.0), omega (arith, low, is, ordered, verdict.0.1))) d.verdicts.items judged.right)
-      done all
+  pub done_within : (first size : ℕ) (done : List (Done B V)) → first ≡ r.first → size ≡ r.last - r.first → r.first ≤ r.last → All (Judges tells r) done →
+      All (λ d. All (λ t. IsIn (round first (first + size)) t.number) d.told.items) done
+  done_within first size done low is ordered all =
+      All-weaker (Judges tells r) (λ (d : Done B V). All (λ t. IsIn (round first (first + size)) t.number) d.told.items)
+      (λ d judged. told_within tells r first size d.told.items low is ordered judged.right) done all
 
   -- what is done was judged
-  pub judged_by : (keeps : B → Type 0) (done : List (Done B)) → All (IsDone keeps found r) done → All (Judges found r) done
-  judged_by keeps done all = All-weaker (IsDone keeps found r) (Judges found r) (λ d is. is.judged) done all
+  pub judged_by : (keeps : B → Type 0) (done : List (Done B V)) → All (IsDone keeps tells r) done → All (Judges tells r) done
+  judged_by keeps done all = All-weaker (IsDone keeps tells r) (Judges tells r) (λ d is. is.judged) done all
 
   -- and all keep what they should
-  pub kept_by : (keeps : B → Type 0) (done : List (Done B)) → All (IsDone keeps found r) done → All keeps (map (λ d. d.bench) done)
-  kept_by keeps done all = All-map keeps (λ (d : Done B). d.bench) done (All-weaker (IsDone keeps found r) (λ (d : Done B). keeps d.bench) (λ d is. is.kept) done all)
+  pub kept_by : (keeps : B → Type 0) (done : List (Done B V)) → All (IsDone keeps tells r) done → All keeps (map (λ d. d.bench) done)
+  kept_by keeps done all = All-map keeps (λ (d : Done B V). d.bench) done (All-weaker (IsDone keeps tells r) (λ (d : Done B V). keeps d.bench) (λ d is. is.kept) done all)
 
-in_place : {B : Type 0} (found : Found) (r : Round) (done : List (Done B)) (old : List SegmentVerdict) (left : List ℕ) → 0 < length done → All (Judges found r) done → length old ≡ r.last - r.first
-    → left ≡ untaken (map (λ d. d.seat) done) → placed r.first (placed r.first old (all_verdicts done)) (map (verdict found) left) ≡ verdicts_of found r
-in_place found r done old left some all size is =
-    let seats : List Checker = map (λ d. d.seat) done in
-    let mid : List SegmentVerdict = placed r.first old (all_verdicts done) in
-    let rest : List SegmentVerdict = map (verdict found) left in
-    let of : round_of seats ≡ r = round_of_judges found r done some all in
-    let mid_size : length mid ≡ r.last - r.first = length-placed r.first old (all_verdicts done) ∙ size in
-    let right : All (IsVerdict found r) rest = All-map (IsVerdict found r) (verdict found) left (All-weaker (IsIn r) (λ n. IsVerdict found r (verdict found n)) (λ n within. (within, refl)) left (left_within r seats left of is)) in
-    complete found r (placed r.first mid rest) (length-placed r.first mid rest ∙ mid_size)
-    (λ n within. either (is_taken seats n) (StandsAt found r (placed r.first mid rest) n)
-    (λ taken. stays found r mid rest n mid_size right within (comes found r old (all_verdicts done) n size (all_right found r done all) within (taken_has found r done n all taken)))
-    (λ free.
-    comes found r mid rest n mid_size right within
-    (subst (λ (l : List ℕ). Contains (map (verdict found) l) (verdict found n)) (sym is) (left_has found r seats n of free within))))
-  where
-    either : (b : Bool) (P : Type 0) → (b ≡ true → P) → (b ≡ false → P) → P
-    either true P yes_true yes_false = yes_true refl
-    either false P yes_true yes_false = yes_false refl
+  -- once what the checkers told and what was told of the numbers left is at its place, all is
+  pub gathered : (done here : List (Done B V)) (seats : List Checker) (old mid new : List V) (left there : List ℕ) (rest last : List (Told V)) → 0 < length done → All (Judges tells r) done → length old ≡ r.last - r.first
+      → here ≡ done → mid ≡ placed r.first old (all_told here) → seats ≡ map (λ d. d.seat) done → left ≡ untaken seats → there ≡ left → numbers_of rest ≡ there → All (IsTold tells r) rest → last ≡ rest → new ≡ placed r.first mid last
+      → AreVerdicts tells r new
+  gathered done here seats old mid new left there rest last some all size same first of is there_is numbers right last_is second =
+      subst (λ (l : List V). AreVerdicts tells r l) (sym whole) (record { len = length-placed r.first old_mid rest ∙ mid_size; each = λ n d within. (stands n within).at d })
+    where
+      old_mid : List V
+      old_mid = placed r.first old (all_told done)
 
--- all verdicts of a round, once those of its checkers and of the numbers left are at their places
-pub gathered : {B : Type 0} (found : Found) (r : Round) (done here : List (Done B)) (seats : List Checker) (old mid new : List SegmentVerdict) (left there : List ℕ) → 0 < length done → All (Judges found r) done → length old ≡ r.last - r.first
-    → here ≡ done → mid ≡ placed r.first old (all_verdicts here) → seats ≡ map (λ d. d.seat) done → left ≡ untaken seats → there ≡ left → new ≡ placed r.first mid (map (verdict found) there) → new ≡ verdicts_of found r
-gathered found r done here seats old mid new left there some all room same first of is last second =
-    let before : mid ≡ placed r.first old (all_verdicts done) = first ∙ ap (λ (l : List (Done _)). placed r.first old (all_verdicts l)) same in
-    second
-    ∙ (λ i. placed r.first (before i) (map (verdict found) (last i)))
-    ∙ in_place found r done old left some all room (is ∙ ap untaken of)
+      mid_size : length old_mid ≡ r.last - r.first
+      mid_size = length-placed r.first old (all_told done) ∙ size
 
--- a number of the round has a place
-has_place : (r : Round) (size n : ℕ) → size ≡ r.last - r.first → IsIn r n → IsIn (round r.first (r.first + size)) n
-has_place r size n is within = (within.0, omega (arith, is, within.0, within.1))
+      mid_is : mid ≡ old_mid
+      mid_is = first ∙ ap (λ (l : List (Done B V)). placed r.first old (all_told l)) same
 
-pub have_places : (r : Round) (old more now : List SegmentVerdict) (left : List ℕ) → length old ≡ r.last - r.first → now ≡ placed r.first old more → All (IsIn r) left → All (IsIn (round r.first (r.first + length now))) left
-have_places r old more now left room is all =
-    let size : length now ≡ r.last - r.first = ap (λ (l : List SegmentVerdict). length l) is ∙ length-placed r.first old more ∙ room in
-    All-weaker (IsIn r) (IsIn (round r.first (r.first + length now))) (λ n within. has_place r (length now) n size within) left all
+      whole : new ≡ placed r.first old_mid rest
+      whole = second ∙ (λ i. placed r.first (mid_is i) (last_is i))
+
+      of_round : round_of seats ≡ r
+      of_round = ap round_of of ∙ round_of_judges done some all
+
+      left_is : numbers_of rest ≡ untaken seats
+      left_is = numbers ∙ there_is ∙ is
+
+      either : (b : Bool) (P : Type 0) → (b ≡ true → P) → (b ≡ false → P) → P
+      either true P yes_true yes_false = yes_true refl
+      either false P yes_true yes_false = yes_false refl
+
+      stands : (n : ℕ) → IsIn r n → StandsAt tells r (placed r.first old_mid rest) n
+      stands n within = either (is_taken seats n) (StandsAt tells r (placed r.first old_mid rest) n)
+          (λ taken. stays tells r old_mid rest n mid_size right within
+          (comes tells r old (all_told done) n size (all_right tells r done all) within (taken_has tells r done n all (subst (λ (l : List Checker). is_taken l n ≡ true) of taken))))
+          (λ free. comes tells r old_mid rest n mid_size right within (subst (λ (l : List ℕ). Contains l n) (sym left_is) (left_has r seats n of_round free within)))
 
 -- no seat has taken anything at the start
 pub all_fresh : (r : Round) (size checkers : ℕ) (seats : List Checker) → AreAtStart r size checkers seats → All (IsFreshIn r) seats

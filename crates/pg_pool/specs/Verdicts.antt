@@ -1,25 +1,23 @@
--- The verdicts of a round.
-use Rattle.std.specs.Prelude.{◌≡◌, ℕ, ◌-◌, List, Option, fold, map, slice_set}
-use Rattle.pg_event.specs.declared.event.Reason.{Reason}
-use Rattle.pg_check.specs.declared.stretch.SegmentVerdict.{SegmentVerdict}
+-- What is told of the segments of a round.
+use Rattle.std.specs.Prelude.{◌≡◌, ℕ, ◌-◌, List, fold, length, map, slice_index_or, slice_set}
 use Rattle.pg_pool.specs.declared.round.Round.{Round}
-use Rattle.pg_pool.specs.Rounds.{IsIn, numbers}
+use Rattle.pg_pool.specs.declared.told.Told.{Told}
+use Rattle.pg_pool.specs.Rounds.{IsIn}
 
--- the first bad event of each segment, where it has one
-abbrev pub Found : Type 0
-Found = ℕ → Option (ℕ × Reason)
+-- it is of a segment of the round, and so
+abbrev pub IsTold : {V : Type 0} → (ℕ → V → Type 0) → Round → Told V → Type 0
+IsTold tells r t = IsIn r t.number × tells t.number t.verdict
 
-abbrev pub verdict : Found → ℕ → SegmentVerdict
-verdict found n = record { number = n; first_bad = found n }
+-- of which segments something is told
+abbrev pub numbers_of : {V : Type 0} → List (Told V) → List ℕ
+numbers_of told = map (λ t. t.number) told
 
--- the verdicts of all segments of a round, in order
-abbrev pub verdicts_of : Found → Round → List SegmentVerdict
-verdicts_of found r = map (verdict found) (numbers r)
+-- once more is told, each at the place of its number
+abbrev pub placed : {V : Type 0} → ℕ → List V → List (Told V) → List V
+placed first old told = fold (λ all t. slice_set all (t.number - first) t.verdict) old told
 
--- the verdict of a segment of the round
-abbrev pub IsVerdict : Found → Round → SegmentVerdict → Type 0
-IsVerdict found r v = IsIn r v.number × (v ≡ verdict found v.number)
-
--- verdicts once more have come, each to the place of its number
-abbrev pub placed : ℕ → List SegmentVerdict → List SegmentVerdict → List SegmentVerdict
-placed first old verdicts = fold (λ all v. slice_set all (v.number - first) v) old verdicts
+-- each segment of a round has its place, in order, where what stands there is so of it
+pub record AreVerdicts {V : Type 0} (tells : ℕ → V → Type 0) (r : Round) (verdicts : List V) :
+    Type 0 where
+  pub len : length verdicts ≡ r.last - r.first
+  pub each : (n : ℕ) (d : V) → IsIn r n → tells n (slice_index_or verdicts (n - r.first) d)

@@ -11,6 +11,7 @@ use crate::gate::Gate;
 use crate::round::Round;
 use crate::rounds::judge_round;
 use crate::segments::Segments;
+use crate::told::NO_VERDICT;
 use pg_check::{Memo, SegmentVerdict, Stretch};
 use std::alloc::{AllocError, Global};
 use std::marker::Model;
@@ -38,9 +39,12 @@ impl<'a> Model for OfStretch<'a> {
 
 impl<'a> Segments for OfStretch<'a> {
     ghost use Rattle.std.specs.Prelude.{◌≡◌};
+    ghost use Rattle.pg_check.specs.Segments.{segment_verdict};
     ghost use Rattle.pg_check.specs.Stretches.{IsStretch};
 
     type Bench = Memo<'a>;
+
+    type Verdict = SegmentVerdict;
 
     ghost round = { λ s. s.round };
 
@@ -48,10 +52,16 @@ impl<'a> Segments for OfStretch<'a> {
 
     ghost ends = { λ s run memo. IsStretch s.stretch run × (memo ≡ s.stretch.past.now) };
 
+    ghost tells = { λ s run n verdict. verdict ≡ segment_verdict run n };
+
     ghost again = { λ s run memo h. h };
 
     fn round(&self) -> Round {
         self.round
+    }
+
+    fn blank(&self) -> SegmentVerdict {
+        NO_VERDICT
     }
 
     fn judge(&self, memo: &mut Memo<'a>, number: u32) -> Result<SegmentVerdict, AllocError> {

@@ -1,22 +1,21 @@
 //! The work of one checker.
 ghost use Rattle.std.specs.Prelude.{◌≡◌, IfOk};
 ghost use Rattle.pg_event.specs.Spelling.{Recorded};
-ghost use Rattle.pg_check.specs.Segments.{first_bad_of_segment};
 ghost use Rattle.pg_pool.specs.Work.{IsDone, IsFresh};
 
 use crate::gate::Gate;
 use crate::seat::Seat;
 use crate::segments::Segments;
-use pg_check::SegmentVerdict;
+use crate::told::Told;
 use std::alloc::{AllocError, Global};
 
-/// What a checker gives back: what it keeps, its seat, and the verdicts of the segments that it
+/// What a checker gives back: what it keeps, its seat, and what it tells of the segments that it
 /// took.
 #[derive(Drop)]
-pub(crate) struct Done<B> {
+pub(crate) struct Done<B, V> {
     pub bench: B,
     pub seat: Seat,
-    pub verdicts: Vec<SegmentVerdict>,
+    pub told: Vec<Told<V>>,
 }
 
 /// Takes segments and judges them, until none is found, and goes through what is left of the run.
@@ -27,16 +26,16 @@ pub(crate) fn work<J: Segments, G: Gate>(
     mut bench: J::Bench,
     gate: &G,
     mut seat: Seat,
-) -> Result<Done<J::Bench>, AllocError>
+) -> Result<Done<J::Bench, J::Verdict>, AllocError>
     requires fresh { IsFresh seat }
     requires round { seat.round ≡ J.round segments.now }
     requires fits { (run : Recorded) × J.fits segments.now run bench }
     ensures { (run : Recorded) → J.fits segments.now run bench → IfOk result
-        (IsDone (J.ends segments.now run) (first_bad_of_segment run) seat.round) }
+        (IsDone (J.ends segments.now run) (J.tells segments.now run) seat.round) }
 {
     let worker = seat.number();
     let round = seat.round();
-    let mut verdicts = Vec::new(alloc);
+    let mut told = Vec::new(alloc);
     // Each turn takes another number, so no more turns than numbers are needed.
     for _ in round.first..round.last {
         let Some(number) = seat.take() else {
@@ -45,12 +44,11 @@ pub(crate) fn work<J: Segments, G: Gate>(
         gate.enter(worker, number as u64);
         let judged = segments.judge(&mut bench, number);
         gate.leave(worker, number as u64);
-        verdicts.push(judged?)?;
+        told.push(Told {
+            number,
+            verdict: judged?,
+        })?;
     }
     segments.finish(&mut bench)?;
-    Ok(Done {
-        bench,
-        seat,
-        verdicts,
-    })
+    Ok(Done { bench, seat, told })
 }

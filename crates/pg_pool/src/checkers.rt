@@ -1,7 +1,6 @@
 //! The checkers' threads.
 ghost use Rattle.std.specs.Prelude.{◌≡◌, ◌≢◌, ◌≤◌, ◌<◌, ℕ, All, Err, IfOk, IfErr, Ok, map, vec_len};
 ghost use Rattle.pg_event.specs.Spelling.{Recorded};
-ghost use Rattle.pg_check.specs.Segments.{first_bad_of_segment};
 ghost use Rattle.pg_pool.specs.Work.{IsDone, IsFresh, IsFreshIn};
 
 use crate::beside::Beside;
@@ -35,22 +34,22 @@ impl<'a, J, B> Drop for Promised<'a, J, B> {
     }
 }
 
-impl<'a, J: Segments> Promise<Result<Done<J::Bench>, AllocError>> for Promised<'a, J, J::Bench> {
+impl<'a, J: Segments> Promise<Result<Done<J::Bench, J::Verdict>, AllocError>>
+    for Promised<'a, J, J::Bench> {
     ghost use Rattle.std.specs.Prelude.{IfOk};
     ghost use Rattle.pg_event.specs.Spelling.{Recorded};
-    ghost use Rattle.pg_check.specs.Segments.{first_bad_of_segment};
     ghost use Rattle.pg_pool.specs.Work.{IsDone};
 
     ghost kept_by = { λ p done. (run : Recorded) → J.fits p.segments.now run p.began.value →
-        IfOk done (IsDone (J.ends p.segments.now run) (first_bad_of_segment run) p.round) };
+        IfOk done (IsDone (J.ends p.segments.now run) (J.tells p.segments.now run) p.round) };
 }
 
 /// What all threads did, if as many worked as were asked for and none was refused memory.
-fn settled<B: Drop>(
+fn settled<B: Drop, V: Drop>(
     alloc: Global,
-    done: Vec<Result<Done<B>, AllocError>>,
+    done: Vec<Result<Done<B, V>, AllocError>>,
     asked: usize,
-) -> Result<Vec<Done<B>>, PoolError>
+) -> Result<Vec<Done<B, V>>, PoolError>
     ensures len { IfOk result (λ all. asked ≤ vec_len all) }
     ensures items { IfOk result (λ all. done.items ≡ map (λ d. Ok d) all.items) }
     ensures thread { result ≡ Err PoolError.Thread →
@@ -80,14 +79,17 @@ pub(crate) fn run_checkers<R: Threads + Wait + Sync, J: Segments, G: Gate, B: Be
     seats: Vec<Seat>,
     benches: Vec<J::Bench>,
     beside: B,
-) -> (Result<Vec<Done<J::Bench>>, PoolError>, B::Output)
+) -> (
+    Result<Vec<Done<J::Bench, J::Verdict>>, PoolError>,
+    B::Output,
+)
     requires fresh { All (IsFreshIn (J.round segments.now)) seats.items }
     requires len { vec_len benches ≡ vec_len seats }
     requires fits { (run : Recorded) × All (J.fits segments.now run) benches.items }
     requires beside { B.can_run beside }
     ensures len { IfOk result.0 (λ done. vec_len done ≡ vec_len seats) }
     ensures done { (run : Recorded) → All (J.fits segments.now run) benches.items →
-        IfOk result.0 (λ done. All (IsDone (J.ends segments.now run) (first_bad_of_segment run)
+        IfOk result.0 (λ done. All (IsDone (J.ends segments.now run) (J.tells segments.now run)
         (J.round segments.now)) done.items) }
     ensures err { IfErr result.0 (λ e. e ≢ PoolError.Checkers) }
     ensures beside { B.gives beside result.1 }
@@ -96,7 +98,10 @@ pub(crate) fn run_checkers<R: Threads + Wait + Sync, J: Segments, G: Gate, B: Be
     thread::scope(
         thread::scope_env(),
         rt,
-        |scope| -> (Result<Vec<Done<J::Bench>>, PoolError>, B::Output)
+        |scope| -> (
+            Result<Vec<Done<J::Bench, J::Verdict>>, PoolError>,
+            B::Output,
+        )
             requires fresh { All (IsFreshIn round) seats.items }
             requires len { vec_len benches ≡ vec_len seats }
             requires round { round ≡ J.round segments.now }
@@ -105,7 +110,7 @@ pub(crate) fn run_checkers<R: Threads + Wait + Sync, J: Segments, G: Gate, B: Be
             ensures len { IfOk result.0 (λ done. vec_len done ≡ vec_len seats) }
             ensures done { (run : Recorded) →
                 All (J.fits segments.entry.now run) benches.items → IfOk result.0 (λ done.
-                All (IsDone (J.ends segments.entry.now run) (first_bad_of_segment run) round)
+                All (IsDone (J.ends segments.entry.now run) (J.tells segments.entry.now run) round)
                 done.items) }
             ensures err { IfErr result.0 (λ e. e ≢ PoolError.Checkers) }
             ensures beside { B.gives beside result.1 }
@@ -127,7 +132,7 @@ pub(crate) fn run_checkers<R: Threads + Wait + Sync, J: Segments, G: Gate, B: Be
                 };
                 let started = scope.spawn_with(
                     promised,
-                    move || -> Result<Done<J::Bench>, AllocError>
+                    move || -> Result<Done<J::Bench, J::Verdict>, AllocError>
                         requires fresh { IsFresh seat }
                         requires round { seat.round ≡ J.round segments.now }
                         requires some { (run : Recorded) × J.fits segments.now run bench }

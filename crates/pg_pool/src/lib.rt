@@ -19,6 +19,7 @@ mod seat;
 mod segments;
 mod steps;
 mod thief;
+mod told;
 mod windows;
 
 pub use auditor::audit_round;
@@ -28,5 +29,7 @@ pub use deal::open_round;
 pub use error::PoolError;
 pub use gate::{Gate, OpenGate};
 pub use round::Round;
+pub use rounds::{Outcome, judge_round};
 pub use seat::Seat;
+pub use segments::Segments;
 pub use windows::{WindowJudged, judge_window_beside};

@@ -1,63 +1,63 @@
 //! Verdicts at the places of their segments.
-ghost use Rattle.std.specs.Prelude.{◌≡◌, ◌+◌, ◌≤◌, ◌<◌, All, OnOk, length, map};
+ghost use Rattle.std.specs.Prelude.{◌≡◌, ◌+◌, All, OnOk, IfOk, length};
 ghost use Rattle.pg_event.specs.Spelling.{Recorded};
-ghost use Rattle.pg_check.specs.Segments.{segment_verdict};
 ghost use Rattle.pg_pool.specs.Rounds.{IsIn, round};
-ghost use Rattle.pg_pool.specs.Verdicts.{placed};
-ghost use Rattle.pg_pool.specs.Work.{all_verdicts};
+ghost use Rattle.pg_pool.specs.Verdicts.{IsTold, numbers_of, placed};
+ghost use Rattle.pg_pool.specs.Work.{all_told};
 
 use crate::checker::Done;
 use crate::gate::Gate;
 use crate::segments::Segments;
-use pg_check::SegmentVerdict;
-use std::alloc::AllocError;
+use crate::told::Told;
+use std::alloc::{AllocError, Global};
 
 /// Puts verdicts to the places of their numbers.
-fn place_all(verdicts: &mut [SegmentVerdict], first: u32, more: &[SegmentVerdict])
-    requires { All (λ v. IsIn (round first (first + length verdicts.old)) v.number) more.now }
-    ensures { verdicts.new ≡ placed first verdicts.old more.now }
+pub(crate) fn place_all<V: Copy>(verdicts: &mut [V], first: u32, told: &[Told<V>])
+    requires { All (λ t. IsIn (round first (first + length verdicts.old)) t.number) told.now }
+    ensures { verdicts.new ≡ placed first verdicts.old told.now }
 {
-    for verdict in more {
-        verdicts[(verdict.number - first as u64) as usize] = *verdict;
+    for one in told {
+        verdicts[(one.number - first) as usize] = one.verdict;
     }
 }
 
 /// Puts the verdicts of all checkers to the places of their numbers.
-pub(crate) fn place_done<B>(verdicts: &mut [SegmentVerdict], first: u32, done: &[Done<B>])
-    requires { All (λ d. All (λ v. IsIn (round first (first + length verdicts.old)) v.number)
-        d.verdicts.items) done.now }
-    ensures { verdicts.new ≡ placed first verdicts.old (all_verdicts done.now) }
+pub(crate) fn place_done<B, V: Copy>(verdicts: &mut [V], first: u32, done: &[Done<B, V>])
+    requires { All (λ d. All (λ t. IsIn (round first (first + length verdicts.old)) t.number)
+        d.told.items) done.now }
+    ensures { verdicts.new ≡ placed first verdicts.old (all_told done.now) }
 {
     for one in done {
-        place_all(verdicts, first, &one.verdicts);
+        place_all(verdicts, first, &one.told);
     }
 }
 
-/// Judges the segments that were left, and puts their verdicts to their places. Fails where memory
-/// is refused.
+/// Judges the segments that were left. Fails where memory is refused.
 pub(crate) fn judge_left<J: Segments, G: Gate>(
+    alloc: Global,
     segments: &J,
     gate: &G,
     worker: u32,
     bench: &mut J::Bench,
-    verdicts: &mut [SegmentVerdict],
-    first: u32,
     left: &[u32],
-) -> Result<(), AllocError>
-    requires within { All (λ n. IsIn (round first (first + length verdicts.old)) n) left.now }
+) -> Result<Vec<Told<J::Verdict>>, AllocError>
     requires round { All (IsIn (J.round segments.now)) left.now }
     requires fits { (run : Recorded) × J.fits segments.now run bench.old }
     ensures fits { (run : Recorded) → J.fits segments.now run bench.old →
         OnOk result (J.fits segments.now run bench.new) }
-    ensures placed { (run : Recorded) → J.fits segments.now run bench.old →
-        OnOk result (verdicts.new
-        ≡ placed first verdicts.old (map (segment_verdict run) left.now)) }
+    ensures told { (run : Recorded) → J.fits segments.now run bench.old → IfOk result
+        (λ told. All (IsTold (J.tells segments.now run) (J.round segments.now)) told.items) }
+    ensures numbers { IfOk result (λ told. numbers_of told.items ≡ left.now) }
 {
+    let mut told = Vec::new(alloc);
     for number in left {
         gate.enter(worker, *number as u64);
         let judged = segments.judge(bench, *number);
         gate.leave(worker, *number as u64);
-        verdicts[(*number - first) as usize] = judged?;
+        told.push(Told {
+            number: *number,
+            verdict: judged?,
+        })?;
     }
-    Ok(())
+    Ok(told)
 }

@@ -2,9 +2,8 @@
 ghost use Rattle.std.specs.Prelude.{◌≡◌, ◌≢◌, ◌-◌, ◌≤◌, ◌<◌, ℕ, All, IfOk, IfErr, map};
 ghost use Rattle.std.specs.Prelude.{vec_len};
 ghost use Rattle.pg_event.specs.Spelling.{Recorded};
-ghost use Rattle.pg_check.specs.Segments.{first_bad_of_segment};
 ghost use Rattle.pg_pool.specs.Rounds.{AreCheckers};
-ghost use Rattle.pg_pool.specs.Verdicts.{verdicts_of};
+ghost use Rattle.pg_pool.specs.Verdicts.{AreVerdicts};
 ghost use Rattle.pg_pool.specs.Work.{IsDone};
 
 use crate::beside::Beside;
@@ -14,30 +13,26 @@ use crate::close::close_round;
 use crate::deal::open_blocks;
 use crate::error::PoolError;
 use crate::gate::Gate;
-use crate::placing::{judge_left, place_done};
+use crate::placing::{judge_left, place_all, place_done};
 use crate::round::Round;
 use crate::seat::Seat;
 use crate::segments::Segments;
-use pg_check::SegmentVerdict;
 use std::alloc::{AllocError, Global};
 use std::sync::Wait;
 use std::thread::Threads;
 
-/// What stands at a place until its verdict comes.
-const NO_VERDICT: SegmentVerdict = SegmentVerdict {
-    number: 0,
-    first_bad: None,
-};
-
 /// What a round gives: the verdicts of its segments, in order, and what its checkers keep.
 #[derive(Drop)]
-pub(crate) struct Outcome<B> {
-    pub verdicts: Vec<SegmentVerdict>,
+pub struct Outcome<B, V> {
+    pub verdicts: Vec<V>,
     pub benches: Vec<B>,
 }
 
 /// The seats and what the checkers keep, apart.
-fn apart<B: Drop>(alloc: Global, done: Vec<Done<B>>) -> Result<(Vec<Seat>, Vec<B>), AllocError>
+fn apart<B: Drop, V: Drop>(
+    alloc: Global,
+    done: Vec<Done<B, V>>,
+) -> Result<(Vec<Seat>, Vec<B>), AllocError>
     ensures seats { IfOk result (λ r. r.0.items ≡ map (λ d. d.seat) done.items) }
     ensures benches { IfOk result (λ r. r.1.items ≡ map (λ d. d.bench) done.items) }
 {
@@ -47,7 +42,7 @@ fn apart<B: Drop>(alloc: Global, done: Vec<Done<B>>) -> Result<(Vec<Seat>, Vec<B
         let Done {
             bench,
             seat,
-            verdicts: _,
+            told: _,
         } = one;
         seats.push(seat)?;
         benches.push(bench)?;
@@ -63,24 +58,24 @@ fn gather<J: Segments, G: Gate>(
     gate: &G,
     round: Round,
     worker: u32,
-    done: Vec<Done<J::Bench>>,
-) -> Result<Outcome<J::Bench>, AllocError>
+    done: Vec<Done<J::Bench, J::Verdict>>,
+) -> Result<Outcome<J::Bench, J::Verdict>, AllocError>
     requires ordered { round.first ≤ round.last }
     requires round { round ≡ J.round segments.now }
     requires some { 0 < vec_len done }
     requires done { (run : Recorded)
-        × All (IsDone (J.ends segments.now run) (first_bad_of_segment run) round) done.items }
+        × All (IsDone (J.ends segments.now run) (J.tells segments.now run) round) done.items }
     ensures verdicts { (run : Recorded) →
-        All (IsDone (J.ends segments.now run) (first_bad_of_segment run) round) done.items →
-        IfOk result (λ outcome. outcome.verdicts.items
-        ≡ verdicts_of (first_bad_of_segment run) round) }
+        All (IsDone (J.ends segments.now run) (J.tells segments.now run) round) done.items →
+        IfOk result (λ outcome.
+        AreVerdicts (J.tells segments.now run) round outcome.verdicts.items) }
     ensures ends { (run : Recorded) →
-        All (IsDone (J.ends segments.now run) (first_bad_of_segment run) round) done.items →
+        All (IsDone (J.ends segments.now run) (J.tells segments.now run) round) done.items →
         IfOk result (λ outcome. All (J.ends segments.now run) outcome.benches.items) }
     ensures len { IfOk result (λ outcome. vec_len outcome.benches ≡ vec_len done) }
 {
     let count = (round.last - round.first) as usize;
-    let mut verdicts = Vec::from_elem(alloc, NO_VERDICT, count)?;
+    let mut verdicts = Vec::from_elem(alloc, segments.blank(), count)?;
     place_done(&mut verdicts, round.first, &done);
     let (seats, mut benches) = apart(alloc, done)?;
     let left = close_round(alloc, seats)?;
@@ -88,15 +83,8 @@ fn gather<J: Segments, G: Gate>(
     let Some(mut bench) = benches.pop() else {
         unreachable!()
     };
-    judge_left(
-        segments,
-        gate,
-        worker,
-        &mut bench,
-        &mut verdicts,
-        round.first,
-        &left,
-    )?;
+    let told = judge_left(alloc, segments, gate, worker, &mut bench, &left)?;
+    place_all(&mut verdicts, round.first, &told);
     // Nothing is left to go through, but only this says that the bench is at the end still.
     segments.finish(&mut bench)?;
     benches.push_reserved(bench);
@@ -119,19 +107,18 @@ fn gather_done<J: Segments, G: Gate>(
     segments: &J,
     gate: &G,
     worker: u32,
-    done: Result<Vec<Done<J::Bench>>, PoolError>,
-) -> Result<Outcome<J::Bench>, PoolError>
+    done: Result<Vec<Done<J::Bench, J::Verdict>>, PoolError>,
+) -> Result<Outcome<J::Bench, J::Verdict>, PoolError>
     requires ordered { (J.round segments.now).first ≤ (J.round segments.now).last }
     requires some { IfOk done (λ all. 0 < vec_len all) }
     requires done { (run : Recorded) × IfOk done (λ all. All (IsDone (J.ends segments.now run)
-        (first_bad_of_segment run) (J.round segments.now)) all.items) }
+        (J.tells segments.now run) (J.round segments.now)) all.items) }
     requires err { IfErr done (λ e. e ≢ PoolError.Checkers) }
     ensures verdicts { (run : Recorded) → IfOk done (λ all. All (IsDone (J.ends segments.now run)
-        (first_bad_of_segment run) (J.round segments.now)) all.items) →
-        IfOk result (λ outcome. outcome.verdicts.items
-        ≡ verdicts_of (first_bad_of_segment run) (J.round segments.now)) }
+        (J.tells segments.now run) (J.round segments.now)) all.items) → IfOk result (λ outcome.
+        AreVerdicts (J.tells segments.now run) (J.round segments.now) outcome.verdicts.items) }
     ensures ends { (run : Recorded) → IfOk done (λ all. All (IsDone (J.ends segments.now run)
-        (first_bad_of_segment run) (J.round segments.now)) all.items) →
+        (J.tells segments.now run) (J.round segments.now)) all.items) →
         IfOk result (λ outcome. All (J.ends segments.now run) outcome.benches.items) }
     ensures len { (n : ℕ) → IfOk done (λ all. vec_len all ≡ n) →
         IfOk result (λ outcome. vec_len outcome.benches ≡ n) }
@@ -146,21 +133,21 @@ fn gather_done<J: Segments, G: Gate>(
 /// The outcome of a round by checkers that begin with what is given, and what the work beside them
 /// gives. The calling thread does that work while they judge, and then judges what they left, as
 /// the worker after the last of them.
-pub(crate) fn judge_round<R: Threads + Wait + Sync, J: Segments, G: Gate, B: Beside>(
+pub fn judge_round<R: Threads + Wait + Sync, J: Segments, G: Gate, B: Beside>(
     rt: &R,
     alloc: Global,
     segments: &J,
     gate: &G,
     benches: Vec<J::Bench>,
     beside: B,
-) -> (Result<Outcome<J::Bench>, PoolError>, B::Output)
+) -> (Result<Outcome<J::Bench, J::Verdict>, PoolError>, B::Output)
     requires ordered { (J.round segments.now).first ≤ (J.round segments.now).last }
     requires checkers { AreCheckers (vec_len benches) }
     requires fits { (run : Recorded) × All (J.fits segments.now run) benches.items }
     requires beside { B.can_run beside }
     ensures verdicts { (run : Recorded) → All (J.fits segments.now run) benches.items →
-        IfOk result.0 (λ outcome. outcome.verdicts.items
-        ≡ verdicts_of (first_bad_of_segment run) (J.round segments.now)) }
+        IfOk result.0 (λ outcome.
+        AreVerdicts (J.tells segments.now run) (J.round segments.now) outcome.verdicts.items) }
     ensures ends { (run : Recorded) → All (J.fits segments.now run) benches.items →
         IfOk result.0 (λ outcome. All (J.ends segments.now run) outcome.benches.items) }
     ensures len { IfOk result.0 (λ outcome. vec_len outcome.benches ≡ vec_len benches) }

@@ -12,6 +12,7 @@ use crate::gate::Gate;
 use crate::round::Round;
 use crate::rounds::judge_round;
 use crate::segments::Segments;
+use crate::told::NO_VERDICT;
 use pg_check::{Judge, SegmentVerdict, Window};
 use std::alloc::{AllocError, Global};
 use std::marker::Model;
@@ -36,10 +37,14 @@ impl<'a> Drop for OfWindow<'a> {
 }
 
 impl<'a> Segments for OfWindow<'a> {
+    ghost use Rattle.std.specs.Prelude.{◌≡◌};
     ghost use Rattle.pg_check.specs.Judging.{HasNoted};
+    ghost use Rattle.pg_check.specs.Segments.{segment_verdict};
     ghost use Rattle.pg_pool.specs.Windows.{Fits};
 
     type Bench = Judge;
+
+    type Verdict = SegmentVerdict;
 
     ghost round = { λ s. s.round };
 
@@ -48,10 +53,16 @@ impl<'a> Segments for OfWindow<'a> {
     ghost ends = { λ s run judge.
         Fits s.window.now run judge × HasNoted judge run.head run.events };
 
+    ghost tells = { λ s run n verdict. verdict ≡ segment_verdict run n };
+
     ghost again = { λ s run judge h. h.0 };
 
     fn round(&self) -> Round {
         self.round
+    }
+
+    fn blank(&self) -> SegmentVerdict {
+        NO_VERDICT
     }
 
     fn judge(&self, judge: &mut Judge, number: u32) -> Result<SegmentVerdict, AllocError> {

@@ -1,16 +1,22 @@
-use Rattle.std.proofs.Common.{◌≡◌, ℕ, ◌+◌, length, arith, subst, sym, Ok, None}
-use Rattle.pg_certify.specs.Shares.{IsDealtBelow, IsLeastDenied}
-use Rattle.pg_certify.proofs.Shares.{answer_is, one_denied}
+use Rattle.std.proofs.Common.{◌≡◌, ℕ, length, arith, subst, Some, None}
+use Rattle.pg_certify.proofs.Segments.{FoundBelow, answer_at, first_of, found_more, none_of}
 use Rattle.pg_certify.proofs.crew.least_of.Goals as goal
 
+pub loop-answer-init : goal.loop-answer-init
+loop-answer-init c = λ head events are k inside lt. absurd (omega (arith, lt))
+
 pub loop-answer-preserved : goal.loop-answer-preserved
-loop-answer-preserved c = λ checkers head events each.
+loop-answer-preserved c = λ head events are.
     let i : ℕ = c.loop-answer.answer-index in
-    let this = answer_is checkers head events c.args.answers.now i c.in-Ok.denied (Ok None) each c.loop-answer-test.true c.in-Ok.is in
-    subst (IsLeastDenied (IsDealtBelow checkers events (i + 1)) head events) (sym c.earlier-least.ensures)
-    (one_denied head events checkers i c.loop-answer.least c.in-Ok.denied (c.loop-answer.invariant checkers head events each) this)
+    found_more head events i (c.loop-answer.invariant head events are) (answer_at head events c.args.answers.now i None None are c.loop-answer-test.true c.in-None.is)
+
+pub returns-in-Some : goal.returns-in-Some
+returns-in-Some c = λ head events are.
+    let i : ℕ = c.loop-answer.answer-index in
+    first_of head events i (length c.args.answers.now) c.in-Some.number c.loop-answer-test.true (c.loop-answer.invariant head events are)
+    (answer_at head events c.args.answers.now i (Some c.in-Some.number) None are c.loop-answer-test.true c.in-Some.is)
 
 pub returns : goal.returns
-returns c = λ checkers head events each.
+returns c = λ head events are.
     let end : c.loop-answer.answer-index ≡ length c.args.answers.now = omega (arith, c.loop-answer-test.false, c.loop-answer.auto.answer-index-end) in
-    subst (λ n. IsLeastDenied (IsDealtBelow checkers events n) head events c.loop-answer.least) end (c.loop-answer.invariant checkers head events each)
+    none_of head events (length c.args.answers.now) (subst (FoundBelow head events) end (c.loop-answer.invariant head events are))

@@ -1,12 +1,11 @@
 use Rattle.std.proofs.Common.{◌≡◌}
 use Rattle.pg_event.specs.Spelling.{Recorded}
-use Rattle.pg_check.specs.Segments.{first_bad_of_segment}
 use Rattle.pg_pool.specs.Work.{HasJudged}
 use Rattle.pg_pool.proofs.checker.work.Given as goal
 
 abbrev pub invariant-loop : goal.invariant-loop
 invariant-loop g l = record {
   fits : (run : Recorded) → g.J.Segments.fits l.segments run l.fn.bench → g.J.Segments.fits l.segments run l.bench;
-  judged : (run : Recorded) → g.J.Segments.fits l.segments run l.fn.bench → HasJudged (first_bad_of_segment run) l.fn.seat.round l.seat l.verdicts.items;
+  judged : (run : Recorded) → g.J.Segments.fits l.segments run l.fn.bench → HasJudged (g.J.Segments.tells l.segments run) l.fn.seat.round l.seat l.told.items;
   round : l.seat.round ≡ l.fn.seat.round;
 }

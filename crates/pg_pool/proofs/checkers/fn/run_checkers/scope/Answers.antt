@@ -5,7 +5,6 @@ use Rattle.std.proofs.lemmas.Grind.{common_steps}
 use Rattle.std.proofs.lemmas.List.{length-map}
 use Rattle.std.proofs.lemmas.List.Elements.{All-head, All-pop, All-push, All-rest}
 use Rattle.std.specs.declared.option.Option.TheVariants.{Some}
-use Rattle.pg_check.specs.Segments.{first_bad_of_segment}
 use Rattle.pg_pool.specs.declared.checkers.Promised.{Promised}
 use Rattle.pg_pool.specs.declared.checker.Done.{Done}
 use Rattle.pg_pool.specs.declared.round.Round.{Round}
@@ -17,7 +16,7 @@ use Rattle.pg_pool.proofs.checkers.fn.run_checkers.scope.Goals as goal
 
 -- the handle of a checker's thread
 abbrev Handle : Over → Type 0
-Handle g = PromisedHandle (Result (Done g.row.J-Bench.Denot) AllocError) (Promised g.row.J.Denot g.row.J-Bench.Denot)
+Handle g = PromisedHandle (Result (Done g.row.J-Bench.Denot g.row.J-Verdict.Denot) AllocError) (Promised g.row.J.Denot g.row.J-Bench.Denot)
 
 pub spawn_with-started-requires-clause-runs : goal.spawn_with-started-requires-clause-runs
 spawn_with-started-requires-clause-runs g c = λ κs within.
@@ -60,19 +59,19 @@ pub returns-in-Ok-join_promised : goal.returns-in-Ok-join_promised
 returns-in-Ok-join_promised g c =
     let was = c.loop-seat.invariant in
     record {
-      len = if_both _ _ _ c.settled.result (λ all lower items. omega (arith, lower, ap length items, length-map {B = Result (Done g.row.J-Bench.Denot) AllocError} all.items (λ d. Ok d), all.ok.0, c.in-Ok-join_promised.done.ok.0, c.in-Ok-join_promised.ensures.len, c.loop-seat.invariant.count, c.len-asked.ensures)) c.settled.ensures.len c.settled.ensures.items;
+      len = if_both _ _ _ c.settled.result (λ all lower items. omega (arith, lower, ap length items, length-map {B = Result (Done g.row.J-Bench.Denot g.row.J-Verdict.Denot) AllocError} all.items (λ d. Ok d), all.ok.0, c.in-Ok-join_promised.done.ok.0, c.in-Ok-join_promised.ensures.len, c.loop-seat.invariant.count, c.len-asked.ensures)) c.settled.ensures.len c.settled.ensures.items;
       done = λ run fits.
           if_one _ _ c.settled.result
           (λ all items.
-          all_kept (IsDone (g.J.Segments.ends c.captures.segments.now run) (first_bad_of_segment run) c.captures.round) c.in-Ok-join_promised.done.items all.items items
+          all_kept (IsDone (g.J.Segments.ends c.captures.segments.now run) (g.J.Segments.tells c.captures.segments.now run) c.captures.round) c.in-Ok-join_promised.done.items all.items items
           (λ i d less.
           let inside : i < vec_len c.loop-seat.handles = omega (arith, less, c.in-Ok-join_promised.done.ok.0, c.in-Ok-join_promised.ensures.len) in
           let at = (c.in-Ok-join_promised.ensures.each i d inside).1 in
           let r = get_or c.in-Ok-join_promised.done.items i d in
           let h = get_or c.loop-seat.handles.items i at.handle in
-          let kept = subst (λ (k : Handle g). g.J.Segments.fits k.promise.segments.now run k.promise.began.value → IfOk r (IsDone (g.J.Segments.ends k.promise.segments.now run) (first_bad_of_segment run) k.promise.round)) at.handle_is (at.kept run) in
-          let there = subst (λ (s : g.row.J.Denot). g.J.Segments.fits s run h.promise.began.value → IfOk r (IsDone (g.J.Segments.ends s run) (first_bad_of_segment run) h.promise.round)) (was.segments i at.handle inside) kept in
-          subst (λ (q : Round). IfOk r (IsDone (g.J.Segments.ends c.captures.segments.now run) (first_bad_of_segment run) q)) (was.round i at.handle inside) (there (was.began run fits i at.handle inside))))
+          let kept = subst (λ (k : Handle g). g.J.Segments.fits k.promise.segments.now run k.promise.began.value → IfOk r (IsDone (g.J.Segments.ends k.promise.segments.now run) (g.J.Segments.tells k.promise.segments.now run) k.promise.round)) at.handle_is (at.kept run) in
+          let there = subst (λ (s : g.row.J.Denot). g.J.Segments.fits s run h.promise.began.value → IfOk r (IsDone (g.J.Segments.ends s run) (g.J.Segments.tells s run) h.promise.round)) (was.segments i at.handle inside) kept in
+          subst (λ (q : Round). IfOk r (IsDone (g.J.Segments.ends c.captures.segments.now run) (g.J.Segments.tells c.captures.segments.now run) q)) (was.round i at.handle inside) (there (was.began run fits i at.handle inside))))
           c.settled.ensures.items;
       err = c.settled.ensures.err;
       beside = c.run-output.ensures;
