@@ -9,13 +9,13 @@ use Rattle.pg_script.specs.declared.instruction.Instruction.{Instruction}
 use Rattle.pg_script.specs.Reading.{Scripted}
 use Rattle.pg_script.specs.Tasks.{IsWellFormed, instructions_of}
 use Rattle.pg_world.specs.Recording.{Recording}
-use Rattle.pg_home.specs.declared.advance.Advance.{Advance}
-use Rattle.pg_home.specs.CoreRun.{unwritten, IsCoreRun}
-use Rattle.pg_home.specs.Laws.{IsQuiet}
-use Rattle.pg_home.specs.Transcripts.{IsTold, AreWellFormed, AreTold}
-use Rattle.pg_home.specs.Turn.{Processor, Turned, fresh, IsTurn}
-use Rattle.pg_home.proofs.Runs.{core_runs_go_on, fresh_are_quiet}
-use Rattle.pg_home.proofs.Transcripts.{fresh_are_told}
+use Rattle.pg_guest.specs.declared.advance.Advance.{Advance}
+use Rattle.pg_guest.specs.CoreRun.{unwritten, IsCoreRun}
+use Rattle.pg_guest.specs.Laws.{IsQuiet}
+use Rattle.pg_guest.specs.Transcripts.{IsTold, AreWellFormed, AreTold}
+use Rattle.pg_guest.specs.Turn.{Processor, Turned, fresh, IsTurn}
+use Rattle.pg_guest.proofs.CoreRuns.{core_runs_go_on, fresh_are_quiet}
+use Rattle.pg_guest.proofs.Transcripts.{fresh_are_told}
 use Rattle.pg_guest.specs.Held.{Held, seen}
 use Rattle.pg_guest.specs.Runs.{IsPlaced, ArePlaced, IsNew, AreNew}
 use Rattle.pg_guest.specs.Steps.{IsOfRun}

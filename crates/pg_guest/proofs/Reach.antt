@@ -17,7 +17,7 @@ use Rattle.pg_script.specs.declared.instruction.Instruction.TheVariants.{Access}
 use Rattle.pg_script.specs.Tasks.{event_of, IsWellFormed}
 use Rattle.pg_shadow.specs.Caches.{is_page_shift, levels_to, IsBlock, IsTableAt, IsPageAt}
 use Rattle.pg_world.specs.Walks.{levels_above, is_table_address, is_walk}
-use Rattle.pg_home.specs.Turn.{from_root, from_table}
+use Rattle.pg_guest.specs.Turn.{from_root, from_table}
 
 -- ---- the address
 

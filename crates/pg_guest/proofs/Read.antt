@@ -13,10 +13,10 @@ use Rattle.pg_world.specs.declared.walk.LevelRead.TheVariants.{Entry, Fault, Ass
 use Rattle.pg_world.specs.declared.walk.Walk.{Walk}
 use Rattle.pg_world.specs.Recording.{Recording}
 use Rattle.pg_world.specs.Walks.{moments_of, found_in, after_found}
-use Rattle.pg_home.specs.declared.advance.Advance.{Advance}
-use Rattle.pg_home.specs.declared.advance.Advance.TheVariants as answers
-use Rattle.pg_home.specs.declared.advance.Stop.{Stop}
-use Rattle.pg_home.specs.Turn.{Processor, Turned, ComesTo, MayStop, refused_by, has_page, keeps, after_read, reads}
+use Rattle.pg_guest.specs.declared.advance.Advance.{Advance}
+use Rattle.pg_guest.specs.declared.advance.Advance.TheVariants as answers
+use Rattle.pg_guest.specs.declared.advance.Stop.{Stop}
+use Rattle.pg_guest.specs.Turn.{Processor, Turned, ComesTo, MayStop, refused_by, has_page, keeps, after_read, reads}
 use Rattle.pg_guest.specs.Steps.{answer_of}
 
 pub leaf_so : (r : Recording) (x : Processor) (walk : Walk) (t : Turned) (value frame shift : ℕ) (global_bit is_dirty : Bool) (rights : Rights) (moments all : List ℕ) (kind : Kind) →

@@ -1,9 +1,9 @@
 -- Why a call that is well formed is refused.
 use Rattle.std.proofs.Common.{◌≡◌, ◌⊎◌, ℕ, Bool, true, false, ◌&&◌, cond, Option, Some, None, refl, sym, ◌∙◌, ap, subst, inl, inr}
 use Rattle.pg_entry.specs.declared.Level.{Level}
-use Rattle.pg_home.specs.declared.advance.Stop.{Stop}
-use Rattle.pg_home.specs.declared.advance.Stop.TheVariants as stops
-use Rattle.pg_home.specs.Turn.{MayStop, refused_by}
+use Rattle.pg_guest.specs.declared.advance.Stop.{Stop}
+use Rattle.pg_guest.specs.declared.advance.Stop.TheVariants as stops
+use Rattle.pg_guest.specs.Turn.{MayStop, refused_by}
 use Rattle.pg_world.specs.declared.error.WorldError.{WorldError}
 use Rattle.pg_world.specs.declared.error.WorldError.TheVariants as errors
 use Rattle.pg_world.specs.declared.walk.LevelRead.{LevelRead}

@@ -5,8 +5,8 @@ use Rattle.pg_event.specs.Heads.{Head}
 use Rattle.pg_script.specs.declared.instruction.Instruction.{Instruction}
 use Rattle.pg_script.specs.Tasks.{IsWellFormed}
 use Rattle.pg_world.specs.Recording.{Recording}
-use Rattle.pg_home.specs.Turn.{Processor, Turned, IsTurn}
-use Rattle.pg_home.proofs.Leaves.{turns_leave}
+use Rattle.pg_guest.specs.Turn.{Processor, Turned, IsTurn}
+use Rattle.pg_guest.proofs.Leaves.{turns_leave}
 use Rattle.pg_guest.specs.Steps.{IsOfRun}
 
 -- a processor stays one of its run

@@ -5,10 +5,10 @@ use Rattle.pg_event.specs.Form.{access_kind}
 use Rattle.pg_script.specs.declared.instruction.Instruction.{Instruction}
 use Rattle.pg_script.specs.declared.instruction.Instruction.TheVariants.{Write, Access, MovCr3, Invlpg, Invpcid, MovCr4Pge}
 use Rattle.pg_shadow.specs.declared.entries.Found.TheVariants.{Miss}
-use Rattle.pg_home.specs.declared.advance.Advance.TheVariants.{Stopped}
-use Rattle.pg_home.specs.declared.advance.Stop.{Stop}
-use Rattle.pg_home.specs.Turn.{Processor, Turned, begun, turned, turned_by, IsTurn}
-use Rattle.pg_home.proofs.Cases.{goes_on_any}
+use Rattle.pg_guest.specs.declared.advance.Advance.TheVariants.{Stopped}
+use Rattle.pg_guest.specs.declared.advance.Stop.{Stop}
+use Rattle.pg_guest.specs.Turn.{Processor, Turned, begun, turned, turned_by, IsTurn}
+use Rattle.pg_guest.proofs.Cases.{goes_on_any}
 use Rattle.pg_world.specs.Recording.{Recording}
 
 -- what a turn comes to by itself is never a stop

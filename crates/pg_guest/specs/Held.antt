@@ -5,7 +5,7 @@ use Rattle.pg_shadow.specs.declared.entries.Found.{Found}
 use Rattle.pg_shadow.specs.Find.{IsInRange}
 use Rattle.pg_shadow.specs.Held as shadows
 use Rattle.pg_world.specs.declared.receipt.Receipt.{Receipt}
-use Rattle.pg_home.specs.Turn.{Processor}
+use Rattle.pg_guest.specs.Turn.{Processor}
 
 -- its number and instructions, the number of the next one, the walk under way for it, the receipts
 -- of its events, and its shadow

@@ -1,3 +1,11 @@
+pub mod Turn
+pub mod CoreRun
+pub mod Leaves
+pub mod Home
+pub mod Laws
+pub mod Transcripts
+pub mod Progress
+pub mod Assists
 pub mod Held
 pub mod Steps
 pub mod Runs

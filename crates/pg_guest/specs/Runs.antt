@@ -5,13 +5,13 @@ use Rattle.pg_event.specs.Witness.{Accepted}
 use Rattle.pg_script.specs.Reading.{Scripted}
 use Rattle.pg_script.specs.Tasks.{instructions_of}
 use Rattle.pg_world.specs.Recording.{Recording}
-use Rattle.pg_home.specs.declared.advance.Advance.{Advance}
-use Rattle.pg_home.specs.declared.advance.Advance.TheVariants.{Stopped}
-use Rattle.pg_home.specs.declared.advance.Stop.{Stop}
-use Rattle.pg_home.specs.Turn.{Processor, fresh}
+use Rattle.pg_guest.specs.declared.advance.Advance.{Advance}
+use Rattle.pg_guest.specs.declared.advance.Advance.TheVariants.{Stopped}
+use Rattle.pg_guest.specs.declared.advance.Stop.{Stop}
+use Rattle.pg_guest.specs.Turn.{Processor, fresh}
 use Rattle.pg_shadow.specs.declared.entries.Found.TheVariants.{Miss}
-use Rattle.pg_home.specs.Home.{HasSoundCaches}
-use Rattle.pg_home.specs.Laws.{KeepsHome}
+use Rattle.pg_guest.specs.Home.{HasSoundCaches}
+use Rattle.pg_guest.specs.Laws.{KeepsHome}
 use Rattle.pg_guest.specs.Held.{Held, seen}
 use Rattle.pg_guest.specs.Steps.{IsOfRun}
 

@@ -10,11 +10,11 @@ use Rattle.pg_world.specs.declared.walk.LevelRead.{LevelRead}
 use Rattle.pg_world.specs.declared.walk.LevelRead.TheVariants.{Entry, Fault, Assisted}
 use Rattle.pg_world.specs.declared.error.WorldError.{WorldError}
 use Rattle.pg_world.specs.declared.error.WorldError.TheVariants as errors
-use Rattle.pg_home.specs.declared.advance.Advance.{Advance}
-use Rattle.pg_home.specs.declared.advance.Advance.TheVariants as answers
-use Rattle.pg_home.specs.declared.advance.Stop.{Stop}
-use Rattle.pg_home.specs.declared.advance.Stop.TheVariants as stops
-use Rattle.pg_home.specs.Turn.{Processor}
+use Rattle.pg_guest.specs.declared.advance.Advance.{Advance}
+use Rattle.pg_guest.specs.declared.advance.Advance.TheVariants as answers
+use Rattle.pg_guest.specs.declared.advance.Stop.{Stop}
+use Rattle.pg_guest.specs.declared.advance.Stop.TheVariants as stops
+use Rattle.pg_guest.specs.Turn.{Processor}
 
 -- a processor is number p of a run with these settings: its MAXPHYADDR is the run's, and its
 -- instructions are well formed

@@ -4,12 +4,12 @@ ghost use Rattle.std.specs.Prelude.{◌≡◌, ◌≢◌, ◌≤◌, true, OnOk,
 ghost use Rattle.std.specs.Prelude.{MatchResult, Err, None};
 ghost use Rattle.pg_world.specs.Recording.{receipt_of, with_event};
 ghost use Rattle.pg_world.specs.Walks.{is_walk, found_in, after_found};
-ghost use Rattle.pg_home.specs.Turn.{MayStop, refused_event, refused_by};
+ghost use Rattle.pg_guest.specs.Turn.{MayStop, refused_event, refused_by};
 ghost use Rattle.pg_guest.specs.Steps.{IsOwnEvent, IsStopOf, answer_of};
 
 use pg_entry::Cfg;
 use pg_event::Event;
-use pg_home::{Advance, Stop};
+use crate::advance::{Advance, Stop};
 use pg_world::{LevelRead, Receipt, Walk, World, WorldError};
 
 /// What paging depends on in this world.

@@ -2,15 +2,15 @@
 
 ghost use Rattle.std.specs.Prelude.{◌≡◌, ◌<◌, length, map, IfOk, OnErr};
 ghost use Rattle.std.specs.List.{AllByRecursion};
-ghost use Rattle.pg_home.specs.CoreRun.{unwritten, IsCoreRun};
-ghost use Rattle.pg_home.specs.Laws.{IsQuiet};
-ghost use Rattle.pg_home.specs.Leaves.{LeaveAll};
-ghost use Rattle.pg_home.specs.Transcripts.{AreTold};
+ghost use Rattle.pg_guest.specs.CoreRun.{unwritten, IsCoreRun};
+ghost use Rattle.pg_guest.specs.Laws.{IsQuiet};
+ghost use Rattle.pg_guest.specs.Leaves.{LeaveAll};
+ghost use Rattle.pg_guest.specs.Transcripts.{AreTold};
 ghost use Rattle.pg_guest.specs.Held.{seen};
 ghost use Rattle.pg_guest.specs.Runs.{ArePlaced, IsNew, AreNew};
 
 use crate::processor::Processor;
-use pg_home::Advance;
+use crate::advance::Advance;
 use pg_script::Script;
 use pg_world::World;
 use std::alloc::{AllocError, Global};

@@ -2,9 +2,9 @@ ghost use Rattle.std.specs.Prelude.{◌≡◌, ◌+◌, ◌<◌, ◌++◌, ◌�
 ghost use Rattle.pg_event.specs.Spelling.{IsHead};
 ghost use Rattle.pg_shadow.specs.Held.{seen as cached};
 ghost use Rattle.pg_shadow.specs.Caches.{after};
-ghost use Rattle.pg_home.specs.Turn.{fresh, carried_out, ComesTo, IsTurn};
-ghost use Rattle.pg_home.specs.Leaves.{Leaves};
-ghost use Rattle.pg_home.specs.Transcripts.{KeepsTold};
+ghost use Rattle.pg_guest.specs.Turn.{fresh, carried_out, ComesTo, IsTurn};
+ghost use Rattle.pg_guest.specs.Leaves.{Leaves};
+ghost use Rattle.pg_guest.specs.Transcripts.{KeepsTold};
 ghost use Rattle.pg_guest.specs.Held.{seen};
 ghost use Rattle.pg_guest.specs.Runs.{StaysAtHome, StaysIfStopped};
 ghost use Rattle.pg_guest.specs.Steps.{IsOfRun, IsOwnEvent};
@@ -14,7 +14,7 @@ mod walking;
 
 use crate::calls::record;
 use pg_event::{Event, Header};
-use pg_home::{Advance, Stop};
+use crate::advance::{Advance, Stop};
 use pg_script::Instruction;
 use pg_shadow::{Found, Shadow};
 use pg_world::{Receipt, World};

@@ -1,7 +1,7 @@
 //! Where a walk reads next, and what an access comes to.
 
 ghost use Rattle.std.specs.Prelude.{◌≡◌, ◌≤◌, ◌<◌, ◌%◌, ◌^◌, ◌+◌};
-ghost use Rattle.pg_home.specs.Turn.{from_root, from_table, outcome_of};
+ghost use Rattle.pg_guest.specs.Turn.{from_root, from_table, outcome_of};
 
 use pg_entry::{AccessKind, Cause, Cfg, Level, Rights, allowed, error_code, page_size};
 use pg_event::{Control, Moments, Outcome, below, root_of};

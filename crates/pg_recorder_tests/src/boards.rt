@@ -5,7 +5,7 @@ use crate::written::{receipt_of, script_of};
 use pg_guest::Advance;
 use pg_progress::{Counts, Progress, Publisher};
 use pg_script::Script;
-use pg_threads::Board;
+use pg_runner::Board;
 use std::alloc::{AllocError, Global};
 use std::test::Fail;
 

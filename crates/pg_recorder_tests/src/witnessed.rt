@@ -4,7 +4,7 @@ use pg_event::{Event, well_formed};
 use pg_guest::Advance;
 use pg_progress::Progress;
 use pg_script::Script;
-use pg_threads::Board;
+use pg_runner::Board;
 use std::alloc::Global;
 use std::test::Fail;
 

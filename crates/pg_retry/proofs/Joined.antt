@@ -1,9 +1,9 @@
 -- A core run and one that goes on from its end are one core run.
 use Rattle.std.proofs.Common.{ℕ, List, [], ◌∷◌, ◌++◌, sym, subst, ap}
 use Rattle.std.specs.Prelude.{slice_set}
-use Rattle.pg_home.specs.declared.advance.Advance.{Advance}
-use Rattle.pg_home.specs.CoreRun.{IsCoreRun}
-use Rattle.pg_home.specs.Turn.{Processor}
+use Rattle.pg_guest.specs.declared.advance.Advance.{Advance}
+use Rattle.pg_guest.specs.CoreRun.{IsCoreRun}
+use Rattle.pg_guest.specs.Turn.{Processor}
 use Rattle.pg_world.specs.Recording.{Recording}
 
 pub joined : (r : Recording) (xs : List Processor) (ps : List ℕ) (answers : List Advance) (mid : Recording) (mids : List Processor) (qs : List ℕ) (more : List Advance) (end : Recording) (ys : List Processor)

@@ -1,11 +1,11 @@
 -- What calls come to that are called once more where memory was refused.
 use Rattle.std.specs.Prelude.{◌≡◌, ◌≢◌, ℕ, ◌+◌, ◌%◌, ◌^◌, ◌⊎◌, List, [], ◌∷◌, map}
 use Rattle.pg_guest.specs.Held.{Held, seen}
-use Rattle.pg_home.specs.declared.advance.Advance.{Advance}
-use Rattle.pg_home.specs.declared.advance.Advance.TheVariants.{Stopped}
-use Rattle.pg_home.specs.declared.advance.Stop.TheVariants.{Memory}
-use Rattle.pg_home.specs.CoreRun.{IsCoreRun}
-use Rattle.pg_home.specs.Turn.{Processor}
+use Rattle.pg_guest.specs.declared.advance.Advance.{Advance}
+use Rattle.pg_guest.specs.declared.advance.Advance.TheVariants.{Stopped}
+use Rattle.pg_guest.specs.declared.advance.Stop.TheVariants.{Memory}
+use Rattle.pg_guest.specs.CoreRun.{IsCoreRun}
+use Rattle.pg_guest.specs.Turn.{Processor}
 use Rattle.pg_world.specs.Recording.{Recording}
 
 -- a count of refused calls after one more, which begins at 0 again after the greatest

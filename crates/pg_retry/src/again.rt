@@ -12,8 +12,7 @@ ghost use Rattle.pg_world.specs.Recording.{sealed_count, segment_of, with_taken}
 
 use pg_check::History;
 use pg_event::Event;
-use pg_guest::Processor;
-use pg_home::{Advance, Stop};
+use pg_guest::{Advance, Processor, Stop};
 use pg_machine::{Machine, Step, Stuck};
 use pg_world::World;
 use std::alloc::{AllocError, Global};

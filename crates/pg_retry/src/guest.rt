@@ -3,13 +3,12 @@
 ghost use Rattle.std.specs.Prelude.{◌≡◌, ◌<◌, length, IfOk};
 ghost use Rattle.pg_event.specs.Spelling.{IsRecord};
 ghost use Rattle.pg_guest.specs.Runs.{ArePlaced};
-ghost use Rattle.pg_home.specs.CoreRun.{unwritten};
+ghost use Rattle.pg_guest.specs.CoreRun.{unwritten};
 ghost use Rattle.pg_runner.specs.Runs.{record_of};
 
 use crate::again::{take_sealed, turn};
 use pg_event::Record;
-use pg_guest::{Processor, processors};
-use pg_home::Advance;
+use pg_guest::{Advance, Processor, processors};
 use pg_script::Script;
 use pg_world::World;
 use std::alloc::{AllocError, Global};

@@ -11,16 +11,16 @@ use Rattle.pg_script.specs.declared.instruction.Task.{Task}
 use Rattle.pg_script.specs.Reading.{Scripted, IsScript}
 use Rattle.pg_script.specs.Tasks.{instructions_of}
 use Rattle.pg_world.specs.Recording.{Recording, is_full}
-use Rattle.pg_home.specs.declared.advance.Advance.{Advance}
-use Rattle.pg_home.specs.declared.advance.Advance.TheVariants.{Read, Assisted, Done, Ended, Stopped}
-use Rattle.pg_home.specs.declared.advance.Stop.{Stop}
-use Rattle.pg_home.specs.declared.advance.Stop.TheVariants as stops
-use Rattle.pg_home.specs.CoreRun.{IsCoreRun}
-use Rattle.pg_home.specs.Progress.{measure, is_stopped, ComesNearer}
-use Rattle.pg_home.specs.Turn.{Processor, Turned, turned, MayStop, IsTurn}
-use Rattle.pg_home.proofs.Counts.{turns_come_nearer}
-use Rattle.pg_home.proofs.Runs.{each_processor}
-use Rattle.pg_home.proofs.Runs.{set_here}
+use Rattle.pg_guest.specs.declared.advance.Advance.{Advance}
+use Rattle.pg_guest.specs.declared.advance.Advance.TheVariants.{Read, Assisted, Done, Ended, Stopped}
+use Rattle.pg_guest.specs.declared.advance.Stop.{Stop}
+use Rattle.pg_guest.specs.declared.advance.Stop.TheVariants as stops
+use Rattle.pg_guest.specs.CoreRun.{IsCoreRun}
+use Rattle.pg_guest.specs.Progress.{measure, is_stopped, ComesNearer}
+use Rattle.pg_guest.specs.Turn.{Processor, Turned, turned, MayStop, IsTurn}
+use Rattle.pg_guest.proofs.Counts.{turns_come_nearer}
+use Rattle.pg_guest.proofs.CoreRuns.{each_processor}
+use Rattle.pg_guest.proofs.CoreRuns.{set_here}
 use Rattle.pg_runner.specs.Lines.{AreCarriedOut, lines_left, tasks_of}
 use Rattle.pg_runner.proofs.Fullness.{never_full}
 use Rattle.pg_runner.proofs.Lines.{AddsBy, turn_adds, line_at, instructions_pushed, Stays, Carries}

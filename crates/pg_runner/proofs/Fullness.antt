@@ -6,8 +6,8 @@ use Rattle.std.proofs.lemmas.List.Sums.{sum_by-cons}
 use Rattle.pg_script.specs.declared.instruction.Task.{Task}
 use Rattle.pg_script.specs.Reading.{Scripted, IsScript, most_instructions}
 use Rattle.pg_script.specs.Tasks.{instructions_of}
-use Rattle.pg_home.specs.Turn.{Processor}
-use Rattle.pg_home.proofs.Few.{events_are_few}
+use Rattle.pg_guest.specs.Turn.{Processor}
+use Rattle.pg_guest.proofs.Few.{events_are_few}
 use Rattle.pg_world.specs.Recording.{Recording, is_full}
 use Rattle.pg_runner.specs.Runs.{RunsTo}
 

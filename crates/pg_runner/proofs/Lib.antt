@@ -5,3 +5,10 @@ pub mod Orders
 pub mod ByTurns
 pub mod AtLines
 pub mod Whole
+mod AfterTurns
+mod GoesOn
+mod OfScripts
+mod SameEvents
+mod Untaken
+mod WholeRuns
+mod WholeSegments

@@ -13,12 +13,12 @@ use Rattle.pg_script.specs.declared.instruction.Task.{Task}
 use Rattle.pg_script.specs.Tasks.{shape, IsWellFormed, instructions_of}
 use Rattle.pg_shadow.specs.declared.entries.Found.{Found}
 use Rattle.pg_world.specs.Recording.{Recording, receipt_of}
-use Rattle.pg_home.specs.declared.advance.Advance.{Advance}
-use Rattle.pg_home.specs.declared.advance.Advance.TheVariants.{Read, Assisted, Done, Ended, Stopped}
-use Rattle.pg_home.specs.Turn.{Processor, Turned, done, assisted, goes_on, begun, turned_by, turned, MayStop, IsTurn}
-use Rattle.pg_home.specs.Transcripts.{AreWellFormed}
-use Rattle.pg_home.proofs.Cases.{goes_on_any}
-use Rattle.pg_home.proofs.Transcripts.{flags_stay, well_at}
+use Rattle.pg_guest.specs.declared.advance.Advance.{Advance}
+use Rattle.pg_guest.specs.declared.advance.Advance.TheVariants.{Read, Assisted, Done, Ended, Stopped}
+use Rattle.pg_guest.specs.Turn.{Processor, Turned, done, assisted, goes_on, begun, turned_by, turned, MayStop, IsTurn}
+use Rattle.pg_guest.specs.Transcripts.{AreWellFormed}
+use Rattle.pg_guest.proofs.Cases.{goes_on_any}
+use Rattle.pg_guest.proofs.Transcripts.{flags_stay, well_at}
 use Rattle.pg_runner.specs.Lines.{carried, tasks_of}
 
 -- ---- events

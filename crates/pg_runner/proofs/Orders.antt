@@ -3,8 +3,8 @@ use Rattle.std.proofs.Common.{◌≡◌, ℕ, zero, suc, ◌+◌, List, [], ◌�
 use Rattle.std.specs.Prelude.{slice_get}
 use Rattle.pg_script.specs.declared.instruction.Task.{Task}
 use Rattle.pg_world.specs.declared.receipt.Receipt.{Receipt}
-use Rattle.pg_home.specs.declared.advance.Advance.{Advance}
-use Rattle.pg_home.specs.declared.advance.Advance.TheVariants.{Done}
+use Rattle.pg_guest.specs.declared.advance.Advance.{Advance}
+use Rattle.pg_guest.specs.declared.advance.Advance.TheVariants.{Done}
 use Rattle.pg_runner.specs.Lines.{lines_left, lines_after, turns_by}
 
 -- ---- one turn more

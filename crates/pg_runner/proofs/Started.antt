@@ -5,14 +5,14 @@ use Rattle.pg_script.specs.Reading.{Scripted, IsScript}
 use Rattle.pg_script.specs.Tasks.{instructions_of}
 use Rattle.pg_script.proofs.Wells.{own_well}
 use Rattle.pg_world.specs.Recording.{Recording}
-use Rattle.pg_home.specs.CoreRun.{unwritten}
-use Rattle.pg_home.specs.Laws.{IsQuiet, AreFresh}
-use Rattle.pg_home.specs.Leaves.{LeaveAll}
-use Rattle.pg_home.specs.Transcripts.{AreTold, AreWellFormed, IsTold}
-use Rattle.pg_home.specs.Turn.{Processor, Turned, IsTurn}
-use Rattle.pg_home.proofs.Runs.{core_runs_keep_quiet, core_runs_go_on, fresh_are_quiet}
-use Rattle.pg_home.proofs.Leaves.{core_runs_leave}
-use Rattle.pg_home.proofs.Transcripts.{core_runs_are_told, fresh_are_told}
+use Rattle.pg_guest.specs.CoreRun.{unwritten}
+use Rattle.pg_guest.specs.Laws.{IsQuiet, AreFresh}
+use Rattle.pg_guest.specs.Leaves.{LeaveAll}
+use Rattle.pg_guest.specs.Transcripts.{AreTold, AreWellFormed, IsTold}
+use Rattle.pg_guest.specs.Turn.{Processor, Turned, IsTurn}
+use Rattle.pg_guest.proofs.CoreRuns.{core_runs_keep_quiet, core_runs_go_on, fresh_are_quiet}
+use Rattle.pg_guest.proofs.Leaves.{core_runs_leave}
+use Rattle.pg_guest.proofs.Transcripts.{core_runs_are_told, fresh_are_told}
 use Rattle.pg_runner.specs.Runs.{AreStarted, RunsTo}
 
 -- ---- before the first turn

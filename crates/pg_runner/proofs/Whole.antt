@@ -13,12 +13,12 @@ use Rattle.pg_script.specs.Reading.{Scripted, IsScript}
 use Rattle.pg_script.specs.Tasks.{instructions_of}
 use Rattle.pg_world.specs.declared.receipt.Receipt.{Receipt}
 use Rattle.pg_world.specs.Recording.{Recording, recorded}
-use Rattle.pg_home.specs.Transcripts.{AreOf, IsTold, shapes_of}
-use Rattle.pg_home.specs.Turn.{Processor, fresh}
+use Rattle.pg_guest.specs.Transcripts.{AreOf, IsTold, shapes_of}
+use Rattle.pg_guest.specs.Turn.{Processor, fresh}
 use Rattle.pg_runner.specs.Lines.{AreCarriedOut, CarriesOutLines, tasks_of}
 use Rattle.pg_guest.specs.Held.{Held, seen}
 use Rattle.pg_guest.specs.Runs.{AreNew}
-use Rattle.pg_home.specs.CoreRun.{unwritten}
+use Rattle.pg_guest.specs.CoreRun.{unwritten}
 use Rattle.pg_event.specs.declared.record.Record.{Record}
 use Rattle.pg_report.specs.declared.report.Report.{Report}
 use Rattle.pg_report.specs.declared.report.Verdict.TheVariants.{Yes}

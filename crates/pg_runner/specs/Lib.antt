@@ -1,3 +1,6 @@
 pub mod Errors
 pub mod Runs
 pub mod Lines
+pub mod Boards
+pub mod Guests
+pub mod Live

@@ -6,10 +6,10 @@ use Rattle.pg_script.specs.Reading.{Scripted}
 use Rattle.pg_script.specs.Tasks.{instructions_of}
 use Rattle.pg_world.specs.declared.receipt.Receipt.{Receipt}
 use Rattle.pg_world.specs.Recording.{Recording, recorded}
-use Rattle.pg_home.specs.declared.advance.Advance.{Advance}
-use Rattle.pg_home.specs.Turn.{Processor, fresh}
-use Rattle.pg_home.specs.CoreRun.{IsCoreRun, unwritten}
-use Rattle.pg_home.specs.Transcripts.{AreOf, receipts_from, shapes_of}
+use Rattle.pg_guest.specs.declared.advance.Advance.{Advance}
+use Rattle.pg_guest.specs.Turn.{Processor, fresh}
+use Rattle.pg_guest.specs.CoreRun.{IsCoreRun, unwritten}
+use Rattle.pg_guest.specs.Transcripts.{AreOf, receipts_from, shapes_of}
 
 abbrev pub record_of : Record → Recorded
 record_of trace = record { head = trace.header; events = trace.events.items }

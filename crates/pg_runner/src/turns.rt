@@ -3,10 +3,9 @@
 ghost use Rattle.std.specs.Prelude.{◌≡◌, ◌<◌, ◌∷◌, [], length, map};
 ghost use Rattle.pg_guest.specs.Held.{seen};
 ghost use Rattle.pg_guest.specs.Runs.{ArePlaced};
-ghost use Rattle.pg_home.specs.CoreRun.{IsCoreRun};
+ghost use Rattle.pg_guest.specs.CoreRun.{IsCoreRun};
 
-use pg_guest::Processor;
-use pg_home::Advance;
+use pg_guest::{Advance, Processor};
 use pg_world::World;
 
 /// One turn of processor `p`.

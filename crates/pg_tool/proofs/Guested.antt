@@ -12,8 +12,8 @@ use Rattle.pg_runner.specs.declared.error.RunError.{RunError}
 use Rattle.pg_runner.specs.declared.error.RunError.TheVariants as runs
 use Rattle.pg_runner.specs.declared.result.RunResult.{RunResult}
 use Rattle.pg_runner.specs.Lines.{IsSingleRun}
-use Rattle.pg_threads.specs.Guests.{IsGuestRun as IsThreadsRun}
-use Rattle.pg_threads.specs.Live.{IsWant}
+use Rattle.pg_runner.specs.Guests.{IsGuestRun as IsThreadsRun}
+use Rattle.pg_runner.specs.Live.{IsWant}
 use Rattle.pg_tool.specs.declared.guest_error.GuestError.{GuestError}
 use Rattle.pg_tool.specs.declared.guest_error.GuestError.TheVariants.{TooLong, Script, Run, Device}
 use Rattle.pg_tool.specs.Guests.{Gives, HasRunOf, IsGuestRun, IsRunBy, IsResultBy, StopsBy, TakesScript, WritesAnswer, output_text}

@@ -5,7 +5,7 @@ ghost use Rattle.pg_script.specs.declared.instruction.Instruction.TheVariants as
 ghost use Rattle.pg_script.specs.Tasks.{IsWellFormed};
 ghost use Rattle.pg_shadow.specs.Held.{seen as cached};
 ghost use Rattle.pg_shadow.specs.Find.{IsInRange};
-ghost use Rattle.pg_home.specs.Turn.{carried_out, begun, goes_on, turned_by, ComesTo, IsTurn};
+ghost use Rattle.pg_guest.specs.Turn.{carried_out, begun, goes_on, turned_by, ComesTo, IsTurn};
 ghost use Rattle.pg_guest.specs.Held.{seen};
 ghost use Rattle.pg_guest.specs.Steps.{IsOfRun};
 
@@ -14,7 +14,7 @@ use crate::calls::cfg_of;
 use crate::walks::{address_in, from_root, from_table, outcome_of};
 use pg_entry::AccessKind;
 use pg_event::{Event, Header, Moments, Outcome, access_kind};
-use pg_home::Advance;
+use crate::advance::Advance;
 use pg_script::Instruction;
 use pg_shadow::Found;
 use pg_world::World;

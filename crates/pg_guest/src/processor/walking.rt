@@ -9,13 +9,13 @@ ghost use Rattle.pg_shadow.specs.Caches.{IsTableAt, IsPageAt};
 ghost use Rattle.pg_shadow.specs.Find.{IsInRange};
 ghost use Rattle.pg_world.specs.Recording.{Recording};
 ghost use Rattle.pg_world.specs.Walks.{is_walk, moments_of, levels_above};
-ghost use Rattle.pg_home.specs.Turn.{reads, keeps, has_table, has_page, ComesTo};
+ghost use Rattle.pg_guest.specs.Turn.{reads, keeps, has_table, has_page, ComesTo};
 ghost use Rattle.pg_guest.specs.Held.{seen};
 
 use super::{Processor, note};
 use crate::calls::{cfg_of, read_level};
 use pg_entry::{Cfg, Entry, Kind, classify, combine, dirty};
-use pg_home::{Advance, Stop};
+use crate::advance::{Advance, Stop};
 use pg_shadow::{Found, KeptLeaf, KeptTable};
 use pg_world::{LevelRead, Walk, World};
 

@@ -1,9 +1,9 @@
 use Rattle.std.proofs.Common.{◌<◌, length, map, take, get_or, sym, ◌∙◌, subst, arith, length-set}
 use Rattle.std.proofs.lemmas.List.{take_more}
 use Rattle.std.proofs.lemmas.Option.{slice_get-get_or}
-use Rattle.pg_home.proofs.Leaves.{core_runs_leave}
-use Rattle.pg_home.proofs.Runs.{core_runs_keep_quiet}
-use Rattle.pg_home.proofs.Transcripts.{core_runs_are_told}
+use Rattle.pg_guest.proofs.Leaves.{core_runs_leave}
+use Rattle.pg_guest.proofs.CoreRuns.{core_runs_keep_quiet}
+use Rattle.pg_guest.proofs.Transcripts.{core_runs_are_told}
 use Rattle.pg_guest.specs.Held.{seen}
 use Rattle.pg_guest.specs.Steps.{IsOfRun}
 use Rattle.pg_guest.proofs.Placed.{turn_within, driven_on}

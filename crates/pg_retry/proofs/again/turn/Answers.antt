@@ -1,9 +1,9 @@
 use Rattle.std.proofs.Common.{◌≡◌, [], ◌∷◌, map, rules, subst, inr, refl}
 use Rattle.pg_guest.specs.Held.{seen}
-use Rattle.pg_home.specs.declared.advance.Advance.{Advance}
-use Rattle.pg_home.specs.declared.advance.Advance.TheVariants.{Stopped}
-use Rattle.pg_home.specs.declared.advance.Stop.TheVariants.{Memory}
-use Rattle.pg_home.specs.CoreRun.{IsCoreRun}
+use Rattle.pg_guest.specs.declared.advance.Advance.{Advance}
+use Rattle.pg_guest.specs.declared.advance.Advance.TheVariants.{Stopped}
+use Rattle.pg_guest.specs.declared.advance.Stop.TheVariants.{Memory}
+use Rattle.pg_guest.specs.CoreRun.{IsCoreRun}
 use Rattle.pg_retry.proofs.Joined.{joined}
 use Rattle.pg_retry.proofs.again.turn.Goals as goal
 

@@ -1,5 +1,5 @@
 use Rattle.std.proofs.Common.{◌∙◌, ap}
-use Rattle.pg_home.specs.CoreRun.{unwritten}
+use Rattle.pg_guest.specs.CoreRun.{unwritten}
 use Rattle.pg_retry.proofs.guest.run.Goals as goal
 
 pub carry_out-requires : goal.carry_out-requires

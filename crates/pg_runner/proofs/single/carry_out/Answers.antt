@@ -1,8 +1,8 @@
 use Rattle.std.proofs.Common.{◌≡◌, ◌∙◌, length, map, get_or, ap, sym, subst, arith, ◌<◌, ◌≤◌}
 use Rattle.std.proofs.lemmas.List.{length-map}
 use Rattle.pg_guest.specs.Held.{seen}
-use Rattle.pg_home.specs.declared.advance.Advance.TheVariants.{Stopped}
-use Rattle.pg_home.specs.declared.advance.Stop.TheVariants as stops
+use Rattle.pg_guest.specs.declared.advance.Advance.TheVariants.{Stopped}
+use Rattle.pg_guest.specs.declared.advance.Stop.TheVariants as stops
 use Rattle.pg_runner.proofs.AtLines.{line_in, within}
 use Rattle.pg_runner.proofs.ByTurns.{Leaves, none_is_near, one_turn_leaves, one_turn_nearer, still_going, still_there}
 use Rattle.pg_runner.proofs.single.carry_out.Goals as goal

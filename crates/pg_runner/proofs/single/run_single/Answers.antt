@@ -4,7 +4,7 @@ use Rattle.pg_event.specs.Heads.{Head}
 use Rattle.pg_event.specs.Spelling.{Recorded, IsRecord}
 use Rattle.pg_guest.specs.Held.{Held, seen}
 use Rattle.pg_guest.specs.Runs.{ArePlaced}
-use Rattle.pg_home.specs.CoreRun.{unwritten}
+use Rattle.pg_guest.specs.CoreRun.{unwritten}
 use Rattle.pg_world.specs.Recording.{Recording, recorded}
 use Rattle.pg_runner.specs.Lines.{AreCarriedOut}
 use Rattle.pg_runner.specs.Runs.{record_of}

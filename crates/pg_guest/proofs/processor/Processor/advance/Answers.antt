@@ -1,7 +1,7 @@
 use Rattle.std.proofs.Common.{sym, subst}
-use Rattle.pg_home.proofs.Leaves.{turns_leave}
-use Rattle.pg_home.proofs.Transcripts.{turns_are_told}
-use Rattle.pg_home.proofs.Turns.{turns_keep_home}
+use Rattle.pg_guest.proofs.Leaves.{turns_leave}
+use Rattle.pg_guest.proofs.Transcripts.{turns_are_told}
+use Rattle.pg_guest.proofs.Turns.{turns_keep_home}
 use Rattle.pg_guest.specs.Held.{seen}
 use Rattle.pg_guest.specs.Steps.{IsOfRun}
 use Rattle.pg_guest.proofs.Runs.{stays_of_run}

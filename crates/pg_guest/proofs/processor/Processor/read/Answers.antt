@@ -11,9 +11,9 @@ use Rattle.pg_world.specs.Recording.{with_event}
 use Rattle.pg_world.specs.Walks.{found_in, after_found}
 use Rattle.pg_shadow.specs.declared.entries.Found.TheVariants.{Miss}
 use Rattle.pg_shadow.specs.Caches.{Caches}
-use Rattle.pg_home.specs.declared.advance.Advance.TheVariants as answers
-use Rattle.pg_home.specs.Turn.{Processor, Turned, done, assisted, refused_by}
-use Rattle.pg_home.proofs.Further.{entries_are_present}
+use Rattle.pg_guest.specs.declared.advance.Advance.TheVariants as answers
+use Rattle.pg_guest.specs.Turn.{Processor, Turned, done, assisted, refused_by}
+use Rattle.pg_guest.proofs.Further.{entries_are_present}
 use Rattle.pg_guest.specs.Held.{Held, seen}
 use Rattle.pg_guest.specs.Steps.{answer_of}
 use Rattle.pg_guest.proofs.Read.{entry_so, read_so, refused_so}

@@ -3,8 +3,8 @@ use Rattle.std.specs.Prelude.{slice_get}
 use Rattle.std.proofs.lemmas.Option.{slice_get-get_or, slice_get_within, slice_get_past}
 use Rattle.pg_script.specs.declared.instruction.Instruction.{Instruction}
 use Rattle.pg_script.specs.Tasks.{IsWellFormed}
-use Rattle.pg_home.specs.declared.advance.Advance.TheVariants.{Ended}
-use Rattle.pg_home.specs.Turn.{Turned, ComesTo, turned_by}
+use Rattle.pg_guest.specs.declared.advance.Advance.TheVariants.{Ended}
+use Rattle.pg_guest.specs.Turn.{Turned, ComesTo, turned_by}
 use Rattle.pg_guest.specs.Held.{Held, seen}
 use Rattle.pg_guest.proofs.Instructions.{AllByRecursion-at}
 use Rattle.pg_guest.proofs.processor.Processor.turn.Goals as goal

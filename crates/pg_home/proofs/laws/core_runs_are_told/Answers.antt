@@ -1,5 +1,0 @@
-use Rattle.pg_home.proofs.Transcripts.{core_runs_are_told}
-use Rattle.pg_home.proofs.laws.core_runs_are_told.Goals as goal
-
-pub returns : goal.returns
-returns c = core_runs_are_told

@@ -1,5 +1,0 @@
-use Rattle.pg_home.proofs.Runs.{core_runs_go_on}
-use Rattle.pg_home.proofs.laws.core_runs_go_on.Goals as goal
-
-pub returns : goal.returns
-returns c = core_runs_go_on

@@ -1,5 +1,0 @@
-use Rattle.pg_home.proofs.Further.{entries_are_present}
-use Rattle.pg_home.proofs.laws.entries_are_present.Goals as goal
-
-pub returns : goal.returns
-returns c = entries_are_present

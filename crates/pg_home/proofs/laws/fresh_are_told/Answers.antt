@@ -1,5 +1,0 @@
-use Rattle.pg_home.proofs.Transcripts.{fresh_are_told}
-use Rattle.pg_home.proofs.laws.fresh_are_told.Goals as goal
-
-pub returns : goal.returns
-returns c = fresh_are_told

@@ -1,5 +1,0 @@
-use Rattle.pg_home.proofs.Turns.{others_stay_at_home}
-use Rattle.pg_home.proofs.laws.others_stay_at_home.Goals as goal
-
-pub returns : goal.returns
-returns c = others_stay_at_home

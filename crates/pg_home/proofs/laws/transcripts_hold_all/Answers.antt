@@ -1,5 +1,0 @@
-use Rattle.pg_home.proofs.Numbers.{transcripts_hold_all}
-use Rattle.pg_home.proofs.laws.transcripts_hold_all.Goals as goal
-
-pub returns : goal.returns
-returns c = transcripts_hold_all

@@ -1,5 +1,0 @@
-use Rattle.pg_home.proofs.Turns.{turns_keep_home}
-use Rattle.pg_home.proofs.laws.turns_keep_home.Goals as goal
-
-pub returns : goal.returns
-returns c = turns_keep_home

@@ -1,5 +1,0 @@
-use Rattle.pg_home.proofs.Leaves.{turns_leave}
-use Rattle.pg_home.proofs.laws.turns_leave.Goals as goal
-
-pub returns : goal.returns
-returns c = turns_leave

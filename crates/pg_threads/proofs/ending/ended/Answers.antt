@@ -1,7 +1,0 @@
-use Rattle.pg_threads.proofs.ending.ended.Goals as goal
-
-pub result_of-requires-clause-script : goal.result_of-requires-clause-script
-result_of-requires-clause-script g c = λ _ _. c.in-Ok-true.ensures.script c.in-Ok-true.field-0-test
-
-pub result_of-requires-clause-ended : goal.result_of-requires-clause-ended
-result_of-requires-clause-ended g c = λ _ _. c.in-Ok-true.ensures.told c.in-Ok-true.field-0-test
