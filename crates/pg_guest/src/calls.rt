@@ -7,9 +7,9 @@ ghost use Rattle.pg_world.specs.Walks.{is_walk, found_in, after_found};
 ghost use Rattle.pg_guest.specs.Turn.{MayStop, refused_event, refused_by};
 ghost use Rattle.pg_guest.specs.Steps.{IsOwnEvent, IsStopOf, answer_of};
 
+use crate::advance::{Advance, Stop};
 use pg_entry::Cfg;
 use pg_event::Event;
-use crate::advance::{Advance, Stop};
 use pg_world::{LevelRead, Receipt, Walk, World, WorldError};
 
 /// What paging depends on in this world.

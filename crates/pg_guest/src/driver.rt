@@ -9,8 +9,8 @@ ghost use Rattle.pg_guest.specs.Transcripts.{AreTold};
 ghost use Rattle.pg_guest.specs.Held.{seen};
 ghost use Rattle.pg_guest.specs.Runs.{ArePlaced, IsNew, AreNew};
 
-use crate::processor::Processor;
 use crate::advance::Advance;
+use crate::processor::Processor;
 use pg_script::Script;
 use pg_world::World;
 use std::alloc::{AllocError, Global};

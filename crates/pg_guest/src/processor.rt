@@ -12,9 +12,9 @@ ghost use Rattle.pg_guest.specs.Steps.{IsOfRun, IsOwnEvent};
 mod turns;
 mod walking;
 
+use crate::advance::{Advance, Stop};
 use crate::calls::record;
 use pg_event::{Event, Header};
-use crate::advance::{Advance, Stop};
 use pg_script::Instruction;
 use pg_shadow::{Found, Shadow};
 use pg_world::{Receipt, World};

@@ -4,8 +4,8 @@ use crate::processors::{ANSWERED, TWO};
 use crate::written::{receipt_of, script_of};
 use pg_guest::Advance;
 use pg_progress::{Counts, Progress, Publisher};
-use pg_script::Script;
 use pg_runner::Board;
+use pg_script::Script;
 use std::alloc::{AllocError, Global};
 use std::test::Fail;
 

@@ -3,8 +3,8 @@ use pg_check::{History, check_event};
 use pg_event::{Event, well_formed};
 use pg_guest::Advance;
 use pg_progress::Progress;
-use pg_script::Script;
 use pg_runner::Board;
+use pg_script::Script;
 use std::alloc::Global;
 use std::test::Fail;
 

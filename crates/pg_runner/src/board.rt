@@ -14,10 +14,10 @@ ghost use Rattle.pg_runner.specs.Boards.{HasToldAll, IsBoard, IsRunOf, after_tak
 ghost use Rattle.pg_runner.specs.Boards.{stored_after};
 
 use crate::finished::Finished;
+use crate::turns::turn;
 use pg_event::{Event, Header};
 use pg_guest::{Advance, Processor, Stop, processors};
 use pg_progress::{Counts, Progress, Publisher};
-use crate::turns::turn;
 use pg_script::{Script, same_instructions};
 use pg_world::World;
 use std::alloc::{AllocError, Global};

@@ -10,14 +10,14 @@ ghost use Rattle.pg_runner.specs.Live.{IsWant};
 ghost use Rattle.pg_runner.specs.Guests.{IsGuestRun, HaveToldAll, StayBut};
 
 use crate::board::Board;
+use crate::error::RunError;
 use crate::finished::Finished;
 use crate::live_judging::LiveJudging;
+use crate::result::RunResult;
+use crate::single::{run_single, transcripts_of};
 use pg_guest::{Advance, Stop};
 use pg_pool::Gate;
 use pg_report::Crew;
-use crate::error::RunError;
-use crate::result::RunResult;
-use crate::single::{run_single, transcripts_of};
 use pg_script::Script;
 use std::alloc::Global;
 use std::sync::Wait;

@@ -10,14 +10,14 @@ ghost use Rattle.pg_runner.specs.Live.{IsWant};
 
 use crate::board::Board;
 use crate::ending::ended;
+use crate::error::RunError;
 use crate::live_judging::LiveJudging;
 use crate::lookout::Lookout;
 use crate::processor_threads::run_processors;
+use crate::result::RunResult;
 use pg_pool::{Gate, OpenGate};
 use pg_progress::{Nobody, Observer, Progress, Publisher, ReadSeat};
 use pg_report::Crew;
-use crate::error::RunError;
-use crate::result::RunResult;
 use pg_script::Script;
 use std::alloc::{AllocError, Global};
 use std::sync::{Mutex, Wait};

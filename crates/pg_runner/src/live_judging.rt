@@ -10,12 +10,12 @@ ghost use Rattle.pg_runner.specs.Runs.{record_of};
 ghost use Rattle.pg_runner.specs.Live.{AreSegments, AreTakenIn, IsBeginning, IsHeadOf};
 ghost use Rattle.pg_runner.specs.Live.{IsTakenIn, IsWant, IsWatched};
 
+use crate::error::RunError;
+use crate::record_report::report_of_record;
 use crate::same::begins_with;
 use pg_event::{Event, Header, Record};
 use pg_pool::Gate;
 use pg_report::{AuditError, Crew, Report, Team, report_of_judged};
-use crate::error::RunError;
-use crate::record_report::report_of_record;
 use std::alloc::{AllocError, Global};
 use std::marker::Model;
 use std::sync::Wait;

@@ -5,13 +5,13 @@ ghost use Rattle.pg_progress.specs.Seats.{IsNotBelow};
 ghost use Rattle.pg_runner.specs.Live.{IsWant};
 
 use crate::board::Board;
+use crate::error::RunError;
 use crate::live_judging::LiveJudging;
 use crate::segments::take_segments;
 use crossbeam_utils::Backoff;
 use pg_pool::Gate;
 use pg_progress::{Counts, Observer, Progress, ReadSeat};
 use pg_report::Crew;
-use crate::error::RunError;
 use std::sync::atomic::{AtomicU64, Ordering};
 use std::sync::{Mutex, Wait};
 use std::thread::Threads;

@@ -4,13 +4,13 @@ ghost use Rattle.std.specs.Prelude.{◌≡◌, ◌≢◌, ◌⊎◌, ◌↔◌, 
 ghost use Rattle.pg_runner.specs.Live.{IsWant};
 
 use crate::board::Board;
+use crate::error::RunError;
 use crate::live_judging::LiveJudging;
 use crate::lookout::{Lookout, watch};
 use crate::processor::run_processor;
 use pg_pool::Gate;
 use pg_progress::Observer;
 use pg_report::Crew;
-use crate::error::RunError;
 use pg_script::Script;
 use std::sync::atomic::AtomicU64;
 use std::sync::{Mutex, Wait};

@@ -10,11 +10,11 @@ ghost use Rattle.pg_guest.specs.Held.{seen};
 ghost use Rattle.pg_guest.specs.Steps.{IsOfRun};
 
 use super::Processor;
+use crate::advance::Advance;
 use crate::calls::cfg_of;
 use crate::walks::{address_in, from_root, from_table, outcome_of};
 use pg_entry::AccessKind;
 use pg_event::{Event, Header, Moments, Outcome, access_kind};
-use crate::advance::Advance;
 use pg_script::Instruction;
 use pg_shadow::Found;
 use pg_world::World;

@@ -13,9 +13,9 @@ ghost use Rattle.pg_guest.specs.Turn.{reads, keeps, has_table, has_page, ComesTo
 ghost use Rattle.pg_guest.specs.Held.{seen};
 
 use super::{Processor, note};
+use crate::advance::{Advance, Stop};
 use crate::calls::{cfg_of, read_level};
 use pg_entry::{Cfg, Entry, Kind, classify, combine, dirty};
-use crate::advance::{Advance, Stop};
 use pg_shadow::{Found, KeptLeaf, KeptTable};
 use pg_world::{LevelRead, Walk, World};
 
