@@ -1,3 +1,4 @@
+ghost use Rattle.std.specs.Prelude.{◌≡◌};
 ghost use Rattle.pg_event.specs.Spelling.{IsRecord};
 ghost use Rattle.pg_runner.specs.Runs.{record_of};
 
@@ -5,14 +6,16 @@ use crate::boards::STALE;
 use crate::written::{Written, event_of, receipt_of, script_of};
 use pg_codec::{Watched, write_record};
 use pg_event::{Outcome, Record};
+use pg_guest::Advance;
 use pg_pool::{Gate, OpenGate};
+use pg_progress::{Counts, Progress, Publisher};
 use pg_report::{Report, Verdict};
-use pg_runner::{RunError, RunResult, run_guest, run_guest_watched};
+use pg_runner::{Board, RunError, RunResult, run_guest, run_guest_watched};
 use pg_script::Script;
 use pg_world::Receipt;
-use std::alloc::{AllocGlobal, Global};
-use std::sync::Wait;
+use std::alloc::{AllocError, AllocGlobal, Global};
 use std::sync::atomic::{AtomicU64, Ordering};
+use std::sync::{Mutex, Wait};
 use std::test::Fail;
 use std::thread::{self, Threads};
 
@@ -234,5 +237,72 @@ fn judged_while_a_processor_runs(rt: HostRuntime) -> Result<(), Fail> {
     let tells = Tells { judged: &judged };
     let is_right = is_accepted_through(&rt, &script, &gate, &tells)?;
     assert!(rt; is_right && gate.failed.load(Ordering::SeqCst) == 0);
+    Ok(())
+}
+
+/// Gives a processor a turn in each hold of the lock, until it has ended.
+fn turn_to_end<R: Wait>(rt: &R, shared: &Mutex<Board<'_>>, p: u16) {
+    for _ in 0..100u32 {
+        let mut board = shared.lock(rt);
+        if p as usize >= board.count() || matches!(board.turn(p), Advance::Ended) {
+            return;
+        }
+    }
+}
+
+/// Turns two processors to their end, each in a thread of its own, and joins these. Says whether
+/// both were started.
+fn end_in_threads<R: Threads + Wait + Sync>(rt: &R, shared: &Mutex<Board<'_>>) -> bool {
+    thread::scope(thread::scope_env(), rt, |scope| -> bool {
+        let first = scope.spawn(move || turn_to_end(rt, shared, 0));
+        let second = scope.spawn(move || turn_to_end(rt, shared, 1));
+        let mut joined = 0;
+        if let Ok(handle) = first {
+            handle.join(rt);
+            joined += 1;
+        }
+        if let Ok(handle) = second {
+            handle.join(rt);
+            joined += 1;
+        }
+        joined == 2
+    })
+}
+
+/// How many events there are once the processors' threads are joined and the record is finished.
+fn events_after_joins<R: AllocGlobal + Threads + Wait + Sync>(
+    rt: &R,
+    script: &Script,
+    publisher: Publisher,
+    progress: &Progress,
+) -> Result<Option<u64>, AllocError>
+    requires { publisher.word ≡ progress.now }
+{
+    let shared = Mutex::new(Board::new(rt.alloc(), script, publisher, progress)?);
+    let ended = end_in_threads(rt, &shared);
+    Ok(ended.then_some(shared.into_inner().finish().world.len()))
+}
+
+/// What a reader sees then, who read before the threads were started, and how many events there
+/// are.
+fn counts_after_joins<R: AllocGlobal + Threads + Wait + Sync>(
+    rt: &R,
+    script: &Script,
+) -> Result<(Counts, Option<u64>), Fail> {
+    let (progress, publisher, mut seats) = Progress::open(rt.alloc(), 1)?;
+    let mut seat = seats.pop().ok_or("no reader")?;
+    let _before = progress.read(&mut seat);
+    let events = events_after_joins(rt, script, publisher, &progress)?;
+    Ok((progress.read(&mut seat), events))
+}
+
+#[test]
+fn counts_after_the_threads_are_joined(rt: HostRuntime) -> Result<(), Fail> {
+    let script = script_of(rt.alloc(), STALE)?;
+    let all = Counts {
+        events: 10,
+        segments: 1,
+    };
+    assert!(rt; counts_after_joins(&rt, &script)? == (all, Some(10)));
     Ok(())
 }
