@@ -128,6 +128,12 @@ $ show --json --from 4
 > "outcome":{"page":"0x9123"},"user":true}
 ? 0
 
+== spans_undecided
+$ certify --json
+< @first_value_again
+> {"event":72,"events":75,"format":1,"segments":1,"verdict":"undecided"}
+? 4
+
 == spans_refused
 $ check --all --json
 < @walk

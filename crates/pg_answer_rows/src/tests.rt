@@ -2,7 +2,7 @@ use crate::{
     all_rejections, explanations, json, json_spans, lines, many_lines, pictures, span_pictures,
     spans,
 };
-use pg_cases::first_unanswered;
+use pg_cases::{Case, answers, bytes_of, first_unanswered};
 use std::alloc::AllocGlobal;
 use std::process::Abort;
 use std::sync::Wait;
@@ -49,4 +49,20 @@ fn records_as_json_and_drawn(rt: HostRuntime) -> Result<(), Fail> {
 #[test]
 fn records_with_spans_drawn(rt: HostRuntime) -> Result<(), Fail> {
     expect_all(&rt, &[span_pictures::ROWS])
+}
+
+#[test]
+fn record_with_spans_written_with_moments(rt: HostRuntime) -> Result<(), Fail> {
+    let input = bytes_of(rt.alloc(), spans::LATE_WRITE)?;
+    let output = bytes_of(rt.alloc(), spans::LATE_WRITE_IN_ORDER)?;
+    let named = Case {
+        name: "late_write_with_moments",
+        words: &["certify", "--bytes"],
+        input: &input,
+        output: &output,
+        line: "",
+        status: 0,
+    };
+    assert!(rt; answers(&rt, named), "{}", named.name);
+    Ok(())
 }
