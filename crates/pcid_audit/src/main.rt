@@ -6,10 +6,9 @@ mod reasons;
 
 use crate::reasons::Reasoned;
 use pg_codec::Watched;
-use pg_follow::{Followed, Signals, Teller};
 use pg_plan::arguments;
 use pg_span_codec::Peeked;
-use pg_tool::{Brief, Heard, Host, pcid_audit_of_arguments};
+use pg_tool::{Brief, Followed, Heard, Host, Signals, Teller, pcid_audit_of_arguments};
 use std::cell::Cell;
 use std::fs::{self, File};
 use std::io::{self, ErrorKind, IsTerminal, Lock, Read, Stderr, Write};

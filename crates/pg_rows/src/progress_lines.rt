@@ -4,8 +4,8 @@ ghost use Rattle.std.specs.Prelude.{◌≡◌};
 ghost use Rattle.pg_progress.specs.Seats.{counts};
 
 use pg_codec::Watched;
-use pg_follow::{Counter, Teller};
 use pg_progress::{Counts, Observer};
+use pg_tool::{Counter, Teller};
 use std::alloc::{AllocError, Global};
 use std::test::Fail;
 

@@ -4,6 +4,8 @@
 
 mod answers;
 mod brief;
+mod counter;
+mod followed;
 mod format;
 mod guest_error;
 mod guest_refusals;
@@ -11,6 +13,7 @@ mod guests;
 mod heard;
 mod host;
 mod inputs;
+mod line;
 mod lines;
 mod named;
 mod nowhere;
@@ -18,9 +21,12 @@ mod outputs;
 mod program;
 mod records;
 mod remarks;
+mod teller;
 mod words;
 
 pub use brief::Brief;
+pub use counter::Counter;
+pub use followed::{Followed, Signals};
 pub use guest_error::GuestError;
 pub use heard::Heard;
 pub use host::Host;
@@ -31,4 +37,5 @@ pub use pg_plan::{
     ShowOptions, Telling, Usage, plan,
 };
 pub use program::{pcid_audit, pcid_audit_followed, run, run_followed};
+pub use teller::Teller;
 pub use words::{pcid_audit_of_arguments, pcid_audit_of_words};
