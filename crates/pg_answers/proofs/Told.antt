@@ -11,7 +11,7 @@ use Rattle.pg_search.specs.Last.{NoneWitness, IsLastOf, IsLast}
 use Rattle.pg_search.specs.Law.{names_moments, AreWitness}
 use Rattle.pg_search.specs.Changes.{TakenByAChange}
 use Rattle.pg_certify.specs.Certified.{IsDenied}
-use Rattle.pg_certify.specs.Shares.{end_of}
+use Rattle.pg_certify.specs.Segments.{end_of}
 use Rattle.pg_certify.specs.Accounts.{Account, IsAccount}
 use Rattle.pg_explain.specs.declared.denial.Denial.{Denial}
 use Rattle.pg_explain.specs.Denied.{IsDenialFor, IsDenialOf, DenialsAmongKept}
