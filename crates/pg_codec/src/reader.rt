@@ -100,8 +100,7 @@ impl RecordReader {
             Stage::Start => {}
             Stage::Segments(_) | Stage::Ended | Stage::Refused => return Err(ReadError::Failed),
         }
-        let part = next_header(alloc, &mut self.buffer, source);
-        let header = self.buffer.settle(source, part)?;
+        let header = next_header(alloc, &mut self.buffer, source)?;
         self.stage = behind_header(&header)?;
         Ok(header)
     }
@@ -125,8 +124,7 @@ impl RecordReader {
             Stage::Start => {}
             Stage::Segments(_) | Stage::Ended | Stage::Refused => return Err(ReadError::Failed),
         }
-        let part = next_old_header(alloc, &mut self.buffer, source);
-        let header = self.buffer.settle(source, part)?;
+        let header = next_old_header(alloc, &mut self.buffer, source)?;
         self.stage = behind_header(&header)?;
         Ok(header)
     }
@@ -173,8 +171,7 @@ impl RecordReader {
             Stage::Segments(progress) => progress,
             Stage::Start | Stage::Ended | Stage::Refused => return Err(ReadError::Failed),
         };
-        let part = next_closed_chunk(room, &mut self.buffer, source, &progress);
-        let chunk = self.buffer.settle(source, part)?;
+        let chunk = next_closed_chunk(room, &mut self.buffer, source, &progress)?;
         self.stage = behind_chunk(progress, &chunk);
         Ok(chunk)
     }
