@@ -19,7 +19,6 @@ mod runs;
 mod shown;
 mod summaries;
 mod text;
-mod unnamed;
 mod upgrader;
 
 pub use answer::{Answer, Rejection, Summary, answer_status};
