@@ -8,7 +8,7 @@ use crate::reasons::Reasoned;
 use pg_codec::Watched;
 use pg_plan::arguments;
 use pg_span_codec::Peeked;
-use pg_tool::{Brief, Followed, Host, Teller, pcid_audit_of_arguments};
+use pg_tool::{Brief, Followed, Heard, Host, Signals, Teller, pcid_audit_of_arguments};
 use std::cell::Cell;
 use std::fs::{self, File};
 use std::io::{self, ErrorKind, IsTerminal, Lock, Read, Stderr, Write};
@@ -45,14 +45,14 @@ fn file_at(rt: &HostRuntime, path: &str) -> Result<File, ErrorKind> {
 fn open_file<'r, 'a>(
     rt: &'r HostRuntime,
     name: &str,
-    progress: &'a Cell<bool>,
+    signals: Signals<'a>,
     why: &Cell<Option<ErrorKind>>,
 ) -> Option<Input<'r, 'a, File>> {
     match file_at(rt, path_of(name)) {
         Ok(file) => {
             let size = size_of(&file);
             let errors = Watched::new(rt.stderr());
-            let followed = Followed::new(Watched::new(file), errors, rt, size, progress);
+            let followed = Followed::new(Watched::new(file), errors, rt, size, signals);
             Some(Peeked::new(followed))
         }
         Err(kind) => {
@@ -88,17 +88,34 @@ fn main(rt: HostRuntime) -> ExitCode {
         reasons: Watched::new(rt.stderr()),
     };
     let progress = Cell::new(false);
+    let judging = Cell::new(false);
+    let heard = Heard::new();
+    let signals = Signals {
+        tells: &progress,
+        judging: &judging,
+        unnamed: &heard.unnamed,
+    };
+    // A program that reads standard error gets no hint.
+    let unheard = Cell::new(false);
+    let brief = Signals {
+        unnamed: if is_brief.get() {
+            &unheard
+        } else {
+            &heard.unnamed
+        },
+        ..signals
+    };
     let mut input = Peeked::new(Followed::new(
         Watched::new(rt.reader()),
         Watched::new(rt.stderr()),
         &rt,
         None,
-        &progress,
+        brief,
     ));
     let host = Host {
         opener: |name: &str| {
             is_brief.set(false);
-            open_file(&rt, name, &progress, &why)
+            open_file(&rt, name, signals, &why)
         },
         creator: |name: &str| {
             is_brief.set(false);
@@ -106,6 +123,8 @@ fn main(rt: HostRuntime) -> ExitCode {
         },
         is_terminal: rt.stdout().is_terminal(),
         reading: &progress,
+        judging: &judging,
+        heard: &heard,
         observer: Teller::new(Watched::new(rt.stderr())),
     };
     let status = pcid_audit_of_arguments(

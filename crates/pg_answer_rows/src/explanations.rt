@@ -154,19 +154,46 @@ $ explain
 == absent_root_entry_read_before_the_fault
 $ explain
 < 50475245434f5244010028030110000000011000000000000001
-< 010000000002000000
+< 010000000003000000
+< 100000700000000000000100000000000000
 < 100000100000000000000720000000000000
-< 11000423510000000000000104000100000000
-< 0202000000
+< 11000423510000000000000104000101000000
+< 0203000000
 > verdict: no
-> event: 1
+> event: 2
 > reason: 7 absent read not at event
-> events: 2
+> events: 3
 > segments: 1
-> event: 1 cpu 0 user read 0x5123 -> fault 0x4 (user) moments 0
-> level 4: moment 0 pcid 0x1 [0x1000] = 0x0 absent, never written
-> held: [0x1000] = 0x2007 table at the event, read at moment 0
-> other moments would: 1 1
+> event: 2 cpu 0 user read 0x5123 -> fault 0x4 (user) moments 1
+> level 4: moment 1 pcid 0x1 [0x1000] = 0x0 absent, never written
+> held: [0x1000] = 0x2007 table at the event, read at moment 1
+> other moments would: 2 2
+? 1
+
+== without_moments_as_certify
+$ explain
+< 50475245434f5244010028030110000000011000000000000001
+< 010000000007000000
+< 100000100000000000000720000000000000
+< 100000200000000000000730000000000000
+< 100000300000000000000740000000000000
+< 100028400000000000000790000000000000
+< 100028400000000000000000000000000000
+< 13000050000000000000
+< 11000423510000000000000023910000000000000100000000
+< 0207000000
+> verdict: no
+> event: 6
+> reason: 14 no moments
+> events: 7
+> segments: 1
+> event: 6 cpu 0 user read 0x5123 -> 0x9123
+> now: level 4 [0x1000] = 0x2007 table, written by event 0
+> now: level 3 [0x2000] = 0x3007 table, written by event 1
+> now: level 2 [0x3000] = 0x4007 table, written by event 2
+> now: level 1 [0x4028] = 0x0 absent, written by event 4
+> now: would give fault 0x4 (user)
+> last: moment 5 by 4 4 4 4; taken by 5 cpu 0 invlpg 0x5000
 ? 1
 ";
 

@@ -1,11 +1,12 @@
--- Texts of runs, to the byte.
-use Rattle.std.proofs.Common.{◌≡◌, ℕ, List, [], ◌∷◌, ◌++◌, refl}
+-- Texts of runs, to the byte, and which records name no moments.
+use Rattle.std.proofs.Common.{◌≡◌, ℕ, true, false, List, [], ◌∷◌, ◌++◌, refl}
 use Rattle.std.specs.Prelude.{codes}
 use Rattle.std.specs.Fmt.{digits}
 use Rattle.pg_event.specs.declared.event.Event.{Event}
 use Rattle.pg_event.specs.declared.event.Event.TheVariants.{Write}
 use Rattle.pg_run_of.specs.Plan.{steps_of}
 use Rattle.pg_answers.specs.Runs.{run_text}
+use Rattle.pg_answers.specs.Unnamed.{is_unnamed}
 use Rattle.pg_event.proofs.RowsBase.{base, words, tables, four, read, faulted, user_read}
 
 -- the text of the run of these events under the base header
@@ -34,3 +35,19 @@ run_of_reserved_fault = refl
 run_of_same_access_twice : text_of (tables 0x9007 ++ read (four 4) ∷ read (four 4) ∷ []) ≡ writes ++ fills ++ fills ++ codes "do 4\ndo 5\n"
 unfolding digits
 run_of_same_access_twice = refl
+
+placeholders_alone : is_unnamed (tables 0x9007 ++ read (0 ∷ []) ∷ faulted user_read 0x4 (0 ∷ []) ∷ []) ≡ true
+unfolding is_unnamed
+placeholders_alone = refl
+
+one_access_with_moments : is_unnamed (tables 0x9007 ++ read (0 ∷ []) ∷ read (four 4) ∷ []) ≡ false
+unfolding is_unnamed
+one_access_with_moments = refl
+
+first_moment_0_of_four : is_unnamed (tables 0x9007 ++ read (four 0) ∷ []) ≡ false
+unfolding is_unnamed
+first_moment_0_of_four = refl
+
+no_access : is_unnamed (tables 0x9007) ≡ false
+unfolding is_unnamed
+no_access = refl

@@ -1,6 +1,6 @@
 -- What is answered of a record with one order, whatever the format is in which it is written.
 use Rattle.std.specs.Prelude.{◌≡◌, ℕ, List, [], ◌∷◌, length, take, Option, Some, None}
-use Rattle.std.specs.Prelude.{Result, Ok, Err, slice_get}
+use Rattle.std.specs.Prelude.{Result, Ok, Err, slice_get, Bool, true, false}
 use Rattle.pg_event.specs.declared.selection.Selection.{Selection}
 use Rattle.pg_event.specs.declared.event.Event.{Event}
 use Rattle.pg_event.specs.declared.event.Reason.{Reason}
@@ -29,6 +29,7 @@ use Rattle.pg_answers.specs.declared.answer.Summary.{Summary as Summed}
 use Rattle.pg_answers.specs.declared.question.Question.{Question}
 use Rattle.pg_answers.specs.declared.question.Question.TheVariants.{Check, CheckAll, Certify}
 use Rattle.pg_answers.specs.declared.question.Question.TheVariants.{Explain, ExplainAll, Show}
+use Rattle.pg_answers.specs.Unnamed.{is_unnamed}
 
 -- ---- `certify`
 
@@ -91,16 +92,24 @@ IsCertificate r (Rejection x) = IsRejection r x
 IsCertificate r (Events q selection) = ⊥
 
 -- the report, and of a no the cause of the first bad event
-abbrev pub IsExplanation : Recorded → Answer → Type 0
-IsExplanation r (Report report) =
+abbrev pub IsCause : Recorded → Answer → Type 0
+IsCause r (Report report) =
     (report ≡ report_of r) × (first_bad r.head r.events ≡ None)
-IsExplanation r (Summary report s) = ⊥
-IsExplanation r (Cause report q x) =
+IsCause r (Summary report s) = ⊥
+IsCause r (Cause report q x) =
     (report ≡ report_of r) × (q ≡ r) × (n : ℕ) × (reason : Reason)
     × (first_bad r.head r.events ≡ Some (n, reason)) × IsExplained r.head r.events n x
-IsExplanation r (Causes report q xs s) = ⊥
-IsExplanation r (Rejection x) = ⊥
-IsExplanation r (Events q selection) = ⊥
+IsCause r (Causes report q xs s) = ⊥
+IsCause r (Rejection x) = ⊥
+IsCause r (Events q selection) = ⊥
+
+-- `explain`: that, of a record that names moments; of one that names none what `certify` answers
+abbrev pub IsExplanationOf : Bool → Recorded → Answer → Type 0
+IsExplanationOf true r x = IsCertificate r x
+IsExplanationOf false r x = IsCause r x
+
+abbrev pub IsExplanation : Recorded → Answer → Type 0
+IsExplanation r x = IsExplanationOf (is_unnamed r.events) r x
 
 abbrev pub IsSummed : Recorded → Answer → Type 0
 IsSummed r (Report report) = ⊥

@@ -4,6 +4,7 @@ pub mod RunOf
 pub mod Upgrades
 pub mod Texts
 pub mod Found
+pub mod Unnamed
 pub mod Answers
 pub mod AnswerTexts
 pub mod Certificates

@@ -29,11 +29,16 @@ fn check_all<R: Source>(alloc: Global, input: &mut R) -> Result<Answer, AuditErr
 }
 
 /// Its report, and the cause of a rejection.
-fn explain<R: Source>(alloc: Global, input: &mut R) -> Result<Answer, AuditError>
-    ensures { IsFound (IsAnswer Question.Explain) 1 (drawn R.Source input.old input.new) result }
+fn explain<T: AllocGlobal + Threads + Wait + Sync, R: Source>(
+    rt: &T,
+    checkers: Checkers,
+    input: &mut R,
+) -> Result<Answer, AuditError>
+    ensures { IsFound (IsAnswer Question.Explain) checkers
+        (drawn R.Source input.old input.new) result }
 {
-    match read_record(alloc, input) {
-        Ok(history) => Ok(explained(alloc, history)?),
+    match read_record(rt.alloc(), input) {
+        Ok(history) => explained(rt, checkers, history),
         Err(error) => Err(error),
     }
 }
@@ -76,7 +81,7 @@ pub fn answer_record<T: AllocGlobal + Threads + Wait + Sync, R: Source>(
         Question::Check => check(rt, checkers, input),
         Question::CheckAll => check_all(rt.alloc(), input),
         Question::Certify => certify(rt, checkers, input),
-        Question::Explain => explain(rt.alloc(), input),
+        Question::Explain => explain(rt, checkers, input),
         Question::ExplainAll(most) => explain_all(rt.alloc(), most, input),
         Question::Show(selection) => show(rt.alloc(), selection, input),
     }

@@ -83,7 +83,7 @@ pub(crate) fn certificate_by(
 }
 
 /// Has so many checkers certify a record that was read whole.
-fn certify_whole<T: AllocGlobal + Threads + Wait + Sync>(
+pub(crate) fn certify_whole<T: AllocGlobal + Threads + Wait + Sync>(
     rt: &T,
     checkers: Checkers,
     history: &History,

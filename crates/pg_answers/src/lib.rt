@@ -19,6 +19,7 @@ mod runs;
 mod shown;
 mod summaries;
 mod text;
+mod unnamed;
 mod upgrader;
 
 pub use answer::{Answer, Rejection, Summary, answer_status};

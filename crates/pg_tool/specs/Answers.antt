@@ -17,6 +17,7 @@ use Rattle.pg_ordering.specs.Merges.{Merges}
 use Rattle.pg_tool.specs.Guests.{RunsGuest}
 use Rattle.pg_tool.specs.Outputs.{Making, DoesHeard, DoesInto}
 use Rattle.pg_tool.specs.Records.{DoesOfRecord}
+use Rattle.pg_tool.specs.Remarks.{Remarks, from_on, is_input_named, up_to}
 pub use Rattle.pg_ordering.specs.Openings.{Opening, opens}
 
 -- 0 where the text was written, and 2 where the output failed
@@ -48,28 +49,7 @@ DoesCommand (Show asked) s status = DoesOfRecord (Show asked) s status
 DoesCommand Upgrade s status = DoesOfRecord Upgrade s status
 DoesCommand (Merge error) s status = ⊥
 
--- a change of a stream up to a moment, and from then on
-abbrev pub up_to : Change → Stream → Change
-up_to c mid = record { old = c.old; new = mid }
-
-abbrev pub from_on : Change → Stream → Change
-from_on c mid = record { old = mid; new = c.new }
-
--- a command answers as JSON
-abbrev pub writes_json : Command → Bool
-writes_json (Check asked) = asked.json
-writes_json (Certify asked) = asked.json
-writes_json (Run asked) = false
-writes_json RunOf = false
-writes_json (Explain asked) = asked.json
-writes_json (Show asked) = asked.json
-writes_json Upgrade = false
-writes_json (Merge error) = false
-
--- behind the lines that say why there is no answer the input is named, but not in JSON
-abbrev pub is_input_named : Command → ℕ → Bool
-is_input_named command status = nat_eq status 2 && not (writes_json command)
-
+-- the input is named behind the lines that say why there is no answer
 abbrev pub NamesInput : Bool → List ℕ → Change → Type 0
 NamesInput true name errors = Tells errors (input_line name)
 NamesInput false name errors = StaysSame errors
@@ -77,8 +57,10 @@ NamesInput false name errors = StaysSame errors
 -- what a command does of the input of a name
 abbrev pub DoesInput : Command → List ℕ → Streams → ℕ → Type 0
 DoesInput command name s status =
-    (mid : Stream) × DoesCommand command (record s { errors = up_to s.errors mid }) status
-    × NamesInput (is_input_named command status) name (from_on s.errors mid)
+    (mid : Stream) × (named : Stream)
+    × DoesCommand command (record s { errors = up_to s.errors mid }) status
+    × NamesInput (is_input_named command status) name (up_to (from_on s.errors mid) named)
+    × Remarks command status (from_on s.errors named)
 
 -- What a command does of the file of a name, which is read in the place of the input; or it could
 -- not be opened, which is told by its line, and nothing was written.

@@ -37,14 +37,27 @@ enum Part {
     Outcome,
     /// A count of moments.
     Moments,
+    /// A byte of the only moment, with so many after it.
+    Moment(u8),
     /// Nothing: an event has ended.
     EventEnd,
     /// Nothing: these bytes are no event, and nor are those after them.
     Rest,
 }
 
-/// Counts the events of a record of either version by its bytes. Of bytes that are no record it
-/// counts what looks like an event.
+/// What the accesses and assists that have come name, all of them.
+#[derive(Clone, Copy, PartialEq, Eq)]
+enum Naming {
+    /// None has come.
+    Nothing,
+    /// One moment, 0: what a recorder writes that keeps no moments.
+    Placeholder,
+    /// Some other moment; or the record is of another version, or is none.
+    Moments,
+}
+
+/// Counts the events of a record of either version by its bytes, and notes whether they name
+/// moments. Of bytes that are no record it counts what looks like an event.
 #[derive(Drop)]
 pub struct Counter {
     part: Part,
@@ -56,6 +69,7 @@ pub struct Counter {
     coming: u32,
     events: u64,
     bytes: u64,
+    naming: Naming,
 }
 
 /// What follows the tag of an event, where a processor's number has so many bytes.
@@ -97,6 +111,7 @@ impl Counter {
             coming: 0,
             events: 0,
             bytes: 0,
+            naming: Naming::Nothing,
         }
     }
 
@@ -110,9 +125,23 @@ impl Counter {
         self.bytes
     }
 
+    /// Whether some access or assist has come, and each of them has the placeholder of a recorder
+    /// that keeps no moments.
+    pub fn is_unnamed(&self) -> bool {
+        self.naming == Naming::Placeholder
+    }
+
+    /// Whether an access or an assist has come that names another moment than that placeholder.
+    pub fn is_named(&self) -> bool {
+        self.naming == Naming::Moments
+    }
+
     /// Takes in the version, and gives what follows it: its high byte, M and the flags.
     fn behind_version(&mut self, version: u8) -> (u64, Part) {
         self.is_wide = version == 2;
+        if version != 1 && version != 2 {
+            self.naming = Naming::Moments;
+        }
         (3, Part::Processors)
     }
 
@@ -126,6 +155,29 @@ impl Counter {
         }
     }
 
+    /// Takes in a count of moments, and gives what follows it.
+    fn behind_moments(&mut self, count: u8) -> (u64, Part) {
+        if count == 1 && self.naming != Naming::Moments {
+            return (0, Part::Moment(3));
+        }
+        self.naming = Naming::Moments;
+        (4 * count as u64, Part::EventEnd)
+    }
+
+    /// Takes in a byte of the only moment of an access, and gives what follows it.
+    fn behind_moment(&mut self, byte: u8, left: u8) -> (u64, Part) {
+        if byte != 0 {
+            self.naming = Naming::Moments;
+        }
+        if left > 0 {
+            return (0, Part::Moment(left - 1));
+        }
+        if self.naming == Naming::Nothing {
+            self.naming = Naming::Placeholder;
+        }
+        (0, Part::EventEnd)
+    }
+
     /// Takes in a byte that says what follows it, and gives that.
     fn behind(&mut self, byte: u8) -> (u64, Part) {
         match self.part {
@@ -137,7 +189,8 @@ impl Counter {
             Part::Count(left) => self.behind_count(byte, left),
             Part::Event => behind_tag(byte, if self.is_wide { 2 } else { 1 }),
             Part::Outcome => behind_outcome(byte),
-            Part::Moments => (4 * byte as u64, Part::EventEnd),
+            Part::Moments => self.behind_moments(byte),
+            Part::Moment(left) => self.behind_moment(byte, left),
             Part::Chunk | Part::EventEnd | Part::Rest => (u64::MAX, Part::Rest),
         }
     }
@@ -153,6 +206,14 @@ impl Counter {
         };
     }
 
+    /// Counts so many bytes, and an event that ends with them.
+    fn end_part(&mut self, n: u64) {
+        self.bytes = self.bytes.saturating_add(n);
+        if self.before == 0 && self.part == Part::EventEnd {
+            self.end_event();
+        }
+    }
+
     /// Counts on, up to the next byte that says something or the end of an event, and answers how
     /// many bytes it took.
     pub fn take(&mut self, bytes: &[u8]) -> usize
@@ -163,18 +224,15 @@ impl Counter {
             return 0;
         };
         if self.before == 0 {
-            self.bytes = self.bytes.saturating_add(1);
             let (before, part) = self.behind(*byte);
             self.before = before;
             self.part = part;
+            self.end_part(1);
             return 1;
         }
         let n = self.before.min(bytes.len() as u64);
         self.before -= n;
-        self.bytes = self.bytes.saturating_add(n);
-        if self.before == 0 && self.part == Part::EventEnd {
-            self.end_event();
-        }
+        self.end_part(n);
         n as usize
     }
 }

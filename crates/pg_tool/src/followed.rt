@@ -11,9 +11,21 @@ use std::time::{Clock, Instant};
 /// So many seconds it is between two lines, at least.
 const PAUSE: u64 = 1;
 
+/// How a source, and the program that reads it, speak.
+#[derive(Clone, Copy)]
+pub struct Signals<'a> {
+    /// Whether the source tells how far it has come: the program sets it.
+    pub tells: &'a Cell<bool>,
+    /// Whether it looks for moments: the program sets it.
+    pub judging: &'a Cell<bool>,
+    /// Whether the record names no moments, as far as it was pulled: the source sets it, if it
+    /// looks for them.
+    pub unnamed: &'a Cell<bool>,
+}
+
 /// A source that gives what another gives and, while it is asked to, tells a sink each second or so
-/// how many events of the record have been pulled. Whether the sink takes the line, and whether the
-/// clock answers, changes nothing.
+/// how many events of the record have been pulled, and says whether they name no moments. Whether
+/// the sink takes the line, and whether the clock answers, changes nothing.
 #[derive(Drop)]
 pub struct Followed<'a, R, E, C> {
     pub source: R,
@@ -21,8 +33,7 @@ pub struct Followed<'a, R, E, C> {
     clock: C,
     /// How many bytes there are to pull, if that is known.
     size: Option<u64>,
-    /// Whether it tells.
-    tells: &'a Cell<bool>,
+    signals: Signals<'a>,
     counter: Counter,
     /// When a line was told last, or the first bytes were pulled.
     last: Option<Instant>,
@@ -59,24 +70,43 @@ fn is_time<C: Clock>(clock: &C, last: &mut Option<Instant>) -> bool {
 
 impl<'a, R: Source, E: Sink, C: Clock> Followed<'a, R, E, C> {
     /// Of a source of which nothing was pulled, and which has so many bytes, if that is known. It
-    /// tells once the cell is set.
+    /// tells, and looks for moments, once that is signalled.
     pub fn new(
         source: R,
         errors: E,
         clock: C,
         size: Option<u64>,
-        tells: &'a Cell<bool>,
+        signals: Signals<'a>,
     ) -> Followed<'a, R, E, C>
         ensures source { result.source ≡ source }
     {
+        signals.unnamed.set(false);
         Followed {
             source,
             errors,
             clock,
             size,
-            tells,
+            signals,
             counter: Counter::new(),
             last: None,
+        }
+    }
+
+    /// Takes note of bytes that were pulled. A record that names moments need not be looked at any
+    /// further for these alone.
+    fn note(&mut self, bytes: &[u8])
+        ensures { self.new.source ≡ self.old.source }
+    {
+        let tells = self.signals.tells.get();
+        let judging = self.signals.judging.get() && !self.counter.is_named();
+        if tells || judging {
+            count(&mut self.counter, bytes);
+        }
+        if judging {
+            self.signals.unnamed.set(self.counter.is_unnamed());
+        }
+        if tells && is_time(&self.clock, &mut self.last) {
+            let _ = put_read(&mut self.errors, &self.counter, self.size);
         }
     }
 }
@@ -89,12 +119,7 @@ impl<'a, R: Source, E: Sink, C: Clock> Source for Followed<'a, R, E, C> {
     fn pull(&mut self, out: &mut [u8]) -> Result<usize, Failed> {
         match self.source.pull(out) {
             Ok(n) => {
-                if self.tells.get() {
-                    count(&mut self.counter, &out[..n]);
-                    if is_time(&self.clock, &mut self.last) {
-                        let _ = put_read(&mut self.errors, &self.counter, self.size);
-                    }
-                }
+                self.note(&out[..n]);
                 Ok(n)
             }
             Err(failed) => Err(failed),

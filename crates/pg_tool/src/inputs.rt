@@ -6,12 +6,15 @@ ghost use Rattle.pg_report.specs.Changes.{filled};
 ghost use Rattle.pg_auditing.specs.Streams.{streams};
 ghost use Rattle.pg_tool.specs.Answers.{DoesAsked, DoesCommand, DoesEach, DoesFile, DoesFiles};
 ghost use Rattle.pg_tool.specs.Answers.{DoesInput, DoesNamed, MergesAsked, NamesInput, has_several};
-ghost use Rattle.pg_tool.specs.Answers.{is_input_named, opens, widening_of, writes_json};
+ghost use Rattle.pg_tool.specs.Answers.{opens, widening_of};
+ghost use Rattle.pg_tool.specs.Remarks.{is_input_named, writes_json};
 
+use crate::heard::Heard;
 use crate::named::Named;
 use crate::program::{run, run_followed};
 use crate::records::do_of_record;
-use pg_auditing::{REFUSED, UNOPENED, YES, tell_input, tell_unopened};
+use crate::remarks::{is_input_named, remark};
+use pg_auditing::{UNOPENED, YES, tell_input, tell_unopened};
 use pg_codec::{Sink, Source};
 use pg_ordering::merge;
 use pg_plan::{Command, Invocation, Plan};
@@ -54,27 +57,6 @@ fn perform<T: AllocGlobal + Threads + Wait + Sync, R: Source, O: Sink, E: Sink, 
     }
 }
 
-/// Whether a command answers as JSON.
-fn writes_json(command: &Command) -> bool
-    ensures { result ≡ writes_json command.now }
-{
-    match command {
-        Command::Check(asked) => asked.json,
-        Command::Certify(asked) => asked.json,
-        Command::Explain(asked) => asked.json,
-        Command::Show(asked) => asked.json,
-        Command::Run(_) | Command::RunOf | Command::Upgrade | Command::Merge { .. } => false,
-    }
-}
-
-/// Whether the input is named behind the lines that say why there is no answer.
-fn is_input_named(command: &Command, status: u8) -> bool
-    ensures { result ≡ is_input_named command.now status }
-{
-    let json = writes_json(command);
-    status == REFUSED && !json
-}
-
 /// Names the input, where that is to be.
 fn name_input<E: Sink>(is_named: bool, name: &str, errors: &mut E)
     ensures { NamesInput is_named name.now (filled E.Sink errors.old errors.new) }
@@ -99,6 +81,7 @@ fn perform_named<
     output: &mut O,
     errors: &mut E,
     observer: P,
+    heard: &Heard,
 ) -> u8
     requires logs { widening_of plan.now.command ≡ None }
     requires observer { P.told observer ≡ counts 0 0 }
@@ -107,6 +90,7 @@ fn perform_named<
 {
     let status = perform(rt, plan, input, output, errors, observer);
     name_input(is_input_named(&plan.command, status), name, errors);
+    remark(&plan.command, status, heard, errors);
     status
 }
 
@@ -118,7 +102,16 @@ fn perform_on<
     O: Sink,
     E: Sink,
     P: Observer + Drop,
->(rt: &T, plan: &Plan, name: &str, opener: &F, output: &mut O, errors: &mut E, observer: P) -> u8
+>(
+    rt: &T,
+    plan: &Plan,
+    name: &str,
+    opener: &F,
+    output: &mut O,
+    errors: &mut E,
+    observer: P,
+    heard: &Heard,
+) -> u8
     requires logs { widening_of plan.now.command ≡ None }
     requires opener { F.IsAlwaysCallable opener.now }
     requires observer { P.told observer ≡ counts 0 0 }
@@ -127,7 +120,7 @@ fn perform_on<
         (filled O.Sink output.old output.new) (filled E.Sink errors.old errors.new) result }
 {
     match opener(name) {
-        Some(mut file) => perform_named(rt, plan, name, &mut file, output, errors, observer),
+        Some(mut file) => perform_named(rt, plan, name, &mut file, output, errors, observer, heard),
         None => {
             tell_unopened(errors, name);
             UNOPENED
@@ -143,7 +136,15 @@ fn perform_each<
     S: Source + Drop,
     O: Sink,
     E: Sink,
->(rt: &T, plan: &Plan, names: &[&str], opener: &F, output: &mut O, errors: &mut E) -> u8
+>(
+    rt: &T,
+    plan: &Plan,
+    names: &[&str],
+    opener: &F,
+    output: &mut O,
+    errors: &mut E,
+    heard: &Heard,
+) -> u8
     requires logs { widening_of plan.now.command ≡ None }
     requires opener { F.IsAlwaysCallable opener.now }
     ensures { DoesEach (opens F.Fn ⟦<Peeked<S> as Source>⟧ opener.now) plan.now.command
@@ -153,7 +154,7 @@ fn perform_each<
     let mut status = YES;
     for name in names {
         let mut named = Named::new(output, name);
-        let one = perform_on(rt, plan, name, opener, &mut named, errors, Nobody);
+        let one = perform_on(rt, plan, name, opener, &mut named, errors, Nobody, heard);
         status = status.max(one);
     }
     status
@@ -208,6 +209,7 @@ fn perform_asked<
     input: &mut Peeked<R>,
     output: &mut O,
     errors: &mut E,
+    heard: &Heard,
 ) -> u8
     requires logs { widening_of asked.now.plan.command ≡ None }
     requires opener { F.IsAlwaysCallable opener.now }
@@ -227,9 +229,19 @@ fn perform_asked<
                 output,
                 errors,
                 observer,
+                heard,
             )
         }
-        Some(name) => perform_on(rt, &asked.plan, name, opener, output, errors, observer),
+        Some(name) => perform_on(
+            rt,
+            &asked.plan,
+            name,
+            opener,
+            output,
+            errors,
+            observer,
+            heard,
+        ),
     }
 }
 
@@ -257,6 +269,7 @@ fn perform_files<
     input: &mut Peeked<R>,
     output: &mut O,
     errors: &mut E,
+    heard: &Heard,
 ) -> u8
     requires logs { widening_of asked.now.plan.command ≡ None }
     requires opener { F.IsAlwaysCallable opener.now }
@@ -274,9 +287,10 @@ fn perform_files<
             opener,
             output,
             errors,
+            heard,
         )
     } else {
-        perform_asked(rt, asked, opener, observer, input, output, errors)
+        perform_asked(rt, asked, opener, observer, input, output, errors, heard)
     }
 }
 
@@ -297,6 +311,7 @@ pub(crate) fn perform_all<
     input: &mut Peeked<R>,
     output: &mut O,
     errors: &mut E,
+    heard: &Heard,
 ) -> u8
     requires opener { F.IsAlwaysCallable opener.now }
     requires observer { P.told observer ≡ counts 0 0 }
@@ -307,6 +322,6 @@ pub(crate) fn perform_all<
 {
     match widening_of(&asked.plan.command) {
         Some(error) => merge_asked(rt.alloc(), asked, error, opener, output, errors),
-        None => perform_files(rt, asked, opener, observer, input, output, errors),
+        None => perform_files(rt, asked, opener, observer, input, output, errors, heard),
     }
 }

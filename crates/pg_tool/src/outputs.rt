@@ -9,6 +9,7 @@ ghost use Rattle.pg_tool.specs.Answers.{DoesAsked, DoesOut, opens};
 ghost use Rattle.pg_tool.specs.Outputs.{DoesHeard, DoesLoudly, DoesUnheard, Redirects};
 ghost use Rattle.pg_tool.specs.Outputs.{makes, terminal_line, writes_bytes};
 
+use crate::heard::Heard;
 use crate::host::Host;
 use crate::inputs::perform_all;
 use crate::nowhere::Nowhere;
@@ -60,6 +61,7 @@ fn perform_unheard<
     observer: P,
     input: &mut Peeked<R>,
     errors: &mut E,
+    heard: &Heard,
 ) -> u8
     requires opener { F.IsAlwaysCallable opener.now }
     requires observer { P.told observer ≡ counts 0 0 }
@@ -69,7 +71,16 @@ fn perform_unheard<
         (filled E.Sink errors.old errors.new) result }
 {
     let mut nowhere = Nowhere;
-    perform_all(rt, asked, opener, observer, input, &mut nowhere, errors)
+    perform_all(
+        rt,
+        asked,
+        opener,
+        observer,
+        input,
+        &mut nowhere,
+        errors,
+        heard,
+    )
 }
 
 /// Does what the arguments ask for, and writes it to standard output, unless that is unfit for it.
@@ -90,6 +101,7 @@ fn perform_loudly<
     input: &mut Peeked<R>,
     output: &mut O,
     errors: &mut E,
+    heard: &Heard,
 ) -> u8
     requires opener { F.IsAlwaysCallable opener.now }
     requires observer { P.told observer ≡ counts 0 0 }
@@ -101,7 +113,7 @@ fn perform_loudly<
     if is_unfit {
         refuse_terminal(errors)
     } else {
-        perform_all(rt, asked, opener, observer, input, output, errors)
+        perform_all(rt, asked, opener, observer, input, output, errors, heard)
     }
 }
 
@@ -123,6 +135,7 @@ fn perform_heard<
     input: &mut Peeked<R>,
     output: &mut O,
     errors: &mut E,
+    heard: &Heard,
 ) -> u8
     requires opener { F.IsAlwaysCallable opener.now }
     requires observer { P.told observer ≡ counts 0 0 }
@@ -134,9 +147,11 @@ fn perform_heard<
     let bytes = writes_bytes(&asked.plan.command);
     let is_unfit = is_terminal && bytes;
     if asked.plan.quiet {
-        perform_unheard(rt, asked, opener, observer, input, errors)
+        perform_unheard(rt, asked, opener, observer, input, errors, heard)
     } else {
-        perform_loudly(rt, asked, is_unfit, opener, observer, input, output, errors)
+        perform_loudly(
+            rt, asked, is_unfit, opener, observer, input, output, errors, heard,
+        )
     }
 }
 
@@ -159,6 +174,7 @@ fn perform_into<
     observer: P,
     input: &mut Peeked<R>,
     errors: &mut E,
+    heard: &Heard,
 ) -> u8
     requires opener { F.IsAlwaysCallable opener.now }
     requires creator { G.IsAlwaysCallable creator.now }
@@ -169,7 +185,7 @@ fn perform_into<
         (filled E.Sink errors.old errors.new) result }
 {
     match creator(name) {
-        Some(mut file) => perform_all(rt, asked, opener, observer, input, &mut file, errors),
+        Some(mut file) => perform_all(rt, asked, opener, observer, input, &mut file, errors, heard),
         None => {
             tell_uncreated(errors, name);
             UNCREATED
@@ -208,8 +224,11 @@ pub(crate) fn perform_out<
     let observer = host.observer;
     let opener = &host.opener;
     let creator = &host.creator;
+    let heard = host.heard;
     match asked.output {
-        Some(name) => perform_into(rt, asked, name, opener, creator, observer, input, errors),
+        Some(name) => perform_into(
+            rt, asked, name, opener, creator, observer, input, errors, heard,
+        ),
         None => {
             perform_heard(
                 rt,
@@ -220,6 +239,7 @@ pub(crate) fn perform_out<
                 input,
                 output,
                 errors,
+                heard,
             )
         }
     }

@@ -12,8 +12,10 @@ ghost use Rattle.pg_auditing.specs.Streams.{streams};
 use crate::guest_error::GuestError;
 use crate::guest_refusals::tell_guest;
 use crate::guests::run_script;
+use crate::heard::Heard;
 use crate::host::Host;
 use crate::outputs::perform_out;
+use crate::remarks::judges_by_moments;
 use pg_auditing::{MEMORY, REFUSED, USAGE, YES, tell, tell_memory, tell_text};
 use pg_codec::{Sink, Source, put_all};
 use pg_plan::{Command, Invocation, Plan, RunOptions, Usage};
@@ -181,6 +183,7 @@ pub fn pcid_audit_followed<
         Err(why) => return tell_usage(why, output, errors),
     };
     host.reading.set(tells_of_reading(&asked.plan));
+    host.judging.set(judges_by_moments(&asked.plan.command));
     perform_out(rt, &asked, host, input, output, errors)
 }
 
@@ -215,6 +218,8 @@ pub fn pcid_audit<
         creator,
         is_terminal: false,
         reading: &Cell::new(false),
+        judging: &Cell::new(false),
+        heard: &Heard::new(),
         observer: Nobody,
     };
     pcid_audit_followed(rt, planned, host, input, output, errors)
