@@ -94,6 +94,7 @@ fn main(rt: HostRuntime) -> ExitCode {
         tells: &progress,
         judging: &judging,
         unnamed: &heard.unnamed,
+        byte: &heard.byte,
     };
     // A program that reads standard error gets no hint.
     let unheard = Cell::new(false);

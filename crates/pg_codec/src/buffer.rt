@@ -7,6 +7,7 @@ ghost use Rattle.pg_event.specs.Laws.{AreBytes};
 ghost use Rattle.pg_codec.specs.Streams.{RaisesFailures};
 ghost use Rattle.pg_codec.specs.Reads.{left_of, Prepares};
 
+use crate::error::ReadError;
 use crate::spelling::LONGEST_PART;
 use crate::stream::{Failed, Source};
 use crate::transfer::fill;
@@ -92,6 +93,25 @@ impl Buffer {
         ensures { self.new ≡ drop (length self.old - n) self.old }
     {
         self.start = self.end - n;
+    }
+
+    /// Gives a part that was read. If none was, the source hears how much was pulled and not read.
+    pub(crate) fn settle<T, R: Source>(
+        &self,
+        source: &mut R,
+        part: Result<T, ReadError>,
+    ) -> Result<T, ReadError>
+        ensures part { result ≡ part }
+        ensures left { R.left source.new ≡ R.left source.old }
+        ensures failed { R.failed source.new ≡ R.failed source.old }
+    {
+        match part {
+            Ok(value) => Ok(value),
+            Err(error) => {
+                source.stop(self.end - self.start);
+                Err(error)
+            }
+        }
     }
 
     fn refill<R: Source>(&mut self, source: &mut R) -> Result<(), Failed>

@@ -100,7 +100,8 @@ impl RecordReader {
             Stage::Start => {}
             Stage::Segments(_) | Stage::Ended | Stage::Refused => return Err(ReadError::Failed),
         }
-        let header = next_header(alloc, &mut self.buffer, source)?;
+        let part = next_header(alloc, &mut self.buffer, source);
+        let header = self.buffer.settle(source, part)?;
         self.stage = behind_header(&header)?;
         Ok(header)
     }
@@ -124,7 +125,8 @@ impl RecordReader {
             Stage::Start => {}
             Stage::Segments(_) | Stage::Ended | Stage::Refused => return Err(ReadError::Failed),
         }
-        let header = next_old_header(alloc, &mut self.buffer, source)?;
+        let part = next_old_header(alloc, &mut self.buffer, source);
+        let header = self.buffer.settle(source, part)?;
         self.stage = behind_header(&header)?;
         Ok(header)
     }
@@ -171,7 +173,8 @@ impl RecordReader {
             Stage::Segments(progress) => progress,
             Stage::Start | Stage::Ended | Stage::Refused => return Err(ReadError::Failed),
         };
-        let chunk = next_closed_chunk(room, &mut self.buffer, source, &progress)?;
+        let part = next_closed_chunk(room, &mut self.buffer, source, &progress);
+        let chunk = self.buffer.settle(source, part)?;
         self.stage = behind_chunk(progress, &chunk);
         Ok(chunk)
     }

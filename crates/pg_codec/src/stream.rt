@@ -29,6 +29,13 @@ pub trait Source {
     /// How often the device has failed.
     fn failures(&self) -> u64
         ensures { result ≡ failed self.now };
+
+    /// Hears that who pulled bytes stopped, and has not read the last of them, so many. A source
+    /// that wants to know where the reading stopped has a body of its own.
+    fn stop(&mut self, _unread: usize)
+        ensures left { left self.new ≡ left self.old }
+        ensures failed { failed self.new ≡ failed self.old }
+    {}
 }
 
 /// What bytes are put into.

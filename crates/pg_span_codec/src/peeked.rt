@@ -60,4 +60,9 @@ impl<R: Source> Source for Peeked<R> {
     fn failures(&self) -> u64 {
         self.inner.failures()
     }
+
+    fn stop(&mut self, unread: usize) {
+        self.inner
+            .stop(unread.saturating_add(self.unread.as_slice().len()));
+    }
 }

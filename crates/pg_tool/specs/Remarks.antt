@@ -1,6 +1,7 @@
 -- What is said of an input on standard error behind the answer, or behind why there is none. What
 -- the source of the input says of it is no part of any contract.
-use Rattle.std.specs.Prelude.{◌&&◌, ℕ, Bool, true, false, not, nat_eq, List, codes}
+use Rattle.std.specs.Prelude.{◌&&◌, ◌++◌, ℕ, Bool, true, false, not, nat_eq, List, Option, Some}
+use Rattle.std.specs.Prelude.{None, codes, decimal}
 use Rattle.pg_plan.specs.declared.request.Command.{Command}
 use Rattle.pg_plan.specs.declared.request.Command.TheVariants.{Check, Certify, Run, RunOf}
 use Rattle.pg_plan.specs.declared.request.Command.TheVariants.{Explain, Show, Upgrade, Merge}
@@ -55,7 +56,18 @@ abbrev pub Hints : Bool → Bool → Change → Type 0
 Hints true json errors = Tells errors (hint_line json)
 Hints false json errors = StaysSame errors
 
--- what is said behind all else: the hint, as far as the source gives cause for it
+-- the byte at which the reading stopped
+abbrev pub byte_line : ℕ → List ℕ
+byte_line byte = (codes "pcid-audit: reading stopped at byte " ++ decimal byte) ++ codes "\n"
+
+abbrev pub SaysByte : Bool → Option ℕ → Change → Type 0
+SaysByte told None errors = StaysSame errors
+SaysByte true (Some byte) errors = Tells errors (byte_line byte)
+SaysByte false (Some byte) errors = StaysSame errors
+
+-- the byte of a refusal, and the hint of a rejection, as far as the source gives them
 abbrev pub Remarks : Command → ℕ → Change → Type 0
 Remarks command status errors =
-    (unnamed : Bool) × Hints (is_hinted command status unnamed) (writes_json command) errors
+    (mid : Stream) × (unnamed : Bool) × (byte : Option ℕ)
+    × SaysByte (is_input_named command status) byte (up_to errors mid)
+    × Hints (is_hinted command status unnamed) (writes_json command) (from_on errors mid)

@@ -21,6 +21,8 @@ pub struct Signals<'a> {
     /// Whether the record names no moments, as far as it was pulled: the source sets it, if it
     /// looks for them.
     pub unnamed: &'a Cell<bool>,
+    /// The byte at which the reading stopped, if it stopped early: the source sets it.
+    pub byte: &'a Cell<Option<u64>>,
 }
 
 /// A source that gives what another gives and, while it is asked to, tells a sink each second or so
@@ -35,6 +37,8 @@ pub struct Followed<'a, R, E, C> {
     size: Option<u64>,
     signals: Signals<'a>,
     counter: Counter,
+    /// So many bytes were pulled.
+    pulled: u64,
     /// When a line was told last, or the first bytes were pulled.
     last: Option<Instant>,
 }
@@ -81,6 +85,7 @@ impl<'a, R: Source, E: Sink, C: Clock> Followed<'a, R, E, C> {
         ensures source { result.source ≡ source }
     {
         signals.unnamed.set(false);
+        signals.byte.set(None);
         Followed {
             source,
             errors,
@@ -88,6 +93,7 @@ impl<'a, R: Source, E: Sink, C: Clock> Followed<'a, R, E, C> {
             size,
             signals,
             counter: Counter::new(),
+            pulled: 0,
             last: None,
         }
     }
@@ -97,6 +103,7 @@ impl<'a, R: Source, E: Sink, C: Clock> Followed<'a, R, E, C> {
     fn note(&mut self, bytes: &[u8])
         ensures { self.new.source ≡ self.old.source }
     {
+        self.pulled = self.pulled.saturating_add(bytes.len() as u64);
         let tells = self.signals.tells.get();
         let judging = self.signals.judging.get() && !self.counter.is_named();
         if tells || judging {
@@ -128,5 +135,12 @@ impl<'a, R: Source, E: Sink, C: Clock> Source for Followed<'a, R, E, C> {
 
     fn failures(&self) -> u64 {
         self.source.failures()
+    }
+
+    fn stop(&mut self, unread: usize) {
+        self.source.stop(unread);
+        self.signals
+            .byte
+            .set(Some(self.pulled.saturating_sub(unread as u64)));
     }
 }

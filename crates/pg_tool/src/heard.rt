@@ -8,6 +8,8 @@ use std::cell::Cell;
 pub struct Heard {
     /// Whether it is a record that names no moments, as far as it was read.
     pub unnamed: Cell<bool>,
+    /// The byte at which the reading of a record stopped that gave no answer.
+    pub byte: Cell<Option<u64>>,
 }
 
 impl Heard {
@@ -15,6 +17,7 @@ impl Heard {
     pub fn new() -> Heard {
         Heard {
             unnamed: Cell::new(false),
+            byte: Cell::new(None),
         }
     }
 }

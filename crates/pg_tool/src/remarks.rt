@@ -1,13 +1,15 @@
 //! What is said of an input behind the answer, or behind why there is none.
 
 ghost use Rattle.std.specs.Prelude.{◌≡◌};
+ghost use Rattle.pg_codec.specs.Writing.{Puts};
 ghost use Rattle.pg_report.specs.Changes.{filled};
-ghost use Rattle.pg_tool.specs.Remarks.{Hints, Remarks, hint_line, is_hinted};
+ghost use Rattle.pg_auditing.specs.Refusals.{Tells};
+ghost use Rattle.pg_tool.specs.Remarks.{Hints, Remarks, SaysByte, byte_line, hint_line, is_hinted};
 ghost use Rattle.pg_tool.specs.Remarks.{is_input_named, judges_by_moments, writes_json};
 
 use crate::heard::Heard;
-use pg_auditing::{NO, REFUSED, tell_text};
-use pg_codec::Sink;
+use pg_auditing::{NO, REFUSED, put_number, tell_text};
+use pg_codec::{Failed, Sink, put_all};
 use pg_plan::Command;
 
 /// Whether a command answers as JSON.
@@ -68,13 +70,42 @@ fn hint<E: Sink>(is_hinted: bool, json: bool, errors: &mut E)
     }
 }
 
-/// Says of an input, behind all else, that it names no moments, if it was rejected by these: as far
-/// as its source says so.
+fn put_byte<E: Sink>(errors: &mut E, byte: u64) -> Result<(), Failed>
+    ensures { Puts E.Sink (byte_line byte) errors.old errors.new result }
+{
+    put_number(errors, b"pcid-audit: reading stopped at byte ", byte)?;
+    put_all(errors, b"\n")
+}
+
+/// Tells at which byte the reading stopped.
+fn tell_byte<E: Sink>(errors: &mut E, byte: u64)
+    ensures { Tells (filled E.Sink errors.old errors.new) (byte_line byte) }
+{
+    let _ = put_byte(errors, byte);
+}
+
+/// Tells that, where it is known and to be told.
+fn say_byte<E: Sink>(is_told: bool, byte: Option<u64>, errors: &mut E)
+    ensures { SaysByte is_told byte (filled E.Sink errors.old errors.new) }
+{
+    match byte {
+        None => {}
+        Some(byte) => if is_told {
+            tell_byte(errors, byte);
+        },
+    }
+}
+
+/// Says of an input, behind all else, where the reading of it stopped, if it was refused, and that
+/// it names no moments, if it was rejected by these: as far as the source says so.
 pub(crate) fn remark<E: Sink>(command: &Command, status: u8, heard: &Heard, errors: &mut E)
     ensures { Remarks command.now status (filled E.Sink errors.old errors.new) }
 {
     let unnamed = heard.unnamed.get();
+    let byte = heard.byte.get();
+    let told = is_input_named(command, status);
     let hinted = is_hinted(command, status, unnamed);
     let json = writes_json(command);
+    say_byte(told, byte, errors);
     hint(hinted, json, errors);
 }
