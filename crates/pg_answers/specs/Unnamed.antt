@@ -1,16 +1,11 @@
 -- A record without moments: one whose recorder keeps none, and writes a placeholder instead.
-use Rattle.std.specs.Prelude.{ℕ, Bool, true, false, ◌&&◌, nat_eq, List, [], ◌∷◌}
+use Rattle.std.specs.Prelude.{Bool, true, ◌&&◌, List}
 use Rattle.std.specs.List.{list_all, list_any}
 use Rattle.pg_event.specs.declared.event.Event.{Event}
 use Rattle.pg_event.specs.declared.event.Event.TheVariants.{Write, Access, Assist, MovCr3}
 use Rattle.pg_event.specs.declared.event.Event.TheVariants.{Invlpg, Invpcid, MovCr4Pge}
 use Rattle.pg_search.specs.Law.{names_moments}
-
--- these moments are the placeholder: one moment, 0
-abbrev pub is_placeholder : List ℕ → Bool
-is_placeholder [] = false
-is_placeholder (m ∷ []) = nat_eq m 0
-is_placeholder (m ∷ w ∷ ws) = false
+use Rattle.pg_certify.specs.Accounts.{is_placeholder}
 
 -- where the event names moments, these are the placeholder
 abbrev pub may_be_unnamed : Event → Bool

@@ -3,16 +3,11 @@
 ghost use Rattle.std.specs.Prelude.{◌≡◌};
 ghost use Rattle.std.specs.List.{list_all, list_any};
 ghost use Rattle.pg_search.specs.Law.{names_moments};
-ghost use Rattle.pg_answers.specs.Unnamed.{is_placeholder, is_unnamed, may_be_unnamed};
+ghost use Rattle.pg_answers.specs.Unnamed.{is_unnamed, may_be_unnamed};
 
-use pg_event::{Event, Moments, Request};
+use pg_certify::is_placeholder;
+use pg_event::{Event, Request};
 use pg_search::names_moments;
-
-fn is_placeholder(moments: &Moments) -> bool
-    ensures { result ≡ is_placeholder moments.now }
-{
-    moments.len() == 1 && moments.get(0) == Some(0)
-}
 
 /// Whether an event names no moments, or the placeholder.
 fn may_be_unnamed(event: &Event) -> bool

@@ -30,5 +30,5 @@ pub use crew::{CertifyError, first_denied_by};
 pub use laws::{
     certified_events_run, certified_exactly_where_a_run_exists, denied_events_have_no_run,
 };
-pub use named_events::Numbered;
+pub use named_events::{Numbered, is_placeholder};
 pub use whole::{certify, first_denied};

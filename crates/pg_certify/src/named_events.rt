@@ -14,7 +14,8 @@ pub struct Numbered {
     pub event: Event,
 }
 
-fn is_placeholder(moments: &Moments) -> bool
+/// Whether moments are the placeholder of a recorder that keeps none: one moment, 0.
+pub fn is_placeholder(moments: &Moments) -> bool
     ensures { result ≡ is_placeholder moments.now }
 {
     match (moments.get(1), moments.get(0)) {
