@@ -80,46 +80,35 @@ fn create_file(
 fn main(rt: HostRuntime) -> ExitCode {
     let mut output = Watched::new(rt.stdout());
     // Whoever names a file, or reads standard error at a terminal, is told in words too.
-    let is_brief = Cell::new(!rt.stderr().is_terminal());
+    let heard = Heard::new(!rt.stderr().is_terminal());
     let why = Cell::new(None);
     let mut errors = Reasoned {
-        errors: Brief::new(Watched::new(rt.stderr()), &is_brief),
+        errors: Brief::new(Watched::new(rt.stderr()), &heard.is_brief),
         why: &why,
         reasons: Watched::new(rt.stderr()),
     };
     let progress = Cell::new(false);
     let judging = Cell::new(false);
-    let heard = Heard::new();
     let signals = Signals {
         tells: &progress,
         judging: &judging,
         unnamed: &heard.unnamed,
         byte: &heard.byte,
     };
-    // A program that reads standard error gets no hint.
-    let unheard = Cell::new(false);
-    let brief = Signals {
-        unnamed: if is_brief.get() {
-            &unheard
-        } else {
-            &heard.unnamed
-        },
-        ..signals
-    };
     let mut input = Peeked::new(Followed::new(
         Watched::new(rt.reader()),
         Watched::new(rt.stderr()),
         &rt,
         None,
-        brief,
+        signals,
     ));
     let host = Host {
         opener: |name: &str| {
-            is_brief.set(false);
+            heard.is_brief.set(false);
             open_file(&rt, name, signals, &why)
         },
         creator: |name: &str| {
-            is_brief.set(false);
+            heard.is_brief.set(false);
             create_file(&rt, name, &why)
         },
         is_terminal: rt.stdout().is_terminal(),

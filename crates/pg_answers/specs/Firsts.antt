@@ -1,7 +1,7 @@
 -- What `certify --first` and `check --first` answer: of a record none of whose events is rejected
 -- what the command without it answers, and else the no of the events that were read, up to the end
--- of the segment with the first one that is rejected. What follows these was not read, and may be no
--- record.
+-- of the segment with the first one that is rejected. What follows these was not read, and need not
+-- be part of a record.
 use Rattle.std.specs.Prelude.{◌≡◌, ◌⊎◌, ℕ, Bool, List, Option, Some, None, Result, Ok, Err, IfSome}
 use Rattle.pg_event.specs.declared.version.Version.TheVariants.{Two}
 use Rattle.pg_event.specs.Reading.{refusal}
@@ -96,8 +96,8 @@ module _ (IsTextOf : Recorded → Answer → List ℕ → Type 0) (first : Answe
       (r : Recorded) × IsOneUpTo (first x) bytes r × (text : List ℕ) × IsTextOf r x text
       × P text
 
-  -- Asked of these bytes, the program answers so, and leaves the writer so: as `GivesText` of `Texts`
-  -- says it of one checker.
+  -- Asked of these bytes, the program answers so, and leaves the writer so: as `GivesText` of
+  -- `Texts` says it of one checker.
   abbrev pub GivesFirst : List ℕ → Change → Change → Result Answer AuditError → Type 0
   GivesFirst bytes input output (Ok x) = HasFirst bytes x (Adds output)
   GivesFirst bytes input output (Err (Refused e)) =

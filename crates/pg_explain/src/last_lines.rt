@@ -30,8 +30,8 @@ pub fn push_last_moments(text: &mut String, last: &Last) -> Result<(), AllocErro
     Ok(())
 }
 
-/// The event behind which another was never witnessed, where it ever was and these are the events of
-/// the run.
+/// The event after which another was no longer witnessed, where it ever was and these are the
+/// events of the run.
 pub fn taken_in(events: &[Event], last: Option<Last>) -> Option<Event>
     ensures { result ≡ taken_in events.now last }
 {

@@ -25,7 +25,8 @@ use Rattle.pg_world.specs.declared.walk.Walk.{Walk}
 use Rattle.pg_world.specs.Recording.{Recording}
 use Rattle.pg_world.specs.Walks.{found_in}
 use Rattle.pg_guest.specs.declared.advance.Advance.{Advance}
-use Rattle.pg_guest.specs.declared.advance.Advance.TheVariants.{Read, Assisted, Done, Ended, Stopped}
+use Rattle.pg_guest.specs.declared.advance.Advance.TheVariants.{Read, Assisted, Done}
+use Rattle.pg_guest.specs.declared.advance.Advance.TheVariants.{Ended, Stopped}
 use Rattle.pg_guest.specs.Turn.{Processor, Turned, turned, begun, from_root, from_table, IsTurn}
 use Rattle.pg_guest.specs.CoreRun.{IsCoreRun}
 use Rattle.pg_guest.specs.Home.{HasSoundCaches}

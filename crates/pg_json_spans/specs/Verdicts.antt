@@ -53,4 +53,5 @@ with_verdict (Undecided n) others = with_undecided n others
 
 abbrev pub verdict_json : Spanned → Verdict → Json
 verdict_json s verdict =
-    object (with_verdict verdict (with_counts (length s.events) (segments_of s) (cause_fields s verdict)))
+    object (with_verdict verdict
+    (with_counts (length s.events) (segments_of s) (cause_fields s verdict)))

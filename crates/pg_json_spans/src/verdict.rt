@@ -68,7 +68,8 @@ fn put_undecided(fields: &mut Fields, alloc: Global, event: u64) -> Result<(), A
 
 fn put_verdict(fields: &mut Fields, alloc: Global, verdict: &Verdict) -> Result<(), AllocError>
     ensures { (others : ToldFields) → members_view fields.old.entries ≡ members_of others →
-        OnOk result (members_view fields.new.entries ≡ members_of (with_verdict verdict.now others)) }
+        OnOk result (members_view fields.new.entries
+        ≡ members_of (with_verdict verdict.now others)) }
 {
     match verdict {
         Verdict::Yes(_) => put_yes(fields, alloc),

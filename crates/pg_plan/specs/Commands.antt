@@ -258,9 +258,9 @@ mixes_files rows =
     && (has (codes "json") rows || has (codes "bytes") rows || has (codes "svg") rows)
 
 -- Of two options one has no effect beside the other: two say what is written; or a record is read
--- up to the first event that is rejected, which one checker does, and which is not all of it; or one
--- thread runs a script, and tells of no progress; or nothing is written, and it is said where or
--- what; or files are mixed.
+-- up to the first event that is rejected, which one checker does, and which is not all of it; or
+-- one thread runs a script, and tells of no progress; or nothing is written, and it is said where
+-- or what; or files are mixed.
 unfoldable pub has_conflict : List Row → Bool
 has_conflict rows =
     says_twice rows

@@ -12,7 +12,8 @@ use Rattle.pg_script.specs.Tasks.{instructions_of, shape}
 use Rattle.pg_world.specs.declared.receipt.Receipt.{Receipt}
 use Rattle.pg_world.specs.Recording.{Recording}
 use Rattle.pg_guest.specs.declared.advance.Advance.{Advance}
-use Rattle.pg_guest.specs.declared.advance.Advance.TheVariants.{Read, Assisted, Done, Ended, Stopped}
+use Rattle.pg_guest.specs.declared.advance.Advance.TheVariants.{Read, Assisted, Done}
+use Rattle.pg_guest.specs.declared.advance.Advance.TheVariants.{Ended, Stopped}
 use Rattle.pg_guest.specs.Turn.{Processor}
 use Rattle.pg_report.specs.declared.report.Verdict.TheVariants.{Yes}
 use Rattle.pg_report.specs.Text.{report_of}

@@ -10,14 +10,17 @@ pub struct Heard {
     pub unnamed: Cell<bool>,
     /// The byte at which the reading of a record stopped that gave no answer.
     pub byte: Cell<Option<u64>>,
+    /// Whether only a program is told of it, by fixed lines.
+    pub is_brief: Cell<bool>,
 }
 
 impl Heard {
     /// Nothing was said.
-    pub fn new() -> Heard {
+    pub fn new(is_brief: bool) -> Heard {
         Heard {
             unnamed: Cell::new(false),
             byte: Cell::new(None),
+            is_brief: Cell::new(is_brief),
         }
     }
 }

@@ -219,7 +219,7 @@ pub fn pcid_audit<
         is_terminal: false,
         reading: &Cell::new(false),
         judging: &Cell::new(false),
-        heard: &Heard::new(),
+        heard: &Heard::new(true),
         observer: Nobody,
     };
     pcid_audit_followed(rt, planned, host, input, output, errors)

@@ -102,9 +102,10 @@ pub(crate) fn remark<E: Sink>(command: &Command, status: u8, heard: &Heard, erro
     ensures { Remarks command.now status (filled E.Sink errors.old errors.new) }
 {
     let unnamed = heard.unnamed.get();
+    let is_brief = heard.is_brief.get();
     let byte = heard.byte.get();
     let told = is_input_named(command, status);
-    let hinted = is_hinted(command, status, unnamed);
+    let hinted = is_hinted(command, status, unnamed && !is_brief);
     let json = writes_json(command);
     say_byte(told, byte, errors);
     hint(hinted, json, errors);
