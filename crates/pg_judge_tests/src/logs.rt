@@ -4,6 +4,7 @@ use pg_event::Event;
 use pg_merge::{Log, merge_logs, read_log};
 use pg_spanned::SpannedRun;
 use std::alloc::{AllocError, AllocGlobal, Global};
+use std::cell::Cell;
 use std::test::Fail;
 
 /// The log of docs/FORMAT.md: INVLPG of 0x5000 by processor 1 of 2. One byte follows.
@@ -13,13 +14,15 @@ const LOG: [u8; 68] = [
     0xff, 0xff, 0xff, 0xff, 0xff, 0xff, 0xff, 0xff, 1, 0, 0, 0, 0, 0, 0, 0, 0,
 ];
 
-/// That log with one byte changed and cut to a length, and the number of its refusal, 0 for none.
+/// That log with one byte changed and cut to a length, the number of its refusal, 0 for none, and
+/// where the part begins that is refused.
 struct Bytes {
     name: &'static str,
     at: usize,
     byte: u8,
     length: usize,
     told: u8,
+    part: usize,
 }
 
 const BYTES: [Bytes; 19] = [
@@ -29,6 +32,7 @@ const BYTES: [Bytes; 19] = [
         byte: 0x50,
         length: 67,
         told: 0,
+        part: 0,
     },
     Bytes {
         name: "another magic",
@@ -36,6 +40,7 @@ const BYTES: [Bytes; 19] = [
         byte: 0x51,
         length: 67,
         told: 1,
+        part: 0,
     },
     Bytes {
         name: "version 3",
@@ -43,6 +48,7 @@ const BYTES: [Bytes; 19] = [
         byte: 3,
         length: 67,
         told: 2,
+        part: 0,
     },
     Bytes {
         name: "MAXPHYADDR 53",
@@ -50,6 +56,7 @@ const BYTES: [Bytes; 19] = [
         byte: 53,
         length: 67,
         told: 3,
+        part: 0,
     },
     Bytes {
         name: "settings of five bits",
@@ -57,6 +64,7 @@ const BYTES: [Bytes; 19] = [
         byte: 16,
         length: 67,
         told: 3,
+        part: 0,
     },
     Bytes {
         name: "no processor",
@@ -64,6 +72,7 @@ const BYTES: [Bytes; 19] = [
         byte: 0,
         length: 67,
         told: 3,
+        part: 0,
     },
     Bytes {
         name: "65 processors in version 1",
@@ -71,6 +80,7 @@ const BYTES: [Bytes; 19] = [
         byte: 65,
         length: 67,
         told: 3,
+        part: 0,
     },
     Bytes {
         name: "a processor that the run lacks",
@@ -78,6 +88,7 @@ const BYTES: [Bytes; 19] = [
         byte: 2,
         length: 67,
         told: 3,
+        part: 0,
     },
     Bytes {
         name: "an event that begins at 0",
@@ -85,6 +96,7 @@ const BYTES: [Bytes; 19] = [
         byte: 0,
         length: 67,
         told: 16,
+        part: 25,
     },
     Bytes {
         name: "an event that ends as it begins",
@@ -92,6 +104,7 @@ const BYTES: [Bytes; 19] = [
         byte: 4,
         length: 67,
         told: 16,
+        part: 25,
     },
     Bytes {
         name: "an assist in version 1",
@@ -99,6 +112,7 @@ const BYTES: [Bytes; 19] = [
         byte: 0x16,
         length: 67,
         told: 6,
+        part: 25,
     },
     Bytes {
         name: "an event of another processor",
@@ -106,6 +120,7 @@ const BYTES: [Bytes; 19] = [
         byte: 0,
         length: 67,
         told: 17,
+        part: 25,
     },
     Bytes {
         name: "an event of a processor that the run lacks",
@@ -113,6 +128,7 @@ const BYTES: [Bytes; 19] = [
         byte: 2,
         length: 67,
         told: 7,
+        part: 25,
     },
     Bytes {
         name: "another total",
@@ -120,6 +136,7 @@ const BYTES: [Bytes; 19] = [
         byte: 2,
         length: 67,
         told: 9,
+        part: 51,
     },
     Bytes {
         name: "a byte after the end",
@@ -127,6 +144,7 @@ const BYTES: [Bytes; 19] = [
         byte: 0x50,
         length: 68,
         told: 10,
+        part: 67,
     },
     Bytes {
         name: "no magic",
@@ -134,6 +152,7 @@ const BYTES: [Bytes; 19] = [
         byte: 0x50,
         length: 7,
         told: 8,
+        part: 0,
     },
     Bytes {
         name: "an event cut",
@@ -141,6 +160,7 @@ const BYTES: [Bytes; 19] = [
         byte: 0x50,
         length: 50,
         told: 8,
+        part: 25,
     },
     Bytes {
         name: "no end mark",
@@ -148,6 +168,7 @@ const BYTES: [Bytes; 19] = [
         byte: 0x50,
         length: 51,
         told: 8,
+        part: 51,
     },
     Bytes {
         name: "an end mark cut",
@@ -155,25 +176,29 @@ const BYTES: [Bytes; 19] = [
         byte: 0x50,
         length: 66,
         told: 8,
+        part: 51,
     },
 ];
 
-fn told_of(alloc: Global, case: &Bytes) -> Result<u8, Fail> {
+fn is_told(alloc: Global, case: &Bytes) -> Result<bool, Fail> {
     let mut bytes = Vec::from_slice(alloc, &LOG)?;
     if case.at >= bytes.len() || case.length > bytes.len() {
         return Err(Fail::from("place"));
     }
     bytes[case.at] = case.byte;
-    match read_log(alloc, &bytes[..case.length]) {
-        Ok(_) => Ok(0),
-        Err(error) => Ok(error.number()),
+    let unread = Cell::new(0);
+    match read_log(alloc, &bytes[..case.length], &unread) {
+        Ok(_) => Ok(case.told == 0),
+        Err(error) => {
+            Ok(error.number() == case.told && unread.get() == case.length.saturating_sub(case.part))
+        }
     }
 }
 
 #[test]
 fn first_refusal_of_bytes_is_told(rt: HostRuntime) -> Result<(), Fail> {
     for case in BYTES.iter() {
-        assert!(rt; told_of(rt.alloc(), case)? == case.told, "{}", case.name);
+        assert!(rt; is_told(rt.alloc(), case)?, "{}", case.name);
     }
     Ok(())
 }
@@ -309,7 +334,7 @@ fn logs_of(alloc: Global, case: &Case) -> Result<Vec<Log>, Fail> {
     let mut logs = Vec::new(alloc);
     for log in case.logs.iter() {
         let bytes = bytes_of(alloc, log)?;
-        match read_log(alloc, &bytes) {
+        match read_log(alloc, &bytes, &Cell::new(0)) {
             Ok(log) => logs.push(log)?,
             Err(_) => return Err(Fail::from("log")),
         }

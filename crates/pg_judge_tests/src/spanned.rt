@@ -7,6 +7,7 @@ use pg_event::{Event, Malformed, Moments, Outcome, Refusal, Version};
 use pg_span_codec::{Peeked, SpannedError, SpannedRefusal, read_spanned, spell_spanned};
 use pg_spanned::SpannedRun;
 use std::alloc::Global;
+use std::cell::Cell;
 use std::io::{self, Read};
 use std::test::Fail;
 
@@ -38,7 +39,7 @@ fn is_example(run: &SpannedRun) -> bool {
 
 /// Whether the example is read, and then spelled as it was.
 fn is_read_and_spelled(alloc: Global) -> Result<bool, Fail> {
-    let run = read_spanned(alloc, RECORD.as_slice())?;
+    let run = read_spanned(alloc, RECORD.as_slice(), &Cell::new(0))?;
     let bytes = spell_spanned(alloc, &run)?;
     Ok(is_example(&run) && bytes.as_slice() == RECORD.as_slice())
 }
@@ -54,6 +55,8 @@ struct Changed {
     name: &'static str,
     /// Places and the bytes that stand there.
     bytes: &'static [(usize, u8)],
+    /// Where the part begins that is refused.
+    part: usize,
     refusal: SpannedRefusal,
 }
 
@@ -61,31 +64,37 @@ const CHANGED: [Changed; 10] = [
     Changed {
         name: "another magic",
         bytes: &[(7, 0x45)],
+        part: 0,
         refusal: SpannedRefusal::Plain(Refusal::Magic),
     },
     Changed {
         name: "version 2",
         bytes: &[(8, 2)],
+        part: 0,
         refusal: SpannedRefusal::Plain(Refusal::Version),
     },
     Changed {
         name: "MAXPHYADDR of 35",
         bytes: &[(10, 35)],
+        part: 0,
         refusal: SpannedRefusal::Plain(Refusal::HeaderField),
     },
     Changed {
         name: "segment 1",
         bytes: &[(36, 1)],
+        part: 35,
         refusal: SpannedRefusal::Plain(Refusal::SegmentNumber),
     },
     Changed {
         name: "an assist in version 3",
         bytes: &[(44, 0x16)],
+        part: 44,
         refusal: SpannedRefusal::Plain(Refusal::Tag),
     },
     Changed {
         name: "an event of processor 2",
         bytes: &[(45, 2)],
+        part: 44,
         refusal: SpannedRefusal::Plain(Refusal::Malformed {
             event: 0,
             rule: Malformed::Processor,
@@ -94,11 +103,13 @@ const CHANGED: [Changed; 10] = [
     Changed {
         name: "a span before the first event",
         bytes: &[(134, 5)],
+        part: 132,
         refusal: SpannedRefusal::Back { event: 4 },
     },
     Changed {
         name: "the same at an address that is not canonical",
         bytes: &[(134, 5), (145, 0x80)],
+        part: 132,
         refusal: SpannedRefusal::Plain(Refusal::Malformed {
             event: 4,
             rule: Malformed::LinearAddress,
@@ -107,20 +118,23 @@ const CHANGED: [Changed; 10] = [
     Changed {
         name: "a total of 7",
         bytes: &[(171, 7)],
+        part: 170,
         refusal: SpannedRefusal::Plain(Refusal::Total),
     },
     Changed {
         name: "a third kind of outcome",
         bytes: &[(161, 2)],
+        part: 146,
         refusal: SpannedRefusal::Plain(Refusal::Tag),
     },
 ];
 
-/// What refuses bytes, if they are refused.
-fn refusal_of(alloc: Global, bytes: &[u8]) -> Result<Option<SpannedRefusal>, Fail> {
-    match read_spanned(alloc, bytes) {
+/// What refuses bytes, and how many are left where the part begins that is refused, if one is.
+fn refusal_of(alloc: Global, bytes: &[u8]) -> Result<Option<(SpannedRefusal, usize)>, Fail> {
+    let unread = Cell::new(0);
+    match read_spanned(alloc, bytes, &unread) {
         Ok(_) => Ok(None),
-        Err(SpannedError::Refused(refusal)) => Ok(Some(refusal)),
+        Err(SpannedError::Refused(refusal)) => Ok(Some((refusal, unread.get()))),
         Err(SpannedError::Memory) => Err(Fail::from("memory ran out")),
     }
 }
@@ -132,7 +146,12 @@ fn is_refused(alloc: Global, changed: &Changed) -> Result<bool, Fail> {
             bytes[*place] = *byte;
         }
     }
-    Ok(refusal_of(alloc, bytes.as_slice())? == Some(changed.refusal))
+    match refusal_of(alloc, bytes.as_slice())? {
+        None => Ok(false),
+        Some((refusal, left)) => {
+            Ok(refusal == changed.refusal && left == bytes.len().saturating_sub(changed.part))
+        }
+    }
 }
 
 #[test]
@@ -147,8 +166,10 @@ fn changed_bytes_are_refused(rt: HostRuntime) -> Result<(), Fail> {
 fn is_cut(alloc: Global, count: usize) -> Result<bool, Fail>
     requires { count ≤ 175 }
 {
-    let refusal = refusal_of(alloc, &RECORD[..count])?;
-    Ok(refusal == Some(SpannedRefusal::Plain(Refusal::Truncated)))
+    match refusal_of(alloc, &RECORD[..count])? {
+        None => Ok(false),
+        Some((refusal, _)) => Ok(refusal == SpannedRefusal::Plain(Refusal::Truncated)),
+    }
 }
 
 #[test]

@@ -16,6 +16,7 @@ use crate::log::{Log, LogHeader, Stamped};
 use pg_event::{Header, MOST_SEGMENT, Refusal, processor_of};
 use pg_span_codec::u64_of;
 use std::alloc::{AllocError, Global};
+use std::cell::Cell;
 
 /// What stands in the place of a begin stamp after the last event.
 const END_MARK: u64 = u64::MAX;
@@ -116,11 +117,13 @@ fn push(events: &mut Vec<Stamped>, event: &Stamped) -> Result<(), AllocError>
 }
 
 /// The events up to the end mark. Each has more than one byte, so that there are fewer than bytes.
+/// `unread` is told how many bytes are left where each begins.
 fn events_of<'a>(
     alloc: Global,
     header: &Header,
     own: u16,
     bytes: &'a [u8],
+    unread: &Cell<usize>,
 ) -> Result<(Vec<Stamped>, &'a [u8]), LogError>
     requires { header.now.cfg.m ≤ 52 }
     ensures { Answers (λ x. (x.0.items, x.1.now)) result
@@ -130,6 +133,7 @@ fn events_of<'a>(
     let mut last = 0;
     let mut rest = bytes;
     for i in 0..bytes.len() {
+        unread.set(rest.len());
         match next_of(header, own, i as u64, last, rest) {
             Err(refusal) => return Err(LogError::Refused(refusal)),
             Ok((next, after)) => match next {
@@ -147,18 +151,24 @@ fn events_of<'a>(
 
 /// Reads the bytes of a whole log. Fails with the first refusal from left to right where they are
 /// no log, which no log without its end mark is, or where memory is refused.
+///
+/// Where the bytes are refused, `unread` is told how many of them are left where the part begins
+/// that is refused: the header, an event, the end mark, or what stands behind it. No clause says
+/// this.
 #[tactic(auto, unfolding(crate::specs::Reading::log_reading))]
-pub fn read_log(alloc: Global, bytes: &[u8]) -> Result<Log, LogError>
+pub fn read_log(alloc: Global, bytes: &[u8], unread: &Cell<usize>) -> Result<Log, LogError>
     ensures log { Answers (λ log. log) result (log_reading bytes.now) }
     ensures early { (e : Refusal) → log_header_at bytes.now ≡ Err e →
         result ≡ Err (Refused (Field e)) }
 {
+    unread.set(bytes.len());
     let (header, rest) = match header_of(bytes) {
         Err(refusal) => return Err(LogError::Refused(LogRefusal::Field(refusal))),
         Ok(front) => front,
     };
     let run = alone(alloc, &header)?;
-    let (events, rest) = events_of(alloc, &run, header.own, rest)?;
+    let (events, rest) = events_of(alloc, &run, header.own, rest, unread)?;
+    unread.set(rest.len());
     if rest.len() > 0 {
         return Err(LogError::Refused(LogRefusal::Field(Refusal::Trailing)));
     }

@@ -9,6 +9,7 @@ ghost use Rattle.pg_ordering.specs.Openings.{opens};
 use pg_codec::{IntakeError, Source, pull_all};
 use pg_merge::{Log, LogError, LogRefusal, read_log};
 use std::alloc::Global;
+use std::cell::Cell;
 
 /// Why the log of a file was not taken.
 #[derive(Clone, Copy, Debug, PartialEq, Eq)]
@@ -35,7 +36,8 @@ pub(crate) enum Stop {
 /// More bytes than memory can hold.
 const MOST: usize = usize::MAX - 1;
 
-/// The log that a source has left.
+/// The log that a source has left. The source hears how many of the bytes were not read, if they are
+/// refused.
 fn log_in<R: Source>(alloc: Global, source: &mut R) -> Result<Log, Untaken>
     ensures reads { ReadsLog (R.left source.old) result }
     ensures failures { FailsWithDevice is_device
@@ -46,7 +48,12 @@ fn log_in<R: Source>(alloc: Global, source: &mut R) -> Result<Log, Untaken>
         Err(IntakeError::Device) => return Err(Untaken::Device),
         Err(IntakeError::TooMany | IntakeError::Memory) => return Err(Untaken::Memory),
     };
-    match read_log(alloc, &bytes) {
+    let unread = Cell::new(0);
+    let log = read_log(alloc, &bytes, &unread);
+    if log.is_err() {
+        source.stop(unread.get());
+    }
+    match log {
         Ok(log) => Ok(log),
         Err(LogError::Refused(refusal)) => Err(Untaken::Refused(refusal)),
         Err(LogError::Memory) => Err(Untaken::Memory),

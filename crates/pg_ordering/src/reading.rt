@@ -9,6 +9,7 @@ use pg_codec::{IntakeError, Source, pull_all};
 use pg_span_codec::{SpannedError, SpannedRefusal, read_spanned, spelled_where_read};
 use pg_spanned::SpannedRun;
 use std::alloc::Global;
+use std::cell::Cell;
 
 /// Why a run was not read.
 #[derive(Clone, Copy, Debug, PartialEq, Eq)]
@@ -24,12 +25,12 @@ pub enum Unread {
 /// More bytes than memory can hold.
 const MOST: usize = usize::MAX - 1;
 
-fn read_bytes(alloc: Global, bytes: &[u8]) -> Result<SpannedRun, Unread>
+fn read_bytes(alloc: Global, bytes: &[u8], unread: &Cell<usize>) -> Result<SpannedRun, Unread>
     ensures reads { ReadsRun (Some bytes.now) result }
     ensures device { (n : ℕ) → FailsWithDevice is_device n n result }
 {
     spelled_where_read();
-    match read_spanned(alloc, bytes) {
+    match read_spanned(alloc, bytes, unread) {
         Ok(run) => Ok(run),
         Err(SpannedError::Refused(refusal)) => Err(Unread::Refused(refusal)),
         Err(SpannedError::Memory) => Err(Unread::Memory),
@@ -37,13 +38,20 @@ fn read_bytes(alloc: Global, bytes: &[u8]) -> Result<SpannedRun, Unread>
 }
 
 /// Takes in all bytes that a source has left, and reads the run that they spell. The run is held in
-/// memory whole.
+/// memory whole. The source hears how many of the bytes were not read, if they are refused.
 pub fn read_run<R: Source>(alloc: Global, input: &mut R) -> Result<SpannedRun, Unread>
     ensures reads { ReadsRun (R.left input.old) result }
     ensures failures { FailsWithDevice is_device (R.failed input.old) (R.failed input.new) result }
 {
     match pull_all(alloc, input, MOST) {
-        Ok(bytes) => read_bytes(alloc, &bytes),
+        Ok(bytes) => {
+            let unread = Cell::new(0);
+            let run = read_bytes(alloc, &bytes, &unread);
+            if run.is_err() {
+                input.stop(unread.get());
+            }
+            run
+        }
         Err(IntakeError::Device) => Err(Unread::Device),
         Err(IntakeError::TooMany | IntakeError::Memory) => Err(Unread::Memory),
     }

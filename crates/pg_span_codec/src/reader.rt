@@ -15,16 +15,23 @@ use crate::refusal::SpannedRefusal;
 use pg_event::{Refusal, well_formed};
 use pg_spanned::SpannedRun;
 use std::alloc::Global;
+use std::cell::Cell;
 
-/// Reads the event after those of the run. The least rule that it breaks is told.
+/// Reads the event after those of the run. The least rule that it breaks is told. `unread` is told
+/// how many bytes are left where the event begins.
 #[tactic(auto, unfolding(crate::specs::Reading::next_event_at))]
-fn read_event<'a>(run: &mut SpannedRun, bytes: &'a [u8]) -> Result<&'a [u8], SpannedError>
+fn read_event<'a>(
+    run: &mut SpannedRun,
+    bytes: &'a [u8],
+    unread: &Cell<usize>,
+) -> Result<&'a [u8], SpannedError>
     requires { length run.old.events + 1 < 2 ^ 32 }
     ensures answers { Answers (λ rest. (run.new, rest.now)) result
         (next_event_at run.old bytes.now) }
     ensures head { run.new.head ≡ run.old.head }
     ensures one { IfOk result (λ _. length run.new.events ≡ length run.old.events + 1) }
 {
+    unread.set(bytes.len());
     let (event, back, rest) = match timed_of(run.header().version, bytes) {
         Err(refusal) => return Err(SpannedError::from(refusal)),
         Ok(((event, back), rest)) => (event, back, rest),
@@ -49,6 +56,7 @@ fn read_events<'a>(
     run: &mut SpannedRun,
     count: u32,
     bytes: &'a [u8],
+    unread: &Cell<usize>,
 ) -> Result<&'a [u8], SpannedError>
     requires { length run.old.events + count < 2 ^ 32 }
     ensures answers { Answers (λ rest. (run.new, rest.now)) result
@@ -57,7 +65,7 @@ fn read_events<'a>(
 {
     let mut rest = bytes;
     for _ in 0..count {
-        rest = read_event(run, rest)?;
+        rest = read_event(run, rest, unread)?;
     }
     Ok(rest)
 }
@@ -68,6 +76,7 @@ fn read_segment<'a>(
     run: &mut SpannedRun,
     number: usize,
     bytes: &'a [u8],
+    unread: &Cell<usize>,
 ) -> Result<&'a [u8], SpannedError>
     ensures answers { Answers (λ rest. (run.new, rest.now)) result
         (next_segment_at run.old number bytes.now) }
@@ -81,7 +90,7 @@ fn read_segment<'a>(
     if count < 1 || count > run.header().segment || count > u32::MAX - run.len() as u32 {
         return Err(SpannedError::from(Refusal::SegmentCount));
     }
-    read_events(run, count, rest)
+    read_events(run, count, rest, unread)
 }
 
 /// Reads the end mark after its tag.
@@ -115,15 +124,21 @@ fn is_full(run: &SpannedRun, before: usize) -> bool
     run.len() == before + run.header().segment as usize
 }
 
-/// Reads the segments up to the end mark. Each has a byte at least.
+/// Reads the segments up to the end mark. Each has a byte at least. `unread` is told how many bytes
+/// are left where each begins, and each event.
 #[tactic(auto, unfolding(crate::specs::Reading::next_segments_at))]
-fn read_segments<'a>(run: &mut SpannedRun, bytes: &'a [u8]) -> Result<&'a [u8], SpannedError>
+fn read_segments<'a>(
+    run: &mut SpannedRun,
+    bytes: &'a [u8],
+    unread: &Cell<usize>,
+) -> Result<&'a [u8], SpannedError>
     ensures { Answers (λ rest. (run.new, rest.now)) result
         (next_segments_at (length bytes.now) run.old 0 true bytes.now) }
 {
     let mut rest = bytes;
     let mut full = true;
     for number in 0..bytes.len() {
+        unread.set(rest.len());
         let (tag, behind) = tag_of(rest)?;
         if tag == 2 {
             return read_total(run, behind);
@@ -132,7 +147,7 @@ fn read_segments<'a>(run: &mut SpannedRun, bytes: &'a [u8]) -> Result<&'a [u8], 
             return Err(SpannedError::Refused(SpannedRefusal::Plain(Refusal::SegmentCount)));
         }
         let before = run.len();
-        rest = read_segment(run, number, behind)?;
+        rest = read_segment(run, number, behind, unread)?;
         full = is_full(run, before);
     }
     Err(SpannedError::Refused(SpannedRefusal::Plain(Refusal::Truncated)))
@@ -142,13 +157,23 @@ fn read_segments<'a>(run: &mut SpannedRun, bytes: &'a [u8]) -> Result<&'a [u8], 
 /// Memory is taken as events are read, and not as a field promises. The events of version 3 are
 /// those of version 1 and the events of version 4 are those of version 2, and so says the run's
 /// header. An access or an assist has one moment in the run, 0, which stands for none.
+///
+/// Where the bytes are refused, `unread` is told how many of them are left where the part begins
+/// that is refused: the header, a segment, an event, the end mark, or what stands behind it. No
+/// clause says this.
 #[tactic(auto, unfolding(crate::specs::Reading::spanned_reading))]
-pub fn read_spanned(alloc: Global, bytes: &[u8]) -> Result<SpannedRun, SpannedError>
+pub fn read_spanned(
+    alloc: Global,
+    bytes: &[u8],
+    unread: &Cell<usize>,
+) -> Result<SpannedRun, SpannedError>
     ensures { Answers (λ run. run) result (spanned_reading bytes.now) }
 {
+    unread.set(bytes.len());
     let (header, rest) = header_of(alloc, bytes)?;
     let mut run = SpannedRun::new(alloc, header);
-    let rest = read_segments(&mut run, rest)?;
+    let rest = read_segments(&mut run, rest, unread)?;
+    unread.set(rest.len());
     if !rest.is_empty() {
         return Err(SpannedError::from(Refusal::Trailing));
     }

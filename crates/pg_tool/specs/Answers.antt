@@ -95,7 +95,9 @@ widening_of Upgrade = None
 -- the logs that are named are merged
 abbrev pub MergesAsked : Opening → Invocation → ℕ → Change → Change → ℕ → Type 0
 MergesAsked Opens asked error output errors status =
-    Merges Opens (map (λ s. s.now) asked.logs.items) error output errors status
+    (mid : Stream)
+    × Merges Opens (map (λ s. s.now) asked.logs.items) error output (up_to errors mid) status
+    × Remarks asked.plan.command status (from_on errors mid)
 
 -- what was asked for is done: of the input, or of the file that is named, with the input not read
 abbrev pub DoesFile : Opening → Type 0 → Invocation → Streams → ℕ → Type 0

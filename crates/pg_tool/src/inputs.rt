@@ -184,12 +184,15 @@ fn merge_asked<F: Fn(&str) -> Option<S>, S: Source + Drop, O: Sink, E: Sink>(
     opener: &F,
     output: &mut O,
     errors: &mut E,
+    heard: &Heard,
 ) -> u8
     requires { F.IsAlwaysCallable opener.now }
     ensures { MergesAsked (opens F.Fn S.Source opener.now) asked.now error
         (filled O.Sink output.old output.new) (filled E.Sink errors.old errors.new) result }
 {
-    merge(alloc, asked.logs.as_slice(), error, opener, output, errors)
+    let status = merge(alloc, asked.logs.as_slice(), error, opener, output, errors);
+    remark(&asked.plan.command, status, heard, errors);
+    status
 }
 
 /// Does what the arguments ask for of one input: that of the program, or the file that they name.
@@ -321,7 +324,7 @@ pub(crate) fn perform_all<
         (input.old, output.old, errors.old) (input.new, output.new, errors.new)) result }
 {
     match widening_of(&asked.plan.command) {
-        Some(error) => merge_asked(rt.alloc(), asked, error, opener, output, errors),
+        Some(error) => merge_asked(rt.alloc(), asked, error, opener, output, errors, heard),
         None => perform_files(rt, asked, opener, observer, input, output, errors, heard),
     }
 }
