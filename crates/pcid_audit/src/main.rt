@@ -8,7 +8,7 @@ use crate::reasons::Reasoned;
 use pg_codec::Watched;
 use pg_plan::arguments;
 use pg_span_codec::Peeked;
-use pg_tool::{Brief, Followed, Heard, Host, Signals, Teller, pcid_audit_of_arguments};
+use pg_tool::{Brief, Followed, Host, Signals, Teller, pcid_audit_of_arguments};
 use std::cell::Cell;
 use std::fs::{self, File};
 use std::io::{self, ErrorKind, IsTerminal, Lock, Read, Stderr, Write};
@@ -45,7 +45,7 @@ fn file_at(rt: &HostRuntime, path: &str) -> Result<File, ErrorKind> {
 fn open_file<'r, 'a>(
     rt: &'r HostRuntime,
     name: &str,
-    signals: Signals<'a>,
+    signals: &'a Signals,
     why: &Cell<Option<ErrorKind>>,
 ) -> Option<Input<'r, 'a, File>> {
     match file_at(rt, path_of(name)) {
@@ -80,41 +80,31 @@ fn create_file(
 fn main(rt: HostRuntime) -> ExitCode {
     let mut output = Watched::new(rt.stdout());
     // Whoever names a file, or reads standard error at a terminal, is told in words too.
-    let heard = Heard::new(!rt.stderr().is_terminal());
+    let signals = Signals::new(!rt.stderr().is_terminal());
     let why = Cell::new(None);
     let mut errors = Reasoned {
-        errors: Brief::new(Watched::new(rt.stderr()), &heard.is_brief),
+        errors: Brief::new(Watched::new(rt.stderr()), &signals.is_brief),
         why: &why,
         reasons: Watched::new(rt.stderr()),
-    };
-    let progress = Cell::new(false);
-    let judging = Cell::new(false);
-    let signals = Signals {
-        tells: &progress,
-        judging: &judging,
-        unnamed: &heard.unnamed,
-        byte: &heard.byte,
     };
     let mut input = Peeked::new(Followed::new(
         Watched::new(rt.reader()),
         Watched::new(rt.stderr()),
         &rt,
         None,
-        signals,
+        &signals,
     ));
     let host = Host {
         opener: |name: &str| {
-            heard.is_brief.set(false);
-            open_file(&rt, name, signals, &why)
+            signals.is_brief.set(false);
+            open_file(&rt, name, &signals, &why)
         },
         creator: |name: &str| {
-            heard.is_brief.set(false);
+            signals.is_brief.set(false);
             create_file(&rt, name, &why)
         },
         is_terminal: rt.stdout().is_terminal(),
-        reading: &progress,
-        judging: &judging,
-        heard: &heard,
+        signals: &signals,
         observer: Teller::new(Watched::new(rt.stderr())),
     };
     let status = pcid_audit_of_arguments(

@@ -4,26 +4,12 @@ ghost use Rattle.std.specs.Prelude.{◌≡◌};
 
 use crate::counter::Counter;
 use crate::line::put_read;
+use crate::signals::Signals;
 use pg_codec::{Failed, Sink, Source};
-use std::cell::Cell;
 use std::time::{Clock, Instant};
 
 /// So many seconds it is between two lines, at least.
 const PAUSE: u64 = 1;
-
-/// How a source, and the program that reads it, speak.
-#[derive(Clone, Copy)]
-pub struct Signals<'a> {
-    /// Whether the source tells how far it has come: the program sets it.
-    pub tells: &'a Cell<bool>,
-    /// Whether it looks for moments: the program sets it.
-    pub judging: &'a Cell<bool>,
-    /// Whether the record names no moments, as far as it was pulled: the source sets it, if it
-    /// looks for them.
-    pub unnamed: &'a Cell<bool>,
-    /// The byte at which the reading stopped, if it stopped early: the source sets it.
-    pub byte: &'a Cell<Option<u64>>,
-}
 
 /// A source that gives what another gives and, while it is asked to, tells a sink each second or so
 /// how many events of the record have been pulled, and says whether they name no moments. Whether
@@ -35,7 +21,7 @@ pub struct Followed<'a, R, E, C> {
     clock: C,
     /// How many bytes there are to pull, if that is known.
     size: Option<u64>,
-    signals: Signals<'a>,
+    signals: &'a Signals,
     counter: Counter,
     /// So many bytes were pulled.
     pulled: u64,
@@ -80,7 +66,7 @@ impl<'a, R: Source, E: Sink, C: Clock> Followed<'a, R, E, C> {
         errors: E,
         clock: C,
         size: Option<u64>,
-        signals: Signals<'a>,
+        signals: &'a Signals,
     ) -> Followed<'a, R, E, C>
         ensures source { result.source ≡ source }
     {

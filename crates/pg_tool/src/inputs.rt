@@ -9,11 +9,11 @@ ghost use Rattle.pg_tool.specs.Answers.{DoesInput, DoesNamed, MergesAsked, Names
 ghost use Rattle.pg_tool.specs.Answers.{opens, widening_of};
 ghost use Rattle.pg_tool.specs.Remarks.{is_input_named, writes_json};
 
-use crate::heard::Heard;
 use crate::named::Named;
 use crate::program::{run, run_followed};
 use crate::records::do_of_record;
 use crate::remarks::{is_input_named, remark};
+use crate::signals::Signals;
 use pg_auditing::{UNOPENED, YES, tell_input, tell_unopened};
 use pg_codec::{Sink, Source};
 use pg_ordering::merge;
@@ -81,7 +81,7 @@ fn perform_named<
     output: &mut O,
     errors: &mut E,
     observer: P,
-    heard: &Heard,
+    signals: &Signals,
 ) -> u8
     requires logs { widening_of plan.now.command ≡ None }
     requires observer { P.told observer ≡ counts 0 0 }
@@ -90,7 +90,7 @@ fn perform_named<
 {
     let status = perform(rt, plan, input, output, errors, observer);
     name_input(is_input_named(&plan.command, status), name, errors);
-    remark(&plan.command, status, heard, errors);
+    remark(&plan.command, status, signals, errors);
     status
 }
 
@@ -110,7 +110,7 @@ fn perform_on<
     output: &mut O,
     errors: &mut E,
     observer: P,
-    heard: &Heard,
+    signals: &Signals,
 ) -> u8
     requires logs { widening_of plan.now.command ≡ None }
     requires opener { F.IsAlwaysCallable opener.now }
@@ -120,7 +120,9 @@ fn perform_on<
         (filled O.Sink output.old output.new) (filled E.Sink errors.old errors.new) result }
 {
     match opener(name) {
-        Some(mut file) => perform_named(rt, plan, name, &mut file, output, errors, observer, heard),
+        Some(mut file) => perform_named(
+            rt, plan, name, &mut file, output, errors, observer, signals,
+        ),
         None => {
             tell_unopened(errors, name);
             UNOPENED
@@ -143,7 +145,7 @@ fn perform_each<
     opener: &F,
     output: &mut O,
     errors: &mut E,
-    heard: &Heard,
+    signals: &Signals,
 ) -> u8
     requires logs { widening_of plan.now.command ≡ None }
     requires opener { F.IsAlwaysCallable opener.now }
@@ -154,7 +156,7 @@ fn perform_each<
     let mut status = YES;
     for name in names {
         let mut named = Named::new(output, name);
-        let one = perform_on(rt, plan, name, opener, &mut named, errors, Nobody, heard);
+        let one = perform_on(rt, plan, name, opener, &mut named, errors, Nobody, signals);
         status = status.max(one);
     }
     status
@@ -184,14 +186,14 @@ fn merge_asked<F: Fn(&str) -> Option<S>, S: Source + Drop, O: Sink, E: Sink>(
     opener: &F,
     output: &mut O,
     errors: &mut E,
-    heard: &Heard,
+    signals: &Signals,
 ) -> u8
     requires { F.IsAlwaysCallable opener.now }
     ensures { MergesAsked (opens F.Fn S.Source opener.now) asked.now error
         (filled O.Sink output.old output.new) (filled E.Sink errors.old errors.new) result }
 {
     let status = merge(alloc, asked.logs.as_slice(), error, opener, output, errors);
-    remark(&asked.plan.command, status, heard, errors);
+    remark(&asked.plan.command, status, signals, errors);
     status
 }
 
@@ -212,7 +214,7 @@ fn perform_asked<
     input: &mut Peeked<R>,
     output: &mut O,
     errors: &mut E,
-    heard: &Heard,
+    signals: &Signals,
 ) -> u8
     requires logs { widening_of asked.now.plan.command ≡ None }
     requires opener { F.IsAlwaysCallable opener.now }
@@ -232,7 +234,7 @@ fn perform_asked<
                 output,
                 errors,
                 observer,
-                heard,
+                signals,
             )
         }
         Some(name) => perform_on(
@@ -243,7 +245,7 @@ fn perform_asked<
             output,
             errors,
             observer,
-            heard,
+            signals,
         ),
     }
 }
@@ -272,7 +274,7 @@ fn perform_files<
     input: &mut Peeked<R>,
     output: &mut O,
     errors: &mut E,
-    heard: &Heard,
+    signals: &Signals,
 ) -> u8
     requires logs { widening_of asked.now.plan.command ≡ None }
     requires opener { F.IsAlwaysCallable opener.now }
@@ -290,10 +292,10 @@ fn perform_files<
             opener,
             output,
             errors,
-            heard,
+            signals,
         )
     } else {
-        perform_asked(rt, asked, opener, observer, input, output, errors, heard)
+        perform_asked(rt, asked, opener, observer, input, output, errors, signals)
     }
 }
 
@@ -314,7 +316,7 @@ pub(crate) fn perform_all<
     input: &mut Peeked<R>,
     output: &mut O,
     errors: &mut E,
-    heard: &Heard,
+    signals: &Signals,
 ) -> u8
     requires opener { F.IsAlwaysCallable opener.now }
     requires observer { P.told observer ≡ counts 0 0 }
@@ -324,7 +326,7 @@ pub(crate) fn perform_all<
         (input.old, output.old, errors.old) (input.new, output.new, errors.new)) result }
 {
     match widening_of(&asked.plan.command) {
-        Some(error) => merge_asked(rt.alloc(), asked, error, opener, output, errors, heard),
-        None => perform_files(rt, asked, opener, observer, input, output, errors, heard),
+        Some(error) => merge_asked(rt.alloc(), asked, error, opener, output, errors, signals),
+        None => perform_files(rt, asked, opener, observer, input, output, errors, signals),
     }
 }

@@ -10,7 +10,6 @@ mod format;
 mod guest_error;
 mod guest_refusals;
 mod guests;
-mod heard;
 mod host;
 mod inputs;
 mod line;
@@ -21,14 +20,14 @@ mod outputs;
 mod program;
 mod records;
 mod remarks;
+mod signals;
 mod teller;
 mod words;
 
 pub use brief::Brief;
 pub use counter::Counter;
-pub use followed::{Followed, Signals};
+pub use followed::Followed;
 pub use guest_error::GuestError;
-pub use heard::Heard;
 pub use host::Host;
 pub use nowhere::Nowhere;
 pub use pg_event::Selection;
@@ -37,5 +36,6 @@ pub use pg_plan::{
     ShowOptions, Telling, Usage, plan,
 };
 pub use program::{pcid_audit, pcid_audit_followed, run, run_followed};
+pub use signals::Signals;
 pub use teller::Teller;
 pub use words::{pcid_audit_of_arguments, pcid_audit_of_words};

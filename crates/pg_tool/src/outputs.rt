@@ -9,10 +9,10 @@ ghost use Rattle.pg_tool.specs.Answers.{DoesAsked, DoesOut, opens};
 ghost use Rattle.pg_tool.specs.Outputs.{DoesHeard, DoesLoudly, DoesUnheard, Redirects};
 ghost use Rattle.pg_tool.specs.Outputs.{makes, terminal_line, writes_bytes};
 
-use crate::heard::Heard;
 use crate::host::Host;
 use crate::inputs::perform_all;
 use crate::nowhere::Nowhere;
+use crate::signals::Signals;
 use pg_auditing::{UNCREATED, USAGE, tell_text, tell_uncreated};
 use pg_codec::{Sink, Source};
 use pg_plan::{Command, Invocation};
@@ -61,7 +61,7 @@ fn perform_unheard<
     observer: P,
     input: &mut Peeked<R>,
     errors: &mut E,
-    heard: &Heard,
+    signals: &Signals,
 ) -> u8
     requires opener { F.IsAlwaysCallable opener.now }
     requires observer { P.told observer ≡ counts 0 0 }
@@ -79,7 +79,7 @@ fn perform_unheard<
         input,
         &mut nowhere,
         errors,
-        heard,
+        signals,
     )
 }
 
@@ -101,7 +101,7 @@ fn perform_loudly<
     input: &mut Peeked<R>,
     output: &mut O,
     errors: &mut E,
-    heard: &Heard,
+    signals: &Signals,
 ) -> u8
     requires opener { F.IsAlwaysCallable opener.now }
     requires observer { P.told observer ≡ counts 0 0 }
@@ -113,7 +113,7 @@ fn perform_loudly<
     if is_unfit {
         refuse_terminal(errors)
     } else {
-        perform_all(rt, asked, opener, observer, input, output, errors, heard)
+        perform_all(rt, asked, opener, observer, input, output, errors, signals)
     }
 }
 
@@ -135,7 +135,7 @@ fn perform_heard<
     input: &mut Peeked<R>,
     output: &mut O,
     errors: &mut E,
-    heard: &Heard,
+    signals: &Signals,
 ) -> u8
     requires opener { F.IsAlwaysCallable opener.now }
     requires observer { P.told observer ≡ counts 0 0 }
@@ -147,10 +147,10 @@ fn perform_heard<
     let bytes = writes_bytes(&asked.plan.command);
     let is_unfit = is_terminal && bytes;
     if asked.plan.quiet {
-        perform_unheard(rt, asked, opener, observer, input, errors, heard)
+        perform_unheard(rt, asked, opener, observer, input, errors, signals)
     } else {
         perform_loudly(
-            rt, asked, is_unfit, opener, observer, input, output, errors, heard,
+            rt, asked, is_unfit, opener, observer, input, output, errors, signals,
         )
     }
 }
@@ -174,7 +174,7 @@ fn perform_into<
     observer: P,
     input: &mut Peeked<R>,
     errors: &mut E,
-    heard: &Heard,
+    signals: &Signals,
 ) -> u8
     requires opener { F.IsAlwaysCallable opener.now }
     requires creator { G.IsAlwaysCallable creator.now }
@@ -185,7 +185,9 @@ fn perform_into<
         (filled E.Sink errors.old errors.new) result }
 {
     match creator(name) {
-        Some(mut file) => perform_all(rt, asked, opener, observer, input, &mut file, errors, heard),
+        Some(mut file) => perform_all(
+            rt, asked, opener, observer, input, &mut file, errors, signals,
+        ),
         None => {
             tell_uncreated(errors, name);
             UNCREATED
@@ -224,10 +226,10 @@ pub(crate) fn perform_out<
     let observer = host.observer;
     let opener = &host.opener;
     let creator = &host.creator;
-    let heard = host.heard;
+    let signals = host.signals;
     match asked.output {
         Some(name) => perform_into(
-            rt, asked, name, opener, creator, observer, input, errors, heard,
+            rt, asked, name, opener, creator, observer, input, errors, signals,
         ),
         None => {
             perform_heard(
@@ -239,7 +241,7 @@ pub(crate) fn perform_out<
                 input,
                 output,
                 errors,
-                heard,
+                signals,
             )
         }
     }

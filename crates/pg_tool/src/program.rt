@@ -12,10 +12,10 @@ ghost use Rattle.pg_auditing.specs.Streams.{streams};
 use crate::guest_error::GuestError;
 use crate::guest_refusals::tell_guest;
 use crate::guests::run_script;
-use crate::heard::Heard;
 use crate::host::Host;
 use crate::outputs::perform_out;
 use crate::remarks::judges_by_moments;
+use crate::signals::Signals;
 use pg_auditing::{MEMORY, REFUSED, USAGE, YES, tell, tell_memory, tell_text};
 use pg_codec::{Sink, Source, put_all};
 use pg_plan::{Command, Invocation, Plan, RunOptions, Usage};
@@ -25,7 +25,6 @@ use pg_runner::RunError;
 use pg_script::{ScriptError, ScriptRefusal};
 use pg_span_codec::Peeked;
 use std::alloc::AllocGlobal;
-use std::cell::Cell;
 use std::sync::Wait;
 use std::thread::Threads;
 
@@ -182,8 +181,10 @@ pub fn pcid_audit_followed<
         Ok(asked) => asked,
         Err(why) => return tell_usage(why, output, errors),
     };
-    host.reading.set(tells_of_reading(&asked.plan));
-    host.judging.set(judges_by_moments(&asked.plan.command));
+    host.signals.tells.set(tells_of_reading(&asked.plan));
+    host.signals
+        .judging
+        .set(judges_by_moments(&asked.plan.command));
     perform_out(rt, &asked, host, input, output, errors)
 }
 
@@ -217,9 +218,7 @@ pub fn pcid_audit<
         opener,
         creator,
         is_terminal: false,
-        reading: &Cell::new(false),
-        judging: &Cell::new(false),
-        heard: &Heard::new(true),
+        signals: &Signals::new(true),
         observer: Nobody,
     };
     pcid_audit_followed(rt, planned, host, input, output, errors)

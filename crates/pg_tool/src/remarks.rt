@@ -7,7 +7,7 @@ ghost use Rattle.pg_auditing.specs.Refusals.{Tells};
 ghost use Rattle.pg_tool.specs.Remarks.{Hints, Remarks, SaysByte, byte_line, hint_line, is_hinted};
 ghost use Rattle.pg_tool.specs.Remarks.{is_input_named, judges_by_moments, writes_json};
 
-use crate::heard::Heard;
+use crate::signals::Signals;
 use pg_auditing::{NO, REFUSED, put_number, tell_text};
 use pg_codec::{Failed, Sink, put_all};
 use pg_plan::Command;
@@ -98,12 +98,12 @@ fn say_byte<E: Sink>(is_told: bool, byte: Option<u64>, errors: &mut E)
 
 /// Says of an input, behind all else, where the reading of it stopped, if it was refused, and that
 /// it names no moments, if it was rejected by these: as far as the source says so.
-pub(crate) fn remark<E: Sink>(command: &Command, status: u8, heard: &Heard, errors: &mut E)
+pub(crate) fn remark<E: Sink>(command: &Command, status: u8, signals: &Signals, errors: &mut E)
     ensures { Remarks command.now status (filled E.Sink errors.old errors.new) }
 {
-    let unnamed = heard.unnamed.get();
-    let is_brief = heard.is_brief.get();
-    let byte = heard.byte.get();
+    let unnamed = signals.unnamed.get();
+    let is_brief = signals.is_brief.get();
+    let byte = signals.byte.get();
     let told = is_input_named(command, status);
     let hinted = is_hinted(command, status, unnamed && !is_brief);
     let json = writes_json(command);
