@@ -1,7 +1,6 @@
 //! Whether no order of the events of a run can witness one of them.
 
-ghost use Rattle.std.specs.Prelude.{◌≡◌, ℕ, ◌<◌, ◌≤◌, ◌^◌, [], length, IfOk, OnOk, IsTrue};
-ghost use Rattle.std.specs.Prelude.{IsFalse};
+ghost use Rattle.std.specs.Prelude.{◌≡◌, ℕ, ◌<◌, ◌≤◌, ◌^◌, ◌↔◌, [], length, IfOk, OnOk, IsTrue};
 ghost use Rattle.std.specs.Prelude.{slice_get, true, Some};
 ghost use Rattle.pg_entry.specs.Kinds.{kind_of};
 ghost use Rattle.pg_event.specs.Form.{processor_of};
@@ -94,8 +93,8 @@ fn gives(
 ) -> bool
     requires size { translation.now.key.shift ≤ 30 }
     requires within { translation.now.frame < 2 ^ 52 }
-    ensures { IsFalse result → is_usable control la translation.now ≡ true →
-        Answers header.now access la translation.now outcome → ⊥ }
+    ensures { IsTrue result ↔ (is_usable control la translation.now ≡ true)
+        × Answers header.now access la translation.now outcome }
 {
     let key = translation.key;
     if !translation_matches(key, la) {
@@ -138,7 +137,7 @@ fn has_no_answer(header: &Header, caches: &Caches, asked: Asked) -> bool
 
 /// Whether an entry of this kind makes an access fault by this cause.
 fn is_cause(kind: Kind, cause: Cause) -> bool
-    ensures { IsFalse result → kind ≡ kind_for cause → ⊥ }
+    ensures { IsTrue result ↔ kind ≡ kind_for cause }
 {
     match kind {
         Kind::Absent => matches!(cause, Cause::Absent | Cause::Denied),
