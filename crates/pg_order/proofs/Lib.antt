@@ -3,3 +3,4 @@ pub mod Meaning
 pub mod Numbers
 pub mod Fronts
 pub mod Steps
+mod Alone

@@ -1,8 +1,10 @@
 //! What an answer means. Each function does nothing: its contract is the law.
 
+ghost use Rattle.pg_order.specs.Alone.{OneOrderAlone};
 ghost use Rattle.pg_order.specs.Runs.{OrderedEventsRun, OrderedExactlyWhereARunExists};
 
 use pg_certify::{certified_events_run, certified_exactly_where_a_run_exists};
+use pg_spanned::no_other_order;
 
 /// Well-formed events that some moments certify in one of their orders are those of a run of the
 /// machine in this order.
@@ -18,4 +20,12 @@ pub fn ordered_exactly_where_a_run_exists()
     ensures { OrderedExactlyWhereARunExists }
 {
     certified_exactly_where_a_run_exists();
+}
+
+/// Events have one order alone, that in which they ended, exactly where each comes before the next
+/// in every order: `has_one_order` of `pg_spanned` tells whether they do.
+pub fn one_order_alone()
+    ensures { OneOrderAlone }
+{
+    no_other_order();
 }

@@ -9,5 +9,6 @@ mod Taken
 mod Listing
 mod Passing
 mod Handing
+mod Witness
 pub mod Deducing
 mod NotGiven

@@ -1,11 +1,12 @@
 //! What is sure of the orders around an event: on which side of an access or an assist of the
 //! processor a write stands, where no run comes to it on the other side.
 
-ghost use Rattle.std.specs.Prelude.{◌≡◌, ℕ, ◌<◌, ◌≤◌, length, IfOk, OnOk, IfSome, IsTrue};
+ghost use Rattle.std.specs.Prelude.{◌≡◌, ℕ, ◌<◌, ◌≤◌, [], length, IfOk, OnOk, IfSome};
+ghost use Rattle.std.specs.Prelude.{IsTrue};
 ghost use Rattle.pg_relaxed.specs.Memory.{IsOwn, IsWrite};
 ghost use Rattle.pg_relaxed.specs.Orders.{NamesSomeWalk};
 ghost use Rattle.pg_relaxed.specs.Supposed.{AreSure, IsUpTo, IsRace, AreDeduced, IsRefuted};
-ghost use Rattle.pg_relaxed.specs.Supposed.{AddsEdgesOf};
+ghost use Rattle.pg_relaxed.specs.Supposed.{AddsEdgesOf, FollowInTurn};
 ghost use Rattle.pg_relaxed.specs.Words.{AreWordsOf};
 
 use crate::edge::Edge;
@@ -49,6 +50,8 @@ fn deduce(
         AreSure run.now edges.old.items i → AreSure run.now edges.new.items i) }
     ensures deduced { OnOk result (AreSure run.now edges.old.items edge.second →
         AreDeduced run.now edges.old.items → AreDeduced run.now edges.new.items) }
+    ensures follow { OnOk result (FollowInTurn run.now [] edges.old.items →
+        FollowInTurn run.now [] edges.new.items) }
     ensures more { OnOk result (AddsEdgesOf edge.second edges.old.items edges.new.items) }
 {
     edges.push(Edge {
@@ -106,6 +109,8 @@ fn deduce_around(
         AreSure run.now edges.old.items i → AreSure run.now edges.new.items i) }
     ensures deduced { OnOk result (AreSure run.now edges.old.items asked →
         AreDeduced run.now edges.old.items → AreDeduced run.now edges.new.items) }
+    ensures follow { OnOk result (FollowInTurn run.now [] edges.old.items →
+        FollowInTurn run.now [] edges.new.items) }
     ensures more { OnOk result (AddsEdgesOf asked edges.old.items edges.new.items) }
 {
     let end = (asked as usize + MOST_NEAR).min(run.len()) as u32;

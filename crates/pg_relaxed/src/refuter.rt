@@ -1,6 +1,6 @@
 //! Whether no order of the events of a run can witness one of them.
 
-ghost use Rattle.std.specs.Prelude.{◌≡◌, ℕ, ◌<◌, ◌≤◌, ◌^◌, length, IfOk, OnOk, IsTrue, IsFalse};
+ghost use Rattle.std.specs.Prelude.{◌≡◌, ℕ, ◌<◌, ◌≤◌, ◌^◌, ◌↔◌, [], length, IfOk, OnOk, IsTrue};
 ghost use Rattle.std.specs.Prelude.{slice_get, true, Some};
 ghost use Rattle.pg_entry.specs.Kinds.{kind_of};
 ghost use Rattle.pg_event.specs.Form.{processor_of};
@@ -13,10 +13,12 @@ ghost use Rattle.pg_relaxed.specs.Caches.{word_in};
 ghost use Rattle.pg_relaxed.specs.Memory.{MayHold};
 ghost use Rattle.pg_relaxed.specs.Orders.{NeverComes, NamesWalk};
 ghost use Rattle.pg_relaxed.specs.Supposed.{NeverComesSo};
+ghost use Rattle.pg_relaxed.specs.Witness.{HasNoWitness};
 ghost use Rattle.pg_relaxed.specs.Words.{AreWordsOf};
 
 use crate::caches::Caches;
 use crate::edge::Edge;
+use crate::laws::without_a_witness;
 use crate::precede::ended_before;
 use crate::slot::Slot;
 use crate::table::Table;
@@ -91,8 +93,8 @@ fn gives(
 ) -> bool
     requires size { translation.now.key.shift ≤ 30 }
     requires within { translation.now.frame < 2 ^ 52 }
-    ensures { IsFalse result → is_usable control la translation.now ≡ true →
-        Answers header.now access la translation.now outcome → ⊥ }
+    ensures { IsTrue result ↔ (is_usable control la translation.now ≡ true)
+        × Answers header.now access la translation.now outcome }
 {
     let key = translation.key;
     if !translation_matches(key, la) {
@@ -135,7 +137,7 @@ fn has_no_answer(header: &Header, caches: &Caches, asked: Asked) -> bool
 
 /// Whether an entry of this kind makes an access fault by this cause.
 fn is_cause(kind: Kind, cause: Cause) -> bool
-    ensures { IsFalse result → kind ≡ kind_for cause → ⊥ }
+    ensures { IsTrue result ↔ kind ≡ kind_for cause }
 {
     match kind {
         Kind::Absent => matches!(cause, Cause::Absent | Cause::Denied),
@@ -276,8 +278,8 @@ fn refute_walk(
     requires count { walk.number < length run.now.events }
     requires words { AreWordsOf run.now.events words.old.words.items }
     ensures words { OnOk result (AreWordsOf run.now.events words.new.words.items) }
-    ensures never { IfOk result (λ refuted. IsTrue refuted →
-        NeverComesSo run.now edges.now walk.number) }
+    ensures none { IfOk result (λ refuted. IsTrue refuted →
+        HasNoWitness run.now edges.now walk.number) }
 {
     let Walk { number, p, la } = walk;
     if !words.may_look(number as u64) {
@@ -332,12 +334,15 @@ pub(crate) fn refute_so(
     requires words { AreWordsOf run.now.events words.old.words.items }
     ensures words { OnOk result (AreWordsOf run.now.events words.new.words.items) }
     ensures within { IfOk result (λ refuted. IsTrue refuted → number < length run.now.events) }
+    ensures none { IfOk result (λ refuted. IsTrue refuted →
+        HasNoWitness run.now edges.now number) }
     ensures never { IfOk result (λ refuted. IsTrue refuted →
         NeverComesSo run.now edges.now number) }
 {
     if number as usize >= run.len() {
         return Ok(false);
     }
+    without_a_witness();
     let asked = &run.events()[number as usize];
     let p = processor_of(asked);
     match *asked {
@@ -360,6 +365,7 @@ pub(crate) fn refute_so(
 /// event, and by the writes to the words that walks for its address read.
 pub fn refute(alloc: Global, run: &SpannedRun, number: u32) -> Result<bool, AllocError>
     ensures within { IfOk result (λ refuted. IsTrue refuted → number < length run.now.events) }
+    ensures none { IfOk result (λ refuted. IsTrue refuted → HasNoWitness run.now [] number) }
     ensures never { IfOk result (λ refuted. IsTrue refuted → NeverComes run.now number) }
 {
     let mut words = Words::new(alloc, MOST_LOOKS);

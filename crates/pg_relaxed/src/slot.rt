@@ -1,6 +1,6 @@
 //! Times of a processor between two of its events.
 
-ghost use Rattle.std.specs.Prelude.{◌<◌, length, IsTrue};
+ghost use Rattle.std.specs.Prelude.{◌<◌, ◌↔◌, length, IsTrue};
 ghost use Rattle.pg_relaxed.specs.Memory.{IsPast, IsToCome, IsSupposedPast, IsSupposedLater};
 
 use crate::edge::Edge;
@@ -21,7 +21,7 @@ pub(crate) struct Slot<'a> {
 
 /// Whether an event is supposed to come before an event of the processor that has come.
 fn is_supposed_past(run: &SpannedRun, slot: Slot<'_>, j: u32) -> bool
-    ensures { IsTrue result → IsSupposedPast run.now slot.entry j }
+    ensures { IsTrue result ↔ IsSupposedPast run.now slot.entry j }
 {
     for edge in slot.edges {
         if edge.first == j && edge.second < slot.next && is_own(run.events(), slot.p, edge.second) {
@@ -33,7 +33,7 @@ fn is_supposed_past(run: &SpannedRun, slot: Slot<'_>, j: u32) -> bool
 
 /// Whether an event is supposed to come after an event of the processor that has not come.
 fn is_supposed_later(run: &SpannedRun, slot: Slot<'_>, j: u32) -> bool
-    ensures { IsTrue result → IsSupposedLater run.now slot.entry j }
+    ensures { IsTrue result ↔ IsSupposedLater run.now slot.entry j }
 {
     for edge in slot.edges {
         if edge.second == j && slot.next <= edge.first && is_own(run.events(), slot.p, edge.first) {
@@ -45,7 +45,7 @@ fn is_supposed_later(run: &SpannedRun, slot: Slot<'_>, j: u32) -> bool
 
 /// Whether an event has come before a slot in every order.
 pub(crate) fn is_past(run: &SpannedRun, slot: Slot<'_>, j: u32) -> bool
-    ensures { IsTrue result → IsPast run.now slot.entry j }
+    ensures { IsTrue result ↔ IsPast run.now slot.entry j }
 {
     j < slot.ended
         || (j < slot.next && is_own(run.events(), slot.p, j))
@@ -55,7 +55,7 @@ pub(crate) fn is_past(run: &SpannedRun, slot: Slot<'_>, j: u32) -> bool
 /// Whether an event comes after a slot in every order.
 pub(crate) fn is_to_come(run: &SpannedRun, slot: Slot<'_>, j: u32) -> bool
     requires { j < length run.now.events }
-    ensures { IsTrue result → IsToCome run.now slot.entry j }
+    ensures { IsTrue result ↔ IsToCome run.now slot.entry j }
 {
     j == slot.next || must_precede(run, slot.next, j) || is_supposed_later(run, slot, j)
 }

@@ -1,7 +1,7 @@
 //! What words may hold in a slot.
 
-ghost use Rattle.std.specs.Prelude.{◌≡◌, ◌⊎◌, ℕ, ◌<◌, ◌^◌, [], length, IfOk, OnOk, IsTrue, IsFalse};
-ghost use Rattle.std.specs.Prelude.{IfSome, IfNone, Bool};
+ghost use Rattle.std.specs.Prelude.{◌≡◌, ◌⊎◌, ◌↔◌, ℕ, ◌<◌, ◌^◌, [], length, IfOk, OnOk, IsTrue};
+ghost use Rattle.std.specs.Prelude.{IfSome, IfNone, IsFalse, Bool};
 ghost use Rattle.pg_machine.specs.Machine.{IsIn};
 ghost use Rattle.pg_relaxed.specs.Memory.{MayHold, IsToCome, SetsFlagsOf};
 ghost use Rattle.pg_relaxed.specs.Words.{AreWritesTo, IsWordOf, AreWordsOf, IsOverwritten};
@@ -139,7 +139,7 @@ fn is_overwritten(run: &SpannedRun, slot: Slot<'_>, writes: &[Written], j: u32) 
 
 /// Whether one of these writes has come.
 fn is_written(run: &SpannedRun, slot: Slot<'_>, writes: &[Written]) -> bool
-    ensures { IsTrue result → IsWritten run.now slot.entry writes.now }
+    ensures { IsTrue result ↔ IsWritten run.now slot.entry writes.now }
 {
     for written in writes {
         if is_past(run, slot, written.number) {

@@ -1,3 +1,4 @@
 pub mod Controls
 pub mod Shown
 pub mod Musts
+mod Dropping

@@ -16,7 +16,7 @@ mod span;
 mod words;
 
 pub use cause::cause_text;
-pub use laws::precedes_by_must;
+pub use laws::{drops_all_of_a_page, precedes_by_must};
 pub use lines::{push_began, spanned_lines};
 pub use parts::{ReadAfter, WalkCause, walk_cause, walked_address};
 pub use picture::cause_picture;

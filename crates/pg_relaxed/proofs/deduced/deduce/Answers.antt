@@ -3,8 +3,10 @@ use Rattle.std.specs.Vec.{vec_len}
 use Rattle.std.proofs.lemmas.List.{length-append}
 use Rattle.pg_spanned.specs.Orders.{Spanned}
 use Rattle.pg_relaxed.specs.declared.edge.Edge.{Edge}
-use Rattle.pg_relaxed.specs.Supposed.{AreSure, NeverComesSo, IsUpTo, IsRace, AreDeduced, AddsEdgesOf}
+use Rattle.pg_relaxed.specs.Supposed.{AreSure, NeverComesSo, IsUpTo, IsRace, AreDeduced, AddsEdgesOf, FollowInTurn}
+use Rattle.pg_relaxed.specs.Witness.{HasNoWitness}
 use Rattle.pg_relaxed.proofs.Deducing.{deduced, more_deduced, adds_one, adds_none}
+use Rattle.pg_relaxed.proofs.Witness.{follows}
 use Rattle.pg_relaxed.proofs.deduced.deduce.Goals as goal
 
 start : (xs : List Edge) (x : Edge) → take (length xs) (xs ++ x ∷ []) ≡ xs
@@ -74,3 +76,22 @@ returns-else-is_sure-clause-more c =
     let same : c.pop.new.self.items ≡ old =
     back c.push.new.self.items c.pop.new.self.items old other c.in_ok-push.ensures.items (counted c.push.new.self c.pop.new.self.items c.pop.ensures.rest) in
     subst (AddsEdgesOf c.args.edge.second old) (sym same) (adds_none old c.args.edge.second)
+
+pub returns-in_ok-push-2-clause-follow : goal.returns-in_ok-push-2-clause-follow
+returns-in_ok-push-2-clause-follow c =
+    let s : Spanned = c.args.run.now in
+    let old : List Edge = c.args.edges.now.items in
+    let edge : Edge = c.args.edge in
+    let pushed = c.in_ok-push.ensures.items in
+    let items = grown s old edge c.push.new.self.items c.pop.new.self.items c.push-then-is_sure.new.self.items pushed
+    (counted c.push.new.self c.pop.new.self.items c.pop.ensures.rest) c.in_ok-push-2.ensures.items in
+    λ all. subst (FollowInTurn s []) (sym items) (follows s [] old edge all
+    (subst (λ es. HasNoWitness s es edge.second) (c.deref.ensures.value ∙ pushed) (c.in_ok-is_sure.ensures.none c.if-is_sure.true)))
+
+pub returns-else-is_sure-clause-follow : goal.returns-else-is_sure-clause-follow
+returns-else-is_sure-clause-follow c =
+    let old : List Edge = c.args.edges.now.items in
+    let other : Edge = record { first = c.args.edge.second; second = c.args.edge.first } in
+    let same : c.pop.new.self.items ≡ old =
+    back c.push.new.self.items c.pop.new.self.items old other c.in_ok-push.ensures.items (counted c.push.new.self c.pop.new.self.items c.pop.ensures.rest) in
+    λ all. subst (FollowInTurn c.args.run.now []) (sym same) all

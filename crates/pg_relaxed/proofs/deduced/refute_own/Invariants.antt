@@ -1,8 +1,8 @@
-use Rattle.std.proofs.Common.{ℕ, ◌<◌, ◌≤◌, length}
+use Rattle.std.proofs.Common.{ℕ, [], ◌<◌, ◌≤◌, length}
 use Rattle.pg_machine.specs.Machine.{IsIn}
 use Rattle.pg_relaxed.specs.declared.edge.Edge.{Edge}
 use Rattle.pg_relaxed.specs.Memory.{IsOwn}
-use Rattle.pg_relaxed.specs.Supposed.{AreSure, AreDeduced}
+use Rattle.pg_relaxed.specs.Supposed.{AreSure, AreDeduced, FollowInTurn}
 use Rattle.pg_relaxed.specs.Words.{AreWordsOf}
 use Rattle.pg_relaxed.proofs.deduced.refute_own.Given as goal
 
@@ -11,5 +11,6 @@ invariant-loop-number l = record {
   words : AreWordsOf l.run.events l.words.words.items;
   sure : (i : ℕ) → l.number ≤ i → i < length l.run.events → IsOwn l.run.events l.p i → AreSure l.run l.edges.items i;
   deduced : AreDeduced l.run l.edges.items;
+  follow : FollowInTurn l.run [] l.edges.items;
   earlier : (edge : Edge) → IsIn edge l.edges.items → (edge.second < l.number) × IsOwn l.run.events l.p edge.second;
 }

@@ -11,8 +11,10 @@ loop-held-preserved c =
     let lt : c.loop-held.held-index < length xs = subst (λ (ys : List Translation). c.loop-held.held-index < length ys) same c.loop-held-test.true in
     let is : c.held-item.result ≡ get_or xs c.loop-held.held-index c.held-item.result = c.held-item.is ∙ ap (λ (ys : List Translation). get_or ys c.loop-held.held-index c.held-item.result) same in
     let here : is_usable c.args.caches.now.control c.args.asked.la c.get.result ≡ true → Answers c.args.header.now c.args.asked.kind c.args.asked.la c.get.result c.args.asked.outcome → ⊥ =
-    λ usable answers. c.gives.ensures c.if-gives.false usable
-    answers in
+    λ usable answers.
+    let is : c.gives.result ≡ true = c.gives.ensures.1 (usable, answers) in
+    let isnt = c.if-gives.false in
+    absurd (cc) in
     one_more (λ (x : Translation). is_usable c.args.caches.now.control c.args.asked.la x ≡ true → Answers c.args.header.now c.args.asked.kind c.args.asked.la x c.args.asked.outcome → ⊥)
     xs c.loop-held.held-index c.held-item.result lt is c.loop-held.invariant
     (subst (λ (x : Translation). is_usable c.args.caches.now.control c.args.asked.la x ≡ true → Answers c.args.header.now c.args.asked.kind c.args.asked.la x c.args.asked.outcome → ⊥)

@@ -11,11 +11,9 @@ use Rattle.pg_spanned.specs.Orders.{Spanned, ended_before}
 use Rattle.pg_relaxed.specs.declared.caches.Caches.{Caches}
 use Rattle.pg_relaxed.specs.declared.words.Words.{Words}
 use Rattle.pg_relaxed.specs.Caches.{Known, Grows, IsNotGiven, known_of}
-use Rattle.pg_relaxed.specs.Supposed.{NeverComesSo}
+use Rattle.pg_relaxed.specs.Witness.{HasNoWitness, MayHaveCached}
 use Rattle.pg_relaxed.specs.Words.{AreWordsOf}
-use Rattle.pg_relaxed.proofs.Covering.{Enters}
-use Rattle.pg_relaxed.proofs.Entering.{starts}
-use Rattle.pg_relaxed.proofs.Handing.{hands_on, hands_over, cannot_run}
+use Rattle.pg_relaxed.proofs.Witness.{at_start, on, over, none_at}
 use Rattle.pg_relaxed.proofs.refuter.refute_walk.Goals as goal
 use Rattle.pg_relaxed.proofs.refuter.refute_walk.Goals.{then-processor_of-p+in_ok-fill+else-not-branch, else-processor_of-p}
 
@@ -33,7 +31,7 @@ loop-next-init c =
     record {
       words = subst (AreWordsOf s.events) (sym c.may_look.ensures) c.requires.words;
       root = subst (λ (k : Known). k.control.root < 2 ^ 52) (sym c.new-caches.ensures) c.started.ensures.within;
-      enters = subst (Enters s c.args.edges.now p c.args.walk.la 0 0) (sym (c.new-caches.ensures ∙ ap empty control)) (starts s c.args.edges.now p c.args.walk.la);
+      may = subst (MayHaveCached s c.args.edges.now p c.args.walk.la 0 0) (sym (c.new-caches.ensures ∙ ap empty control)) (at_start s c.args.edges.now p c.args.walk.la);
     }
 
 pub loop-next-preserved : goal.loop-next-preserved
@@ -61,28 +59,28 @@ loop-next-preserved c =
           let root : left.control.root < 2 ^ 52 =
           subst (λ (d : Control). d.root < 2 ^ 52) (sym control)
           (root-controlled s.head.cfg.m (processor_of e) filled.control e (omega (arith, low)) high (subst (λ (d : Control). d.root < 2 ^ 52) (sym grows.control) c.loop-next.invariant.root)) in
-          let on : Enters s c.args.edges.now p la (n + 1) w.max-ended.result left =
-          hands_on s la filled _ (w.in_ok-fill.ensures.filled w.if-not-branch.false) w.max-ended.result e before left there mine within c.loop-next.invariant.enters grows
+          let later_on : MayHaveCached s c.args.edges.now p la (n + 1) w.max-ended.result left =
+          on s la filled _ (w.in_ok-fill.ensures.filled w.if-not-branch.false) w.max-ended.result e before left there mine c.loop-next.invariant.may grows
           w.pass.ensures.left control later in
           record {
             words = subst (λ (v : Words). AreWordsOf s.events v.words.items) (sym w.words-is) w.in_ok-fill.ensures.words;
             root = subst (λ (v : Caches). v.control.root < 2 ^ 52) (sym w.caches-is) root;
-            enters = subst (λ (v : Caches). Enters s c.args.edges.now p la (n + 1) c.if-processor_of-p.ended (known_of v)) (sym w.caches-is)
-                (subst (λ (k : ℕ). Enters s c.args.edges.now p la (n + 1) k left) (sym w.ended-is) on);
+            may = subst (λ (v : Caches). MayHaveCached s c.args.edges.now p la (n + 1) c.if-processor_of-p.ended (known_of v)) (sym w.caches-is)
+                (subst (λ (k : ℕ). MayHaveCached s c.args.edges.now p la (n + 1) k left) (sym w.ended-is) later_on);
           }
       | else-processor_of-p w ↦
-          let on : Enters s c.args.edges.now p la (n + 1) c.loop-next.ended (known_of c.loop-next.caches) =
-          hands_over s c.args.edges.now p la n c.loop-next.ended e (known_of c.loop-next.caches) there (λ h. w.if-processor_of-p.false (c.processor_of.ensures ∙ h)) c.loop-next.invariant.enters in
+          let later_on : MayHaveCached s c.args.edges.now p la (n + 1) c.loop-next.ended (known_of c.loop-next.caches) =
+          over s c.args.edges.now p la n c.loop-next.ended e (known_of c.loop-next.caches) there (λ h. w.if-processor_of-p.false (c.processor_of.ensures ∙ h)) c.loop-next.invariant.may in
           record {
             words = subst (λ (v : Words). AreWordsOf s.events v.words.items) (sym w.words-is) c.loop-next.invariant.words;
             root = subst (λ (v : Caches). v.control.root < 2 ^ 52) (sym w.caches-is) c.loop-next.invariant.root;
-            enters = subst (λ (v : Caches). Enters s c.args.edges.now p la (n + 1) c.if-processor_of-p.ended (known_of v)) (sym w.caches-is)
-                (subst (λ (k : ℕ). Enters s c.args.edges.now p la (n + 1) k (known_of c.loop-next.caches)) (sym w.ended-is) on);
+            may = subst (λ (v : Caches). MayHaveCached s c.args.edges.now p la (n + 1) c.if-processor_of-p.ended (known_of v)) (sym w.caches-is)
+                (subst (λ (k : ℕ). MayHaveCached s c.args.edges.now p la (n + 1) k (known_of c.loop-next.caches)) (sym w.ended-is) later_on);
           }
     ]
 
-pub returns-clause-never : goal.returns-clause-never
-returns-clause-never c =
+pub returns-clause-none : goal.returns-clause-none
+returns-clause-none c =
     let s : Spanned = c.args.run.now in
     let p : ℕ = c.args.walk.p in
     let la : ℕ = c.args.walk.la in
@@ -91,8 +89,8 @@ returns-clause-never c =
     let before : Known = known_of c.loop-next.caches in
     let filled : Known = known_of c.fill-2.new.self in
     let later : c.max.result ≡ max c.loop-next.ended (ended_before s i) = c.max.ensures ∙ ap (max c.loop-next.ended) c.ended_before-2.ensures.count in
-    let yes_means : (b : Bool) → (IsTrue b → IsNotGiven s _ la filled c.args.asked.now) → IsTrue b → NeverComesSo s c.args.edges.now i =
-    λ b h is_true. cannot_run s la filled _ (c.in_ok-fill-2.ensures.filled c.if-not-branch-2.false) c.args.asked.now _ (h is_true) refl refl refl before c.requires.there c.requires.own c.requires.names c.requires.count
-    (subst (λ (k : ℕ). Enters s c.args.edges.now p la k c.loop-next.ended before) end c.loop-next.invariant.enters)
+    let yes_means : (b : Bool) → (IsTrue b → IsNotGiven s _ la filled c.args.asked.now) → IsTrue b → HasNoWitness s c.args.edges.now i =
+    λ b h is_true. none_at s la filled _ (c.in_ok-fill-2.ensures.filled c.if-not-branch-2.false) c.args.asked.now _ (h is_true) refl refl refl before c.requires.there c.requires.own c.requires.names
+    (subst (λ (k : ℕ). MayHaveCached s c.args.edges.now p la k c.loop-next.ended before) end c.loop-next.invariant.may)
     (c.in_ok-fill-2.ensures.grows c.if-not-branch-2.false) later in
-    if_ok _ (λ refuted. IsTrue refuted → NeverComesSo s c.args.edges.now i) yes_means c.is_not_given.result c.is_not_given.ensures.cannot
+    if_ok _ (λ refuted. IsTrue refuted → HasNoWitness s c.args.edges.now i) yes_means c.is_not_given.result c.is_not_given.ensures.cannot

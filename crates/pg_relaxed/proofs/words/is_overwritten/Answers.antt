@@ -9,6 +9,6 @@ pub returns-then-must_precede : goal.returns-then-must_precede
 returns-then-must_precede c = λ yes. record {
   by = _;
   there = in_front c.args.writes.now c.min.result _ (in_get (take c.min.result c.args.writes.now) c.loop-written.written-index (record { number = 0; value = 0 }) c.loop-written-test.true);
-  past = c.is_past.ensures c.if-is_past.true;
+  past = c.is_past.ensures.0 c.if-is_past.true;
   follows = c.must_precede.ensures.0 c.if-must_precede.true;
 }

@@ -22,6 +22,6 @@ loop-assist-preserved c =
     c.args.assists.now c.loop-assist.assist-index (record { number = 0; dirty = false }) c.loop-assist-test.true c.loop-assist.invariant
     (λ same. elim c.else-assist-dirty.branch [
       | else-assist-dirty-via-then-assist-dirty+then-not-is_to_come+else-not-must_precede w ↦ inr (w.must_precede.ensures.0 w.if-not-must_precede.false)
-      | else-assist-dirty-via-then-assist-dirty+else-not-is_to_come w ↦ inl (w.is_to_come.ensures w.if-not-is_to_come.false)
+      | else-assist-dirty-via-then-assist-dirty+else-not-is_to_come w ↦ inl (w.is_to_come.ensures.0 w.if-not-is_to_come.false)
       | else-assist-dirty-via-else-assist-dirty w ↦ absurd (not_alike _ _ w.if-assist-dirty.false same)
     ])

@@ -84,4 +84,4 @@ returns-else-not-is_written c =
     let sets : AreAssistsOf s.events c.args.word.now.address assists = subst (AreAssistsOf s.events c.args.word.now.address) (sym c.as_slice-assists.ensures.value) c.requires.1 in
     let whole : take c.loop-place.place writes ≡ writes = take_all writes c.loop-place.place c.loop-place-test.false in
     held_value s c.args.slot c.args.word.now.address writes assists c.loop-place.values.items are sets
-    (λ w h. c.loop-place.invariant w (subst (IsIn w) (sym whole) h)) (inl (c.is_written.ensures c.if-not-is_written.false))
+    (λ w h. c.loop-place.invariant w (subst (IsIn w) (sym whole) h)) (inl (c.is_written.ensures.0 c.if-not-is_written.false))
