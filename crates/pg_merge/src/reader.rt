@@ -153,7 +153,7 @@ fn events_of<'a>(
 /// no log, which no log without its end mark is, or where memory is refused.
 ///
 /// Where the bytes are refused, `unread` is told how many of them are left where the part begins
-/// that is refused: the header, an event, the end mark, or what stands behind it. No clause says
+/// that is refused: the header, an event, the end mark, or what follows it. No clause says
 /// this.
 #[tactic(auto, unfolding(crate::specs::Reading::log_reading))]
 pub fn read_log(alloc: Global, bytes: &[u8], unread: &Cell<usize>) -> Result<Log, LogError>

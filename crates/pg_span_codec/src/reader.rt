@@ -159,7 +159,7 @@ fn read_segments<'a>(
 /// header. An access or an assist has one moment in the run, 0, which stands for none.
 ///
 /// Where the bytes are refused, `unread` is told how many of them are left where the part begins
-/// that is refused: the header, a segment, an event, the end mark, or what stands behind it. No
+/// that is refused: the header, a segment, an event, the end mark, or what follows it. No
 /// clause says this.
 #[tactic(auto, unfolding(crate::specs::Reading::spanned_reading))]
 pub fn read_spanned(
