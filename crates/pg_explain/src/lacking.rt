@@ -80,11 +80,7 @@ fn lacking_by(header: &Header, claim: &Claim, steps: &[EntryRead]) -> Option<Fin
 }
 
 /// What an access lacks in the walk at its event.
-fn lacking_for(
-    alloc: Global,
-    seen: &Seen<'_>,
-    claim: &Claim,
-) -> Result<Option<Finding>, AllocError>
+fn lacking_for(alloc: Global, seen: &Seen<'_>, claim: &Claim) -> Result<Option<Finding>, AllocError>
     requires { claim.now.p < length seen.now.head.processors }
     ensures { IfOk result (λ found. found ≡ lacking_by seen.now.head claim.now
         (readings_by seen.now.head seen.now.events claim.now.p claim.now.la (claim.now.number
