@@ -97,13 +97,34 @@ $ certify --json
 < @stale_leaf
 >+ {"cause":{"event":{"ac":false,"address":"0x5123","cpu":0,"event":6,"kind":"access",
 >+ "operation":"read","outcome":{"page":"0x9123"},"user":true},"given":{"fault":"0x4","fetch":false,
->+ "present":false,"reserved":false,"user":true,"write":false},"last":{"by":[4,4,4,4],"moment":5,
->+ "taken_by":{"address":"0x5000","cpu":0,"event":5,"kind":"invlpg"}},"now":[{"is":"table",
+>+ "present":false,"reserved":false,"user":true,"write":false},"lacking":null,
+>+ "last":{"by":[4,4,4,4],"moment":5,"taken_by":{"address":"0x5000","cpu":0,"event":5,"kind":"invlpg"}},"now":[{"is":"table",
 >+ "level":4,"moment":6,"pcid":"0x1","value":"0x2007","word":"0x1000","written_by":0},{"is":"table",
 >+ "level":3,"moment":6,"pcid":"0x1","value":"0x3007","word":"0x2000","written_by":1},{"is":"table",
 >+ "level":2,"moment":6,"pcid":"0x1","value":"0x4007","word":"0x3000","written_by":2},
 >+ {"is":"absent","level":1,"moment":6,"pcid":"0x1","value":"0x0","word":"0x4028","written_by":4}]},
 >+ "event":6,"events":7,"format":1,"reason":14,"reason_name":"no moments","segments":1,
+> "verdict":"no"}
+? 1
+
+== denied_for_a_flag
+$ certify --json
+< 50475245434f524402002803010010000000011000000000000001
+< 010000000005000000
+< 10000000100000000000002720000000000000
+< 10000000200000000000002730000000000000
+< 10000000300000000000002740000000000000
+< 10000028400000000000002790000000000000
+< 1100000523510000000000000023910000000000000100000000
+< 0205000000
+>+ {"cause":{"event":{"ac":false,"address":"0x5123","cpu":0,"event":4,"kind":"access",
+>+ "operation":"write","outcome":{"page":"0x9123"},"user":true},"given":{"page":"0x9123"},
+>+ "lacking":{"finding":"dirty","value":"0x9027","word":"0x4028"},"last":null,"now":[{"is":"table",
+>+ "level":4,"moment":4,"pcid":"0x1","value":"0x2027","word":"0x1000","written_by":0},{"is":"table",
+>+ "level":3,"moment":4,"pcid":"0x1","value":"0x3027","word":"0x2000","written_by":1},{"is":"table",
+>+ "level":2,"moment":4,"pcid":"0x1","value":"0x4027","word":"0x3000","written_by":2},
+>+ {"is":"leaf","level":1,"moment":4,"pcid":"0x1","value":"0x9027","word":"0x4028","written_by":3}]},
+>+ "event":4,"events":5,"format":1,"reason":14,"reason_name":"no moments","segments":1,
 > "verdict":"no"}
 ? 1
 

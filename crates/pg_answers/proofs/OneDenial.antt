@@ -19,8 +19,10 @@ use Rattle.pg_search.specs.Last.{IsLast, IsLastOf, HasNoLast}
 use Rattle.pg_search.specs.Law.{AreWitness}
 use Rattle.pg_explain.specs.declared.entry.WalkEntry.{WalkEntry}
 use Rattle.pg_explain.specs.declared.denial.Denial.{Denial}
-use Rattle.pg_explain.specs.Denied.{IsDenialOf, IsWalkNow, claimed_text, now_walk_text, given_text, denial_text}
+use Rattle.pg_explain.specs.Denied.{IsDenialOf, IsWalkNow, claimed_text, now_walk_text, given_text, lacking_text, denial_text}
+use Rattle.pg_explain.specs.declared.finding.Finding.{Finding}
 use Rattle.pg_explain.specs.Given.{given_now}
+use Rattle.pg_explain.specs.Lacking.{lacking_now}
 use Rattle.pg_explain.specs.Lasts.{taken_by, taken_in}
 use Rattle.pg_search.specs.Writers.{writes_some, is_written, IsWriter}
 use Rattle.pg_explain.specs.Walk.{IsTold, IsWalk, reading_at}
@@ -187,16 +189,23 @@ same_given : (event : Option Event) (e : Event) (given : Event → Option Outcom
 same_given None e given x y there h k = absurd cc
 same_given (Some z) e given x y there h k = h ∙ sym k
 
-abbrev told : List Event → ℕ → List WalkEntry → Option Outcome → Option Last → List ℕ
-told events number walk given last = claimed_text number (slice_get events number) ++ (now_walk_text walk ++ (given_text given ++ taken_by (taken_in events last) last))
+same_lacking : (event : Option Event) (e : Event) (lacking : Event → Option Finding) (x y : Option Finding) → event ≡ Some e → IfSome event (λ e. x ≡ lacking e) → IfSome event (λ e. y ≡ lacking e) → x ≡ y
+same_lacking None e lacking x y there h k = absurd cc
+same_lacking (Some z) e lacking x y there h k = h ∙ sym k
+
+abbrev told : List Event → ℕ → List WalkEntry → Option Outcome → Option Finding → Option Last → List ℕ
+told events number walk given lacking last =
+    claimed_text number (slice_get events number) ++ (now_walk_text walk ++ (given_text given ++ (lacking_text lacking ++ taken_by (taken_in events last) last)))
 
 pub one_denial : (head : Head) (events : List Event) (i : ℕ) (e : Event) (x y : Denial) → slice_get events i ≡ Some e → IsDenialOf head events i x → IsDenialOf head events i y → denial_text events x ≡ denial_text events y
 one_denial head events i e x y there h k =
     let number = h.number ∙ sym k.number in
     let walk = one_given (slice_get events i) head events e x.walk.items y.walk.items i there h.walk k.walk in
     let given = same_given (slice_get events i) e (given_now head events i) x.given y.given there h.given k.given in
+    let lacking = same_lacking (slice_get events i) e (lacking_now head events i) x.lacking y.lacking there h.lacking k.lacking in
     let last = one_last head events i x.last y.last h.last h.never k.last k.never in
-    ap (λ n. told events n x.walk.items x.given x.last) number
-    ∙ ap (λ w. told events y.number w x.given x.last) walk
-    ∙ ap (λ g. told events y.number y.walk.items g x.last) given
-    ∙ ap (told events y.number y.walk.items y.given) last
+    ap (λ n. told events n x.walk.items x.given x.lacking x.last) number
+    ∙ ap (λ w. told events y.number w x.given x.lacking x.last) walk
+    ∙ ap (λ g. told events y.number y.walk.items g x.lacking x.last) given
+    ∙ ap (λ l. told events y.number y.walk.items y.given l x.last) lacking
+    ∙ ap (told events y.number y.walk.items y.given y.lacking) last

@@ -9,7 +9,7 @@ use Rattle.pg_event.specs.declared.event.Outcome.TheVariants.{Page, Fault}
 use Rattle.pg_event.specs.Heads.{Head}
 use Rattle.pg_event.specs.Form.{access_kind}
 use Rattle.pg_event.specs.Values.{control_at}
-use Rattle.pg_event.specs.Witness.{walked}
+use Rattle.pg_event.specs.Witness.{walked, claim_of}
 use Rattle.pg_search.specs.declared.last.Last.{Last}
 use Rattle.pg_search.specs.Last.{NoneWitness, IsLastOf, IsLast, HasNoLast}
 use Rattle.pg_search.specs.Writers.{writes, writes_some, is_written, IsWriter}
@@ -21,6 +21,7 @@ use Rattle.pg_explain.specs.declared.denial.Denial.{Denial}
 use Rattle.pg_explain.specs.Denied.{IsWalkNow, IsDenialFor, IsDenialOf, DenialsAmongKept}
 use Rattle.pg_explain.specs.Findings.{readings_by}
 use Rattle.pg_explain.specs.Given.{given_by, given_now}
+use Rattle.pg_explain.specs.Lacking.{lacking_by, lacking_now}
 use Rattle.pg_explain.specs.Walk.{IsTold, IsWalk, reading_at}
 
 -- of an event of a history
@@ -30,6 +31,7 @@ denial_of head events i e x at h = record {
   number = h.number;
   walk = subst (λ o. IfSome o (λ e. IsWalkNow head events i e x.walk.items)) (sym at) h.walk;
   given = subst (λ o. IfSome o (λ e. x.given ≡ given_now head events i e)) (sym at) h.given;
+  lacking = subst (λ o. IfSome o (λ e. x.lacking ≡ lacking_now head events i e)) (sym at) h.lacking;
   last = lasts x.last h.last;
   never = nevers x.last h.never;
 }
@@ -120,6 +122,15 @@ module _ (law : WitnessedAmongKept) (head : Head) (kept events : List Event) (i 
   given_alike (Invpcid p kind pcid la) = refl
   given_alike (MovCr4Pge p on) = refl
 
+  lacking_alike : (e : Event) → lacking_now head kept i e ≡ lacking_now head events i e
+  lacking_alike (Write p addr value) = refl
+  lacking_alike (Access p flags la outcome moments) = ap (lacking_by head (claim_of i p flags la outcome)) (sym (readings_alike p la (four i) now))
+  lacking_alike (Assist p flags la word moments) = refl
+  lacking_alike (MovCr3 p operand) = refl
+  lacking_alike (Invlpg p la) = refl
+  lacking_alike (Invpcid p kind pcid la) = refl
+  lacking_alike (MovCr4Pge p on) = refl
+
   -- when it would last have been witnessed
 
   none_alike : (e : Event) (from to : ℕ) → to ≤ i → NoneWitness head kept e from to → NoneWitness head events e from to
@@ -148,6 +159,7 @@ module _ (law : WitnessedAmongKept) (head : Head) (kept events : List Event) (i 
     number = h.number;
     walk = walk_now_alike e x.walk.items h.walk;
     given = h.given ∙ given_alike e;
+    lacking = h.lacking ∙ lacking_alike e;
     last = lasts_alike e x.last h.last;
     never = nevers_alike e x.last h.never;
   }

@@ -4,6 +4,7 @@
 --     now: level L [HEX] = HEX KIND, WRITTEN  for each entry that the processor would read at the
 --                                             event, down to the first that is no table
 --     now: would give OUTCOME                 what the access would get by these, by the rights
+--     now: FLAG of [HEX] = HEX is 0           the flag that it lacks there, where that is what it got
 --     last: ..                                when it would last have been witnessed (`Lasts`)
 use Rattle.std.specs.Prelude.{◌≡◌, ℕ, ◌≤◌, if◌then◌else◌}
 use Rattle.std.specs.Prelude.{List, [], ◌∷◌, ◌++◌, length, Option, Some, None}
@@ -20,11 +21,13 @@ use Rattle.pg_search.specs.Last.{NoneWitness, IsLastOf, IsLast, HasNoLast}
 use Rattle.pg_search.specs.Changes.{AreKeptOf}
 use Rattle.pg_explain.specs.declared.entry.WalkEntry.{WalkEntry}
 use Rattle.pg_explain.specs.declared.denial.Denial.{Denial}
+use Rattle.pg_explain.specs.declared.finding.Finding.{Finding}
 use Rattle.pg_explain.specs.Given.{given_now}
+use Rattle.pg_explain.specs.Lacking.{lacking_now}
 use Rattle.pg_explain.specs.Lasts.{taken_by, taken_in}
 use Rattle.pg_explain.specs.Line.{outcome_text, claim_text}
 use Rattle.pg_explain.specs.Names.{level_number}
-use Rattle.pg_explain.specs.Text.{held_text, writer_text}
+use Rattle.pg_explain.specs.Text.{held_text, writer_text, finding_text}
 use Rattle.pg_explain.specs.Walk.{IsWalk}
 
 -- these are the entries of a walk at the event
@@ -45,6 +48,7 @@ pub record IsDenialFor (head : Head) (events : List Event) (i : ℕ) (e : Event)
   pub number : x.number ≡ i
   pub walk : IsWalkNow head events i e x.walk.items
   pub given : x.given ≡ given_now head events i e
+  pub lacking : x.lacking ≡ lacking_now head events i e
   pub last : IfSome x.last (IsLastOf head events i e)
   pub never : IfNone x.last (NoneWitness head events e 0 i)
 
@@ -53,6 +57,7 @@ pub record IsDenialOf (head : Head) (events : List Event) (i : ℕ) (x : Denial)
   pub number : x.number ≡ i
   pub walk : IfSome (slice_get events i) (λ e. IsWalkNow head events i e x.walk.items)
   pub given : IfSome (slice_get events i) (λ e. x.given ≡ given_now head events i e)
+  pub lacking : IfSome (slice_get events i) (λ e. x.lacking ≡ lacking_now head events i e)
   pub last : IfSome x.last (IsLast head events i)
   pub never : IfNone x.last (HasNoLast head events i)
 
@@ -92,11 +97,17 @@ abbrev pub given_text : Option Outcome → List ℕ
 given_text None = []
 given_text (Some outcome) = codes "now: would give " ++ (outcome_text outcome ++ codes "\n")
 
+-- the flag of an entry that an access lacks
+abbrev pub lacking_text : Option Finding → List ℕ
+lacking_text None = []
+lacking_text (Some found) = codes "now: " ++ (finding_text [] found ++ codes "\n")
+
 -- the text of why no moments witness this event, where this one took its last moments away
 abbrev pub denial_text_by : Option Event → Option Event → Denial → List ℕ
 denial_text_by event taken x =
     claimed_text x.number event
-    ++ (now_walk_text x.walk.items ++ (given_text x.given ++ taken_by taken x.last))
+    ++ (now_walk_text x.walk.items
+    ++ (given_text x.given ++ (lacking_text x.lacking ++ taken_by taken x.last)))
 
 -- the text of why no moments witness an event, where these are the events of its run
 abbrev pub denial_text : List Event → Denial → List ℕ

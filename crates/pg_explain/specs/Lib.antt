@@ -4,6 +4,7 @@ pub mod Names
 pub mod Drops
 pub mod Findings
 pub mod Given
+pub mod Lacking
 pub mod Walk
 pub mod Explained
 pub mod Filters

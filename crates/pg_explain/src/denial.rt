@@ -11,7 +11,9 @@ ghost use Rattle.pg_explain.specs.Findings.{readings_by};
 ghost use Rattle.pg_explain.specs.Walk.{IsWalk};
 
 use crate::entry::{WalkEntry, read_steps, tell};
+use crate::finding::Finding;
 use crate::given::given_by;
+use crate::lacking::lacking_now;
 use pg_check::History;
 use pg_entry::AccessKind;
 use pg_event::{Event, Outcome, Request, processor_of};
@@ -29,6 +31,9 @@ pub struct Denial {
     pub walk: Vec<WalkEntry>,
     /// What its access would get by these, by the rights alone.
     pub given: Option<Outcome>,
+    /// What its access lacks in these, where they would give what it got but for accessed and dirty
+    /// flags.
+    pub lacking: Option<Finding>,
     /// When the event would last have been witnessed, had it come earlier, and by which moments.
     pub last: Option<Last>,
 }
@@ -99,11 +104,13 @@ pub fn deny_event(
     ensures { IfOk result (IsDenialFor seen.now.head seen.now.events number event.now) }
 {
     let last = last_moments_at(alloc, seen, number, event)?;
+    let lacking = lacking_now(alloc, seen, number, event)?;
     let Now { walk, given } = walk_now(alloc, seen, number, event)?;
     Ok(Denial {
         number,
         walk,
         given,
+        lacking,
         last,
     })
 }

@@ -3,10 +3,12 @@
 ghost use Rattle.std.specs.Prelude.{◌≡◌, ◌++◌, IfOk, OnOk, string_bytes};
 ghost use Rattle.pg_explain.specs.Denied.{claimed_text, now_entry_text, now_walk_text};
 ghost use Rattle.pg_explain.specs.Denied.{claim_line, claim_at, now_level_text, given_text};
-ghost use Rattle.pg_explain.specs.Denied.{denial_text_by};
+ghost use Rattle.pg_explain.specs.Denied.{lacking_text, denial_text_by};
 
 use crate::denial::Denial;
 use crate::entry::WalkEntry;
+use crate::finding::Finding;
+use crate::finding_text::push_finding;
 use crate::last_lines::push_taken_by;
 use crate::line::{push_claim, push_outcome};
 use crate::names::level_number;
@@ -101,6 +103,21 @@ fn push_given(text: &mut String, given: Option<Outcome>) -> Result<(), AllocErro
     }
 }
 
+/// Appends what an access lacks in what it would read.
+fn push_lacking(text: &mut String, lacking: Option<Finding>) -> Result<(), AllocError>
+    ensures { OnOk result
+        (string_bytes text.new ≡ string_bytes text.old ++ lacking_text lacking) }
+{
+    match lacking {
+        None => Ok(()),
+        Some(finding) => {
+            text.push_str("now: ")?;
+            push_finding(text, &[], finding)?;
+            text.push_str("\n")
+        }
+    }
+}
+
 /// The text of why no moments witness an event, where `taken` is the event that took its last
 /// moments away, if it had some. Fails only when out of memory.
 pub fn denial_text_by(
@@ -115,6 +132,7 @@ pub fn denial_text_by(
     push_claimed(&mut text, denial.number, event)?;
     push_now_walk(&mut text, &denial.walk)?;
     push_given(&mut text, denial.given)?;
+    push_lacking(&mut text, denial.lacking)?;
     push_taken_by(&mut text, taken, denial.last)?;
     Ok(text)
 }

@@ -12,7 +12,7 @@ use pg_entry::{AccessKind, Cfg, Entry, Kind, Rights, accessed, allowed, classify
 use pg_event::{Claim, Update, Version, is_done_write, uses_last, want_of};
 
 /// An entry without A; the last one may be one that is only looked at.
-fn accessed_at(uses: bool, is_last: bool, step: EntryRead) -> Option<Finding>
+pub(crate) fn accessed_at(uses: bool, is_last: bool, step: EntryRead) -> Option<Finding>
     ensures { result ≡ accessed_at uses is_last (reading_of step) }
 {
     if is_last && !uses || accessed(Entry(step.value)) {
@@ -37,7 +37,7 @@ pub(crate) fn accessed_finding(uses: bool, steps: &[EntryRead]) -> Option<Findin
     None
 }
 
-fn dirty_finding(claim: &Claim, end: EntryRead) -> Option<Finding>
+pub(crate) fn dirty_finding(claim: &Claim, end: EntryRead) -> Option<Finding>
     ensures { result ≡ dirty_finding claim.now (reading_of end) }
 {
     if is_done_write(claim.kind, claim.outcome) && !dirty(Entry(end.value)) {

@@ -14,6 +14,7 @@ mod finding;
 mod finding_text;
 mod flag_finding;
 mod given;
+mod lacking;
 mod last_lines;
 mod laws;
 mod line;

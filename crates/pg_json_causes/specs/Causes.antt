@@ -12,13 +12,15 @@
 --     event                the event, without its moments
 --     now                  the entries that its processor would read at the event
 --     given                what it would get by these, by the rights; null if nothing
+--     lacking              the flag that it lacks there, where that is what it got; null if none
 --     last                 when it would last have been witnessed
-use Rattle.std.specs.Prelude.{ℕ, true, false, List, Option, Some, None, codes, slice_get}
+use Rattle.std.specs.Prelude.{ℕ, true, false, List, [], Option, Some, None, codes, slice_get}
 use Rattle.pg_event.specs.declared.event.Event.{Event}
 use Rattle.pg_event.specs.declared.event.Outcome.{Outcome}
 use Rattle.pg_search.specs.declared.last.Last.{Last}
 use Rattle.pg_explain.specs.declared.denial.Denial.{Denial}
 use Rattle.pg_explain.specs.declared.explainer.Explanation.{Explanation}
+use Rattle.pg_explain.specs.declared.finding.Finding.{Finding}
 use Rattle.pg_explain.specs.Lasts.{taken_in}
 use Rattle.pg_json.specs.Tree.{Json, nothing, flag, counts, object, Fields, no_fields, field}
 use Rattle.pg_json.specs.Events.{claim_json, outcome_json}
@@ -44,10 +46,15 @@ abbrev pub given_json : Option Outcome → Json
 given_json None = nothing
 given_json (Some outcome) = outcome_json outcome
 
+abbrev pub lacking_json : Option Finding → Json
+lacking_json None = nothing
+lacking_json (Some found) = finding_json [] found
+
 -- of this event, where the other is the one behind which it was never witnessed
 abbrev pub denial_json : Event → Option Event → Denial → Json
 denial_json e taken x = object (
     field (codes "event") (claim_json x.number e)
     (field (codes "now") (walk_json x.walk.items)
     (field (codes "given") (given_json x.given)
-    (field (codes "last") (last_json taken x.last) no_fields))))
+    (field (codes "lacking") (lacking_json x.lacking)
+    (field (codes "last") (last_json taken x.last) no_fields)))))

@@ -4,13 +4,13 @@ ghost use Rattle.std.specs.Prelude.{◌≡◌, IfOk, Some, None, slice_get};
 ghost use Rattle.serde_json.specs.View.{view, members_view};
 ghost use Rattle.pg_json.specs.Tree.{data_of, members_of};
 ghost use Rattle.pg_json_causes.specs.Causes.{ended_fields, explanation_json};
-ghost use Rattle.pg_json_causes.specs.Causes.{given_json, denial_json};
+ghost use Rattle.pg_json_causes.specs.Causes.{given_json, lacking_json, denial_json};
 
 use crate::entries::walk_json;
 use crate::findings::finding_json;
 use crate::lasts::{event_at, last_json};
 use pg_event::{Event, Moments, Outcome};
-use pg_explain::{Denial, Explanation, taken_in};
+use pg_explain::{Denial, Explanation, Finding, taken_in};
 use pg_json::{Fields, claim_json, numbers_json, outcome_json, put_flag};
 use pg_search::Last;
 use serde_json::{Map, Value, put};
@@ -83,6 +83,15 @@ fn given_json(alloc: Global, given: Option<Outcome>) -> Result<Value, AllocError
     }
 }
 
+fn lacking_json(alloc: Global, lacking: Option<Finding>) -> Result<Value, AllocError>
+    ensures { IfOk result (λ v. view v ≡ data_of (lacking_json lacking)) }
+{
+    match lacking {
+        None => Ok(Value::Null),
+        Some(finding) => finding_json(alloc, &[], finding),
+    }
+}
+
 /// The cause of the rejection of this event, which no moments witness, where the other is the one
 /// behind which it was never witnessed.
 pub fn denial_json(
@@ -96,6 +105,8 @@ pub fn denial_json(
     let mut fields = Map::new(alloc);
     let last = last_json(alloc, taken, told.last)?;
     put(&mut fields, alloc, "last", last)?;
+    let lacking = lacking_json(alloc, told.lacking)?;
+    put(&mut fields, alloc, "lacking", lacking)?;
     let given = given_json(alloc, told.given)?;
     put(&mut fields, alloc, "given", given)?;
     let walk = walk_json(alloc, told.walk.as_slice())?;

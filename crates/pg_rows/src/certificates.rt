@@ -264,6 +264,105 @@ $ certify
 > now: level 2 [0x3000] = 0x4027 table, written by event 2
 > now: level 1 [0x4028] = 0x9027 leaf, written by event 3
 > now: would give 0x9123
+> now: dirty: bit 6 of [0x4028] = 0x9027 is 0
+> last: never
+? 1
+
+# A write that the rights deny sets A first.
+== denied_fault_by_a_leaf_without_accessed
+$ certify
+< 50475245434f524402002803010010000000011000000000000001
+< 010000000005000000
+< 10000000100000000000002720000000000000
+< 10000000200000000000002730000000000000
+< 10000000300000000000002740000000000000
+< 10000028400000000000000590000000000000
+< 1100000523510000000000000107000100000000
+< 0205000000
+> verdict: no
+> event: 4
+> reason: 14 no moments
+> events: 5
+> segments: 1
+> event: 4 cpu 0 user write 0x5123 -> fault 0x7 (present write user)
+> now: level 4 [0x1000] = 0x2027 table, written by event 0
+> now: level 3 [0x2000] = 0x3027 table, written by event 1
+> now: level 2 [0x3000] = 0x4027 table, written by event 2
+> now: level 1 [0x4028] = 0x9005 leaf, written by event 3
+> now: would give fault 0x7 (present write user)
+> now: accessed: bit 5 of [0x4028] = 0x9005 is 0
+> last: never
+? 1
+
+# The first of two entries without A is named.
+== denied_read_by_a_table_without_accessed
+$ certify
+< 50475245434f524402002803010010000000011000000000000001
+< 010000000005000000
+< 10000000100000000000002720000000000000
+< 10000000200000000000000730000000000000
+< 10000000300000000000000740000000000000
+< 10000028400000000000002790000000000000
+< 1100000423510000000000000023910000000000000100000000
+< 0205000000
+> verdict: no
+> event: 4
+> reason: 14 no moments
+> events: 5
+> segments: 1
+> event: 4 cpu 0 user read 0x5123 -> 0x9123
+> now: level 4 [0x1000] = 0x2027 table, written by event 0
+> now: level 3 [0x2000] = 0x3007 table, written by event 1
+> now: level 2 [0x3000] = 0x4007 table, written by event 2
+> now: level 1 [0x4028] = 0x9027 leaf, written by event 3
+> now: would give 0x9123
+> now: accessed: bit 5 of [0x2000] = 0x3007 is 0
+> last: never
+? 1
+
+# The answer is another one, whatever the flags.
+== denied_read_by_a_leaf_of_another_page_without_accessed
+$ certify
+< 50475245434f524402002803010010000000011000000000000001
+< 010000000005000000
+< 10000000100000000000002720000000000000
+< 10000000200000000000002730000000000000
+< 10000000300000000000002740000000000000
+< 10000028400000000000000790000000000000
+< 1100000423510000000000000023710000000000000100000000
+< 0205000000
+> verdict: no
+> event: 4
+> reason: 14 no moments
+> events: 5
+> segments: 1
+> event: 4 cpu 0 user read 0x5123 -> 0x7123
+> now: level 4 [0x1000] = 0x2027 table, written by event 0
+> now: level 3 [0x2000] = 0x3027 table, written by event 1
+> now: level 2 [0x3000] = 0x4027 table, written by event 2
+> now: level 1 [0x4028] = 0x9007 leaf, written by event 3
+> now: would give 0x9123
+> last: never
+? 1
+
+# An absent entry is not used, so it needs no flag: only the code is another one.
+== denied_fault_by_an_absent_entry
+$ certify
+< 50475245434f524402002803010010000000011000000000000001
+< 010000000003000000
+< 10000000100000000000002720000000000000
+< 10000000200000000000000000000000000000
+< 1100000523510000000000000104000100000000
+< 0203000000
+> verdict: no
+> event: 2
+> reason: 14 no moments
+> events: 3
+> segments: 1
+> event: 2 cpu 0 user write 0x5123 -> fault 0x4 (user)
+> now: level 4 [0x1000] = 0x2027 table, written by event 0
+> now: level 3 [0x2000] = 0x0 absent, written by event 1
+> now: would give fault 0x6 (write user)
 > last: never
 ? 1
 
