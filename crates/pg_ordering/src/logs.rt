@@ -36,8 +36,8 @@ pub(crate) enum Stop {
 /// More bytes than memory can hold.
 const MOST: usize = usize::MAX - 1;
 
-/// The log that a source has left. The source hears how many of the bytes were not read, if they are
-/// refused.
+/// The log that a source has left. The source hears how many of the bytes were not read, if they
+/// are refused.
 fn log_in<R: Source>(alloc: Global, source: &mut R) -> Result<Log, Untaken>
     ensures reads { ReadsLog (R.left source.old) result }
     ensures failures { FailsWithDevice is_device

@@ -2,7 +2,8 @@
 
 use std::cell::Cell;
 
-/// What the program and the source of its input tell one another. No contract knows what these hold.
+/// What the program and the source of its input tell one another. No contract knows what these
+/// hold.
 #[derive(Drop)]
 pub struct Signals {
     /// Whether the source tells how far it has come: the program sets it.
