@@ -1,5 +1,5 @@
 -- Laws of the tests that stand in a cause.
-use Rattle.std.specs.Prelude.{◌≡◌, ℕ, ◌↔◌, true, Some, slice_get}
+use Rattle.std.specs.Prelude.{◌≡◌, ℕ, ◌↔◌, true, false, Some, slice_get}
 use Rattle.pg_entry.specs.declared.Level.{Level}
 use Rattle.pg_event.specs.declared.control.Control.{Control}
 use Rattle.pg_event.specs.declared.event.Event.{Event}
