@@ -1,6 +1,6 @@
 //! A whole record with spans, from a source.
 
-ghost use Rattle.std.specs.Prelude.{ℕ, Some};
+ghost use Rattle.std.specs.Prelude.{◌≡◌, ℕ, Some};
 ghost use Rattle.pg_codec.specs.Streams.{FailsWithDevice};
 ghost use Rattle.pg_span_codec.specs.Spelling.{SpellsSpanned};
 ghost use Rattle.pg_ordering.specs.Readings.{is_device, ReadsRun};
@@ -37,6 +37,16 @@ fn read_bytes(alloc: Global, bytes: &[u8], unread: &Cell<usize>) -> Result<Spann
     }
 }
 
+/// Tells a source how many of the pulled bytes were not read, where they are refused.
+fn tell_unread<R: Source>(input: &mut R, is_refused: bool, unread: usize)
+    ensures left { R.left input.new ≡ R.left input.old }
+    ensures failed { R.failed input.new ≡ R.failed input.old }
+{
+    if is_refused {
+        input.stop(unread);
+    }
+}
+
 /// Takes in all bytes that a source has left, and reads the run that they spell. The run is held in
 /// memory whole. The source hears how many of the bytes were not read, if they are refused.
 pub fn read_run<R: Source>(alloc: Global, input: &mut R) -> Result<SpannedRun, Unread>
@@ -47,9 +57,7 @@ pub fn read_run<R: Source>(alloc: Global, input: &mut R) -> Result<SpannedRun, U
         Ok(bytes) => {
             let unread = Cell::new(0);
             let run = read_bytes(alloc, &bytes, &unread);
-            if run.is_err() {
-                input.stop(unread.get());
-            }
+            tell_unread(input, run.is_err(), unread.get());
             run
         }
         Err(IntakeError::Device) => Err(Unread::Device),
