@@ -93,10 +93,15 @@ widening_of (Show asked) = None
 widening_of Upgrade = None
 
 -- the logs that are named are merged
+abbrev pub MergesNamed : Opening → Invocation → ℕ → Change → Change → ℕ → Type 0
+MergesNamed Opens asked error output errors status =
+    Merges Opens (map (λ s. s.now) asked.logs.items) error output errors status
+
+-- and it is told at which byte the reading of one stopped, as far as its source gives it
 abbrev pub MergesAsked : Opening → Invocation → ℕ → Change → Change → ℕ → Type 0
 MergesAsked Opens asked error output errors status =
     (mid : Stream)
-    × Merges Opens (map (λ s. s.now) asked.logs.items) error output (up_to errors mid) status
+    × MergesNamed Opens asked error output (up_to errors mid) status
     × Remarks asked.plan.command status (from_on errors mid)
 
 -- what was asked for is done: of the input, or of the file that is named, with the input not read

@@ -5,7 +5,8 @@ ghost use Rattle.pg_progress.specs.Seats.{counts};
 ghost use Rattle.pg_report.specs.Changes.{filled};
 ghost use Rattle.pg_auditing.specs.Streams.{streams};
 ghost use Rattle.pg_tool.specs.Answers.{DoesAsked, DoesCommand, DoesEach, DoesFile, DoesFiles};
-ghost use Rattle.pg_tool.specs.Answers.{DoesInput, DoesNamed, MergesAsked, NamesInput, has_several};
+ghost use Rattle.pg_tool.specs.Answers.{DoesInput, DoesNamed, MergesAsked, MergesNamed};
+ghost use Rattle.pg_tool.specs.Answers.{NamesInput, has_several};
 ghost use Rattle.pg_tool.specs.Answers.{opens, widening_of};
 ghost use Rattle.pg_tool.specs.Remarks.{is_input_named, writes_json};
 
@@ -179,6 +180,22 @@ pub(crate) fn widening_of(command: &Command) -> Option<u32>
 }
 
 /// Merges the logs that are named, with spans that are so much wider.
+fn merge_named<F: Fn(&str) -> Option<S>, S: Source + Drop, O: Sink, E: Sink>(
+    alloc: Global,
+    asked: &Invocation<'_>,
+    error: u32,
+    opener: &F,
+    output: &mut O,
+    errors: &mut E,
+) -> u8
+    requires { F.IsAlwaysCallable opener.now }
+    ensures { MergesNamed (opens F.Fn S.Source opener.now) asked.now error
+        (filled O.Sink output.old output.new) (filled E.Sink errors.old errors.new) result }
+{
+    merge(alloc, asked.logs.as_slice(), error, opener, output, errors)
+}
+
+/// Merges them, and tells where the reading of one stopped.
 fn merge_asked<F: Fn(&str) -> Option<S>, S: Source + Drop, O: Sink, E: Sink>(
     alloc: Global,
     asked: &Invocation<'_>,
@@ -192,7 +209,7 @@ fn merge_asked<F: Fn(&str) -> Option<S>, S: Source + Drop, O: Sink, E: Sink>(
     ensures { MergesAsked (opens F.Fn S.Source opener.now) asked.now error
         (filled O.Sink output.old output.new) (filled E.Sink errors.old errors.new) result }
 {
-    let status = merge(alloc, asked.logs.as_slice(), error, opener, output, errors);
+    let status = merge_named(alloc, asked, error, opener, output, errors);
     remark(&asked.plan.command, status, signals, errors);
     status
 }

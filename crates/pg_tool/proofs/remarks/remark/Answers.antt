@@ -10,5 +10,5 @@ returns g c =
     let hinted = filled g.E.Sink c.say_byte.new.errors c.hint.new.errors in
     let P : Bool → Type 0 = λ b. SaysByte b byte said in
     let Q : Bool → Type 0 = λ b. Hints b c.writes_json-json.result hinted in
-    let R : Bool → Type 0 = λ b. Hints (is_hinted c.args.command.now c.args.status c.get-unnamed.result) b hinted in
-    (said.new, c.get-unnamed.result, byte, subst P c.is_input_named-told.ensures c.say_byte.ensures, subst R c.writes_json-json.ensures (subst Q c.is_hinted-hinted.ensures c.hint.ensures))
+    let R : Bool → Type 0 = λ b. Hints (is_hinted c.args.command.now c.args.status c.if-unnamed.is_hinted) b hinted in
+    (said.new, c.if-unnamed.is_hinted, byte, subst P c.is_input_named-told.ensures c.say_byte.ensures, subst R c.writes_json-json.ensures (subst Q c.is_hinted-hinted.ensures c.hint.ensures))
