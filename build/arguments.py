@@ -23,7 +23,7 @@ NO_TELLING = "error: --most goes with --all alone, by digits alone, and --svg go
 CONFLICT = ("error: --json, --bytes, --order, --svg and --first exclude one another, and so do --first and\n"
             "  each of --all and --checkers, --single and --progress, and --quiet and each of --output, --bytes,"
             " --order and --svg;\n"
-            "  several files exclude --json, --bytes and --svg" + MORE)
+            "  several files exclude --json, --bytes and --svg; --loads goes with --page" + MORE)
 # Options of which one has no effect beside another.
 EXCLUSIVE = (*itertools.combinations(("json", "bytes", "order", "svg", "first"), 2), ("first", "all"), ("first", "checkers"),
              ("single", "progress"), *(("quiet", name) for name in ("output", "bytes", "order", "svg")))
@@ -275,7 +275,8 @@ def is_canonical(address):
 def look_at_plan(name, given, files):
     """Refuses what the command line takes, and the program does not."""
     is_mixed = name != "merge" and len(files) > 1 and UNMIXED & {*given}
-    if is_mixed or any(one in given and other in given for one, other in EXCLUSIVE):
+    is_alone = "loads" in given and "page" not in given
+    if is_mixed or is_alone or any(one in given and other in given for one, other in EXCLUSIVE):
         raise Answer(USAGE, errors=CONFLICT)
     is_signed = {option for option in NUMBERS if (given.get(option) or "").startswith("+")}
     if name == "explain" and ("most" in given and "all" not in given or {"svg", "all"} <= {*given} or is_signed):

@@ -66,7 +66,7 @@ const CONFLICT: &str = "error: --json, --bytes, --order, --svg and --first exclu
     and so do --first and\n\
     \x20 each of --all and --checkers, --single and --progress, and --quiet and each of --output, \
     --bytes, --order and --svg;\n\
-    \x20 several files exclude --json, --bytes and --svg\n\
+    \x20 several files exclude --json, --bytes and --svg; --loads goes with --page\n\
     \n\
     For more information, try '--help'.\n";
 
@@ -208,6 +208,8 @@ pub const TEXTS: [Told; 12] = [
         \x20     --cpu <P>        Write only events of this processor\n\
         \x20     --page <HEX>     Write only events that concern the 4-KB page of this linear \
         address\n\
+        \x20     --loads          With --page, write also loads of CR3 and CR4 of the processors that \
+        use the page\n\
         \x20     --word <HEX>     Write only writes and assists of the word at this physical \
         address\n\
         \x20     --from <A>       Number of the first event to write (default 0)\n\

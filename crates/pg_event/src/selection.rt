@@ -10,6 +10,8 @@ pub struct Selection {
     pub cpu: Option<u16>,
     /// A canonical linear address: the page of 4 KB that has it is what they have to do with.
     pub page: Option<u64>,
+    /// Whether with a page the loads of CR3 and CR4 of its processors are shown too.
+    pub loads: bool,
     /// The physical address of the word that they write, or in which they set flags.
     pub word: Option<u64>,
 }

@@ -2,8 +2,8 @@
 --
 -- A page is one of 4 KB, by a linear address in it. With it are shown the accesses, their faults
 -- among them, the assists, INVLPG and INVPCID of type 0 whose linear address is in it; each INVPCID
--- of types 1 to 3, which name no address; and, of its processors, each load of CR3 and of CR4. The
--- page's processors are those of which an event of the run names an address in it.
+-- of types 1 to 3, which name no address; and, where loads are asked for, each load of CR3 and of
+-- CR4 of its processors, those of which an event of the run names an address in it.
 use Rattle.std.specs.Prelude.{◌≡◌, ℕ, ◌+◌, ◌^◌, ◌<◌, Bool, true, false, not, ◌&&◌, ◌||◌, ◌==◌}
 use Rattle.std.specs.Prelude.{nat_le, if◌then◌else◌, List, [], ◌∷◌, ◌++◌, Option, Some, None}
 use Rattle.std.specs.Prelude.{codes, slice_index_or}
@@ -68,7 +68,7 @@ fits_word (Some word) e = writes word e
 abbrev pub fits : Selection → Bool → ℕ → Event → Bool
 fits asked is_its number e =
     nat_le asked.from number && nat_le number asked.to && fits_processor asked.cpu e
-    && fits_page asked.page is_its e && fits_word asked.word e
+    && fits_page asked.page (is_its && asked.loads) e && fits_word asked.word e
 
 -- whether an event of a run is shown
 abbrev pub is_shown : Selection → List Event → ℕ → Event → Bool

@@ -85,7 +85,7 @@ pub fn fits(selection: Selection, is_its: bool, number: u64, event: &Event) -> b
     selection.from as u64 <= number
         && number <= selection.to as u64
         && fits_processor(selection.cpu, event)
-        && fits_page(selection.page, is_its, event)
+        && fits_page(selection.page, is_its && selection.loads, event)
         && fits_word(selection.word, event)
 }
 

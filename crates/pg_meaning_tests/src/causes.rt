@@ -220,6 +220,7 @@ fn shown(alloc: Global, run: &SpannedRun, from: u32, word: Option<u64>) -> Resul
         to: u32::MAX,
         cpu: None,
         page: None,
+        loads: false,
         word,
     };
     Ok(spanned_lines(alloc, selection, run)?)

@@ -499,7 +499,7 @@ struct Shown {
     lines: &'static str,
 }
 
-const SHOWN: [Shown; 4] = [
+const SHOWN: [Shown; 5] = [
     Shown {
         name: "all",
         events: &EACH_KIND,
@@ -508,6 +508,7 @@ const SHOWN: [Shown; 4] = [
             to: 4_294_967_295,
             cpu: None,
             page: None,
+            loads: false,
             word: None,
         },
         lines: "0 cpu 0 write [0x7008] = 0x74b000000000b61f
@@ -521,13 +522,14 @@ const SHOWN: [Shown; 4] = [
 ",
     },
     Shown {
-        name: "of a page",
+        name: "of a page, with loads",
         events: &OF_THREE,
         selection: Selection {
             from: 0,
             to: 4_294_967_295,
             cpu: None,
             page: Some(0x5123),
+            loads: true,
             word: None,
         },
         lines: "1 cpu 0 cr3 0x1002
@@ -538,6 +540,22 @@ const SHOWN: [Shown; 4] = [
 ",
     },
     Shown {
+        name: "of a page, without loads",
+        events: &OF_THREE,
+        selection: Selection {
+            from: 0,
+            to: 4_294_967_295,
+            cpu: None,
+            page: Some(0x5123),
+            loads: false,
+            word: None,
+        },
+        lines: "3 cpu 0 user read 0x5ff8 -> fault 0x4 (user) moments 3 3 3 3
+4 cpu 1 invlpg 0x5000
+6 cpu 2 invpcid 2 0x0 0x0
+",
+    },
+    Shown {
         name: "of a word",
         events: &OF_THREE,
         selection: Selection {
@@ -545,6 +563,7 @@ const SHOWN: [Shown; 4] = [
             to: 4_294_967_295,
             cpu: None,
             page: None,
+            loads: false,
             word: Some(0x4028),
         },
         lines: "0 cpu 2 write [0x4028] = 0x9007
@@ -559,6 +578,7 @@ const SHOWN: [Shown; 4] = [
             to: 4_294_967_295,
             cpu: Some(1),
             page: Some(0x5123),
+            loads: true,
             word: None,
         },
         lines: "7 cpu 1 pge off\n",

@@ -24,7 +24,7 @@ options None = []
 options (Some found) = found.1
 
 abbrev every : Selection
-every = record { from = 0; to = 4294967295; cpu = None; page = None; word = None }
+every = record { from = 0; to = 4294967295; cpu = None; page = None; loads = false; word = None }
 
 -- `check` with no option
 abbrev bare : CheckOptions
@@ -223,7 +223,7 @@ seven = refl
 
 asks_show : Asks show_words (quiet (Show (record { selection = record every { from = 5; to = 7 }; json = false }))) None
 unfolding clap_on_literals has_conflict
-asks_show = (refl, ((refl, record { selection = record { from = subst (λ o. IsAsked 0 o 5) (sym five) ((omega arith, (omega arith, tt)), refl, omega arith); to = subst (λ o. IsAsked 4294967295 o 7) (sym seven) ((omega arith, (omega arith, tt)), refl, omega arith); cpu = tt; page = tt; word = tt }; json = refl }), refl, refl, refl), refl)
+asks_show = (refl, ((refl, record { selection = record { from = subst (λ o. IsAsked 0 o 5) (sym five) ((omega arith, (omega arith, tt)), refl, omega arith); to = subst (λ o. IsAsked 4294967295 o 7) (sym seven) ((omega arith, (omega arith, tt)), refl, omega arith); cpu = tt; page = tt; loads = refl; word = tt }; json = refl }), refl, refl, refl), refl)
 
 -- ---- what is asked of the events themselves
 
@@ -262,7 +262,7 @@ is_5f0 = ((codes "5F0", refl, (omega arith, (omega arith, (omega arith, (omega a
 
 asks_filter : Asks filter_words (quiet (Show (record { selection = record every { cpu = Some 3; page = Some 1520 }; json = false }))) None
 unfolding clap_on_literals has_conflict
-asks_filter = (refl, ((refl, record { selection = record { from = refl; to = refl; cpu = subst (λ o. IsOptional IsCpuIn o (Some 3)) (sym third) is_3; page = subst (λ o. IsOptional IsPageIn o (Some 1520)) (sym paged) is_5f0; word = tt }; json = refl }), refl, refl, refl), refl)
+asks_filter = (refl, ((refl, record { selection = record { from = refl; to = refl; cpu = subst (λ o. IsOptional IsCpuIn o (Some 3)) (sym third) is_3; page = subst (λ o. IsOptional IsPageIn o (Some 1520)) (sym paged) is_5f0; loads = refl; word = tt }; json = refl }), refl, refl, refl), refl)
 
 -- ---- what is told of bad events
 
@@ -307,6 +307,14 @@ limit_and_most = refl
 
 abbrev conflicts : List Text → Bool
 conflicts words = has_conflict (options (subcommand_of command_line words))
+
+loads_without_page : conflicts (codes "show" ∷ codes "--loads" ∷ []) ≡ true
+unfolding clap_on_literals has_conflict
+loads_without_page = refl
+
+loads_and_page : conflicts (codes "show" ∷ codes "--loads" ∷ codes "--page" ∷ codes "0x5000" ∷ []) ≡ false
+unfolding clap_on_literals has_conflict
+loads_and_page = refl
 
 order_and_bytes : conflicts (codes "certify" ∷ codes "--order" ∷ codes "--bytes" ∷ []) ≡ true
 unfolding clap_on_literals has_conflict
@@ -376,7 +384,7 @@ asks_progress_of_run = (refl, ((refl, record { checkers = refl; single = refl; b
 
 asks_json : Asks (codes "show" ∷ codes "--json" ∷ []) (quiet (Show (record { selection = every; json = true }))) None
 unfolding clap_on_literals has_conflict
-asks_json = (refl, ((refl, record { selection = record { from = refl; to = refl; cpu = tt; page = tt; word = tt }; json = refl }), refl, refl, refl), refl)
+asks_json = (refl, ((refl, record { selection = record { from = refl; to = refl; cpu = tt; page = tt; loads = refl; word = tt }; json = refl }), refl, refl, refl), refl)
 
 json_of_run : Gives (codes "run" ∷ codes "--json" ∷ []) (UnknownArgument ∷ [])
 unfolding clap_on_literals

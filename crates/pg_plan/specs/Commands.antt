@@ -1,6 +1,6 @@
 -- What the words of a command line ask for, by what `clap` makes of them.
 use Rattle.std.specs.Prelude.{◌≡◌, ℕ, Bool, true, false, pos, List, [], ◌∷◌}
-use Rattle.std.specs.Prelude.{◌++◌, ◌&&◌, ◌||◌, Option, Some, None, codes, unwrap_or, is_some}
+use Rattle.std.specs.Prelude.{◌++◌, ◌&&◌, ◌||◌, not, Option, Some, None, codes, unwrap_or, is_some}
 use Rattle.std.specs.Prelude.{if◌then◌else◌, length, nat_lt}
 use Rattle.std.specs.Str.{bytes_eq}
 use Rattle.clap.specs.Faults.{fault_of}
@@ -139,7 +139,8 @@ abbrev pub filter_line : App
 filter_line =
     let cpu = with_rule (new_app (codes "show")) cpu_rule in
     let page = with_rule cpu (value_rule (codes "page")) in
-    with_rule page (value_rule (codes "word"))
+    let loads = with_rule page (switch_rule (codes "loads")) in
+    with_rule loads (value_rule (codes "word"))
 
 abbrev pub show_line : App
 show_line =
@@ -257,17 +258,21 @@ mixes_files rows =
     has_several rows
     && (has (codes "json") rows || has (codes "bytes") rows || has (codes "svg") rows)
 
+-- loads are asked for, and no page with which they would be shown
+abbrev pub loads_alone : List Row → Bool
+loads_alone rows = has (codes "loads") rows && not (is_some (first_of (codes "page") rows))
+
 -- Of two options one has no effect beside the other: two say what is written; or a record is read
 -- up to the first event that is rejected, which one checker does, and which is not all of it; or
 -- one thread runs a script, and tells of no progress; or nothing is written, and it is said where
--- or what; or files are mixed.
+-- or what; or files are mixed; or one has no effect without another: loads without a page.
 unfoldable pub has_conflict : List Row → Bool
 has_conflict rows =
     says_twice rows
     || (has (codes "first") rows
     && (has (codes "all") rows || is_some (first_of (codes "checkers") rows)))
     || (has (codes "single") rows && has (codes "progress") rows)
-    || is_unheard rows || mixes_files rows
+    || is_unheard rows || mixes_files rows || loads_alone rows
 
 -- these are the events that options ask for
 pub record IsSelectionOf (rows : List Row) (asked : Selection) : Type 0 where
@@ -275,6 +280,7 @@ pub record IsSelectionOf (rows : List Row) (asked : Selection) : Type 0 where
   pub to : IsAsked 4294967295 (first_of (codes "to") rows) asked.to
   pub cpu : IsOptional IsCpuIn (first_of (codes "cpu") rows) asked.cpu
   pub page : IsOptional IsPageIn (first_of (codes "page") rows) asked.page
+  pub loads : asked.loads ≡ has (codes "loads") rows
   pub word : IsOptional IsAddressIn (first_of (codes "word") rows) asked.word
 
 -- this is what options ask to be told of bad events

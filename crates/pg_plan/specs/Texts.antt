@@ -33,8 +33,8 @@ conflict_text =
     codes "error: --json, --bytes, --order, --svg and --first exclude one another, and so do"
     ++ (codes " --first and\n  each of --all and --checkers, --single and --progress, and --quiet"
     ++ (codes " and each of --output,"
-    ++ (codes " --bytes, --order and --svg;\n  several files exclude --json, --bytes and --svg"
-    ++ more_text)))
+    ++ (codes " --bytes, --order and --svg;\n  several files exclude --json, --bytes and --svg;"
+    ++ (codes " --loads goes with --page" ++ more_text))))
 
 -- The text is what is wrong with a command's options, where `clap` takes the words: of two of them
 -- one has no effect, or else what they ask to be told of bad events, or else a number.

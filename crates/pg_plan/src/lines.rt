@@ -92,6 +92,11 @@ pub(crate) const PAGE: &str = "page";
 
 const PAGE_ABOUT: &str = "Write only events that concern the 4-KB page of this linear address";
 
+pub(crate) const LOADS: &str = "loads";
+
+const LOADS_ABOUT: &str =
+    "With --page, write also loads of CR3 and CR4 of the processors that use the page";
+
 pub(crate) const WORD: &str = "word";
 
 const WORD_ABOUT: &str = "Write only writes and assists of the word at this physical address";
@@ -420,13 +425,14 @@ fn run_line<'a>(alloc: Global) -> Result<CommandLine<'a>, AllocError>
     with_progress(alloc, line, RECORDED_ABOUT)
 }
 
-/// The line of `show` with `--cpu`, `--page` and `--word` alone.
+/// The line of `show` with `--cpu`, `--page`, `--loads` and `--word` alone.
 fn filter_line<'a>(alloc: Global) -> Result<CommandLine<'a>, AllocError>
     ensures { IsLine filter_line result }
 {
     let line = new_line(alloc, SHOW, SHOW_ABOUT);
     let line = with_option(line, cpu_option(alloc));
     let line = with_option(line, value_option(alloc, PAGE, "HEX", PAGE_ABOUT));
+    let line = with_option(line, switch(alloc, LOADS, LOADS_ABOUT));
     with_option(line, value_option(alloc, WORD, "HEX", WORD_ABOUT))
 }
 

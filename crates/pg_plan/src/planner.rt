@@ -8,7 +8,7 @@ ghost use Rattle.clap.specs.Walk.{all_of, first_of};
 ghost use Rattle.pg_plan.specs.Commands.{texts, command_line, file_in, named_file, output_in};
 ghost use Rattle.pg_plan.specs.Commands.{all_in, files_in, logs_in, names_in, options_of, is_on};
 ghost use Rattle.pg_plan.specs.Commands.{has, has_several, says_twice, is_unheard, mixes_files};
-ghost use Rattle.pg_plan.specs.Commands.{has_conflict, Reads};
+ghost use Rattle.pg_plan.specs.Commands.{loads_alone, has_conflict, Reads};
 ghost use Rattle.pg_plan.specs.Commands.{IsSelectionOf, IsTellingOf, IsAskedOfCheck};
 ghost use Rattle.pg_plan.specs.Commands.{IsAskedOfCertify, IsAskedOfRun, IsAskedOfExplain};
 ghost use Rattle.pg_plan.specs.Commands.{IsAskedOfShow, IsAskedOfMerge, IsCommandOf, IsPlanOf};
@@ -20,9 +20,9 @@ ghost use Rattle.pg_plan.specs.declared.request.Plan.{Plan as Planned};
 
 use crate::checkers::Checkers;
 use crate::lines::{
-    ALL, BYTES, CERTIFY, CHECK, CHECKERS, CPU, ERROR, EXPLAIN, FILE, FIRST, FROM, JSON, LOG, MERGE,
-    MOST, ORDER, OUTPUT, PAGE, PROGRESS, QUIET, RUN, RUN_OF, SHOW, SINGLE, SVG, TO, UPGRADE, WORD,
-    command_line,
+    ALL, BYTES, CERTIFY, CHECK, CHECKERS, CPU, ERROR, EXPLAIN, FILE, FIRST, FROM, JSON, LOADS, LOG,
+    MERGE, MOST, ORDER, OUTPUT, PAGE, PROGRESS, QUIET, RUN, RUN_OF, SHOW, SINGLE, SVG, TO, UPGRADE,
+    WORD, command_line,
 };
 use crate::request::{
     CertifyOptions, CheckOptions, Command, ExplainOptions, Invocation, Plan, RunOptions,
@@ -51,7 +51,7 @@ const NO_TELLING: &str = "error: --most goes with --all alone, by digits alone, 
 const CONFLICT: &str = "error: --json, --bytes, --order, --svg and --first exclude one another, \
     and so do --first and\n  each of --all and --checkers, --single and --progress, and --quiet \
     and each of --output, --bytes, --order and --svg;\n  several files exclude --json, --bytes \
-    and --svg\n\n\
+    and --svg; --loads goes with --page\n\n\
     For more information, try '--help'.\n";
 
 /// The version, which is given by a text of this program's own.
@@ -161,7 +161,14 @@ fn mixes_files(own: &ArgMatches<'_>) -> bool
     has_several(own) && (json || bytes || svg)
 }
 
-/// Whether of two options one has no effect beside the other.
+/// Whether loads are asked for, and no page with which they would be shown.
+fn loads_alone(own: &ArgMatches<'_>) -> bool
+    ensures { result ≡ loads_alone (options_of own.now) }
+{
+    has(own, LOADS) && text_of(own, PAGE).is_none()
+}
+
+/// Whether of two options one has no effect beside the other, or one without another.
 #[tactic(auto, unfolding(crate::specs::Commands::has_conflict))]
 fn has_conflict(own: &ArgMatches<'_>) -> bool
     ensures { result ≡ has_conflict (options_of own.now) }
@@ -172,7 +179,12 @@ fn has_conflict(own: &ArgMatches<'_>) -> bool
     let single = has(own, SINGLE);
     let progress = has(own, PROGRESS);
     let is_told_of_one = first && (all || counted);
-    says_twice(own) || is_told_of_one || single && progress || is_unheard(own) || mixes_files(own)
+    says_twice(own)
+        || is_told_of_one
+        || single && progress
+        || is_unheard(own)
+        || mixes_files(own)
+        || loads_alone(own)
 }
 
 /// Which events the options ask for.
@@ -189,6 +201,7 @@ fn selection_of(own: &ArgMatches<'_>) -> Option<Selection>
         to,
         cpu,
         page,
+        loads: has(own, LOADS),
         word,
     })
 }

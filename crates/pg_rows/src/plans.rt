@@ -12,6 +12,7 @@ const EVERY: Selection = Selection {
     to: 4_294_967_295,
     cpu: None,
     page: None,
+    loads: false,
     word: None,
 };
 
@@ -173,7 +174,7 @@ fn plans_of_run(rt: HostRuntime) {
 }
 
 /// Command lines of `show`, and the events that they ask for.
-const SHOWN: [(&[&str], Selection); 8] = [
+const SHOWN: [(&[&str], Selection); 9] = [
     (&["show"], EVERY),
     (
         &["show", "--from", "3", "--to", "12"],
@@ -205,6 +206,14 @@ const SHOWN: [(&[&str], Selection); 8] = [
         Selection {
             cpu: Some(65_535),
             page: Some(0x50ab),
+            ..EVERY
+        },
+    ),
+    (
+        &["show", "--page", "0x5000", "--loads"],
+        Selection {
+            page: Some(0x5000),
+            loads: true,
             ..EVERY
         },
     ),
@@ -412,7 +421,7 @@ fn names_of_logs(rt: HostRuntime) -> Result<(), Fail> {
 }
 
 /// Command lines that are refused.
-const FAULTS: [&[&str]; 81] = [
+const FAULTS: [&[&str]; 83] = [
     &["merge"],
     &["merge", "--error", "3"],
     &["merge", "--error", "-3", "a.log"],
@@ -452,6 +461,8 @@ const FAULTS: [&[&str]; 81] = [
     &["show", "--from", "0x5"],
     &["show", "--to", "1 "],
     &["show", "--cpu", "65536"],
+    &["show", "--loads"],
+    &["show", "--loads", "--word", "0x5000"],
     &["show", "--page", "5000"],
     &["show", "--page", "0x"],
     &["show", "--page", "0x800000000000"],
