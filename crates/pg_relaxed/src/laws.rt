@@ -1,4 +1,5 @@
-//! What it means that nothing witnesses an event. The function does nothing: its contract is the law.
+//! What it means that nothing witnesses an event. The function does nothing: its contract is the
+//! law.
 
 ghost use Rattle.pg_relaxed.specs.Supposed.{WithoutAWitness};
 
