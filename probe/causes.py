@@ -60,13 +60,14 @@ def cause_of(record, events, notes):
     if report is None:
         return None
     number = bad_event(report)
-    taken = re.search(r"^last: moment \d+ by ([\d ]+); taken by (\d+) (.*)$", report, re.M)
+    taken = (re.search(r"^last: dropped by (\d+) (.*)$", report, re.M)
+             or re.search(r"^last: moment \d+ by .*; taken by (\d+) (.*)$", report, re.M))
     words = notes.get(number)
     if words is not None and is_yes_as_explicit(record, events, number, words):
         return Cause(number, EXPLICIT, None, key_of(EXPLICIT, report, words))
     if taken:
-        return Cause(number, taken.group(3), int(taken.group(2)),
-                     key_of(taker_of(taken.group(3)), report, words))
+        return Cause(number, taken.group(2), int(taken.group(1)),
+                     key_of(taker_of(taken.group(2)), report, words))
     walk = re.sub(r"by event \d+", "", "".join(re.findall(r"^now: .*\n?", report, re.M)))
     return Cause(number, walk, None, key_of("never had moments", report, words))
 

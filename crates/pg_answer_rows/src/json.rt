@@ -54,7 +54,7 @@ $ explain --json
 >+ 4,4,4],"operation":"read","outcome":{"page":"0x9123"},"user":true},"final":true,
 >+ "finding":{"by":{"address":"0x5000","cpu":0,"event":5,"kind":"invlpg"},"entry":"translation",
 >+ "finding":"dropped","level":1},"last":{"by":[4,4,4,4],"moment":5,"taken_by":{"address":"0x5000",
->+ "cpu":0,"event":5,"kind":"invlpg"}},"walk":[{"is":"table","level":4,"moment":4,"pcid":"0x1",
+>+ "cpu":0,"event":5,"kind":"invlpg"},"under":null},"walk":[{"is":"table","level":4,"moment":4,"pcid":"0x1",
 >+ "value":"0x2007","word":"0x1000","written_by":0},{"is":"table","level":3,"moment":4,"pcid":"0x1",
 >+ "value":"0x3007","word":"0x2000","written_by":1},{"is":"table","level":2,"moment":4,"pcid":"0x1",
 >+ "value":"0x4007","word":"0x3000","written_by":2},{"is":"leaf","level":1,"moment":4,"pcid":"0x1",
@@ -69,7 +69,8 @@ $ explain --all --json
 >+ "kind":"access","moments":[4,4,4,4],"operation":"read","outcome":{"page":"0x9123"},"user":true},
 >+ "final":true,"finding":{"by":{"address":"0x5000","cpu":0,"event":5,"kind":"invlpg"},
 >+ "entry":"translation","finding":"dropped","level":1},"last":{"by":[4,4,4,4],"moment":5,
->+ "taken_by":{"address":"0x5000","cpu":0,"event":5,"kind":"invlpg"}},"walk":[{"is":"table",
+>+ "taken_by":{"address":"0x5000","cpu":0,"event":5,"kind":"invlpg"},"under":null},
+>+ "walk":[{"is":"table",
 >+ "level":4,"moment":4,"pcid":"0x1","value":"0x2007","word":"0x1000","written_by":0},{"is":"table",
 >+ "level":3,"moment":4,"pcid":"0x1","value":"0x3007","word":"0x2000","written_by":1},{"is":"table",
 >+ "level":2,"moment":4,"pcid":"0x1","value":"0x4007","word":"0x3000","written_by":2},{"is":"leaf",
@@ -95,10 +96,13 @@ $ certify --json
 == denied
 $ certify --json
 < @stale_leaf
->+ {"cause":{"event":{"ac":false,"address":"0x5123","cpu":0,"event":6,"kind":"access",
+>+ {"cause":{"dropped_by":{"address":"0x5000","cpu":0,"event":5,"kind":"invlpg"},
+>+ "event":{"ac":false,"address":"0x5123","cpu":0,"event":6,"kind":"access",
 >+ "operation":"read","outcome":{"page":"0x9123"},"user":true},"given":{"fault":"0x4","fetch":false,
 >+ "present":false,"reserved":false,"user":true,"write":false},"lacking":null,
->+ "last":{"by":[4,4,4,4],"moment":5,"taken_by":{"address":"0x5000","cpu":0,"event":5,"kind":"invlpg"}},"now":[{"is":"table",
+>+ "last":{"by":[4,4,4,4],"moment":5,
+>+ "taken_by":{"address":"0x5000","cpu":0,"event":5,"kind":"invlpg"},"under":null},
+>+ "now":[{"is":"table",
 >+ "level":4,"moment":6,"pcid":"0x1","value":"0x2007","word":"0x1000","written_by":0},{"is":"table",
 >+ "level":3,"moment":6,"pcid":"0x1","value":"0x3007","word":"0x2000","written_by":1},{"is":"table",
 >+ "level":2,"moment":6,"pcid":"0x1","value":"0x4007","word":"0x3000","written_by":2},
@@ -117,7 +121,8 @@ $ certify --json
 < 10000028400000000000002790000000000000
 < 1100000523510000000000000023910000000000000100000000
 < 0205000000
->+ {"cause":{"event":{"ac":false,"address":"0x5123","cpu":0,"event":4,"kind":"access",
+>+ {"cause":{"dropped_by":null,"event":{"ac":false,"address":"0x5123","cpu":0,"event":4,
+>+ "kind":"access",
 >+ "operation":"write","outcome":{"page":"0x9123"},"user":true},"given":{"page":"0x9123"},
 >+ "lacking":{"finding":"dirty","value":"0x9027","word":"0x4028"},"last":null,"now":[{"is":"table",
 >+ "level":4,"moment":4,"pcid":"0x1","value":"0x2027","word":"0x1000","written_by":0},{"is":"table",

@@ -12,6 +12,7 @@ use Rattle.pg_run_of.specs.Converse.{without_moments, AreSameButMoments}
 use Rattle.pg_machine.specs.Machine.{visible}
 use Rattle.pg_search.specs.Law.{RunBeginsWith}
 use Rattle.pg_certify.specs.Certified.{IsDenied, HasRunButMoments}
+use Rattle.pg_explain.specs.declared.last_lines.Takers.{Takers}
 use Rattle.pg_explain.specs.Denied.{denial_text, denial_text_by}
 use Rattle.pg_report.specs.Text.{report_text}
 use Rattle.pg_answers.specs.declared.answer.Answer.{Answer}
@@ -49,8 +50,8 @@ one_event head events n m h k =
 told_text : (r : Recorded) (n : ℕ) (x : Rejected) → TellsDenial r n x → rejection_text x ≡ denied_report n (length r.events) (segment_count r) ++ denial_text r.events x.denial
 told_text r n x h =
     let event : Some x.event ≡ slice_get r.events x.denial.number = sym (ap (slice_get r.events) h.number ∙ h.event) in
-    ap (λ (o : Option Event). denied_report x.denial.number x.events x.segments ++ denial_text_by o x.taken x.denial) event
-    ∙ ap (λ (o : Option Event). denied_report x.denial.number x.events x.segments ++ denial_text_by (slice_get r.events x.denial.number) o x.denial) h.taken
+    ap (λ (o : Option Event). denied_report x.denial.number x.events x.segments ++ denial_text_by o x.takers x.denial) event
+    ∙ ap (λ (by : Takers). denied_report x.denial.number x.events x.segments ++ denial_text_by (slice_get r.events x.denial.number) by x.denial) h.takers
     ∙ ap (λ (i : ℕ). denied_report i x.events x.segments ++ denial_text r.events x.denial) h.number
     ∙ ap (λ (i : ℕ). denied_report n i x.segments ++ denial_text r.events x.denial) h.count
     ∙ ap (λ (i : ℕ). denied_report n (length r.events) i ++ denial_text r.events x.denial) h.segments

@@ -1,20 +1,30 @@
 -- What is told of a denied event by what is kept of all.
-use Rattle.std.proofs.Common.{◌≡◌, ℕ, zero, suc, ◌+◌, ◌^◌, ◌<◌, ◌≤◌, true, List, [], ◌∷◌, length, Option, Some, None, IfSome, refl, ap, sym, ◌∙◌, subst, arith}
+use Rattle.std.proofs.Common.{◌≡◌, ℕ, zero, suc, ◌+◌, ◌^◌, ◌<◌, ◌≤◌, true, ◌&&◌, List, [], ◌∷◌, length, Option, Some, None, IfSome, refl, ap, sym, ◌∙◌, subst, arith}
 use Rattle.std.specs.Prelude.{slice_get}
 use Rattle.pg_event.specs.declared.event.Event.{Event}
 use Rattle.pg_event.specs.Heads.{Head}
 use Rattle.pg_event.specs.Form.{broken_rule}
+use Rattle.pg_event.specs.declared.event.Event.TheVariants.{Write, Access, Assist, MovCr3, Invlpg, Invpcid, MovCr4Pge}
+use Rattle.pg_entry.specs.declared.Kind.{Kind}
+use Rattle.pg_entry.specs.declared.Kind.TheVariants as kinds
+use Rattle.pg_entry.specs.Kinds.{kind_of}
+use Rattle.pg_event.specs.Invalidation.{translation_key}
+use Rattle.pg_event.specs.Values.{control_at}
+use Rattle.pg_event.specs.Walk.{Reading}
 use Rattle.pg_event.specs.Spelling.{Recorded}
 use Rattle.pg_check.specs.Kept.{AreWellFormed}
 use Rattle.pg_search.specs.declared.last.Last.{Last}
 use Rattle.pg_search.specs.Last.{NoneWitness, IsLastOf, IsLast}
 use Rattle.pg_search.specs.Law.{names_moments, AreWitness}
-use Rattle.pg_search.specs.Changes.{TakenByAChange}
+use Rattle.pg_search.specs.Changes.{TakenByAChange, DroppedByAChange}
+use Rattle.pg_search.specs.ReachableTables.{first_or}
 use Rattle.pg_certify.specs.Certified.{IsDenied}
 use Rattle.pg_certify.specs.Segments.{end_of}
 use Rattle.pg_certify.specs.Accounts.{Account, IsAccount}
 use Rattle.pg_explain.specs.declared.denial.Denial.{Denial}
 use Rattle.pg_explain.specs.Denied.{IsDenialFor, IsDenialOf, DenialsAmongKept}
+use Rattle.pg_explain.specs.Findings.{readings_by, last_of}
+use Rattle.pg_explain.specs.TranslationDrops.{IsDropBy, IsDropFor}
 use Rattle.pg_answers.specs.Accounts.{IsChange, IsDeniedAccount}
 
 some_same : (x y : Event) → Some x ≡ Some y → x ≡ y
@@ -29,6 +39,47 @@ some_at : (xs : List Event) (u : ℕ) → u < length xs → (x : Event) × (slic
 some_at [] u lt = absurd (omega (arith, lt))
 some_at (x ∷ xs) zero lt = (x, refl)
 some_at (x ∷ xs) (suc u) lt = some_at xs u (omega (arith, lt))
+
+-- what had to drop a translation stands below the event, and changes something
+
+gone_below : (head : Head) (events : List Event) (i p la pcid : ℕ) (r : Reading) (kind : Kind) (d : ℕ) → IsDropBy head events i p la pcid r kind (Some d) → d < i
+gone_below head events i p la pcid r (kinds.Leaf frame shift bit) d h = h.1
+gone_below head events i p la pcid r kinds.Absent d h = absurd (cc)
+gone_below head events i p la pcid r kinds.Reserved d h = absurd (cc)
+gone_below head events i p la pcid r (kinds.Table addr) d h = absurd (cc)
+
+dropped_below : (head : Head) (events : List Event) (i : ℕ) (e : Event) (o : Option Last) (d : ℕ) → IsDropFor head events i e o (Some d) → d < i
+dropped_below head events i e None d h = absurd (cc)
+dropped_below head events i (Write p addr value) (Some x) d h = absurd (cc)
+dropped_below head events i (Access p flags la outcome moments) (Some x) d h =
+    let end : Reading = last_of (readings_by head events p la x.moments) in
+    gone_below head events i p la (control_at head events p (first_or 0 x.moments)).pcid end (kind_of head.cfg end.level end.value) d h
+dropped_below head events i (Assist p flags la word moments) (Some x) d h = absurd (cc)
+dropped_below head events i (MovCr3 p operand) (Some x) d h = absurd (cc)
+dropped_below head events i (Invlpg p la) (Some x) d h = absurd (cc)
+dropped_below head events i (Invpcid p kind pcid la) (Some x) d h = absurd (cc)
+dropped_below head events i (MovCr4Pge p on) (Some x) d h = absurd (cc)
+
+gone_changes : DroppedByAChange → (head : Head) (events : List Event) (i p la pcid : ℕ) (r : Reading) (kind : Kind) (d : ℕ) → i ≤ length events → IsDropBy head events i p la pcid r kind (Some d) → IsChange events d
+gone_changes law head events i p la pcid r (kinds.Leaf frame shift bit) d high h =
+    let x = some_at events d (omega (arith, h.1, high)) in
+    (x.0, x.1, law head events p r.moment i d (translation_key pcid shift (bit && (control_at head events p r.moment).pge) la) x.0 h x.1)
+gone_changes law head events i p la pcid r kinds.Absent d high h = absurd (cc)
+gone_changes law head events i p la pcid r kinds.Reserved d high h = absurd (cc)
+gone_changes law head events i p la pcid r (kinds.Table addr) d high h = absurd (cc)
+
+dropped_changes : DroppedByAChange → (head : Head) (events : List Event) (i : ℕ) (e : Event) (o : Option Last) (dropped : Option ℕ) → i ≤ length events → IsDropFor head events i e o dropped → IfSome dropped (IsChange events)
+dropped_changes law head events i e o None high h = tt
+dropped_changes law head events i e None (Some d) high h = absurd (cc)
+dropped_changes law head events i (Write p addr value) (Some x) (Some d) high h = absurd (cc)
+dropped_changes law head events i (Access p flags la outcome moments) (Some x) (Some d) high h =
+    let end : Reading = last_of (readings_by head events p la x.moments) in
+    gone_changes law head events i p la (control_at head events p (first_or 0 x.moments)).pcid end (kind_of head.cfg end.level end.value) d high h
+dropped_changes law head events i (Assist p flags la word moments) (Some x) (Some d) high h = absurd (cc)
+dropped_changes law head events i (MovCr3 p operand) (Some x) (Some d) high h = absurd (cc)
+dropped_changes law head events i (Invlpg p la) (Some x) (Some d) high h = absurd (cc)
+dropped_changes law head events i (Invpcid p kind pcid la) (Some x) (Some d) high h = absurd (cc)
+dropped_changes law head events i (MovCr4Pge p on) (Some x) (Some d) high h = absurd (cc)
 
 -- the event that is denied is kept
 
@@ -62,13 +113,20 @@ module _ (a : Account) (r : Recorded) (n : ℕ) (e : Event) (h : IsDeniedAccount
   pub names : names_moments e ≡ true
   names = ap names_moments (some_same e denied.names.0 (sym h.there ∙ denied.names.1)) ∙ denied.names.2
 
+  names_event : names_moments e ≡ true
+  names_event = names
+
   pub within : (o : Option Last) → IfSome o (IsLastOf a.findings.kept.head a.findings.kept.events n e) → IfSome o (λ last. last.number < length a.findings.kept.events)
   within None l = tt
   within (Some last) l = omega (arith, l.before, reach)
 
-  module _ (law : DenialsAmongKept) (taken : TakenByAChange) (denial : Denial) (of : IsDenialFor a.findings.kept.head a.findings.kept.events n e denial) where
+  pub dropped_within : (o : Option Last) (dropped : Option ℕ) → IsDropFor a.findings.kept.head a.findings.kept.events n e o dropped → IfSome dropped (λ d. d < length a.findings.kept.events)
+  dropped_within o None l = tt
+  dropped_within o (Some d) l = let below : d < n = dropped_below a.findings.kept.head a.findings.kept.events n e o d l in omega (arith, below, reach)
+
+  module _ (law : DenialsAmongKept) (taken : TakenByAChange) (drops : DroppedByAChange) (denial : Denial) (of : IsDenialFor a.findings.kept.head a.findings.kept.events n e denial) where
     pub denial_is : IsDenialOf r.head r.events n denial
-    denial_is = law r.head a.findings.kept.events r.events n e denial h.known.certifying.kept reach h.there (subst (λ (x : Head). IsDenialFor x a.findings.kept.events n e denial) h.known.certifying.settings of)
+    denial_is = law r.head a.findings.kept.events r.events n e denial names_event h.known.certifying.kept reach h.there (subst (λ (x : Head). IsDenialFor x a.findings.kept.events n e denial) h.known.certifying.settings of)
 
     none : NoneWitness r.head r.events e n (n + 1)
     none = λ j from to ws w.
@@ -85,3 +143,8 @@ module _ (a : Account) (r : Recorded) (n : ℕ) (e : Event) (h : IsDeniedAccount
 
     pub changes_last : IfSome denial.last (λ last. IsChange r.events last.number)
     changes_last = changes denial.last denial_is.last
+
+    pub changes_dropped : IfSome denial.dropped (IsChange r.events)
+    changes_dropped =
+        let for : IsDropFor r.head r.events n e denial.last denial.dropped = subst (λ o. IfSome o (λ x. IsDropFor r.head r.events n x denial.last denial.dropped)) h.there denial_is.dropped in
+        dropped_changes drops r.head r.events n e denial.last denial.dropped (omega (arith, denied.within)) for

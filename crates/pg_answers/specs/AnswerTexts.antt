@@ -48,7 +48,7 @@ denied_report n events segments = denied_head n ++ counts_text events segments
 abbrev pub rejection_text : Rejected → List ℕ
 rejection_text x =
     denied_report x.denial.number x.events x.segments
-    ++ denial_text_by (Some x.event) x.taken x.denial
+    ++ denial_text_by (Some x.event) x.takers x.denial
 
 -- ---- an answer
 

@@ -12,9 +12,8 @@ use Rattle.pg_certify.specs.Certified.{CanBeCertified, IsDenied, HasRunButMoment
 use Rattle.pg_explain.specs.declared.bad_events.Bad.{Bad}
 use Rattle.pg_explain.specs.declared.explainer.Explanation.{Explanation}
 use Rattle.pg_explain.specs.Bads.{bads}
-use Rattle.pg_explain.specs.Denied.{IsDenialOf}
+use Rattle.pg_explain.specs.Denied.{IsDenialOf, takers_in}
 use Rattle.pg_explain.specs.Explained.{IsExplained}
-use Rattle.pg_explain.specs.Lasts.{taken_in}
 use Rattle.pg_explain.specs.Tallies.{AreTallies}
 use Rattle.pg_report.specs.declared.error.AuditError.{AuditError}
 use Rattle.pg_report.specs.declared.report.Report.{Report as Reported}
@@ -57,7 +56,7 @@ pub record TellsDenial (r : Recorded) (n : ℕ) (x : Rejected) : Type 0 where
   pub number : x.denial.number ≡ n
   pub denial : IsDenialOf r.head r.events n x.denial
   pub event : slice_get r.events n ≡ Some x.event
-  pub taken : x.taken ≡ taken_in r.events x.denial.last
+  pub takers : x.takers ≡ takers_in r.events x.denial
   pub count : x.events ≡ length r.events
   pub segments : x.segments ≡ segment_count r
 

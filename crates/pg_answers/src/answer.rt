@@ -6,7 +6,7 @@ ghost use Rattle.pg_answers.specs.Answers.{answer_status};
 use pg_auditing::{NO, YES, error_status, verdict_status};
 use pg_check::History;
 use pg_event::{Event, Selection};
-use pg_explain::{Denial, Explanation, Tally};
+use pg_explain::{Denial, Explanation, Takers, Tally};
 use pg_report::{AuditError, Report};
 
 /// What the bad events of a record have in common.
@@ -29,8 +29,8 @@ pub struct Rejection {
     pub denial: Denial,
     /// That event.
     pub event: Event,
-    /// The event behind which it was never witnessed, where it ever was.
-    pub taken: Option<Event>,
+    /// The events that took its last moments away.
+    pub takers: Takers,
 }
 
 /// What is answered of a record with one order, before it is written in any format.

@@ -7,7 +7,7 @@ ghost use Rattle.pg_event.specs.Heads.{Head};
 ghost use Rattle.pg_event.specs.Spelling.{Recorded};
 ghost use Rattle.pg_certify.specs.Accounts.{IsAccount};
 ghost use Rattle.pg_certify.specs.Certified.{IsDenied};
-ghost use Rattle.pg_explain.specs.Lasts.{taken_in};
+ghost use Rattle.pg_explain.specs.Lasts.{taken_in, dropped_in};
 ghost use Rattle.pg_answers.specs.Accounts.{IsChange, IsDeniedAccount};
 ghost use Rattle.pg_answers.specs.Answers.{TellsDenial};
 
@@ -15,8 +15,8 @@ use crate::answer::Rejection;
 use pg_certify::StreamingCertifier;
 use pg_check::History;
 use pg_event::Event;
-use pg_explain::{denials_among_kept, deny, deny_event, taken_in};
-use pg_search::{Last, Seen, taken_by_a_change};
+use pg_explain::{Takers, denials_among_kept, deny, deny_event, takers_in};
+use pg_search::{Last, Seen, dropped_by_a_change, taken_by_a_change};
 use std::alloc::{AllocError, Global};
 
 /// The cause of the rejection of this event, of a record that was read whole.
@@ -31,13 +31,13 @@ pub(crate) fn denial_in(
     let denial = deny(alloc, history, number)?;
     let events = history.events();
     let event = events[number as usize];
-    let taken = taken_in(events, denial.last);
+    let takers = takers_in(events, &denial);
     Ok(Rejection {
         events: history.len(),
         segments: history.segments(),
         denial,
         event,
-        taken,
+        takers,
     })
 }
 
@@ -50,6 +50,18 @@ fn taken_of(account: &StreamingCertifier, last: Option<Last>) -> Option<Event>
     match last {
         None => None,
         Some(last) => Some(account.change_at(last.number)),
+    }
+}
+
+/// The event that had to drop a translation, which changes something.
+fn dropped_of(account: &StreamingCertifier, number: Option<u32>) -> Option<Event>
+    requires { IfSome number (λ n. n < length account.now.findings.kept.events) }
+    ensures { (head : Head) (events : List Event) → IsAccount account.now head events →
+        IfSome number (IsChange events) → result ≡ dropped_in events number }
+{
+    match number {
+        None => None,
+        Some(number) => Some(account.change_at(number)),
     }
 }
 
@@ -66,15 +78,19 @@ pub(crate) fn denial_by(
 {
     denials_among_kept();
     taken_by_a_change();
+    dropped_by_a_change();
     let certifying = account.certifying();
     let seen = Seen::among(certifying.kept());
     let denial = deny_event(alloc, &seen, number as u32, event)?;
-    let taken = taken_of(account, denial.last);
+    let takers = Takers {
+        taken: taken_of(account, denial.last),
+        dropped: dropped_of(account, denial.dropped),
+    };
     Ok(Rejection {
         events: certifying.len(),
         segments: certifying.segments(),
         denial,
         event: *event,
-        taken,
+        takers,
     })
 }

@@ -107,11 +107,11 @@ pub(crate) fn rejection_text(alloc: Global, rejection: &Rejection) -> Result<Str
     let mut text = denied_report(alloc, rejection)?;
     let Rejection {
         event,
-        taken,
+        takers,
         denial,
         ..
     } = rejection;
-    let told = denial_text_by(alloc, Some(*event), *taken, denial)?;
+    let told = denial_text_by(alloc, Some(*event), *takers, denial)?;
     text.push_str(told.as_str())?;
     Ok(text)
 }

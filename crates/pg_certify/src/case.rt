@@ -4,7 +4,7 @@ ghost use Rattle.std.specs.Prelude.{◌≡◌, ◌<◌, true, false, length, Mat
 ghost use Rattle.pg_event.specs.Form.{processor_of};
 ghost use Rattle.pg_search.specs.Law.{names_moments};
 
-use crate::lately::Lately;
+use crate::recent_lookups::RecentLookups;
 use pg_event::{Event, Outcome, Request, processor_of, uses_last, want_of};
 use pg_search::Seen;
 
@@ -38,7 +38,7 @@ fn asks_of(outcome: Outcome) -> Asks {
 
 /// What an event asks, if it names moments.
 #[inline(always)]
-pub(crate) fn case_of(seen: &Seen<'_>, lately: &mut Lately, i: u32, event: &Event) -> Option<Case>
+pub(crate) fn case_of(seen: &Seen<'_>, recent: &mut RecentLookups, i: u32, event: &Event) -> Option<Case>
     requires processor { processor_of event.now < length seen.now.head.processors }
     ensures number { IfSome result (λ case. case.i ≡ i) }
     ensures processor { IfSome result (λ case. case.p < length seen.now.head.processors) }
@@ -51,7 +51,7 @@ pub(crate) fn case_of(seen: &Seen<'_>, lately: &mut Lately, i: u32, event: &Even
         Request::Nothing => return None,
     };
     let p = processor_of(event);
-    let pcid = lately.pcid_at(seen, p, i);
+    let pcid = recent.pcid_at(seen, p, i);
     Some(Case {
         i,
         p,

@@ -9,7 +9,7 @@ ghost use Rattle.pg_certify.specs.Certified.{IsFoundFor, IsUnwitnessed};
 use crate::case::{Asks, Case, case_of, may_serve, page_of};
 use crate::guesses::{Guesses, Part, Scope, key_of};
 use crate::judging::Judging;
-use crate::lately::Lately;
+use crate::recent_lookups::RecentLookups;
 use crate::walk::{
     Walk, address_by, first_moments, is_global, last_of, moments_fit, tables_up_to, walk_by,
 };
@@ -43,7 +43,7 @@ pub(crate) struct Certifier<J: Judging + Drop> {
     pub alloc: Global,
     pub judging: J,
     pub guesses: Guesses,
-    pub lately: Lately,
+    pub recent: RecentLookups,
 }
 
 impl<J: Judging + Drop> Model for Certifier<J> {
@@ -63,7 +63,7 @@ impl<J: Judging + Drop> Certifier<J> {
             alloc,
             judging,
             guesses: Guesses::new(alloc),
-            lately: Lately::new(alloc),
+            recent: RecentLookups::new(alloc),
         }
     }
 
@@ -305,7 +305,7 @@ impl<J: Judging + Drop> Certifier<J> {
     {
         let walk = walk_by(
             &self.judging.seen(),
-            &mut self.lately,
+            &mut self.recent,
             case.p,
             case.la,
             front,
@@ -328,7 +328,7 @@ impl<J: Judging + Drop> Certifier<J> {
     {
         let walk = walk_by(
             &self.judging.seen(),
-            &mut self.lately,
+            &mut self.recent,
             case.p,
             case.la,
             &[],
@@ -453,7 +453,7 @@ impl<J: Judging + Drop> Certifier<J> {
     {
         let walk = walk_by(
             &self.judging.seen(),
-            &mut self.lately,
+            &mut self.recent,
             case.p,
             case.la,
             moments.as_slice(),
@@ -500,7 +500,7 @@ impl<J: Judging + Drop> Certifier<J> {
         ensures none { IfOk result
             (λ r. IfNone r (IsUnwitnessed self.old.head self.old.events i event.now)) }
     {
-        let Some(case) = case_of(&self.judging.seen(), &mut self.lately, i, event) else {
+        let Some(case) = case_of(&self.judging.seen(), &mut self.recent, i, event) else {
             unreachable!()
         };
         if let Some(found) = self.guess_rare(event, case, Speed::Quick) {
@@ -521,7 +521,7 @@ impl<J: Judging + Drop> Certifier<J> {
         ensures found { IfSome result
             (AreWitness self.old.head self.old.events i event.now) }
     {
-        let case = case_of(&self.judging.seen(), &mut self.lately, i, event)?;
+        let case = case_of(&self.judging.seen(), &mut self.recent, i, event)?;
         if matches!(case.asks, Asks::Page) {
             self.judge_kept(
                 event,

@@ -5,20 +5,20 @@
 #![tactic(auto)]
 
 mod account;
-mod back;
 mod case;
 mod certifier;
 mod certifying;
-mod coming;
-mod crew;
+mod earlier_walks;
 mod flushes;
 mod guesses;
 mod judging;
-mod lately;
 mod laws;
 mod mapped;
 mod named_events;
+mod next_event;
 mod pages;
+mod recent_lookups;
+mod segment_checkers;
 mod walk;
 mod whole;
 mod window;
@@ -26,9 +26,9 @@ mod window;
 pub use account::StreamingCertifier;
 pub use certifier::Certified;
 pub use certifying::Certifying;
-pub use crew::{CertifyError, first_denied_by};
 pub use laws::{
     certified_events_run, certified_exactly_where_a_run_exists, denied_events_have_no_run,
 };
 pub use named_events::{Numbered, is_placeholder};
+pub use segment_checkers::{CertifyError, first_denied_by};
 pub use whole::{certify, first_denied};

@@ -5,7 +5,7 @@ ghost use Rattle.std.specs.Prelude.{◌<◌, ◌^◌, length};
 ghost use Rattle.std.specs.List.{AllByRecursion};
 ghost use Rattle.pg_event.specs.Spelling.{AreMoments};
 
-use crate::lately::Lately;
+use crate::recent_lookups::RecentLookups;
 use pg_entry::{Cfg, Entry, Kind, Level, classify, has_bit, page_offset, table_of};
 use pg_event::{Moments, entry_address};
 use pg_search::Seen;
@@ -75,7 +75,7 @@ pub(crate) fn tables_up_to(moments: &Moments, moment: u32) -> Moments {
 /// comes below at one moment.
 pub(crate) fn walk_by(
     seen: &Seen<'_>,
-    lately: &mut Lately,
+    recent: &mut RecentLookups,
     p: u16,
     la: u64,
     front: &[u32],
@@ -85,7 +85,7 @@ pub(crate) fn walk_by(
 {
     let cfg = seen.header().cfg;
     let mut at = moment_at(front, 0, moment);
-    let mut table = lately.root_at(seen, p, at);
+    let mut table = recent.root_at(seen, p, at);
     let mut moments = Moments::first(at);
     let mut words = [0; 4];
     let mut last = Entry(0);
@@ -96,7 +96,7 @@ pub(crate) fn walk_by(
             moments = and_then(moments, at);
         }
         words[i] = entry_address(table, LEVELS[i], la);
-        let (value, from) = lately.word_at(seen, at, words[i]);
+        let (value, from) = recent.word_at(seen, at, words[i]);
         last = Entry(value);
         since = since.max(from);
         if !matches!(classify(cfg, LEVELS[i], last), Kind::Table { .. }) {

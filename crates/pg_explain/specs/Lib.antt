@@ -2,6 +2,7 @@ pub mod Line
 pub mod Lasts
 pub mod Names
 pub mod Drops
+pub mod TranslationDrops
 pub mod Findings
 pub mod Given
 pub mod Lacking

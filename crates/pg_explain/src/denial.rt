@@ -13,6 +13,7 @@ ghost use Rattle.pg_explain.specs.Walk.{IsWalk};
 use crate::entry::{WalkEntry, read_steps, tell};
 use crate::finding::Finding;
 use crate::given::given_by;
+use crate::translation_drop::drop_for;
 use crate::lacking::lacking_now;
 use pg_check::History;
 use pg_entry::AccessKind;
@@ -36,6 +37,9 @@ pub struct Denial {
     pub lacking: Option<Finding>,
     /// When the event would last have been witnessed, had it come earlier, and by which moments.
     pub last: Option<Last>,
+    /// The event that had to drop the translation which its access would have used then, where that
+    /// was one and no longer stands. It is the event of `last`, or one behind it.
+    pub dropped: Option<u32>,
 }
 
 /// What a processor would read at an event, and get.
@@ -88,7 +92,7 @@ fn walk_now(alloc: Global, seen: &Seen<'_>, number: u32, event: &Event) -> Resul
 
 /// Why no moments witness an access or an assist as the event with this number, which need not be
 /// one of those that are seen: what its processor would read at this number, what that would give,
-/// and when the event would last have been witnessed.
+/// when the event would last have been witnessed, and what dropped its translation.
 ///
 /// It asks the past, as `last_moments_at` of `pg_reach` does. It fails only where memory is
 /// refused.
@@ -104,6 +108,7 @@ pub fn deny_event(
     ensures { IfOk result (IsDenialFor seen.now.head seen.now.events number event.now) }
 {
     let last = last_moments_at(alloc, seen, number, event)?;
+    let dropped = drop_for(alloc, seen, number, event, last)?;
     let lacking = lacking_now(alloc, seen, number, event)?;
     let Now { walk, given } = walk_now(alloc, seen, number, event)?;
     Ok(Denial {
@@ -112,6 +117,7 @@ pub fn deny_event(
         given,
         lacking,
         last,
+        dropped,
     })
 }
 

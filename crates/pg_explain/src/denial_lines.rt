@@ -1,22 +1,24 @@
 //! The text of why no moments witness an event.
 
-ghost use Rattle.std.specs.Prelude.{◌≡◌, ◌++◌, IfOk, OnOk, string_bytes};
+ghost use Rattle.std.specs.Prelude.{◌≡◌, ◌++◌, Some, IfOk, OnOk, string_bytes};
 ghost use Rattle.pg_explain.specs.Denied.{claimed_text, now_entry_text, now_walk_text};
 ghost use Rattle.pg_explain.specs.Denied.{claim_line, claim_at, now_level_text, given_text};
-ghost use Rattle.pg_explain.specs.Denied.{lacking_text, denial_text_by};
+ghost use Rattle.pg_explain.specs.Denied.{lacking_text, dropped_text, takers_text, takers_in};
+ghost use Rattle.pg_explain.specs.Denied.{denial_text_by};
 
 use crate::denial::Denial;
 use crate::entry::WalkEntry;
 use crate::finding::Finding;
 use crate::finding_text::push_finding;
-use crate::last_lines::push_taken_by;
-use crate::line::{push_claim, push_outcome};
+use crate::last_lines::{Takers, dropped_in, push_last_seen, taken_in};
+use crate::line::{push_claim, push_line_at, push_outcome};
 use crate::names::level_number;
 use crate::walk_finding::is_table;
 use crate::walk_text::{push_held, push_writer};
 use pg_chain::EntryRead;
 use pg_entry::Level;
 use pg_event::{Event, Outcome, processor_of};
+use pg_search::Last;
 use std::alloc::{AllocError, Global};
 
 /// Appends the line of an event without the moments that it names, without its end. Fails only when
@@ -118,21 +120,84 @@ fn push_lacking(text: &mut String, lacking: Option<Finding>) -> Result<(), Alloc
     }
 }
 
-/// The text of why no moments witness an event, where `taken` is the event that took its last
-/// moments away, if it had some. Fails only when out of memory.
+/// Appends the event that had to drop a translation, which is not the one at a number.
+fn push_dropped_at(
+    text: &mut String,
+    number: u32,
+    at: u32,
+    event: Option<Event>,
+) -> Result<(), AllocError>
+    ensures { OnOk result (string_bytes text.new
+        ≡ string_bytes text.old ++ dropped_text number (Some at) event) }
+{
+    if at == number {
+        return Ok(());
+    }
+    text.push_str("last: dropped by ")?;
+    push_line_at(text, at, event)?;
+    text.push_str("\n")
+}
+
+/// Appends the event that had to drop a translation, where one had to.
+fn push_dropped(
+    text: &mut String,
+    number: u32,
+    dropped: Option<u32>,
+    event: Option<Event>,
+) -> Result<(), AllocError>
+    ensures { OnOk result (string_bytes text.new
+        ≡ string_bytes text.old ++ dropped_text number dropped event) }
+{
+    match dropped {
+        None => Ok(()),
+        Some(at) => push_dropped_at(text, number, at, event),
+    }
+}
+
+/// Appends when an event would last have been witnessed, and what took that away.
+fn push_takers(
+    text: &mut String,
+    takers: Takers,
+    last: Option<Last>,
+    dropped: Option<u32>,
+) -> Result<(), AllocError>
+    ensures { OnOk result
+        (string_bytes text.new ≡ string_bytes text.old ++ takers_text takers last dropped) }
+{
+    match last {
+        None => text.push_str("last: never\n"),
+        Some(last) => {
+            push_last_seen(text, takers.taken, &last)?;
+            push_dropped(text, last.number, dropped, takers.dropped)
+        }
+    }
+}
+
+/// The events that took the last moments of an event away, where these are the events of its run.
+pub fn takers_in(events: &[Event], denial: &Denial) -> Takers
+    ensures { result ≡ takers_in events.now denial.now }
+{
+    Takers {
+        taken: taken_in(events, denial.last),
+        dropped: dropped_in(events, denial.dropped),
+    }
+}
+
+/// The text of why no moments witness an event, where these took its last moments away. Fails only
+/// when out of memory.
 pub fn denial_text_by(
     alloc: Global,
     event: Option<Event>,
-    taken: Option<Event>,
+    takers: Takers,
     denial: &Denial,
 ) -> Result<String, AllocError>
-    ensures { IfOk result (λ t. string_bytes t ≡ denial_text_by event taken denial.now) }
+    ensures { IfOk result (λ t. string_bytes t ≡ denial_text_by event takers denial.now) }
 {
     let mut text = String::new(alloc);
     push_claimed(&mut text, denial.number, event)?;
     push_now_walk(&mut text, &denial.walk)?;
     push_given(&mut text, denial.given)?;
     push_lacking(&mut text, denial.lacking)?;
-    push_taken_by(&mut text, taken, denial.last)?;
+    push_takers(&mut text, takers, denial.last, denial.dropped)?;
     Ok(text)
 }

@@ -5,7 +5,7 @@ ghost use Rattle.std.specs.List.{AllByRecursion};
 ghost use Rattle.pg_entry.specs.Kinds.{kind_of};
 ghost use Rattle.pg_event.specs.Values.{mem_at};
 ghost use Rattle.pg_chain.specs.Walked.{reading_of, entry_read, parent_of};
-ghost use Rattle.pg_explain.specs.Findings.{readings_by};
+ghost use Rattle.pg_explain.specs.Findings.{readings_by, last_of};
 ghost use Rattle.pg_explain.specs.Walk.{IsTold, reading_at};
 
 use pg_chain::{EntryRead, kind_at};
@@ -111,4 +111,12 @@ pub(crate) fn tell(
         walk.push(told(seen, p, *step))?;
     }
     Ok(walk)
+}
+
+/// What is read last.
+pub(crate) fn last_step(steps: &[EntryRead]) -> EntryRead
+    requires { 1 ≤ length steps.now }
+    ensures { reading_of result ≡ last_of (map reading_of steps.now) }
+{
+    steps[steps.len() - 1]
 }

@@ -9,12 +9,12 @@ ghost use Rattle.pg_chain.specs.Walked.{reading_of};
 ghost use Rattle.pg_search.specs.Last.{HasNoLast, IsLast};
 ghost use Rattle.pg_search.specs.Law.{names_moments};
 ghost use Rattle.pg_explain.specs.Explained.{IsWalkOf, TellsEvent, IsExplained};
-ghost use Rattle.pg_explain.specs.Findings.{last_of, first_tag, claim_finding, access_finding};
+ghost use Rattle.pg_explain.specs.Findings.{first_tag, claim_finding, access_finding};
 ghost use Rattle.pg_explain.specs.Findings.{mark_finding, assist_finding, event_finding};
 ghost use Rattle.pg_explain.specs.Walk.{IsWalk};
 
 use crate::end_finding::end_finding;
-use crate::entry::{WalkEntry, read_steps, tell};
+use crate::entry::{WalkEntry, last_step, read_steps, tell};
 use crate::finding::{Finding, Tagged};
 use crate::flag_finding::{accessed_finding, flag_finding, update_finding};
 use crate::walk_finding::{Asked, tagged, walk_finding};
@@ -48,14 +48,6 @@ pub struct Explanation {
 pub struct Told {
     pub walk: Vec<WalkEntry>,
     pub finding: Finding,
-}
-
-/// What is read last.
-fn last_step(steps: &[EntryRead]) -> EntryRead
-    requires { 1 ≤ length steps.now }
-    ensures { reading_of result ≡ last_of (map reading_of steps.now) }
-{
-    steps[steps.len() - 1]
 }
 
 /// The first moment of a processor, with its PCID.

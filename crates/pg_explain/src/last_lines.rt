@@ -1,13 +1,22 @@
 //! The text of when an event would last have been witnessed.
 
 ghost use Rattle.std.specs.Prelude.{◌≡◌, ◌++◌, OnOk, string_bytes};
-ghost use Rattle.pg_explain.specs.Lasts.{by_text, last_moments_text, last_seen_by};
-ghost use Rattle.pg_explain.specs.Lasts.{taken_by, taken_in, taken_text};
+ghost use Rattle.pg_explain.specs.Lasts.{by_text, under_text, last_moments_text, last_seen_by};
+ghost use Rattle.pg_explain.specs.Lasts.{taken_in, dropped_in, taken_text};
 
 use crate::line::{event_at, push_line_at, push_numbers};
 use pg_event::{Event, Moments};
 use pg_search::Last;
 use std::alloc::AllocError;
+
+/// The events that took the last moments of an event away.
+#[derive(Clone, Copy)]
+pub struct Takers {
+    /// The event after which it was never witnessed, where it ever was.
+    pub taken: Option<Event>,
+    /// The event that had to drop its translation, where one had to.
+    pub dropped: Option<Event>,
+}
 
 /// Appends moments after a word.
 fn push_by(text: &mut String, moments: &Moments) -> Result<(), AllocError>
@@ -18,8 +27,23 @@ fn push_by(text: &mut String, moments: &Moments) -> Result<(), AllocError>
     push_numbers(text, moments.as_slice())
 }
 
-/// Appends the last number at which an event would have been witnessed, and its moments there.
-/// Fails only when out of memory, and may then leave a part of it.
+/// Appends the PCID of moments, where it is another than the event's.
+fn push_under(text: &mut String, other: Option<u16>) -> Result<(), AllocError>
+    ensures { OnOk result
+        (string_bytes text.new ≡ string_bytes text.old ++ under_text other) }
+{
+    match other {
+        None => Ok(()),
+        Some(pcid) => {
+            write!(text, " under pcid 0x{pcid:x}")?;
+            Ok(())
+        }
+    }
+}
+
+/// Appends the last number at which an event would have been witnessed, its moments there, and
+/// their PCID where it is another than the event's. Fails only when out of memory, and may then
+/// leave a part of it.
 pub fn push_last_moments(text: &mut String, last: &Last) -> Result<(), AllocError>
     ensures { OnOk result
         (string_bytes text.new ≡ string_bytes text.old ++ last_moments_text last.now) }
@@ -27,7 +51,7 @@ pub fn push_last_moments(text: &mut String, last: &Last) -> Result<(), AllocErro
     let number = last.number;
     write!(text, "last: moment {number}")?;
     push_by(text, &last.moments)?;
-    Ok(())
+    push_under(text, last.other)
 }
 
 /// The event after which another was no longer witnessed, where it ever was and these are the
@@ -41,8 +65,18 @@ pub fn taken_in(events: &[Event], last: Option<Last>) -> Option<Event>
     }
 }
 
+/// The event with a number of these, where there is one.
+pub(crate) fn dropped_in(events: &[Event], number: Option<u32>) -> Option<Event>
+    ensures { result ≡ dropped_in events.now number }
+{
+    match number {
+        None => None,
+        Some(number) => event_at(events, number),
+    }
+}
+
 /// Appends when an event would last have been witnessed, and the event that took that away.
-fn push_last_seen(text: &mut String, taken: Option<Event>, last: &Last) -> Result<(), AllocError>
+pub(crate) fn push_last_seen(text: &mut String, taken: Option<Event>, last: &Last) -> Result<(), AllocError>
     ensures { OnOk result
         (string_bytes text.new ≡ string_bytes text.old ++ last_seen_by taken last.now) }
 {
@@ -52,22 +86,8 @@ fn push_last_seen(text: &mut String, taken: Option<Event>, last: &Last) -> Resul
     text.push_str("\n")
 }
 
-/// Appends when an event would last have been witnessed, and what took that away.
-pub(crate) fn push_taken_by(
-    text: &mut String,
-    taken: Option<Event>,
-    last: Option<Last>,
-) -> Result<(), AllocError>
-    ensures { OnOk result
-        (string_bytes text.new ≡ string_bytes text.old ++ taken_by taken last) }
-{
-    match last {
-        None => text.push_str("last: never\n"),
-        Some(last) => push_last_seen(text, taken, &last),
-    }
-}
-
-/// What `push_taken_by` appends, where these are the events of its run.
+/// Appends when an event would last have been witnessed, and what took that away, where these are
+/// the events of its run.
 pub(crate) fn push_taken(
     text: &mut String,
     events: &[Event],

@@ -22,18 +22,19 @@ mod names;
 mod tallier;
 mod tally_lines;
 mod text;
+mod translation_drop;
 mod walk_finding;
 mod walk_text;
 
 pub use bad_events::{Bad, bads, bads_are_exact};
 pub use denial::{Denial, denials_among_kept, deny, deny_event};
-pub use denial_lines::{denial_text_by, push_claim_line};
+pub use denial_lines::{denial_text_by, push_claim_line, takers_in};
 pub use entry::WalkEntry;
 pub use explainer::{Explanation, explain};
 pub use filter::{fits, is_marked, marks_of, pages_show_their_drops, shown_text};
 pub use finding::{Finding, Limit, Misfit, Prevention, Tagged, Wish};
 pub use finding_text::{push_finding, push_numbered};
-pub use last_lines::{push_last_moments, taken_in};
+pub use last_lines::{Takers, push_last_moments, taken_in};
 pub use laws::{
     findings_stand_behind_reasons, others_leave_the_word, unwritten_words_stay,
     writers_leave_the_word,

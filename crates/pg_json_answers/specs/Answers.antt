@@ -37,7 +37,7 @@ causes_fields events xs s =
 -- the report of a no by `certify`, and the cause
 abbrev pub rejection_json : Rejected → Json
 rejection_json x = object (with_no x.denial.number 14 (codes "no moments")
-    (with_counts x.events x.segments (cause_fields (denial_json x.event x.taken x.denial))))
+    (with_counts x.events x.segments (cause_fields (denial_json x.event x.takers x.denial))))
 
 -- ---- events
 

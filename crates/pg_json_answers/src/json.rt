@@ -99,9 +99,9 @@ fn rejection_line(alloc: Global, rejection: &Rejection) -> Result<String, AllocE
         segments,
         denial,
         event,
-        taken,
+        takers,
     } = rejection;
-    let cause = denial_json(alloc, event, *taken, denial)?;
+    let cause = denial_json(alloc, event, *takers, denial)?;
     let mut fields = cause_fields(alloc, cause)?;
     put_counts(&mut fields, alloc, *events, *segments)?;
     put_no(&mut fields, alloc, denial.number as u64, 14, "no moments")?;

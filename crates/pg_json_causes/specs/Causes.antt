@@ -21,12 +21,13 @@ use Rattle.pg_search.specs.declared.last.Last.{Last}
 use Rattle.pg_explain.specs.declared.denial.Denial.{Denial}
 use Rattle.pg_explain.specs.declared.explainer.Explanation.{Explanation}
 use Rattle.pg_explain.specs.declared.finding.Finding.{Finding}
+use Rattle.pg_explain.specs.declared.last_lines.Takers.{Takers}
 use Rattle.pg_explain.specs.Lasts.{taken_in}
 use Rattle.pg_json.specs.Tree.{Json, nothing, flag, counts, object, Fields, no_fields, field}
 use Rattle.pg_json.specs.Events.{claim_json, outcome_json}
 use Rattle.pg_json_causes.specs.Entries.{walk_json}
 use Rattle.pg_json_causes.specs.Findings.{finding_json}
-use Rattle.pg_json_causes.specs.Lasts.{event_at, last_json}
+use Rattle.pg_json_causes.specs.Lasts.{event_at, last_json, dropped_json}
 
 abbrev pub ended_fields : List Event → Option (List ℕ) → Option Last → Fields
 ended_fields events None last =
@@ -50,11 +51,12 @@ abbrev pub lacking_json : Option Finding → Json
 lacking_json None = nothing
 lacking_json (Some found) = finding_json [] found
 
--- of this event, where the other is the one behind which it was never witnessed
-abbrev pub denial_json : Event → Option Event → Denial → Json
-denial_json e taken x = object (
+-- of this event, where these took its last moments away
+abbrev pub denial_json : Event → Takers → Denial → Json
+denial_json e by x = object (
     field (codes "event") (claim_json x.number e)
     (field (codes "now") (walk_json x.walk.items)
     (field (codes "given") (given_json x.given)
     (field (codes "lacking") (lacking_json x.lacking)
-    (field (codes "last") (last_json taken x.last) no_fields)))))
+    (field (codes "last") (last_json by.taken x.last)
+    (field (codes "dropped_by") (dropped_json x.dropped by.dropped) no_fields))))))

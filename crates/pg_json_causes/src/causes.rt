@@ -8,9 +8,9 @@ ghost use Rattle.pg_json_causes.specs.Causes.{given_json, lacking_json, denial_j
 
 use crate::entries::walk_json;
 use crate::findings::finding_json;
-use crate::lasts::{event_at, last_json};
+use crate::lasts::{dropped_json, event_at, last_json};
 use pg_event::{Event, Moments, Outcome};
-use pg_explain::{Denial, Explanation, Finding, taken_in};
+use pg_explain::{Denial, Explanation, Finding, Takers, taken_in};
 use pg_json::{Fields, claim_json, numbers_json, outcome_json, put_flag};
 use pg_search::Last;
 use serde_json::{Map, Value, put};
@@ -92,18 +92,20 @@ fn lacking_json(alloc: Global, lacking: Option<Finding>) -> Result<Value, AllocE
     }
 }
 
-/// The cause of the rejection of this event, which no moments witness, where the other is the one
-/// behind which it was never witnessed.
+/// The cause of the rejection of this event, which no moments witness, where these took its last
+/// moments away.
 pub fn denial_json(
     alloc: Global,
     event: &Event,
-    taken: Option<Event>,
+    takers: Takers,
     told: &Denial,
 ) -> Result<Value, AllocError>
-    ensures { IfOk result (λ v. view v ≡ data_of (denial_json event.now taken told.now)) }
+    ensures { IfOk result (λ v. view v ≡ data_of (denial_json event.now takers told.now)) }
 {
     let mut fields = Map::new(alloc);
-    let last = last_json(alloc, taken, told.last)?;
+    let dropped = dropped_json(alloc, told.dropped, takers.dropped)?;
+    put(&mut fields, alloc, "dropped_by", dropped)?;
+    let last = last_json(alloc, takers.taken, told.last)?;
     put(&mut fields, alloc, "last", last)?;
     let lacking = lacking_json(alloc, told.lacking)?;
     put(&mut fields, alloc, "lacking", lacking)?;

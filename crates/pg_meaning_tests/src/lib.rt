@@ -7,6 +7,8 @@ mod causes;
 #[cfg(test)]
 mod certificates;
 #[cfg(test)]
+mod denials;
+#[cfg(test)]
 mod explanations;
 #[cfg(test)]
 mod given;

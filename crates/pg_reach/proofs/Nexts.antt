@@ -39,7 +39,7 @@ chain_push head events v w y level from (x ∷ []) at to h link =
 chain_push head events v w y level from (x ∷ z ∷ zs) at to h link =
     (h.0, chain_push head events v w y (below level) (table_by head.cfg.m from (entry_at events v.la x level from)) (z ∷ zs) at to h.1 link)
 
-first-push : (y w : ℕ) (ws : List ℕ) → first_or y (ws ++ w ∷ []) ≡ first_or w ws
+pub first-push : (y w : ℕ) (ws : List ℕ) → first_or y (ws ++ w ∷ []) ≡ first_or w ws
 first-push y w [] = refl
 first-push y w (x ∷ xs) = refl
 

@@ -1,5 +1,5 @@
 -- What an event asks of a walk.
-use Rattle.std.specs.Prelude.{◌≡◌, ℕ, ◌≤◌, ◌⊎◌, Bool, true, false, List, [], ◌∷◌}
+use Rattle.std.specs.Prelude.{◌≡◌, ℕ, ◌+◌, ◌≤◌, ◌⊎◌, Bool, true, false, List, [], ◌∷◌}
 use Rattle.std.specs.Prelude.{Option, Some, None}
 use Rattle.pg_entry.specs.Kinds.{IsPageShift}
 use Rattle.pg_event.specs.declared.event.Event.{Event}
@@ -76,6 +76,10 @@ AreGlobal r v e found = (ws : List ℕ) → AreWitness r.head r.events v.number 
 -- the same walker under another PCID
 abbrev pub under : Walker → ℕ → Walker
 under v pcid = record v { pcid = pcid }
+
+-- the walker's PCID is the one that its processor has one number later
+abbrev pub IsAtNext : Recorded → Walker → Type 0
+IsAtNext r v = (control_at r.head r.events v.p (v.number + 1)).pcid ≡ v.pcid
 
 -- the processor and the address of an event that names moments
 abbrev pub IsWalkOf : Event → Option (ℕ × ℕ) → Type 0

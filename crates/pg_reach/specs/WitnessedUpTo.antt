@@ -1,6 +1,6 @@
 -- Up to which number an event is witnessed by moments before it.
 use Rattle.std.specs.Prelude.{◌≡◌, ℕ, ◌<◌, ◌≤◌, ◌&&◌, ◌⊎◌, Bool, true, false, List, Option}
-use Rattle.std.specs.Prelude.{Some, None}
+use Rattle.std.specs.Prelude.{Some, None, IfSome}
 use Rattle.pg_entry.specs.declared.Kind.{Kind}
 use Rattle.pg_entry.specs.declared.Kind.TheVariants as kinds
 use Rattle.pg_entry.specs.declared.Level.{Level}
@@ -32,6 +32,18 @@ IsUpTo (Some last) j = j ≤ last
 -- some moments witness the event as one with the number that was found, up to this one
 abbrev pub HasWitness : Recorded → Event → ℕ → ℕ → Type 0
 HasWitness r e most last = (last ≤ most) × ((ws : List ℕ) × AreWitness r.head r.events last e ws)
+
+-- some moments under the walker's PCID witness the event as the one with a number, up to the
+-- walker's
+pub record HasWitnessUnder (r : Recorded) (v : Walker) (e : Event) (last : ℕ) : Type 0 where
+  pub within : last ≤ v.number
+  pub moments : List ℕ
+  pub witness : AreWitness r.head r.events last e moments
+  pub under : pcid_of r v moments ≡ v.pcid
+
+-- a number is that which was found before, or such moments witness the event there
+abbrev pub IsFoundAfter : Recorded → Walker → Event → Option ℕ → Option ℕ → Type 0
+IsFoundAfter r v e found last = IfSome last (λ n. (found ≡ Some n) ⊎ HasWitnessUnder r v e n)
 
 -- the moments that lead to a reach, and a last one, witness the event at a number from that one up
 -- to the walker's only up to the one that was found

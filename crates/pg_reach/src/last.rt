@@ -10,12 +10,14 @@ ghost use Rattle.pg_chain.specs.Standing.{IsPast};
 ghost use Rattle.pg_entry.specs.Kinds.{kind_of};
 ghost use Rattle.pg_event.specs.Witness.{failing_event};
 ghost use Rattle.pg_search.specs.Law.{names_moments, AreWitness, with_moments};
-ghost use Rattle.pg_search.specs.Last.{NoneWitness, IsLastOf, IsLast, HasNoLast};
+ghost use Rattle.pg_search.specs.Last.{NoneWitness, NoneOwn, IsLastOf, IsLast, HasNoLast};
+ghost use Rattle.pg_search.specs.ReachableTables.{first_or};
 ghost use Rattle.pg_reach.specs.Stays.{IsUnder};
 ghost use Rattle.pg_reach.specs.Reaching.{IsReach};
-ghost use Rattle.pg_reach.specs.Asking.{Asks, under};
+ghost use Rattle.pg_reach.specs.Asking.{Asks, under, IsAtNext};
 ghost use Rattle.pg_reach.specs.WitnessedUpTo.{IsLastUse, IsPassedBy, ArePassed, HasWitness};
-ghost use Rattle.pg_reach.specs.WitnessedUpTo.{AreUpTo, IsUpTo, IsReadIn};
+ghost use Rattle.pg_reach.specs.WitnessedUpTo.{AreUpTo, IsUpTo, IsReadIn, HasWitnessUnder};
+ghost use Rattle.pg_reach.specs.WitnessedUpTo.{IsFoundAfter};
 
 use crate::finder::{WALKS, freshest_moments_at, walk_of};
 use crate::parts::{part_of, parts_of};
@@ -142,11 +144,8 @@ impl View<'_> {
         requires reach { IsReach self.now.run self.now.walker level x.now }
         requires read { IfSome piece.now.read
             (IsReadIn self.now.run self.now.walker level x.now piece.now) }
-        requires some { IfSome found
-            (HasWitness self.now.run self.now.event self.now.walker.number) }
         ensures memo { memo.new ≡ memo.old }
-        ensures some { IfSome result
-            (HasWitness self.now.run self.now.event self.now.walker.number) }
+        ensures some { IsFoundAfter self.now.run self.now.walker self.now.event found result }
         ensures later { (j : ℕ) → IsUpTo found j → IsUpTo result j }
         ensures passed { IsPassedBy self.now.run self.now.walker self.now.event level x.now
             piece.now result }
@@ -184,11 +183,8 @@ impl View<'_> {
         requires low { self.now.low ≡ 0 }
         requires small { self.now.walker.number < 2 ^ 32 }
         requires reach { IsReach self.now.run self.now.walker level x.now }
-        requires some { IfSome found
-            (HasWitness self.now.run self.now.event self.now.walker.number) }
         ensures memo { memo.new ≡ memo.old }
-        ensures some { IfSome result
-            (HasWitness self.now.run self.now.event self.now.walker.number) }
+        ensures some { IsFoundAfter self.now.run self.now.walker self.now.event found result }
         ensures later { (j : ℕ) → IsUpTo found j → IsUpTo result j }
         ensures passed { ArePassed self.now.run self.now.walker self.now.event level
             (max x.now.from 0) (min x.now.to self.now.walker.number + 1) x.now result }
@@ -221,11 +217,8 @@ impl View<'_> {
         requires low { self.now.low ≡ 0 }
         requires small { self.now.walker.number < 2 ^ 32 }
         requires each { All (IsReach self.now.run self.now.walker level) reaches.now }
-        requires some { IfSome found
-            (HasWitness self.now.run self.now.event self.now.walker.number) }
         ensures memo { memo.new ≡ memo.old }
-        ensures some { IfSome result
-            (HasWitness self.now.run self.now.event self.now.walker.number) }
+        ensures some { IsFoundAfter self.now.run self.now.walker self.now.event found result }
         ensures later { (j : ℕ) → IsUpTo found j → IsUpTo result j }
         ensures passed { All (λ x. ArePassed self.now.run self.now.walker self.now.event level
             (max x.from 0) (min x.to self.now.walker.number + 1) x result) reaches.now }
@@ -251,11 +244,9 @@ impl View<'_> {
         requires low { self.now.low ≡ 0 }
         requires within { self.now.walker.number ≤ length self.now.run.events }
         requires small { self.now.walker.number < 2 ^ 32 }
-        requires some { IfSome found
-            (HasWitness self.now.run self.now.event self.now.walker.number) }
         ensures memo { memo.new ≡ memo.old }
-        ensures some { IfOk result (λ r. IfSome r
-            (HasWitness self.now.run self.now.event self.now.walker.number)) }
+        ensures some { IfOk result
+            (IsFoundAfter self.now.run self.now.walker self.now.event found) }
         ensures later { IfOk result (λ r. (j : ℕ) → IsUpTo found j → IsUpTo r j) }
         ensures all { IfOk result (AreUpTo self.now.run self.now.walker self.now.event) }
     {
@@ -303,12 +294,106 @@ fn last_number(
     Ok(last)
 }
 
-/// The latest number below this one at which some moments would witness an access or an assist,
-/// which need not be one of the events that are seen, with the freshest that do. `None` where there
-/// is no such number.
+/// The last number up to the walker's at which moments under its PCID would witness an event, or
+/// `None` where none would at any.
+fn last_number_under(
+    alloc: Global,
+    seen: &Seen<'_>,
+    event: &Event,
+    walker: Walker,
+) -> Result<Option<u32>, AllocError>
+    requires well { broken_rule seen.now.head event.now ≡ None }
+    requires asks { Asks walker event.now }
+    requires within { walker.number ≤ length seen.now.events }
+    requires small { walker.number < 2 ^ 32 }
+    ensures some { IfOk result (λ r. IfSome r (HasWitnessUnder seen.now walker event.now)) }
+    ensures all { IfOk result (AreUpTo seen.now walker event.now) }
+{
+    let mut memo = seen.memo(WALKS);
+    let spans = spans_of(alloc, seen, walker.p, 0, walker.number)?;
+    let view = View::new(alloc, seen, event, walker, 0, &spans)?;
+    view.last_under(alloc, &mut memo, None)
+}
+
+/// The PCID that processor `p` has at the first of some moments.
+fn pcid_by(seen: &Seen<'_>, p: u16, moments: &Moments) -> u16
+    requires { p < length seen.now.head.processors }
+    ensures { result ≡ (control_at seen.now.head seen.now.events p (first_or 0 moments.now)).pcid }
+{
+    seen.control_at(p, moments.as_slice()[0]).pcid
+}
+
+/// The last number up to the walker's at which moments under its PCID would witness an event, with
+/// the freshest that do there.
+fn own_last(
+    alloc: Global,
+    seen: &Seen<'_>,
+    event: &Event,
+    walker: Walker,
+) -> Result<Option<Last>, AllocError>
+    requires well { broken_rule seen.now.head event.now ≡ None }
+    requires asks { Asks walker event.now }
+    requires within { walker.number ≤ length seen.now.events }
+    requires small { walker.number < 2 ^ 32 }
+    requires own { IsAtNext seen.now walker }
+    ensures some { IfOk result (λ last. IfSome last
+        (IsLastOf seen.now.head seen.now.events (walker.number + 1) event.now)) }
+    ensures none { IfOk result (λ last. IfNone last
+        (NoneOwn seen.now.head seen.now.events (walker.number + 1) event.now 0
+        (walker.number + 1))) }
+{
+    let Some(number) = last_number_under(alloc, seen, event, walker)? else {
+        return Ok(None);
+    };
+    match freshest_moments_at(alloc, seen, number, event)? {
+        Some(moments) => Ok(Some(Last {
+            number,
+            moments,
+            other: None,
+        })),
+        None => Ok(None),
+    }
+}
+
+/// The last number up to the walker's at which some moments would witness an event that none would
+/// under the walker's PCID, with the freshest that do there, and their PCID.
+fn other_last(
+    alloc: Global,
+    seen: &Seen<'_>,
+    event: &Event,
+    walker: Walker,
+) -> Result<Option<Last>, AllocError>
+    requires well { broken_rule seen.now.head event.now ≡ None }
+    requires asks { Asks walker event.now }
+    requires within { walker.number ≤ length seen.now.events }
+    requires small { walker.number < 2 ^ 32 }
+    requires none { NoneOwn seen.now.head seen.now.events (walker.number + 1) event.now 0
+        (walker.number + 1) }
+    ensures some { IfOk result (λ last. IfSome last
+        (IsLastOf seen.now.head seen.now.events (walker.number + 1) event.now)) }
+    ensures none { IfOk result (λ last. IfNone last
+        (NoneWitness seen.now.head seen.now.events event.now 0 (walker.number + 1))) }
+{
+    let Some(number) = last_number(alloc, seen, event, walker)? else {
+        return Ok(None);
+    };
+    match freshest_moments_at(alloc, seen, number, event)? {
+        Some(moments) => Ok(Some(Last {
+            number,
+            moments,
+            other: Some(pcid_by(seen, walker.p, &moments)),
+        })),
+        None => Ok(None),
+    }
+}
+
+/// The latest number below this one at which moments under the PCID that the processor has here
+/// would witness an access or an assist, which need not be one of the events that are seen, with
+/// the freshest moments that do there. Where there is no such number, the latest at which moments
+/// under another PCID would, and which one; `None` where none would.
 ///
-/// It asks the past, as `any_moments` does, from its beginning on and under each PCID that the
-/// processor ever had. It fails only where memory is refused.
+/// It asks the past, as `any_moments` does, from its beginning on, and each PCID that the processor
+/// ever had only where its own gives nothing. It fails only where memory is refused.
 pub fn last_moments_at(
     alloc: Global,
     seen: &Seen<'_>,
@@ -332,22 +417,20 @@ pub fn last_moments_at(
     let walker = Walker {
         p,
         la,
-        pcid: 0,
+        pcid: seen.control_at(p, number).pcid,
         number: most,
         freshest: false,
     };
-    let Some(number) = last_number(alloc, seen, event, walker)? else {
-        return Ok(None);
-    };
-    match freshest_moments_at(alloc, seen, number, event)? {
-        Some(moments) => Ok(Some(Last { number, moments })),
-        None => Ok(None),
+    match own_last(alloc, seen, event, walker)? {
+        Some(last) => Ok(Some(last)),
+        None => other_last(alloc, seen, event, walker),
     }
 }
 
 /// The latest number below that of an access or an assist of a history which the event could have
-/// had: some moments would witness it there, and none would at any number between. `None` where
-/// there is no such number.
+/// had: moments under its own PCID would witness it there, and none would at any number between; or
+/// where no such moments would at any number, moments under another PCID. `None` where there is no
+/// such number.
 ///
 /// It asks as `last_moments_at` does. It fails only where memory is refused.
 pub fn last_moments(alloc: Global, history: &History, i: u64) -> Result<Option<Last>, AllocError>

@@ -33,7 +33,8 @@ use Rattle.pg_event.specs.Walk.{Reading, readings, entry_address, below, root_of
 use Rattle.pg_event.specs.Wants.{is_table, may_dirty}
 use Rattle.pg_event.specs.Witness.{leads_to, is_in_order, is_one_context, last_or, survives, structures_survive, tables_accessed, Asked, asked_by, asked_of, is_updated, failing_leaf, failing_fault, failing_end, failing_flags, failing_walk, failing_claim, failing_update, walked, failing_access, failing_assist, claim_of, update_of, failing_event}
 use Rattle.pg_run_of.proofs.Accesses.{guard_none, last_none}
-use Rattle.pg_search.specs.Law.{with_moments, AreWitness}
+use Rattle.pg_search.specs.Law.{with_moments, names_moments, AreWitness}
+use Rattle.pg_search.specs.ReachableTables.{first_or}
 use Rattle.pg_search.specs.Changes.{AreAlike, WitnessedAlike}
 
 -- moments of some events, up to a last one, are carried to moments of others in their order, with
@@ -260,6 +261,33 @@ walked_moved head xs ys i f la start ws k up = moved_readings head.cfg.m (mem_at
 
 pub walked_up_to : (head : Head) (xs : List Event) (i la : ℕ) (start : Control) (ws : List ℕ) → AreUpTo i ws → AreReadUpTo i (walked head xs la start ws)
 walked_up_to head xs i la start ws up = read_up_to head.cfg.m (mem_at xs) i la Four (root_of start).table (root_of start).rights ws up
+
+-- moments that witness an access, or an assist, are not above its number
+
+pub access_up_to : (head : Head) (xs : List Event) (c : Claim) (ws : List ℕ) → failing_access head xs c ws ≡ None → AreUpTo c.number ws
+access_up_to head xs c [] h = tt
+access_up_to head xs c (w ∷ ws) h =
+    let start : Control = control_at head xs c.p w in
+    in_order (w ∷ ws) c.number (claim_ordered head xs c start.pcid (w ∷ ws) (walked head xs c.la start (w ∷ ws)) h)
+
+assist_up_to : (head : Head) (xs : List Event) (u : Update) (ws : List ℕ) → failing_assist head xs u ws ≡ None → AreUpTo u.number ws
+assist_up_to head xs u [] h = tt
+assist_up_to head xs u (w ∷ ws) h =
+    let start : Control = control_at head xs u.p w in
+    in_order (w ∷ ws) u.number (update_ordered head xs u start.pcid (w ∷ ws) (walked head xs u.la start (w ∷ ws)) h)
+
+first_of_all : (i : ℕ) (ws : List ℕ) → AreUpTo i ws → first_or 0 ws ≤ i
+first_of_all i [] up = omega arith
+first_of_all i (w ∷ ws) up = up.0
+
+pub first_within : (head : Head) (xs : List Event) (i : ℕ) (e : Event) (ws : List ℕ) → names_moments e ≡ true → AreWitness head xs i e ws → first_or 0 ws ≤ i
+first_within head xs i (Write p addr value) ws names w = absurd (cc)
+first_within head xs i (Access p flags la outcome moments) ws names w = first_of_all i ws (access_up_to head xs (claim_of i p flags la outcome) ws w.good)
+first_within head xs i (Assist p flags la word moments) ws names w = first_of_all i ws (assist_up_to head xs (update_of i p flags la word) ws w.good)
+first_within head xs i (MovCr3 p operand) ws names w = absurd (cc)
+first_within head xs i (Invlpg p la) ws names w = absurd (cc)
+first_within head xs i (Invpcid p kind pcid la) ws names w = absurd (cc)
+first_within head xs i (MovCr4Pge p on) ws names w = absurd (cc)
 
 access_moved : (head : Head) (xs ys : List Event) (f : ℕ → ℕ) (c : Claim) (ws : List ℕ) → Carries head xs ys c.number f → failing_access head xs c ws ≡ None → failing_access head ys (moved_claim f c) (map f ws) ≡ None
 access_moved head xs ys f c [] k h = absurd (cc)

@@ -18,7 +18,10 @@ use Rattle.pg_event.specs.Invalidation.{must_drop_structure, must_drop_translati
 use Rattle.pg_event.specs.Witness.{any_from, takes_out, survives}
 use Rattle.pg_search.specs.Law.{AreWitness}
 use Rattle.pg_search.specs.Placeholders.{with_placeholder}
-use Rattle.pg_search.specs.Changes.{changes_something, idle, kept_of, AreKeptOf, WitnessedAmongKept, TakenByAChange, AreAlike}
+use Rattle.pg_event.specs.Form.{processor_of}
+use Rattle.pg_search.specs.declared.last.Last.{Last}
+use Rattle.pg_search.specs.Last.{NoneWitness, AreOwn, HasOwn, NoneOwn, IsLastUnder}
+use Rattle.pg_search.specs.Changes.{changes_something, idle, kept_of, AreKeptOf, WitnessedAmongKept, TakenByAChange, DroppedByAChange, AreAlike}
 use Rattle.pg_search.proofs.Stepping.{take_next}
 use Rattle.pg_search.proofs.Carries.{Carries, carried, witnessed_alike}
 use Rattle.pg_search.proofs.Writers.{any_from-last}
@@ -176,6 +179,9 @@ past n w = cond (w == n) (suc n) w
 past_here : (n w : ℕ) → w ≡ n → past n w ≡ suc n
 past_here n w is = ap (λ b. cond b (suc n) w) (eq-eqb w n is)
 
+past_other : (n w : ℕ) → (w ≡ n → ⊥) → past n w ≡ w
+past_other n w other = ap (λ b. cond b (suc n) w) (false_from_ne_true (w == n) (λ t. other (eqb-true w n t)))
+
 past_before : (n w : ℕ) → w < n → past n w ≡ w
 past_before n w lt = ap (λ b. cond b (suc n) w) (false_from_ne_true (w == n) (λ t. let is : w ≡ n = eqb-true w n t in omega (arith, lt, is)))
 
@@ -241,16 +247,58 @@ module _ (head : Head) (events : List Event) (n : ℕ) (e : Event) (at : slice_g
   witness_past : (x : Event) (ws : List ℕ) → AreWitness head events n x ws → AreWitness head events (suc n) x (map (past n) ws)
   witness_past x ws h = subst (λ k. AreWitness head events k x (map (past n) ws)) (past_here n n refl) (carried head events events n (past n) x ws carries_past h)
 
+  -- what was read under a PCID is read under it there
+
+  control_moved : (p w : ℕ) → control_at head events p (past n w) ≡ control_at head events p w
+  control_moved p w =
+      elim (cases_eq w n) as (λ _. control_at head events p (past n w) ≡ control_at head events p w) [
+        | inl is ↦ ap (control_at head events p) (past_here n w is) ∙ control_past p ∙ ap (control_at head events p) (sym is)
+        | inr other ↦ ap (control_at head events p) (past_other n w other)
+      ]
+
+  own_past : (i : ℕ) (x : Event) (ws : List ℕ) → AreOwn head events i x ws → AreOwn head events i x (map (past n) ws)
+  own_past i x [] h = h
+  own_past i x (w ∷ ws) h = ap (λ (c : Control). c.pcid) (control_moved (processor_of x) w) ∙ h
+
+  has_own_past : (i : ℕ) (x : Event) → HasOwn head events i x n → HasOwn head events i x (suc n)
+  has_own_past i x h = (map (past n) h.0, witness_past x h.0 h.1, own_past i x h.0 h.2)
+
+  module _ (i : ℕ) (x : Event) (last : Last) (here : last.number ≡ n) (low : n < i) (never : NoneWitness head events x i (i + 1)) where
+    not_own : HasOwn head events i x n → NoneOwn head events i x (n + 1) i → ⊥
+    not_own has none =
+        let later : HasOwn head events i x (suc n) = has_own_past i x has in
+        elim (cases_lt (suc n) i) as (λ _. ⊥) [
+          | inl lt ↦ none (suc n) (omega arith) lt later
+          | inr ge ↦ never (suc n) ge (omega (arith, low)) later.0 later.1
+        ]
+
+    not_any : (ws : List ℕ) → AreWitness head events n x ws → NoneWitness head events x (n + 1) i → ⊥
+    not_any ws witness none =
+        let later : AreWitness head events (suc n) x (map (past n) ws) = witness_past x ws witness in
+        elim (cases_lt (suc n) i) as (λ _. ⊥) [
+          | inl lt ↦ none (suc n) (omega arith) lt (map (past n) ws) later
+          | inr ge ↦ never (suc n) ge (omega (arith, low)) (map (past n) ws) later
+        ]
+
+not_last : (head : Head) (events : List Event) (i : ℕ) (e : Event) (last : Last) (taker : Event) → slice_get events last.number ≡ Some taker → changes_something taker ≡ false → last.number < i → NoneWitness head events e i (i + 1) → AreWitness head events last.number e last.moments → (other : Option ℕ) → IsLastUnder head events i e last other → ⊥
+not_last head events i e last taker at leaves low never witness None under = not_own head events last.number taker at leaves i e last refl low never under.0 under.1
+not_last head events i e last taker at leaves low never witness (Some pcid) under = not_any head events last.number taker at leaves i e last refl low never last.moments witness under.2
+
 pub taken_by_a_change : TakenByAChange
 taken_by_a_change head events i e last taker h none at =
     elim (cases_Bool (changes_something taker)) as (λ _. changes_something taker ≡ true) [
       | inl t ↦ t
+      | inr f ↦ absurd (not_last head events i e last taker at f h.before none h.witness last.other h.under)
+    ]
+
+pub dropped_by_a_change : DroppedByAChange
+dropped_by_a_change head events p from to event key taker gone at =
+    elim (cases_Bool (changes_something taker)) as (λ _. changes_something taker ≡ true) [
+      | inl t ↦ t
       | inr f ↦
-          let n : ℕ = last.number in
-          let ws : List ℕ = map (past n) last.moments in
-          let later : AreWitness head events (suc n) e ws = witness_past head events n taker at f e last.moments h.witness in
-          elim (cases_lt (suc n) i) as (λ _. changes_something taker ≡ true) [
-            | inl lt ↦ absurd (h.none (suc n) (omega arith) lt ws later)
-            | inr ge ↦ absurd (none (suc n) ge (omega (arith, h.before)) ws later)
-          ]
+          let test : Control → Event → Bool = λ c e. must_drop_translation c e key in
+          let same : survives head events p test from (suc event) ≡ survives head events p test from event =
+          on_end head events event taker at f p test (λ c. undropped test p c taker (translations_of_changes key) (and_right (0 == p) false refl) f) from gone.0 in
+          let low : suc event ≤ event = gone.3 (suc event) (omega (arith, gone.1)) (same ∙ gone.2) in
+          absurd (omega (arith, low))
     ]

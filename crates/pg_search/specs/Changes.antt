@@ -15,6 +15,7 @@ use Rattle.pg_chain.specs.Standing.{changes_nothing}
 use Rattle.pg_search.specs.declared.last.Last.{Last}
 use Rattle.pg_search.specs.Placeholders.{with_placeholder}
 use Rattle.pg_search.specs.Last.{NoneWitness, IsLastOf}
+use Rattle.pg_search.specs.Lasts.{IsEndedBy}
 use Rattle.pg_search.specs.Law.{AreWitness}
 
 -- every event but an access that got its answer: that writes no word, loads no register and drops
@@ -48,6 +49,14 @@ abbrev pub TakenByAChange : Type 0
 TakenByAChange = (head : Head) (events : List Event) (i : ℕ) (e : Event) (last : Last)
     (taker : Event) → IsLastOf head events i e last → NoneWitness head events e i (i + 1) →
     slice_get events last.number ≡ Some taker → changes_something taker ≡ true
+
+-- an event that took a translation away changes something
+abbrev pub DroppedByAChange : Type 0
+DroppedByAChange = (head : Head) (events : List Event) (p from to event : ℕ)
+    (key : TranslationKey) (taker : Event) →
+    IsEndedBy (λ w. survives head events p (λ c e. must_drop_translation c e key) from w)
+    from to (Some event) →
+    slice_get events event ≡ Some taker → changes_something taker ≡ true
 
 -- two runs have the same memory, control registers and drops up to a moment
 pub record AreAlike (head : Head) (xs ys : List Event) (i : ℕ) : Type 0 where

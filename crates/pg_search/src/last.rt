@@ -7,4 +7,7 @@ pub struct Last {
     pub number: u32,
     /// The freshest moments that witness it there.
     pub moments: Moments,
+    /// The PCID under which these read, where moments under the event's own would have witnessed it
+    /// at no earlier number.
+    pub other: Option<u16>,
 }

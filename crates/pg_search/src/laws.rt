@@ -2,6 +2,7 @@
 
 ghost use Rattle.pg_search.specs.Law.{UnwitnessedEventsHaveNoRun};
 ghost use Rattle.pg_search.specs.Changes.{WitnessedAmongKept, TakenByAChange, WitnessedAlike};
+ghost use Rattle.pg_search.specs.Changes.{DroppedByAChange};
 
 /// Where no moments witness an event, no run of the machine begins with the events up to it.
 pub fn unwitnessed_events_have_no_run()
@@ -18,6 +19,11 @@ pub fn witnessed_among_kept()
 /// something.
 pub fn taken_by_a_change()
     ensures { TakenByAChange }
+{}
+
+/// An event that took a translation away changes something.
+pub fn dropped_by_a_change()
+    ensures { DroppedByAChange }
 {}
 
 /// Which moments witness an event is told by what the events before it leave in memory, in control

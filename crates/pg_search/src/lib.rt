@@ -17,7 +17,8 @@ pub use fresh::are_as_fresh;
 pub use kept_run::KeptRun;
 pub use last::Last;
 pub use laws::{
-    taken_by_a_change, unwitnessed_events_have_no_run, witnessed_alike, witnessed_among_kept,
+    dropped_by_a_change, taken_by_a_change, unwitnessed_events_have_no_run, witnessed_alike,
+    witnessed_among_kept,
 };
 pub use lookup::Lookup;
 pub use seen::Seen;

@@ -7,7 +7,7 @@ use Rattle.pg_certify.specs.Accounts.{Account}
 use Rattle.pg_explain.specs.declared.denial.Denial.{Denial}
 use Rattle.pg_explain.specs.Denied.{IsDenialFor}
 use Rattle.pg_certify.specs.Windows.{IsCertifying}
-use Rattle.pg_answers.proofs.Told.{low, reach, well, names, within, changes_last, denial_is}
+use Rattle.pg_answers.proofs.Told.{low, reach, well, names, within, dropped_within, changes_last, changes_dropped, denial_is}
 use Rattle.pg_answers.proofs.denials.denial_by.Goals as goal
 
 pub overflow_cast-number : goal.overflow_cast-number
@@ -30,6 +30,12 @@ taken_of-taken-requires c =
     let of : IsDenialFor kept.head kept.events c.args.number c.args.event.now c.in_ok-denial.denial = subst (λ (q : Recorded). IsDenialFor q.head q.events c.args.number c.args.event.now c.in_ok-denial.denial) (c.among-seen.ensures ∙ c.kept.ensures ∙ ap (λ (f : Findings). f.kept) c.certifying-certifying.ensures) c.in_ok-denial.ensures in
     within c.args.account.now c.requires.0 c.args.number c.args.event.now c.requires.1 c.in_ok-denial.denial.last of.last
 
+pub dropped_of-dropped-requires : goal.dropped_of-dropped-requires
+dropped_of-dropped-requires c =
+    let kept : Recorded = c.args.account.now.findings.kept in
+    let of : IsDenialFor kept.head kept.events c.args.number c.args.event.now c.in_ok-denial.denial = subst (λ (q : Recorded). IsDenialFor q.head q.events c.args.number c.args.event.now c.in_ok-denial.denial) (c.among-seen.ensures ∙ c.kept.ensures ∙ ap (λ (f : Findings). f.kept) c.certifying-certifying.ensures) c.in_ok-denial.ensures in
+    dropped_within c.args.account.now c.requires.0 c.args.number c.args.event.now c.requires.1 c.in_ok-denial.denial.last c.in_ok-denial.denial.dropped of.dropped
+
 pub returns : goal.returns
 returns c = λ r h.
     let a : Account = c.args.account.now in
@@ -37,13 +43,14 @@ returns c = λ r h.
     let denial : Denial = c.in_ok-denial.denial in
     let kept : Recorded = c.args.account.now.findings.kept in
     let of : IsDenialFor kept.head kept.events c.args.number c.args.event.now c.in_ok-denial.denial = subst (λ (q : Recorded). IsDenialFor q.head q.events c.args.number c.args.event.now c.in_ok-denial.denial) (c.among-seen.ensures ∙ c.kept.ensures ∙ ap (λ (f : Findings). f.kept) c.certifying-certifying.ensures) c.in_ok-denial.ensures in
-    let changes = changes_last a r c.args.number e h c.denials_among_kept.ensures c.taken_by_a_change.ensures denial of in
+    let changes = changes_last a r c.args.number e h c.denials_among_kept.ensures c.taken_by_a_change.ensures c.dropped_by_a_change.ensures denial of in
+    let dropped = changes_dropped a r c.args.number e h c.denials_among_kept.ensures c.taken_by_a_change.ensures c.dropped_by_a_change.ensures denial of in
     let known : IsCertifying c.certifying-certifying.result.now r.head r.events = rw c.certifying-certifying.ensures h.known.certifying in
     record {
       number = of.number;
-      denial = denial_is a r c.args.number e h c.denials_among_kept.ensures c.taken_by_a_change.ensures denial of;
+      denial = denial_is a r c.args.number e h c.denials_among_kept.ensures c.taken_by_a_change.ensures c.dropped_by_a_change.ensures denial of;
       event = h.there;
-      taken = c.taken_of-taken.ensures r.head r.events h.known changes;
+      takers = cc (c.taken_of-taken.ensures r.head r.events h.known changes, c.dropped_of-dropped.ensures r.head r.events h.known dropped);
       count = c.len.ensures r.head r.events known;
       segments = c.segments.ensures r.head r.events known;
     }

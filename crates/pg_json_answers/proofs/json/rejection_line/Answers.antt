@@ -8,8 +8,8 @@ use Rattle.pg_json_answers.proofs.json.rejection_line.Goals as goal
 pub returns : goal.returns
 returns c =
     let x = c.args.rejection.now in
-    let cause : Fields = cause_fields (denial_json x.event x.taken x.denial) in
-    let caused = c.in_ok-fields.ensures (denial_json x.event x.taken x.denial) c.in_ok-cause.ensures in
+    let cause : Fields = cause_fields (denial_json x.event x.takers x.denial) in
+    let caused = c.in_ok-fields.ensures (denial_json x.event x.takers x.denial) c.in_ok-cause.ensures in
     let counts : Fields = with_counts x.events x.segments cause in
     let fields = c.in_ok-put_no.ensures counts (c.in_ok-put_counts.ensures cause caused) in
     c.line_of.ensures (with_no x.denial.number 14 (codes "no moments") counts) fields

@@ -11,7 +11,8 @@ use Rattle.pg_timeline.specs.declared.timeline.Span.{Span}
 use Rattle.pg_reach.specs.Views.{Viewed}
 use Rattle.pg_reach.specs.Stays.{IsSteady, ArePcids}
 use Rattle.pg_reach.specs.Asking.{under}
-use Rattle.pg_reach.specs.WitnessedUpTo.{HasWitness, AreUpTo}
+use Rattle.pg_reach.specs.WitnessedUpTo.{HasWitness, IsFoundAfter, AreUpTo}
+use Rattle.pg_reach.proofs.Before.{found_any}
 use Rattle.pg_reach.proofs.Pieces.{IsLater}
 use Rattle.pg_reach.specs.Parts.{ArePart, AreParts}
 use Rattle.pg_reach.proofs.Spans.{part_under}
@@ -34,7 +35,8 @@ loop-pcid-preserved c =
     let pcid : ℕ = get_or xs i 0 in
     let found : Option ℕ = c.in_ok-later.later in
     let on : IsLater c.loop-pcid.last found = c.in_ok-later.ensures.later in
-    let some : IfSome found (HasWitness r e c.args.walker.number) = subst (λ (w : Viewed). IfSome found (HasWitness w.run w.event w.walker.number)) c.in_ok-view.ensures c.in_ok-later.ensures.some in
+    let after : IsFoundAfter r (under c.args.walker pcid) e c.loop-pcid.last found = subst (λ (w : Viewed). IsFoundAfter w.run w.walker w.event c.loop-pcid.last found) c.in_ok-view.ensures c.in_ok-later.ensures.some in
+    let some : IfSome found (HasWitness r e c.args.walker.number) = found_any r (under c.args.walker pcid) e c.loop-pcid.last found c.loop-pcid.invariant.some after in
     let mine : AreUpTo r (under c.args.walker pcid) e found = subst (λ (w : Viewed). AreUpTo w.run w.walker w.event found) c.in_ok-view.ensures c.in_ok-later.ensures.all in
     let all : Option ℕ → ℕ → Type 0 = λ last pcid. AreUpTo r (under c.args.walker pcid) e last in
     record {

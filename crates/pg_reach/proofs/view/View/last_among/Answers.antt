@@ -4,6 +4,7 @@ use Rattle.std.proofs.lemmas.List.{take_more, take_all}
 use Rattle.std.proofs.lemmas.List.Elements.{All-push}
 use Rattle.pg_reach.specs.declared.reach.Reach.{Reach}
 use Rattle.pg_reach.specs.WitnessedUpTo.{ArePassed}
+use Rattle.pg_reach.proofs.Before.{found_more, found_same}
 use Rattle.pg_reach.proofs.Pieces.{all_later}
 use Rattle.pg_reach.proofs.view.View.last_among.Goals as goal
 
@@ -16,7 +17,7 @@ loop-x-preserved c =
     let passed : Option ℕ → Reach → Type 0 = λ found x. ArePassed c.args.self.now.run c.args.self.now.walker c.args.self.now.event c.args.level (max x.from 0) (min x.to c.args.self.now.walker.number + 1) x found in
     record {
       memo = c.last_in-last.ensures.memo ∙ c.loop-x.invariant.memo;
-      some = c.last_in-last.ensures.some;
+      some = found_more c.args.self.now.run c.args.self.now.walker c.args.self.now.event c.args.found c.loop-x.last c.last_in-last.result c.loop-x.invariant.some c.last_in-last.ensures.some;
       later = λ j h. c.last_in-last.ensures.later j (c.loop-x.invariant.later j h);
       passed = subst (All (passed c.last_in-last.result)) (sym more) (All-push (passed c.last_in-last.result) (take i xs) x
           (all_later c.args.self.now.run c.args.self.now.walker c.args.self.now.event c.args.level (take i xs) c.loop-x.last c.last_in-last.result c.last_in-last.ensures.later c.loop-x.invariant.passed) c.last_in-last.ensures.passed);

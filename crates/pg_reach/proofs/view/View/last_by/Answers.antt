@@ -12,8 +12,9 @@ use Rattle.pg_reach.specs.declared.reach.Reach.{Reach}
 use Rattle.pg_entry.specs.declared.Level.{Level}
 use Rattle.pg_reach.specs.Reaching.{up_to, IsReach}
 use Rattle.pg_reach.specs.Views.{Viewed}
-use Rattle.pg_reach.specs.Asking.{Asks, want_by}
-use Rattle.pg_reach.specs.WitnessedUpTo.{IsLastUse, IsUpTo, HasWitness, IsReadIn, IsPassedBy}
+use Rattle.pg_reach.specs.Asking.{Asks, want_by, pcid_of}
+use Rattle.pg_reach.specs.WitnessedUpTo.{IsLastUse, IsUpTo, HasWitnessUnder, IsReadIn, IsPassedBy}
+use Rattle.pg_reach.proofs.Before.{found_there, found_same, reached_under}
 use Rattle.pg_reach.proofs.Cases.{processor_there}
 use Rattle.pg_reach.proofs.Passed.{up_to_less}
 use Rattle.pg_reach.proofs.Passing.{passing, IsUsed}
@@ -41,11 +42,6 @@ none_later r v e level x piece n found asks use' none = λ m read wanted j low h
     let by = passing r v e level x m n asks (use' m read wanted) j low high good in
     up_to_less found n j by.0 (none m read by.1)
 
-witness_there : (r : Recorded) (e : Event) (most n : ℕ) (found result : Option ℕ) → IfSome found (HasWitness r e most) → HasWitness r e most n → IfSome result (λ k. (k ≡ n) ⊎ (found ≡ Some k)) → IfSome result (HasWitness r e most)
-witness_there r e most n found None old new h = tt
-witness_there r e most n found (Some k) old new (inl a) = subst (HasWitness r e most) (sym a) new
-witness_there r e most n found (Some k) old new (inr b) = subst (λ o. IfSome o (HasWitness r e most)) b old
-
 pub last_use-number-requires-clause-processor : goal.last_use-number-requires-clause-processor
 last_use-number-requires-clause-processor c = processor_there c.args.self.now.run.head c.args.self.now.walker c.args.self.now.event c.requires.asks c.requires.well
 
@@ -57,13 +53,23 @@ returns-then-is_up_to-clause-passed c =
     (λ m. used r v c.args.self.now.event c.args.level c.args.x.now c.args.piece.now c.in-Some.read c.last_use-number.result m c.requires.reach c.requires.read c.in-Some.is c.last_use-number.ensures.order c.last_use-number.ensures.last)
     (λ m read good. c.is_up_to.ensures c.if-is_up_to.true)
 
+-- the moments of a reading are under the walker's PCID
+under_there : (r : Recorded) (v : Walker) (level : Level) (x : Reach) (piece : Piece) (read : ℕ) → IsReach r v level x → IfSome piece.read (IsReadIn r v level x piece) → piece.read ≡ Some read → pcid_of r v (up_to read x.latest) ≡ v.pcid
+under_there r v level x piece read reach reads is =
+    let at : IsReadIn r v level x piece read = subst (λ o. IfSome o (IsReadIn r v level x piece)) is reads in
+    reached_under r v level x read reach at.from at.to at.under
+
 pub returns-then-is_witness-clause-some : goal.returns-then-is_witness-clause-some
 returns-then-is_witness-clause-some c =
     let r : Recorded = c.args.self.now.run in
+    let v : Walker = c.args.self.now.walker in
     let e : Event = c.args.self.now.event in
     let n : ℕ = c.last_use-number.result in
-    let witness : AreWitness r.head r.events n e c.up_to-moments.result = subst (λ (v : Viewed). AreWitness v.run.head v.run.events n v.event c.up_to-moments.result) c.self.view_is (c.is_witness.ensures.some c.if-is_witness.true) in
-    witness_there r e c.args.self.now.walker.number n c.args.found c.later.result c.requires.some (c.last_use-number.ensures.within, (c.up_to-moments.result, witness)) c.later.ensures.either
+    let ms : List ℕ = c.up_to-moments.result in
+    let witness : AreWitness r.head r.events n e ms = subst (λ (v : Viewed). AreWitness v.run.head v.run.events n v.event ms) c.self.view_is (c.is_witness.ensures.some c.if-is_witness.true) in
+    let under : pcid_of r v ms ≡ v.pcid = ap (pcid_of r v) c.up_to-moments.ensures ∙ under_there r v c.args.level c.args.x.now c.args.piece.now c.in-Some.read c.requires.reach c.requires.read c.in-Some.is in
+    let new : HasWitnessUnder r v e n = record { within = c.last_use-number.ensures.within; moments = ms; witness = witness; under = under } in
+    found_there r v e n c.args.found c.later.result new c.later.ensures.either
 
 pub returns-then-is_witness-clause-passed : goal.returns-then-is_witness-clause-passed
 returns-then-is_witness-clause-passed c =

@@ -4,6 +4,7 @@ use Rattle.pg_reach.specs.declared.walker.Walker.{Walker}
 use Rattle.pg_reach.specs.declared.reach.Reach.{Reach}
 use Rattle.pg_reach.specs.Views.{Viewed}
 use Rattle.pg_reach.specs.WitnessedUpTo.{ArePassed}
+use Rattle.pg_reach.proofs.Before.{found_more, found_same}
 use Rattle.pg_reach.proofs.Pieces.{read_in, passed_more, passed_less}
 use Rattle.pg_reach.proofs.view.View.last_in.Goals as goal
 
@@ -24,7 +25,7 @@ loop-at-preserved c =
     record {
       order = omega (arith, next, c.loop-at.invariant.order, c.piece_at-piece.ensures.low);
       memo = c.last_by-last.ensures.memo ∙ c.loop-at.invariant.memo;
-      some = c.last_by-last.ensures.some;
+      some = found_more r v c.args.self.now.event c.args.found c.loop-at.last c.last_by-last.result c.loop-at.invariant.some c.last_by-last.ensures.some;
       later = λ j h. c.last_by-last.ensures.later j (c.loop-at.invariant.later j h);
       passed = subst (λ until. ArePassed r v c.args.self.now.event c.args.level (max x.from 0) until x c.last_by-last.result) (sym next) passed;
     }

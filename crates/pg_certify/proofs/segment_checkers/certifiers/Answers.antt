@@ -1,7 +1,7 @@
 use Rattle.std.proofs.Common.{◌≡◌, All, List, sym, subst, arith}
 use Rattle.std.proofs.lemmas.List.Elements.{All-push}
 use Rattle.pg_event.specs.Spelling.{Recorded}
-use Rattle.pg_certify.proofs.crew.certifiers.Goals as goal
+use Rattle.pg_certify.proofs.segment_checkers.certifiers.Goals as goal
 
 pub loop-preserved : goal.loop-preserved
 loop-preserved c = record {

@@ -1,5 +1,5 @@
 use Rattle.std.proofs.Common.{◌≡◌, All, vec_len}
-use Rattle.pg_certify.proofs.crew.certifiers.Given as goal
+use Rattle.pg_certify.proofs.segment_checkers.certifiers.Given as goal
 
 abbrev pub invariant-loop : goal.invariant-loop
 invariant-loop l = record {

@@ -5,7 +5,7 @@ use Rattle.pg_pool.specs.Rounds.{round}
 use Rattle.pg_pool.specs.Verdicts.{AreVerdicts}
 use Rattle.pg_certify.specs.Segments.{IsAnswer}
 use Rattle.pg_certify.proofs.Segments.{FoundBelow}
-use Rattle.pg_certify.proofs.crew.least_of.Given as goal
+use Rattle.pg_certify.proofs.segment_checkers.least_of.Given as goal
 
 abbrev pub invariant-loop-answer : goal.invariant-loop-answer
 invariant-loop-answer l =

@@ -8,7 +8,7 @@ ghost use Rattle.pg_search.specs.Changes.{kept_of};
 
 use crate::certifier::Certifier;
 use crate::guesses::Guesses;
-use crate::lately::Lately;
+use crate::recent_lookups::RecentLookups;
 use pg_event::Event;
 use pg_search::KeptRun;
 use std::alloc::AllocError;
@@ -41,7 +41,7 @@ impl Certifier<KeptRun> {
         }) }
         ensures err { OnErr result (self.new ≡ self.old) }
     {
-        self.lately.forget(event);
+        self.recent.forget(event);
         self.judging.keep(event)
     }
 
@@ -70,6 +70,6 @@ impl Certifier<KeptRun> {
     {
         self.judging.forget_from(number);
         self.guesses = Guesses::new(self.alloc);
-        self.lately = Lately::new(self.alloc);
+        self.recent = RecentLookups::new(self.alloc);
     }
 }

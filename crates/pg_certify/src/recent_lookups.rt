@@ -1,4 +1,4 @@
-//! What was looked up of a run lately, kept while it stays. Nothing is claimed of it but where
+//! Recent look-ups in a run, each kept while its answer stays. Nothing is claimed of it but where
 //! tables can lie: moments are guessed by it, and judged before they are taken.
 
 ghost use Rattle.std.specs.Prelude.{◌<◌, ◌^◌, length};
@@ -52,10 +52,10 @@ const WORDS: usize = 512;
 /// An odd number whose multiples by the numbers from 0 on, cut to 64 bits, lie evenly apart.
 const SPREAD: u64 = 0x9e37_79b9_7f4a_7c15;
 
-/// What was asked last of each processor, and words of tables that were asked lately, always of the
+/// What was asked last of each processor, and words of tables that were read recently, always of the
 /// same `Seen`. Where memory is refused, some are not kept.
 #[derive(Drop)]
-pub(crate) struct Lately {
+pub(crate) struct RecentLookups {
     alloc: Global,
     stays: Vec<Stay>,
     words: Vec<Word>,
@@ -66,9 +66,9 @@ fn place_of(address: u64) -> usize {
     ((address / 8).wrapping_mul(SPREAD) >> (64 - WORD_BITS)) as usize
 }
 
-impl Lately {
-    pub(crate) fn new(alloc: Global) -> Lately {
-        Lately {
+impl RecentLookups {
+    pub(crate) fn new(alloc: Global) -> RecentLookups {
+        RecentLookups {
             alloc,
             stays: Vec::new(alloc),
             words: Vec::new(alloc),

@@ -155,7 +155,7 @@ impl<J: Judging + Drop> Certifier<J> {
             }
             let walk = walk_by(
                 &self.judging.seen(),
-                &mut self.lately,
+                &mut self.recent,
                 case.p,
                 case.la,
                 &[],
@@ -184,7 +184,7 @@ impl<J: Judging + Drop> Certifier<J> {
     {
         let walk = walk_by(
             &self.judging.seen(),
-            &mut self.lately,
+            &mut self.recent,
             case.p,
             case.la,
             &[],
@@ -219,7 +219,7 @@ impl<J: Judging + Drop> Certifier<J> {
         let mut moment = case.i;
         let mut walk = walk_by(
             &self.judging.seen(),
-            &mut self.lately,
+            &mut self.recent,
             case.p,
             case.la,
             &[],
@@ -232,7 +232,7 @@ impl<J: Judging + Drop> Certifier<J> {
             }
             walk = walk_by(
                 &self.judging.seen(),
-                &mut self.lately,
+                &mut self.recent,
                 case.p,
                 case.la,
                 &[],

@@ -3,7 +3,7 @@ use Rattle.pg_event.specs.Heads.{Head}
 use Rattle.pg_event.specs.Spelling.{Recorded}
 use Rattle.pg_certify.specs.Segments.{IsAnswer}
 use Rattle.pg_certify.proofs.Segments.{of_segment_if_ok}
-use Rattle.pg_certify.proofs.crew.OfHistorySegments.judge.Goals as goal
+use Rattle.pg_certify.proofs.segment_checkers.OfHistorySegments.judge.Goals as goal
 
 pub returns-clause-verdict : goal.returns-clause-verdict
 returns-clause-verdict c = λ run at.

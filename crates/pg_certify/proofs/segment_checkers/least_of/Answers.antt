@@ -1,6 +1,6 @@
 use Rattle.std.proofs.Common.{◌≡◌, ℕ, length, arith, subst, Some, None}
 use Rattle.pg_certify.proofs.Segments.{FoundBelow, answer_at, first_of, found_more, none_of}
-use Rattle.pg_certify.proofs.crew.least_of.Goals as goal
+use Rattle.pg_certify.proofs.segment_checkers.least_of.Goals as goal
 
 pub loop-answer-init : goal.loop-answer-init
 loop-answer-init c = λ head events are k inside lt. absurd (omega (arith, lt))

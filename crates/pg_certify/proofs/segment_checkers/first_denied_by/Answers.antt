@@ -4,8 +4,8 @@ use Rattle.pg_pool.specs.declared.round.Round.{Round}
 use Rattle.pg_pool.specs.Verdicts.{AreVerdicts}
 use Rattle.pg_certify.specs.Segments.{IsAnswer, IsBetween, IsLeastDenied}
 use Rattle.pg_certify.proofs.Segments.{all_certified, all_denied, covers, settled}
-use Rattle.pg_certify.proofs.crew.first_denied_by.Given.{Over}
-use Rattle.pg_certify.proofs.crew.first_denied_by.Goals as goal
+use Rattle.pg_certify.proofs.segment_checkers.first_denied_by.Given.{Over}
+use Rattle.pg_certify.proofs.segment_checkers.first_denied_by.Goals as goal
 
 -- what the segments tell of the run
 least : (g : Over) (c : goal.After-drop-segments g) → IsLeastDenied (IsBetween 0 (segment_count c.args.history.now * c.args.history.now.head.segment)) c.args.history.now.head c.args.history.now.events c.least_of.result

@@ -9,7 +9,7 @@ ghost use Rattle.pg_pool.specs.Rounds.{AreCheckers, round};
 ghost use Rattle.pg_pool.specs.Verdicts.{AreVerdicts};
 ghost use Rattle.pg_certify.specs.Certified.{IsDenied, CanBeCertified};
 ghost use Rattle.pg_certify.specs.Segments.{IsAnswer, IsBetween, IsLeastDenied};
-ghost use Rattle.pg_certify.specs.declared.crew.CertifyError.TheVariants.{Memory};
+ghost use Rattle.pg_certify.specs.declared.segment_checkers.CertifyError.TheVariants.{Memory};
 
 use crate::certifier::Certifier;
 use crate::judging::Whole;
