@@ -1,0 +1,29 @@
+use Rattle.std.proofs.Common.{◌≡◌, Bool, List, Option, Some, refl, ap, sym, subst, ◌∙◌}
+use Rattle.std.specs.Prelude.{codes}
+use Rattle.clap.specs.Walk.{Row}
+use Rattle.pg_event.specs.declared.selection.Selection.{Selection}
+use Rattle.pg_plan.specs.Commands.{has, options_of, Reads, IsSelectionOf, IsAskedOfShow}
+use Rattle.pg_plan.specs.declared.request.ShowOptions.{ShowOptions}
+use Rattle.pg_plan.proofs.planner.asked_of_show.Goals as goal
+
+some_same : {X : Type 0} (x y : X) → Some x ≡ Some y → x ≡ y
+some_same x y h = cc
+
+abbrev shown_by : Selection → Bool → ShowOptions
+shown_by selection json = record { selection = selection; json = json }
+
+reads_both : (rows : List Row) (selection : Selection) (json : Bool) → Reads (Some selection) (IsSelectionOf rows) → json ≡ has (codes "json") rows → Reads (Some (shown_by selection json)) (IsAskedOfShow rows)
+reads_both rows selection json reads told = λ x. (
+  λ is.
+      let same : shown_by selection json ≡ x = some_same (shown_by selection json) x is in
+      record {
+        selection = subst (λ (s : ShowOptions). IsSelectionOf rows s.selection) same ((reads selection).0 refl);
+        json = ap (λ (s : ShowOptions). s.json) (sym same) ∙ told;
+      },
+  λ asked.
+      let field : selection ≡ x.selection = some_same selection x.selection ((reads x.selection).1 asked.selection) in
+      ap Some (ap (λ s. shown_by s json) field ∙ ap (shown_by x.selection) (told ∙ sym asked.json)),
+)
+
+pub returns : goal.returns
+returns c = reads_both (options_of c.args.own.now) c.in_ok-selection_of.field-0 c.has.result c.in_ok-selection_of.ensures c.has.ensures
