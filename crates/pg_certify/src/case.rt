@@ -38,7 +38,12 @@ fn asks_of(outcome: Outcome) -> Asks {
 
 /// What an event asks, if it names moments.
 #[inline(always)]
-pub(crate) fn case_of(seen: &Seen<'_>, recent: &mut RecentLookups, i: u32, event: &Event) -> Option<Case>
+pub(crate) fn case_of(
+    seen: &Seen<'_>,
+    recent: &mut RecentLookups,
+    i: u32,
+    event: &Event,
+) -> Option<Case>
     requires processor { processor_of event.now < length seen.now.head.processors }
     ensures number { IfSome result (λ case. case.i ≡ i) }
     ensures processor { IfSome result (λ case. case.p < length seen.now.head.processors) }

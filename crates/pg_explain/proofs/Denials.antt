@@ -1,6 +1,6 @@
 -- Why no moments witness an event, by what is kept of the events before it.
 use Rattle.std.proofs.Common.{◌≡◌, ℕ, ◌+◌, ◌-◌, ◌≤◌, List, [], ◌∷◌, length, map, Option, Some, None, IfSome, IfNone, refl, ap, sym, ◌∙◌, subst, arith}
-use Rattle.std.specs.Prelude.{slice_get, option_map, ◌<◌, ◌&&◌, Bool, true, false}
+use Rattle.std.specs.Prelude.{slice_get, option_map, ◌<◌, ◌&&◌, Bool, true}
 use Rattle.pg_entry.specs.declared.Kind.{Kind}
 use Rattle.pg_entry.specs.declared.Kind.TheVariants as kinds
 use Rattle.pg_entry.specs.Kinds.{kind_of}

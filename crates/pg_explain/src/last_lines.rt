@@ -76,7 +76,11 @@ pub(crate) fn dropped_in(events: &[Event], number: Option<u32>) -> Option<Event>
 }
 
 /// Appends when an event would last have been witnessed, and the event that took that away.
-pub(crate) fn push_last_seen(text: &mut String, taken: Option<Event>, last: &Last) -> Result<(), AllocError>
+pub(crate) fn push_last_seen(
+    text: &mut String,
+    taken: Option<Event>,
+    last: &Last,
+) -> Result<(), AllocError>
     ensures { OnOk result
         (string_bytes text.new ≡ string_bytes text.old ++ last_seen_by taken last.now) }
 {

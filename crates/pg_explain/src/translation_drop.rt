@@ -1,6 +1,6 @@
 //! The event that had to drop the translation which an access would last have used.
 
-ghost use Rattle.std.specs.Prelude.{◌≡◌, ◌<◌, length, IfOk};
+ghost use Rattle.std.specs.Prelude.{◌<◌, length, IfOk};
 ghost use Rattle.pg_entry.specs.Kinds.{kind_of};
 ghost use Rattle.pg_event.specs.Form.{processor_of};
 ghost use Rattle.pg_chain.specs.Walked.{reading_of};
@@ -14,14 +14,7 @@ use pg_search::{Last, Lookup, Seen};
 use std::alloc::{AllocError, Global};
 
 /// The first event below a number that had to drop the translation of what was read under a PCID.
-fn drop_by(
-    seen: &Seen<'_>,
-    number: u32,
-    p: u16,
-    la: u64,
-    pcid: u16,
-    step: EntryRead,
-) -> Option<u32>
+fn drop_by(seen: &Seen<'_>, number: u32, p: u16, la: u64, pcid: u16, step: EntryRead) -> Option<u32>
     requires { p < length seen.now.head.processors }
     ensures { IsDropBy seen.now.head seen.now.events number p la pcid (reading_of step)
         (kind_of seen.now.head.cfg step.level step.value) result }

@@ -29,6 +29,7 @@ const UNMAPPED: Written = Written::Write(0, 0x4028, 0);
 
 /// A load of CR3 with PCID 2, and one with PCID 1, which drops nothing.
 const TO_TWO: Written = Written::Cr3(0, 0x1002);
+
 const BACK_TO_ONE: Written = Written::Cr3(0, 0x8000_0000_0000_1001);
 
 const CASES: [Case; 4] = [

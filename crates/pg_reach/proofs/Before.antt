@@ -1,5 +1,5 @@
 -- The last number at which some moments witness an event.
-use Rattle.std.proofs.Common.{◌≡◌, ℕ, ◌+◌, ◌≤◌, ◌⊎◌, ◌++◌, List, [], ◌∷◌, Option, Some, None, IfSome, IfNone, refl, inl, inr, ap, sym, ◌∙◌, subst, arith}
+use Rattle.std.proofs.Common.{◌≡◌, ℕ, ◌+◌, ◌≤◌, ◌⊎◌, ◌++◌, List, [], ◌∷◌, Option, Some, None, IfSome, refl, inl, inr, ap, sym, ◌∙◌, subst, arith}
 use Rattle.pg_entry.specs.declared.Level.{Level}
 use Rattle.pg_event.specs.declared.event.Event.{Event}
 use Rattle.pg_event.specs.declared.event.Event.TheVariants.{Write, Access, Assist, MovCr3, Invlpg, Invpcid, MovCr4Pge}
@@ -92,9 +92,13 @@ other_found r v e n ms pcid asks all has witness freshest none is = record {
   before = omega (arith, has.0);
   witness = witness;
   freshest = freshest;
-  under = (is ∙ ap (λ q. (control_at r.head r.events q (first_or 0 ms)).pcid) (sym (processor_asked v e asks)), none, λ j from lt ws by.
-      let up : j ≤ n = up_to_last r v e (Some n) asks all j (omega (arith, lt)) ws by in
-      omega (arith, from, up));
+  under = (
+    is ∙ ap (λ q. (control_at r.head r.events q (first_or 0 ms)).pcid) (sym (processor_asked v e asks)),
+    none,
+    λ j from lt ws by.
+        let up : j ≤ n = up_to_last r v e (Some n) asks all j (omega (arith, lt)) ws by in
+        omega (arith, from, up),
+  );
 }
 
 -- ---- numbers that are found one after another
@@ -113,10 +117,6 @@ pub found_first : (r : Recorded) (v : Walker) (e : Event) (last : Option ℕ) �
 found_first r v e None k = tt
 found_first r v e (Some n) (inl is) = absurd (cc)
 found_first r v e (Some n) (inr new) = new
-
-pub found_same : (r : Recorded) (v : Walker) (e : Event) (found : Option ℕ) → IsFoundAfter r v e found found
-found_same r v e None = tt
-found_same r v e (Some n) = inl refl
 
 pub found_there : (r : Recorded) (v : Walker) (e : Event) (n : ℕ) (found result : Option ℕ) → HasWitnessUnder r v e n → IfSome result (λ k. (k ≡ n) ⊎ (found ≡ Some k)) → IsFoundAfter r v e found result
 found_there r v e n found None new h = tt

@@ -1,4 +1,4 @@
-use Rattle.std.proofs.Common.{◌++◌, codes, decimal, string_bytes, append_assoc, ap, sym, ◌∙◌}
+use Rattle.std.proofs.Common.{◌++◌, codes, decimal, string_bytes, append_assoc, ap, ◌∙◌}
 use Rattle.pg_explain.specs.Lasts.{by_text, under_text}
 use Rattle.pg_explain.proofs.last_lines.push_last_moments.Goals as goal
 

@@ -1,4 +1,4 @@
-use Rattle.std.proofs.Common.{ℕ, List, Option, Some, subst}
+use Rattle.std.proofs.Common.{ℕ, List, Some, subst}
 use Rattle.std.specs.Prelude.{IfSome}
 use Rattle.pg_event.specs.declared.event.Event.{Event}
 use Rattle.pg_event.specs.Spelling.{Recorded}

@@ -4,7 +4,7 @@ use Rattle.std.proofs.lemmas.List.{take_more, take_all}
 use Rattle.std.proofs.lemmas.List.Elements.{All-push}
 use Rattle.pg_reach.specs.declared.reach.Reach.{Reach}
 use Rattle.pg_reach.specs.WitnessedUpTo.{ArePassed}
-use Rattle.pg_reach.proofs.Before.{found_more, found_same}
+use Rattle.pg_reach.proofs.Before.{found_more}
 use Rattle.pg_reach.proofs.Pieces.{all_later}
 use Rattle.pg_reach.proofs.view.View.last_among.Goals as goal
 

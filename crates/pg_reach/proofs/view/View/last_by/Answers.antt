@@ -1,4 +1,4 @@
-use Rattle.std.proofs.Common.{◌≡◌, ℕ, ◌≤◌, ◌⊎◌, List, Option, Some, None, true, inl, inr, ap, sym, ◌∙◌, subst, arith}
+use Rattle.std.proofs.Common.{◌≡◌, ℕ, ◌≤◌, List, Option, Some, None, true, ap, sym, ◌∙◌, subst, arith}
 use Rattle.std.specs.Prelude.{IfSome}
 use Rattle.pg_entry.specs.Kinds.{kind_of}
 use Rattle.pg_event.specs.declared.event.Event.{Event}
@@ -14,7 +14,7 @@ use Rattle.pg_reach.specs.Reaching.{up_to, IsReach}
 use Rattle.pg_reach.specs.Views.{Viewed}
 use Rattle.pg_reach.specs.Asking.{Asks, want_by, pcid_of}
 use Rattle.pg_reach.specs.WitnessedUpTo.{IsLastUse, IsUpTo, HasWitnessUnder, IsReadIn, IsPassedBy}
-use Rattle.pg_reach.proofs.Before.{found_there, found_same, reached_under}
+use Rattle.pg_reach.proofs.Before.{found_there, reached_under}
 use Rattle.pg_reach.proofs.Cases.{processor_there}
 use Rattle.pg_reach.proofs.Passed.{up_to_less}
 use Rattle.pg_reach.proofs.Passing.{passing, IsUsed}

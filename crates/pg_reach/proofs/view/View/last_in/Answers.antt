@@ -4,7 +4,7 @@ use Rattle.pg_reach.specs.declared.walker.Walker.{Walker}
 use Rattle.pg_reach.specs.declared.reach.Reach.{Reach}
 use Rattle.pg_reach.specs.Views.{Viewed}
 use Rattle.pg_reach.specs.WitnessedUpTo.{ArePassed}
-use Rattle.pg_reach.proofs.Before.{found_more, found_same}
+use Rattle.pg_reach.proofs.Before.{found_more}
 use Rattle.pg_reach.proofs.Pieces.{read_in, passed_more, passed_less}
 use Rattle.pg_reach.proofs.view.View.last_in.Goals as goal
 
