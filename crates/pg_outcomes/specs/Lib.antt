@@ -1,0 +1,5 @@
+pub mod Placed
+pub mod Allowing
+pub mod Pages
+pub mod Candidates
+pub mod Law
