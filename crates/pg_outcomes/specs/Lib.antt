@@ -3,3 +3,5 @@ pub mod Allowing
 pub mod Pages
 pub mod Candidates
 pub mod Law
+pub mod Asked
+pub mod Tmp

@@ -3,11 +3,14 @@
 #![tactic(auto)]
 
 mod allowed;
+mod asked;
 mod candidates;
 mod laws;
 mod outcomes;
 mod pages;
+pub mod tmp;
 
 pub use allowed::{Allowed, is_access, with_outcome};
+pub use asked::{Found, outcomes_of};
 pub use laws::allowed_exactly_where_a_run_exists;
 pub use outcomes::outcomes_at;
