@@ -1,6 +1,6 @@
 -- Outcomes that are found, one candidate after another.
 use Rattle.std.proofs.Common.{◌≡◌, ℕ, zero, suc, ◌+◌, ◌<◌, ◌≤◌, List, [], ◌∷◌, ◌++◌, length, take, take_all, get_or, refl, ap, sym, ◌∙◌, subst, inl, inr, ◌⊎◌, arith, Option, Some, None, length-append}
-use Rattle.std.specs.Prelude.{IfSome, IfNone, slice_index_or}
+use Rattle.std.specs.Prelude.{Result, Ok, Err, IfOk}
 use Rattle.std.specs.List.{All, Any, AllPairs, Contains}
 use Rattle.std.proofs.lemmas.List.{take_more, get_or-take, get_or_append_left, length-take}
 use Rattle.std.proofs.lemmas.List.Elements.{All-nil, All-push, Contains-append_left, Contains-append_cases, Contains-push}
@@ -72,16 +72,16 @@ met r n e os xs o x h pairs told = record {
 }
 
 -- the next of some outcomes
-module _ (r : Recorded) (n : ℕ) (e : Event) (os : List Outcome) (i : ℕ) (o : Outcome) (lt : i < length os) (is : get_or os i o ≡ o) where
-  one_more : take (i + 1) os ≡ take i os ++ o ∷ []
-  one_more = take_more os i o lt ∙ ap (λ x. take i os ++ x ∷ []) is
+module _ (r : Recorded) (n : ℕ) (e : Event) (os : List Outcome) (i : ℕ) (d : Outcome) (lt : i < length os) where
+  abbrev next : Outcome
+  next = get_or os i d
 
-  pub next_missed : (xs : List Allowed) → (IsAllowed r.head r.events n e o → ⊥) → AreFound r n e (take i os) xs → AreFound r n e (take (i + 1) os) xs
-  next_missed xs none h = subst (λ front. AreFound r n e front xs) (sym one_more) (missed r n e (take i os) xs o h none)
+  pub next_missed : (xs : List Allowed) → (IsAllowed r.head r.events n e next → ⊥) → AreFound r n e (take i os) xs → AreFound r n e (take (i + 1) os) xs
+  next_missed xs none h = subst (λ front. AreFound r n e front xs) (sym (take_more os i d lt)) (missed r n e (take i os) xs next h none)
 
-  pub next_met : (xs : List Allowed) (x : Allowed) → AllPairs IsBefore os → IsToldOf r n e o x → AreFound r n e (take i os) xs → AreFound r n e (take (i + 1) os) (xs ++ x ∷ [])
+  pub next_met : (xs : List Allowed) (x : Allowed) → AllPairs IsBefore os → IsToldOf r n e next x → AreFound r n e (take i os) xs → AreFound r n e (take (i + 1) os) (xs ++ x ∷ [])
   next_met xs x pairs told h =
-      subst (λ front. AreFound r n e front (xs ++ x ∷ [])) (sym one_more) (met r n e (take i os) xs o x h (subst (AllPairs IsBefore) one_more (front_rises os (i + 1) pairs)) told)
+      subst (λ front. AreFound r n e front (xs ++ x ∷ [])) (sym (take_more os i d lt)) (met r n e (take i os) xs next x h (subst (AllPairs IsBefore) (take_more os i d lt) (front_rises os (i + 1) pairs)) told)
 
 pub found_all : (r : Recorded) (n : ℕ) (e : Event) (os : List Outcome) (xs : List Allowed) (i : ℕ) → length os ≤ i → AreFound r n e (take i os) xs → AreFound r n e os xs
 found_all r n e os xs i end h = subst (λ front. AreFound r n e front xs) (take_all i os end) h
@@ -92,3 +92,8 @@ are_outcomes r n e os xs c h = record {
   all = λ o allowed. h.all o (c.all o allowed) allowed;
   rising = h.rising;
 }
+
+-- what a call gives is more
+pub ok_more : {A E : Type 0} (P Q : A → Type 0) → ((x : A) → P x → Q x) → (r : Result A E) → IfOk r P → IfOk r Q
+ok_more P Q more (Ok x) h = more x h
+ok_more P Q more (Err e) h = tt

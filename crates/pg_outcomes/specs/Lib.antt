@@ -4,4 +4,3 @@ pub mod Pages
 pub mod Candidates
 pub mod Law
 pub mod Asked
-pub mod Tmp

@@ -8,7 +8,6 @@ mod candidates;
 mod laws;
 mod outcomes;
 mod pages;
-pub mod tmp;
 
 pub use allowed::{Allowed, is_access, with_outcome};
 pub use asked::{Found, outcomes_of};
