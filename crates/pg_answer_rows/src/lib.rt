@@ -26,6 +26,8 @@ mod mutated;
 #[cfg(test)]
 mod mutated_scripts;
 #[cfg(test)]
+mod outcomes;
+#[cfg(test)]
 mod pictures;
 #[cfg(test)]
 mod span_pictures;

@@ -1,6 +1,6 @@
 use crate::{
-    all_rejections, explanations, json, json_spans, lines, many_lines, pictures, span_pictures,
-    spans,
+    all_rejections, explanations, json, json_spans, lines, many_lines, outcomes, pictures,
+    span_pictures, spans,
 };
 use pg_cases::{Case, answers, bytes_of, first_unanswered};
 use std::alloc::AllocGlobal;
@@ -34,6 +34,11 @@ fn records_explained(rt: HostRuntime) -> Result<(), Fail> {
 #[test]
 fn records_shown(rt: HostRuntime) -> Result<(), Fail> {
     expect_all(&rt, &[lines::SAMPLES, lines::RANGES, many_lines::ROWS])
+}
+
+#[test]
+fn outcomes_of_accesses(rt: HostRuntime) -> Result<(), Fail> {
+    expect_all(&rt, &[outcomes::RECORDS, outcomes::ROWS])
 }
 
 #[test]

@@ -14,15 +14,16 @@ const HELP: &str =
     Usage: pcid-audit <COMMAND>\n\
     \n\
     Commands:\n\
-    \x20 check    Check whether the moments of a record justify its events\n\
-    \x20 certify  Find out whether any run has the events of a record, whatever its moments\n\
-    \x20 run      Run a guest script, and write the report of its record\n\
-    \x20 run-of   Write a run that has the events of an accepted record\n\
-    \x20 explain  Write the report of a record, and the cause of a rejection\n\
-    \x20 show     Write the events of a record, one a line\n\
-    \x20 upgrade  Write a version 1 record as version 2\n\
-    \x20 merge    Merge the logs of single processors into a record with spans\n\
-    \x20 help     Print this message or the help of the given subcommand(s)\n\
+    \x20 check     Check whether the moments of a record justify its events\n\
+    \x20 certify   Find out whether any run has the events of a record, whatever its moments\n\
+    \x20 run       Run a guest script, and write the report of its record\n\
+    \x20 run-of    Write a run that has the events of an accepted record\n\
+    \x20 explain   Write the report of a record, and the cause of a rejection\n\
+    \x20 show      Write the events of a record, one a line\n\
+    \x20 outcomes  Write every outcome that an access may have after the events before it\n\
+    \x20 upgrade   Write a version 1 record as version 2\n\
+    \x20 merge     Merge the logs of single processors into a record with spans\n\
+    \x20 help      Print this message or the help of the given subcommand(s)\n\
     \n\
     Options:\n\
     \x20 -h, --help     Print help\n\
@@ -278,7 +279,7 @@ pub const FAULTS: [Told; 21] = [
     Told {
         words: &[],
         text: "error: 'pcid-audit' requires a subcommand but one was not provided\n\
-        \x20 [subcommands: check, certify, run, run-of, explain, show, upgrade, merge, help]\n\
+        \x20 [subcommands: check, certify, run, run-of, explain, show, outcomes, upgrade, merge, help]\n\
         \n\
         Usage: pcid-audit <COMMAND>\n\
         \n\

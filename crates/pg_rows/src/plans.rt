@@ -1,7 +1,7 @@
 use pg_event::Selection;
 use pg_plan::{
-    CertifyOptions, CheckOptions, Checkers, Command, ExplainOptions, Invocation, Plan, RunOptions,
-    ShowOptions, Telling, Usage, plan,
+    CertifyOptions, CheckOptions, Checkers, Command, ExplainOptions, Invocation, OutcomesOptions,
+    Plan, RunOptions, ShowOptions, Telling, Usage, plan,
 };
 use std::alloc::Global;
 use std::test::Fail;
@@ -272,6 +272,30 @@ fn plans_of_explain(rt: HostRuntime) {
             progress,
             quiet: false,
         });
+        assert!(rt; asks_for(rt.alloc(), words, wanted), "{words:?}");
+    }
+}
+
+/// Command lines of `outcomes`: the event that they ask about, and how many outcomes are written.
+const FORESEEN: [(&[&str], Option<u32>, u32); 3] = [
+    (&["outcomes"], None, 100),
+    (&["outcomes", "--event", "0"], Some(0), 100),
+    (
+        &["outcomes", "--limit=01000000", "--event=4294967295"],
+        Some(4_294_967_295),
+        1_000_000,
+    ),
+];
+
+#[test]
+fn plans_of_outcomes(rt: HostRuntime) {
+    for &(words, event, most) in &FORESEEN {
+        let asked = OutcomesOptions {
+            event,
+            most,
+            json: false,
+        };
+        let wanted = Some(quiet(Command::Outcomes(asked)));
         assert!(rt; asks_for(rt.alloc(), words, wanted), "{words:?}");
     }
 }
