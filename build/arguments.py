@@ -38,7 +38,7 @@ REASONS = ((FileNotFoundError, "no such file or directory"), (PermissionError, "
 # Options whose value is a number, with the least and the greatest.
 EVENTS = (0, 4294967295)
 NUMBERS = {"checkers": (1, 64), "cpu": (0, 65535), "most": (1, 1_000_000), "from": EVENTS, "to": EVENTS,
-           "error": EVENTS}
+           "error": EVENTS, "event": EVENTS, "limit": (1, 1_000_000)}
 ADDRESSES = ("page", "word")
 NAMES = ("output",)
 

@@ -10,9 +10,10 @@ use Rattle.pg_explain.specs.Text.{explanation_text}
 use Rattle.pg_report.specs.Text.{counts_text, reason_name, reason_number, report_text}
 use Rattle.pg_answers.specs.declared.answer.Answer.{Answer}
 use Rattle.pg_answers.specs.declared.answer.Answer.TheVariants.{Report, Summary, Cause, Causes}
-use Rattle.pg_answers.specs.declared.answer.Answer.TheVariants.{Rejection, Events}
+use Rattle.pg_answers.specs.declared.answer.Answer.TheVariants.{Rejection, Events, Prospect}
 use Rattle.pg_answers.specs.declared.answer.Rejection.{Rejection as Rejected}
 use Rattle.pg_answers.specs.declared.answer.Summary.{Summary as Summed}
+use Rattle.pg_answers.specs.ProspectTexts.{prospect_text}
 
 -- ---- the summary
 
@@ -60,3 +61,4 @@ answer_text (Causes report r xs s) =
     (report_text report ++ causes_text r.events xs.items) ++ summary_text s
 answer_text (Rejection x) = rejection_text x
 answer_text (Events r selection) = shown_text selection r.events
+answer_text (Prospect x) = prospect_text x

@@ -1,5 +1,5 @@
 -- What is answered of a record with one order, whatever the format is in which it is written.
-use Rattle.std.specs.Prelude.{◌≡◌, ℕ, List, [], ◌∷◌, length, take, Option, Some, None}
+use Rattle.std.specs.Prelude.{◌≡◌, ◌<◌, ℕ, List, [], ◌∷◌, length, take, Option, Some, None}
 use Rattle.std.specs.Prelude.{Result, Ok, Err, slice_get, Bool, true, false}
 use Rattle.pg_event.specs.declared.selection.Selection.{Selection}
 use Rattle.pg_event.specs.declared.event.Event.{Event}
@@ -22,12 +22,16 @@ use Rattle.pg_report.specs.Text.{report_of}
 use Rattle.pg_auditing.specs.Status.{error_status, verdict_status}
 use Rattle.pg_answers.specs.declared.answer.Answer.{Answer}
 use Rattle.pg_answers.specs.declared.answer.Answer.TheVariants.{Report, Summary, Cause, Causes}
-use Rattle.pg_answers.specs.declared.answer.Answer.TheVariants.{Rejection, Events}
+use Rattle.pg_answers.specs.declared.answer.Answer.TheVariants.{Rejection, Events, Prospect}
+use Rattle.pg_answers.specs.declared.answer.Prospect.{Prospect as Foreseen}
+use Rattle.pg_answers.specs.declared.answer.Prospect.TheVariants.{Access, Assist, Neither}
 use Rattle.pg_answers.specs.declared.answer.Rejection.{Rejection as Rejected}
 use Rattle.pg_answers.specs.declared.answer.Summary.{Summary as Summed}
 use Rattle.pg_answers.specs.declared.question.Question.{Question}
 use Rattle.pg_answers.specs.declared.question.Question.TheVariants.{Check, CheckAll, Certify}
 use Rattle.pg_answers.specs.declared.question.Question.TheVariants.{Explain, ExplainAll, Show}
+use Rattle.pg_answers.specs.declared.question.Question.TheVariants.{Outcomes}
+use Rattle.pg_answers.specs.Prospects.{IsAskedEvent, IsProspectOf}
 use Rattle.pg_answers.specs.Unnamed.{is_unnamed}
 
 -- ---- `certify`
@@ -89,6 +93,7 @@ IsCertificate r (Cause report q x) = ⊥
 IsCertificate r (Causes report q xs s) = ⊥
 IsCertificate r (Rejection x) = IsRejection r x
 IsCertificate r (Events q selection) = ⊥
+IsCertificate r (Prospect x) = ⊥
 
 -- the report, and of a no the cause of the first bad event
 abbrev pub IsCause : Recorded → Answer → Type 0
@@ -101,6 +106,7 @@ IsCause r (Cause report q x) =
 IsCause r (Causes report q xs s) = ⊥
 IsCause r (Rejection x) = ⊥
 IsCause r (Events q selection) = ⊥
+IsCause r (Prospect x) = ⊥
 
 -- `explain`: that, of a record that names moments; of one that names none what `certify` answers
 abbrev pub IsExplanationOf : Bool → Recorded → Answer → Type 0
@@ -117,6 +123,7 @@ IsSummed r (Cause report q x) = ⊥
 IsSummed r (Causes report q xs s) = ⊥
 IsSummed r (Rejection x) = ⊥
 IsSummed r (Events q selection) = ⊥
+IsSummed r (Prospect x) = ⊥
 
 abbrev pub AreCauses : ℕ → Recorded → Answer → Type 0
 AreCauses most r (Report report) = ⊥
@@ -128,6 +135,26 @@ AreCauses most r (Causes report q xs s) =
     × IsSummary (bads r.head r.events) s
 AreCauses most r (Rejection x) = ⊥
 AreCauses most r (Events q selection) = ⊥
+AreCauses most r (Prospect x) = ⊥
+
+-- `outcomes`: what may come of event n; or no run has the events before it, and why
+abbrev pub IsForeseenAt : Recorded → ℕ → ℕ → Answer → Type 0
+IsForeseenAt r n most (Report report) = ⊥
+IsForeseenAt r n most (Summary report s) = ⊥
+IsForeseenAt r n most (Cause report q x) = ⊥
+IsForeseenAt r n most (Causes report q xs s) = ⊥
+IsForeseenAt r n most (Rejection x) = IsRejection r x × (x.denial.number < n)
+IsForeseenAt r n most (Events q selection) = ⊥
+IsForeseenAt r n most (Prospect x) = IsProspectOf r n most x
+
+-- of the event that is asked about; or there is no such event
+abbrev pub IsForeseenOf : Option ℕ → ℕ → Recorded → Answer → Option ℕ → Type 0
+IsForeseenOf asked most r x (Some n) = IsForeseenAt r n most x
+IsForeseenOf asked most r x None = x ≡ Prospect (Neither asked)
+
+abbrev pub IsForeseen : Option ℕ → ℕ → Recorded → Answer → Type 0
+IsForeseen asked most r x =
+    (found : Option ℕ) × IsAskedEvent r.events asked found × IsForeseenOf asked most r x found
 
 -- the answer of a question of a record
 abbrev pub IsAnswer : Question → Recorded → Answer → Type 0
@@ -137,6 +164,7 @@ IsAnswer Certify r x = IsCertificate r x
 IsAnswer Explain r x = IsExplanation r x
 IsAnswer (ExplainAll most) r x = AreCauses most r x
 IsAnswer (Show selection) r x = x ≡ Events r selection
+IsAnswer (Outcomes asked most) r x = IsForeseen asked most r x
 
 -- the event that an answer of `certify` names, if it is no
 abbrev pub denied_in : Answer → Option ℕ
@@ -146,8 +174,14 @@ denied_in (Cause report r x) = None
 denied_in (Causes report r xs s) = None
 denied_in (Rejection x) = Some x.denial.number
 denied_in (Events r selection) = None
+denied_in (Prospect x) = None
 
--- ---- statuses: 0 yes, and what was shown; 1 no
+-- ---- statuses: 0 yes, and what was shown; 1 no; 2 an event that is no access and no assist
+
+abbrev pub prospect_status : Foreseen → ℕ
+prospect_status (Access x) = 0
+prospect_status (Assist x) = 0
+prospect_status (Neither told) = 2
 
 abbrev pub status_of : Answer → ℕ
 status_of (Report report) = verdict_status report.verdict
@@ -156,6 +190,7 @@ status_of (Cause report r x) = 1
 status_of (Causes report r xs s) = verdict_status report.verdict
 status_of (Rejection x) = 1
 status_of (Events r selection) = 0
+status_of (Prospect x) = prospect_status x
 
 abbrev pub answer_status : Result Answer AuditError → ℕ
 answer_status (Ok x) = status_of x

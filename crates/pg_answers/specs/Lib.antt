@@ -5,7 +5,9 @@ pub mod Upgrades
 pub mod Texts
 pub mod Found
 pub mod Unnamed
+pub mod Prospects
 pub mod Answers
+pub mod ProspectTexts
 pub mod AnswerTexts
 pub mod Certificates
 pub mod Audited

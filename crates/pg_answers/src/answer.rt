@@ -1,12 +1,13 @@
 //! Answers as data, which each format renders.
 
-ghost use Rattle.std.specs.Prelude.{◌≡◌};
-ghost use Rattle.pg_answers.specs.Answers.{answer_status};
+ghost use Rattle.std.specs.Prelude.{◌≡◌, take};
+ghost use Rattle.pg_answers.specs.Answers.{answer_status, prospect_status};
 
-use pg_auditing::{NO, YES, error_status, verdict_status};
+use pg_auditing::{NO, REFUSED, YES, error_status, verdict_status};
 use pg_check::History;
-use pg_event::{Event, Selection};
+use pg_event::{Event, Moments, Selection};
 use pg_explain::{Denial, Explanation, Takers, Tally};
+use pg_outcomes::Allowed;
 use pg_report::{AuditError, Report};
 
 /// What the bad events of a record have in common.
@@ -33,6 +34,55 @@ pub struct Rejection {
     pub takers: Takers,
 }
 
+/// Every outcome that an access may have after the events before it.
+#[derive(Drop)]
+pub struct Outcomes {
+    /// The number of the access.
+    pub number: u32,
+    /// The access, with the outcome that the record has.
+    pub event: Event,
+    /// The outcomes, in rising order.
+    pub found: Vec<Allowed>,
+    /// How many of them are told at most.
+    pub most: u32,
+}
+
+impl Outcomes {
+    /// The outcomes that are told: the first of them, so many at most.
+    pub fn told(&self) -> &[Allowed]
+        ensures { result.now ≡ take self.now.most self.now.found.items }
+    {
+        if (self.most as usize) < self.found.len() {
+            &self.found[..self.most as usize]
+        } else {
+            self.found.as_slice()
+        }
+    }
+}
+
+/// Whether an assist may come after the events before it.
+#[derive(Drop)]
+pub struct Coming {
+    /// The number of the assist.
+    pub number: u32,
+    /// The assist.
+    pub event: Event,
+    /// The freshest moments by which it may come, or `None` where it may not.
+    pub moments: Option<Moments>,
+}
+
+/// What may come of an event after the events before it.
+#[derive(Drop)]
+pub enum Prospect {
+    /// Of an access.
+    Access(Outcomes),
+    /// Of an assist.
+    Assist(Coming),
+    /// The event with this number is neither, or there is none; or no number was given, and no
+    /// event is an access.
+    Neither(Option<u32>),
+}
+
 /// What is answered of a record with one order, before it is written in any format.
 #[derive(Drop)]
 pub enum Answer {
@@ -48,6 +98,18 @@ pub enum Answer {
     Rejection(Rejection),
     /// The record, of which a selection's events are shown.
     Events(History, Selection),
+    /// What may come of one of its events.
+    Prospect(Prospect),
+}
+
+/// The exit status of what may come of an event: 2 where the event is no access and no assist.
+fn prospect_status(prospect: &Prospect) -> u8
+    ensures { result ≡ prospect_status prospect.now }
+{
+    match prospect {
+        Prospect::Access(_) | Prospect::Assist(_) => YES,
+        Prospect::Neither(_) => REFUSED,
+    }
 }
 
 /// The exit status of an answer, or of an error where there is none.
@@ -61,6 +123,7 @@ pub fn answer_status(answer: &Result<Answer, AuditError>) -> u8
         Ok(Answer::Causes(report, ..)) => verdict_status(report.verdict),
         Ok(Answer::Rejection(_)) => NO,
         Ok(Answer::Events(..)) => YES,
+        Ok(Answer::Prospect(prospect)) => prospect_status(prospect),
         Err(error) => error_status(*error),
     }
 }

@@ -8,6 +8,7 @@ use crate::answer::Answer;
 use crate::certificates::certify;
 use crate::checks::check;
 use crate::explanations::explained;
+use crate::prospects::foreseen;
 use crate::question::Question;
 use crate::summaries::{all_explained, summed};
 use pg_codec::Source;
@@ -65,6 +66,22 @@ fn show<R: Source>(alloc: Global, selection: Selection, input: &mut R) -> Result
     }
 }
 
+/// What may come of one of its events.
+fn foresee<R: Source>(
+    alloc: Global,
+    asked: Option<u32>,
+    most: u32,
+    input: &mut R,
+) -> Result<Answer, AuditError>
+    ensures { IsFound (IsAnswer (Question.Outcomes asked most)) 1
+        (drawn R.Source input.old input.new) result }
+{
+    match read_record(alloc, input) {
+        Ok(history) => Ok(foreseen(alloc, &history, asked, most)?),
+        Err(error) => Err(error),
+    }
+}
+
 /// Reads the record that `input` has left, all of it, and answers a question of it. So many
 /// checkers judge where its moments are judged, or whether some run has its events; the answer is
 /// the same for each number of them. An error is that of a refused record, of the input, of memory,
@@ -84,5 +101,6 @@ pub fn answer_record<T: AllocGlobal + Threads + Wait + Sync, R: Source>(
         Question::Explain => explain(rt, checkers, input),
         Question::ExplainAll(most) => explain_all(rt.alloc(), most, input),
         Question::Show(selection) => show(rt.alloc(), selection, input),
+        Question::Outcomes(asked, most) => foresee(rt.alloc(), asked, most, input),
     }
 }

@@ -13,6 +13,8 @@ mod first_checks;
 mod firsts;
 mod laws;
 mod naming;
+mod prospect_text;
+mod prospects;
 mod question;
 mod replayer;
 mod runs;
@@ -22,7 +24,7 @@ mod text;
 mod unnamed;
 mod upgrader;
 
-pub use answer::{Answer, Rejection, Summary, answer_status};
+pub use answer::{Answer, Coming, Outcomes, Prospect, Rejection, Summary, answer_status};
 pub use answering::answer_record;
 pub use first_checks::check_first;
 pub use firsts::certify_first;

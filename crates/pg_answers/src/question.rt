@@ -15,4 +15,7 @@ pub enum Question {
     ExplainAll(u32),
     /// The events that a selection asks for.
     Show(Selection),
+    /// What may come of the event with a number, or of the last access where no number is given; so
+    /// many outcomes are told at most.
+    Outcomes(Option<u32>, u32),
 }

@@ -8,6 +8,7 @@ ghost use Rattle.pg_answers.specs.AnswerTexts.{summary_text, tally_line, tally_l
 ghost use Rattle.pg_explain.specs.Text.{explanation_text};
 
 use crate::answer::{Answer, Rejection, Summary};
+use crate::prospect_text::prospect_text;
 use pg_event::Event;
 use pg_explain::{Explanation, Tally, denial_text_by, explanation_text, shown_text, tally_text};
 use pg_report::{reason_name, reason_number};
@@ -140,5 +141,6 @@ pub fn answer_text(alloc: Global, answer: &Answer) -> Result<String, AllocError>
         }
         Answer::Rejection(rejection) => rejection_text(alloc, rejection),
         Answer::Events(history, selection) => shown_text(alloc, *selection, history.events()),
+        Answer::Prospect(prospect) => prospect_text(alloc, prospect),
     }
 }

@@ -1,17 +1,26 @@
 -- Answers as JSON: the same answer as that of the text, in another form.
 use Rattle.std.specs.Prelude.{ℕ, ◌+◌, Bool, if◌then◌else◌, List, [], ◌∷◌, ◌++◌, map, codes}
+use Rattle.std.specs.Prelude.{Option, Some, None, take, length}
 use Rattle.pg_event.specs.declared.event.Event.{Event}
+use Rattle.pg_event.specs.declared.event.Outcome.{Outcome}
+use Rattle.pg_event.specs.declared.event.Outcome.TheVariants.{Page, Fault}
 use Rattle.pg_event.specs.declared.selection.Selection.{Selection}
 use Rattle.pg_explain.specs.declared.explainer.Explanation.{Explanation}
 use Rattle.pg_explain.specs.Filters.{is_shown}
 use Rattle.pg_answers.specs.declared.answer.Answer.{Answer}
 use Rattle.pg_answers.specs.declared.answer.Answer.TheVariants.{Report, Summary, Cause, Causes}
-use Rattle.pg_answers.specs.declared.answer.Answer.TheVariants.{Rejection, Events}
+use Rattle.pg_outcomes.specs.declared.allowed.Allowed.{Allowed}
+use Rattle.pg_answers.specs.declared.answer.Answer.TheVariants.{Rejection, Events, Prospect}
+use Rattle.pg_answers.specs.declared.answer.Coming.{Coming}
+use Rattle.pg_answers.specs.declared.answer.Outcomes.{Outcomes}
+use Rattle.pg_answers.specs.declared.answer.Prospect.{Prospect as Foreseen}
+use Rattle.pg_answers.specs.declared.answer.Prospect.TheVariants.{Access, Assist, Neither}
 use Rattle.pg_answers.specs.declared.answer.Rejection.{Rejection as Rejected}
 use Rattle.pg_answers.specs.declared.answer.Summary.{Summary as Summed}
-use Rattle.pg_json.specs.Tree.{Json, count, list, elements, object, json_line}
+use Rattle.pg_json.specs.Tree.{Json, nothing, count, counts, hex, list, elements, object}
+use Rattle.pg_json.specs.Tree.{json_line}
 use Rattle.pg_json.specs.Tree.{Fields, no_fields, field}
-use Rattle.pg_json.specs.Events.{event_json}
+use Rattle.pg_json.specs.Events.{event_json, claim_json}
 use Rattle.pg_json.specs.Reports.{with_counts, with_no, with_report}
 use Rattle.pg_json_causes.specs.Causes.{explanation_json, denial_json}
 use Rattle.pg_json_causes.specs.Tallies.{tallies_json}
@@ -53,6 +62,46 @@ lines_where test number (e ∷ events) =
 abbrev pub shown_json : Selection → List Event → List ℕ
 shown_json f events = lines_where (is_shown f events) 0 events
 
+-- ---- what may come of an event
+
+abbrev pub with_result : Outcome → Fields → Fields
+with_result (Page page) others = field (codes "page") (hex page) others
+with_result (Fault code) others = field (codes "fault") (hex code) others
+
+-- an outcome, and the moments by which it comes
+abbrev pub allowed_json : Allowed → Json
+allowed_json x = object (with_result x.outcome (field (codes "by") (counts x.moments) no_fields))
+
+-- the event, without its moments
+abbrev pub asked_fields : ℕ → Event → Fields
+asked_fields number e = field (codes "event") (claim_json number e) no_fields
+
+abbrev pub outcomes_fields : Outcomes → Fields
+outcomes_fields x =
+    field (codes "outcomes") (list (elements (map allowed_json (take x.most x.found.items))))
+    (field (codes "count") (count (length x.found.items)) (asked_fields x.number x.event))
+
+-- moments, or null where there are none
+abbrev pub by_json : Option (List ℕ) → Json
+by_json None = nothing
+by_json (Some ws) = counts ws
+
+abbrev pub coming_fields : Coming → Fields
+coming_fields x = field (codes "by") (by_json x.moments) (asked_fields x.number x.event)
+
+-- a number, or null
+abbrev pub number_json : Option ℕ → Json
+number_json None = nothing
+number_json (Some n) = count n
+
+abbrev pub neither_fields : Option ℕ → Fields
+neither_fields told = field (codes "no_access") (number_json told) no_fields
+
+abbrev pub prospect_fields : Foreseen → Fields
+prospect_fields (Access x) = outcomes_fields x
+prospect_fields (Assist x) = coming_fields x
+prospect_fields (Neither told) = neither_fields told
+
 -- ---- an answer
 
 abbrev pub answer_json : Answer → List ℕ
@@ -64,3 +113,4 @@ answer_json (Causes report r xs s) =
     json_line (object (with_report report (causes_fields r.events xs.items s)))
 answer_json (Rejection x) = json_line (rejection_json x)
 answer_json (Events r selection) = shown_json selection r.events
+answer_json (Prospect x) = json_line (object (prospect_fields x))

@@ -10,6 +10,7 @@ ghost use Rattle.pg_json_answers.specs.Answers.{answer_json, cause_fields, cause
 ghost use Rattle.pg_json_answers.specs.Answers.{rejection_json, summary_fields};
 
 use crate::lines::shown_json;
+use crate::prospects::prospect_line;
 use pg_answers::{Answer, Rejection, Summary};
 use pg_event::Event;
 use pg_explain::Explanation;
@@ -130,5 +131,6 @@ pub fn answer_json(alloc: Global, answer: &Answer) -> Result<String, AllocError>
         }
         Answer::Rejection(rejection) => rejection_line(alloc, rejection),
         Answer::Events(history, selection) => shown_json(alloc, *selection, history.events()),
+        Answer::Prospect(prospect) => prospect_line(alloc, prospect),
     }
 }

@@ -4,6 +4,7 @@
 
 mod json;
 mod lines;
+mod prospects;
 mod refusals;
 
 pub use json::answer_json;

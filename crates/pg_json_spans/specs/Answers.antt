@@ -16,6 +16,7 @@ use Rattle.pg_json.specs.Tree.{json_line}
 use Rattle.pg_answers.specs.declared.question.Question.{Question}
 use Rattle.pg_answers.specs.declared.question.Question.TheVariants.{Check, CheckAll, Certify}
 use Rattle.pg_answers.specs.declared.question.Question.TheVariants.{Explain, ExplainAll, Show}
+use Rattle.pg_answers.specs.declared.question.Question.TheVariants.{Outcomes}
 use Rattle.pg_json_answers.specs.Refusals.{error_json, spans_json}
 use Rattle.pg_json_spans.specs.Refusals.{Refuses, WantsMemory, TellsUnread}
 use Rattle.pg_json_spans.specs.Verdicts.{verdict_json}
@@ -78,3 +79,4 @@ AnswersSpans Certify st status = OrdersJson st status
 AnswersSpans Explain st status = OrdersJson st status
 AnswersSpans (ExplainAll most) st status = OrdersJson st status
 AnswersSpans (Show selection) st status = ShowsJson selection st status
+AnswersSpans (Outcomes asked most) st status = Refuses spans_json st.output st.errors status

@@ -138,5 +138,6 @@ pub fn answer_spans_json<R: Source, O: Sink, E: Sink>(
         Question::Explain => certify_json(alloc, input, output, errors),
         Question::ExplainAll(_) => certify_json(alloc, input, output, errors),
         Question::Show(selection) => show_json(alloc, selection, input, output, errors),
+        Question::Outcomes(..) => tell_spans(output, errors),
     }
 }

@@ -17,6 +17,8 @@ mod machine;
 #[cfg(test)]
 mod orders;
 #[cfg(test)]
+mod outcomes;
+#[cfg(test)]
 mod refutations;
 #[cfg(test)]
 mod runs;

@@ -15,7 +15,7 @@ use Rattle.clap.specs.Walk.{Row, Text, first_of}
 use Rattle.clap.specs.Simple.{App, HasMatchesOf, subcommand_of, subcommand_rows_of}
 use Rattle.clap.specs.Faults.{fault_of, is_simple_and_free}
 use Rattle.clap.proofs.OnLiterals.{clap_on_literals}
-use Rattle.pg_plan.specs.declared.request.Command.TheVariants.{Check, Certify, Run, RunOf, Explain, Show, Upgrade, Merge}
+use Rattle.pg_plan.specs.declared.request.Command.TheVariants.{Check, Certify, Run, RunOf, Explain, Show, Outcomes, Upgrade, Merge}
 use Rattle.pg_plan.specs.declared.request.ExplainOptions.{ExplainOptions}
 use Rattle.pg_plan.specs.declared.request.Plan.{Plan}
 use Rattle.pg_plan.specs.Commands.{Asks, AsksOnly, file_in, named_file, IsAskedOfExplain, IsCommandOf, IsPlanOf, command_line, faults}
@@ -107,6 +107,7 @@ asks_explain name rows asked is reads (Certify other) = (λ e. cc, λ h. absurd 
 asks_explain name rows asked is reads (Run other) = (λ e. cc, λ h. let e = h.0 in cc)
 asks_explain name rows asked is reads RunOf = (λ e. cc, λ h. cc)
 asks_explain name rows asked is reads (Show other) = (λ e. cc, λ h. let e = h.0 in cc)
+asks_explain name rows asked is reads (Outcomes other) = (λ e. cc, λ h. absurd (apart name (codes "outcomes") is h.0 (λ (e : 101 ≡ 111). omega (arith, e))))
 asks_explain name rows asked is reads Upgrade = (λ e. cc, λ h. absurd (apart name (codes "upgrade") is h (λ (e : 101 ≡ 117). omega (arith, e))))
 asks_explain name rows asked is reads (Merge other) = (λ e. cc, λ h. let e = h.0 in cc)
 
@@ -117,6 +118,7 @@ asks_no_explain name rows is reads (Certify other) = (λ e. cc, λ h. absurd (ap
 asks_no_explain name rows is reads (Run other) = (λ e. cc, λ h. let e = h.0 in cc)
 asks_no_explain name rows is reads RunOf = (λ e. cc, λ h. cc)
 asks_no_explain name rows is reads (Show other) = (λ e. cc, λ h. let e = h.0 in cc)
+asks_no_explain name rows is reads (Outcomes other) = (λ e. cc, λ h. absurd (apart name (codes "outcomes") is h.0 (λ (e : 101 ≡ 111). omega (arith, e))))
 asks_no_explain name rows is reads Upgrade = (λ e. cc, λ h. absurd (apart name (codes "upgrade") is h (λ (e : 101 ≡ 117). omega (arith, e))))
 asks_no_explain name rows is reads (Merge other) = (λ e. cc, λ h. let e = h.0 in cc)
 

@@ -12,7 +12,7 @@ use Rattle.pg_plan.specs.declared.request.CheckOptions.{CheckOptions}
 use Rattle.pg_plan.specs.declared.request.Command.{Command}
 use Rattle.pg_plan.specs.declared.request.Plan.{Plan}
 use Rattle.pg_event.specs.declared.selection.Selection.{Selection}
-use Rattle.pg_plan.specs.declared.request.Command.TheVariants.{Check, Certify, Explain, Run, Show}
+use Rattle.pg_plan.specs.declared.request.Command.TheVariants.{Check, Certify, Explain, Outcomes, Run, Show}
 use Rattle.pg_plan.specs.declared.request.Telling.TheVariants.{All, Picture}
 
 abbrev Gives : List Text → Kinds → Type 0
@@ -385,6 +385,18 @@ asks_progress_of_run = (refl, ((refl, record { checkers = refl; single = refl; b
 asks_json : Asks (codes "show" ∷ codes "--json" ∷ []) (quiet (Show (record { selection = every; json = true }))) None
 unfolding clap_on_literals has_conflict
 asks_json = (refl, ((refl, record { selection = record { from = refl; to = refl; cpu = tt; page = tt; loads = refl; word = tt }; json = refl }), refl, refl, refl), refl)
+
+asks_outcomes : Asks (codes "outcomes" ∷ []) (quiet (Outcomes (record { event = None; most = 100; json = false }))) None
+unfolding clap_on_literals has_conflict
+asks_outcomes = (refl, ((refl, record { event = tt; most = refl; json = refl }), refl, refl, refl), refl)
+
+outcomes_of_event : Gives (codes "outcomes" ∷ codes "--event" ∷ codes "7" ∷ codes "--limit" ∷ codes "3" ∷ []) []
+unfolding clap_on_literals
+outcomes_of_event = refl
+
+outcomes_of_none : Gives (codes "outcomes" ∷ codes "--limit" ∷ codes "0" ∷ []) (ValueValidation ∷ [])
+unfolding clap_on_literals
+outcomes_of_none = refl
 
 json_of_run : Gives (codes "run" ∷ codes "--json" ∷ []) (UnknownArgument ∷ [])
 unfolding clap_on_literals

@@ -16,10 +16,12 @@ use Rattle.clap.specs.declared.error.kind.ErrorKind.TheVariants.{DisplayHelp, Di
 use Rattle.clap.specs.declared.parser.matches.ArgMatches.{ArgMatches}
 use Rattle.pg_plan.specs.declared.request.Command.{Command}
 use Rattle.pg_plan.specs.declared.request.Command.TheVariants.{Check, Certify, Run, RunOf}
-use Rattle.pg_plan.specs.declared.request.Command.TheVariants.{Explain, Show, Upgrade, Merge}
+use Rattle.pg_plan.specs.declared.request.Command.TheVariants.{Explain, Show, Outcomes, Upgrade}
+use Rattle.pg_plan.specs.declared.request.Command.TheVariants.{Merge}
 use Rattle.pg_plan.specs.declared.request.CertifyOptions.{CertifyOptions}
 use Rattle.pg_plan.specs.declared.request.CheckOptions.{CheckOptions}
 use Rattle.pg_plan.specs.declared.request.ExplainOptions.{ExplainOptions}
+use Rattle.pg_plan.specs.declared.request.OutcomesOptions.{OutcomesOptions}
 use Rattle.pg_plan.specs.declared.request.Plan.{Plan}
 use Rattle.pg_plan.specs.declared.request.RunOptions.{RunOptions}
 use Rattle.pg_event.specs.declared.selection.Selection.{Selection}
@@ -29,7 +31,7 @@ use Rattle.pg_plan.specs.declared.request.Usage.{Usage}
 use Rattle.pg_plan.specs.declared.request.Usage.TheVariants.{Help, Version, Fault, Memory}
 pub use Rattle.clap.specs.Walk.{texts}
 pub use Rattle.pg_plan.specs.Values.{AreAsked, IsAsked, IsNumberIn, IsAddressIn}
-pub use Rattle.pg_plan.specs.Values.{IsCpuIn, IsPageIn, IsOptional, IsTelling, Reads}
+pub use Rattle.pg_plan.specs.Values.{IsCpuIn, IsMost, IsPageIn, IsOptional, IsTelling, Reads}
 
 -- ---- the command line: one of the commands, of which some have options
 
@@ -169,6 +171,17 @@ explain_line =
     let svg = with_rule most (switch_rule (codes "svg")) in
     with_files (with_json svg)
 
+-- a number from 1 to 1,000,000 after `--limit`
+abbrev pub limit_rule : Rule
+limit_rule = record (value_rule (codes "limit")) {
+  parser = Some (parsers.Signed (pos 1) (pos 1000000));
+}
+
+abbrev pub outcomes_line : App
+outcomes_line =
+    let event = with_rule (new_app (codes "outcomes")) (number_rule (codes "event")) in
+    with_progress (with_json (with_rule event limit_rule))
+
 -- a number of 32 bits after `--error`
 abbrev pub error_rule : Rule
 error_rule = number_rule (codes "error")
@@ -199,7 +212,8 @@ running_line =
 -- and those that say more of a record
 abbrev pub telling_line : App
 telling_line =
-    with_subcommand (with_subcommand running_line explain_line.top) show_line.top
+    with_subcommand (with_subcommand (with_subcommand running_line explain_line.top)
+    show_line.top) outcomes_line.top
 
 abbrev pub command_line : App
 command_line =
@@ -320,6 +334,11 @@ pub record IsAskedOfShow (rows : List Row) (asked : ShowOptions) : Type 0 where
   pub selection : IsSelectionOf rows asked.selection
   pub json : asked.json ≡ has (codes "json") rows
 
+pub record IsAskedOfOutcomes (rows : List Row) (asked : OutcomesOptions) : Type 0 where
+  pub event : IsOptional IsNumberIn (first_of (codes "event") rows) asked.event
+  pub most : IsMost (first_of (codes "limit") rows) asked.most
+  pub json : asked.json ≡ has (codes "json") rows
+
 abbrev pub IsAskedOfMerge : List Row → ℕ → Type 0
 IsAskedOfMerge rows = IsAsked 0 (first_of (codes "error") rows)
 
@@ -331,6 +350,8 @@ IsCommandOf name rows (Run asked) = (name ≡ codes "run") × IsAskedOfRun rows 
 IsCommandOf name rows RunOf = name ≡ codes "run-of"
 IsCommandOf name rows (Explain asked) = (name ≡ codes "explain") × IsAskedOfExplain rows asked
 IsCommandOf name rows (Show asked) = (name ≡ codes "show") × IsAskedOfShow rows asked
+IsCommandOf name rows (Outcomes asked) =
+    (name ≡ codes "outcomes") × IsAskedOfOutcomes rows asked
 IsCommandOf name rows Upgrade = name ≡ codes "upgrade"
 IsCommandOf name rows (Merge error) = (name ≡ codes "merge") × IsAskedOfMerge rows error
 

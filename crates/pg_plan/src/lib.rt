@@ -12,7 +12,7 @@ mod words;
 pub use checkers::Checkers;
 pub use planner::plan;
 pub use request::{
-    CertifyOptions, CheckOptions, Command, ExplainOptions, Invocation, Plan, RunOptions,
-    ShowOptions, Telling, Usage,
+    CertifyOptions, CheckOptions, Command, ExplainOptions, Invocation, OutcomesOptions, Plan,
+    RunOptions, ShowOptions, Telling, Usage,
 };
 pub use words::{NoWords, arguments, words_of};

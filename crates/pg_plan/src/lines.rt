@@ -6,6 +6,7 @@ ghost use Rattle.pg_plan.specs.Making.{IsLine, IsLineOf, IsOption, IsMade};
 ghost use Rattle.pg_plan.specs.Commands.{bare_line, plain_line, check_line, certify_line};
 ghost use Rattle.pg_plan.specs.Commands.{run_line, show_line, explain_line, command_line};
 ghost use Rattle.pg_plan.specs.Commands.{merge_line, error_rule, logs_rule};
+ghost use Rattle.pg_plan.specs.Commands.{outcomes_line, limit_rule};
 ghost use Rattle.pg_plan.specs.Commands.{judging_line, running_line, telling_line, filter_line};
 ghost use Rattle.pg_plan.specs.Commands.{file_rule, files_rule, value_rule, switch_rule};
 ghost use Rattle.pg_plan.specs.Commands.{checkers_rule, quiet_rule, with_outputs, with_told};
@@ -41,6 +42,11 @@ const EXPLAIN_ABOUT: &str = "Write the report of a record, and the cause of a re
 pub(crate) const SHOW: &str = "show";
 
 const SHOW_ABOUT: &str = "Write the events of a record, one a line";
+
+pub(crate) const OUTCOMES: &str = "outcomes";
+
+const OUTCOMES_ABOUT: &str =
+    "Write every outcome that an access may have after the events before it";
 
 pub(crate) const UPGRADE: &str = "upgrade";
 
@@ -109,7 +115,13 @@ const ALL_ABOUT: &str = "Explain every bad event, and write a summary";
 
 pub(crate) const MOST: &str = "most";
 
-const LIMIT: &str = "limit";
+pub(crate) const LIMIT: &str = "limit";
+
+const LIMIT_ABOUT: &str = "Write at most this many outcomes, 1 to 1000000 (default 100)";
+
+pub(crate) const EVENT: &str = "event";
+
+const EVENT_ABOUT: &str = "Number of the access, or of an assist (default: the last access)";
 
 const MOST_ABOUT: &str =
     "With --all, explain at most this many bad events, 1 to 1000000 (default 100)";
@@ -290,6 +302,14 @@ fn most_option<'a>(alloc: Global) -> Result<Arg<'a>, AllocError>
     also_named(most_number(alloc), LIMIT)
 }
 
+/// How many outcomes are written, after `--limit`.
+fn limit_option<'a>(alloc: Global) -> Arg<'a>
+    ensures { IsOption limit_rule result }
+{
+    let parser = value_parser!(u32).range(1..=1_000_000);
+    value_option(alloc, LIMIT, "N", LIMIT_ABOUT).value_parser(parser)
+}
+
 /// By how much spans are widened, after `--error`.
 fn error_option<'a>(alloc: Global) -> Arg<'a>
     ensures { IsOption error_rule result }
@@ -458,6 +478,16 @@ fn explain_line<'a>(alloc: Global) -> Result<CommandLine<'a>, AllocError>
     with_files(alloc, line)
 }
 
+fn outcomes_line<'a>(alloc: Global) -> Result<CommandLine<'a>, AllocError>
+    ensures { IsLine outcomes_line result }
+{
+    let line = new_line(alloc, OUTCOMES, OUTCOMES_ABOUT);
+    let line = with_option(line, number_option(alloc, EVENT, "N", EVENT_ABOUT));
+    let line = with_option(line, limit_option(alloc));
+    let line = with_option(line, switch(alloc, JSON, JSON_ABOUT));
+    with_progress(alloc, line, PROGRESS_ABOUT)
+}
+
 fn merge_line<'a>(alloc: Global) -> Result<CommandLine<'a>, AllocError>
     ensures { IsLine merge_line result }
 {
@@ -483,12 +513,13 @@ fn running_line<'a>(alloc: Global) -> Result<CommandLine<'a>, AllocError>
     with_command(line, plain_line(alloc, RUN_OF, RUN_OF_ABOUT))
 }
 
-/// The commands of `running_line`, with `explain` and `show`.
+/// The commands of `running_line`, with `explain`, `show` and `outcomes`.
 fn telling_line<'a>(alloc: Global) -> Result<CommandLine<'a>, AllocError>
     ensures { IsLine telling_line result }
 {
     let line = with_command(running_line(alloc), explain_line(alloc));
-    with_command(line, show_line(alloc))
+    let line = with_command(line, show_line(alloc));
+    with_command(line, outcomes_line(alloc))
 }
 
 /// The whole command line.

@@ -11,7 +11,8 @@ ghost use Rattle.pg_plan.specs.Commands.{has, has_several, says_twice, is_unhear
 ghost use Rattle.pg_plan.specs.Commands.{loads_alone, has_conflict, Reads};
 ghost use Rattle.pg_plan.specs.Commands.{IsSelectionOf, IsTellingOf, IsAskedOfCheck};
 ghost use Rattle.pg_plan.specs.Commands.{IsAskedOfCertify, IsAskedOfRun, IsAskedOfExplain};
-ghost use Rattle.pg_plan.specs.Commands.{IsAskedOfShow, IsAskedOfMerge, IsCommandOf, IsPlanOf};
+ghost use Rattle.pg_plan.specs.Commands.{IsAskedOfShow, IsAskedOfOutcomes, IsAskedOfMerge};
+ghost use Rattle.pg_plan.specs.Commands.{IsCommandOf, IsPlanOf};
 ghost use Rattle.pg_plan.specs.Commands.{Asks, AsksOnly, AreCheckersOf};
 ghost use Rattle.pg_plan.specs.Commands.{AsksHelp, AsksVersion, NamesHelp, NamesVersion, AreTaken};
 ghost use Rattle.pg_plan.specs.Commands.{IsHelp, IsVersion, IsFault};
@@ -20,15 +21,17 @@ ghost use Rattle.pg_plan.specs.declared.request.Plan.{Plan as Planned};
 
 use crate::checkers::Checkers;
 use crate::lines::{
-    ALL, BYTES, CERTIFY, CHECK, CHECKERS, CPU, ERROR, EXPLAIN, FILE, FIRST, FROM, JSON, LOADS, LOG,
-    MERGE, MOST, ORDER, OUTPUT, PAGE, PROGRESS, QUIET, RUN, RUN_OF, SHOW, SINGLE, SVG, TO, UPGRADE,
-    WORD, command_line,
+    ALL, BYTES, CERTIFY, CHECK, CHECKERS, CPU, ERROR, EVENT, EXPLAIN, FILE, FIRST, FROM, JSON, LIMIT,
+    LOADS, LOG, MERGE, MOST, ORDER, OUTCOMES, OUTPUT, PAGE, PROGRESS, QUIET, RUN, RUN_OF, SHOW,
+    SINGLE, SVG, TO, UPGRADE, WORD, command_line,
 };
 use crate::request::{
-    CertifyOptions, CheckOptions, Command, ExplainOptions, Invocation, Plan, RunOptions,
-    ShowOptions, Telling, Usage,
+    CertifyOptions, CheckOptions, Command, ExplainOptions, Invocation, OutcomesOptions, Plan,
+    RunOptions, ShowOptions, Telling, Usage,
 };
-use crate::values::{checkers_of, cpu_of, number_of, page_of, telling_of, word_of};
+use crate::values::{
+    checkers_of, cpu_of, event_of, most_of, number_of, page_of, telling_of, word_of,
+};
 use clap::error::ErrorKind;
 use clap::{ArgMatches, Error};
 use pg_event::Selection;
@@ -271,6 +274,16 @@ fn asked_of_show(own: &ArgMatches<'_>) -> Option<ShowOptions>
     })
 }
 
+fn asked_of_outcomes(own: &ArgMatches<'_>) -> Option<OutcomesOptions>
+    ensures { Reads result (IsAskedOfOutcomes (options_of own.now)) }
+{
+    Some(OutcomesOptions {
+        event: event_of(text_of(own, EVENT))?,
+        most: most_of(text_of(own, LIMIT))?,
+        json: has(own, JSON),
+    })
+}
+
 /// By how many ticks `merge` is to widen spans.
 fn asked_of_merge(own: &ArgMatches<'_>) -> Option<u32>
     ensures { Reads result (IsAskedOfMerge (options_of own.now)) }
@@ -289,6 +302,7 @@ fn command_of(name: &str, own: &ArgMatches<'_>) -> Option<Command>
         RUN_OF => Some(Command::RunOf),
         EXPLAIN => Some(Command::Explain(asked_of_explain(own)?)),
         SHOW => Some(Command::Show(asked_of_show(own)?)),
+        OUTCOMES => Some(Command::Outcomes(asked_of_outcomes(own)?)),
         UPGRADE => Some(Command::Upgrade),
         MERGE => Some(Command::Merge {
             error: asked_of_merge(own)?,

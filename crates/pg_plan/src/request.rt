@@ -69,6 +69,19 @@ pub struct ShowOptions {
     pub json: bool,
 }
 
+/// What is asked of `outcomes`.
+#[derive(Clone, Copy, Debug, PartialEq, Eq)]
+pub struct OutcomesOptions {
+    /// The number of the access or assist that is asked about, where one is given; else the last
+    /// access is.
+    pub event: Option<u32>,
+    /// How many outcomes are written at most, 1 to 1,000,000. It is 100 if the arguments say
+    /// nothing.
+    pub most: u32,
+    /// Whether JSON is written in the place of text.
+    pub json: bool,
+}
+
 /// What the program is asked to do.
 #[derive(Clone, Copy, Debug, PartialEq, Eq)]
 pub enum Command {
@@ -86,6 +99,8 @@ pub enum Command {
     Explain(ExplainOptions),
     /// Read a record, and write its events, a line each.
     Show(ShowOptions),
+    /// Read a record, and write every outcome that an access may have after the events before it.
+    Outcomes(OutcomesOptions),
     /// Read a version 1 record, and write the version 2 record of the same events; its report goes
     /// to standard error.
     Upgrade,

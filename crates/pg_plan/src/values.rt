@@ -30,7 +30,7 @@ pub(crate) fn checkers_of(text: Option<&str>) -> Option<Checkers>
 }
 
 /// So many, if the text spells their number by digits alone.
-fn most_of(text: Option<&str>) -> Option<u32>
+pub(crate) fn most_of(text: Option<&str>) -> Option<u32>
     ensures { Reads result (IsMost (option_map (λ s. s.now) text.entry)) }
 {
     let Some(text) = text else {
@@ -70,6 +70,16 @@ pub(crate) fn number_of(text: Option<&str>, other: u32) -> Option<u32>
     match text {
         Some(text) => number_in(text),
         None => Some(other),
+    }
+}
+
+/// The event number that the text spells by digits alone, if there is a text.
+pub(crate) fn event_of(text: Option<&str>) -> Option<Option<u32>>
+    ensures { Reads result (IsOptional IsNumberIn (option_map (λ s. s.now) text.entry)) }
+{
+    match text {
+        Some(text) => Some(Some(number_in(text)?)),
+        None => Some(None),
     }
 }
 

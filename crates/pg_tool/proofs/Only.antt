@@ -22,6 +22,7 @@ module _ (checkers : ℕ) (input output : Change) (answer : Result Answer AuditE
   of_bytes questions.Explain format bytes gives = tt
   of_bytes (questions.ExplainAll most) format bytes gives = tt
   of_bytes (questions.Show selection) format bytes gives = tt
+  of_bytes (questions.Outcomes asked most) format bytes gives = tt
 
   pub only : (question : Question) (format : Format) (left : Option (List ℕ)) → IfSome left (λ bytes. GivesText (IsRendering question format) checkers bytes input output answer) → IfSome left (λ bytes. IsOnly question format bytes answer)
   only question format None gives = tt

@@ -1,7 +1,7 @@
 -- What a command that reads a record does is what it does of the record.
 use Rattle.std.proofs.Common.{◌≡◌, ℕ, true}
 use Rattle.pg_plan.specs.declared.request.Command.{Command}
-use Rattle.pg_plan.specs.declared.request.Command.TheVariants.{Check, Certify, Run, RunOf, Explain, Show, Upgrade, Merge}
+use Rattle.pg_plan.specs.declared.request.Command.TheVariants.{Check, Certify, Run, RunOf, Explain, Show, Outcomes, Upgrade, Merge}
 use Rattle.pg_auditing.specs.Streams.{Streams}
 use Rattle.pg_tool.specs.Answers.{DoesCommand}
 use Rattle.pg_tool.specs.Records.{DoesOfRecord, reads_record}
@@ -13,5 +13,6 @@ by_record (Run asked) s status reads does = absurd cc
 by_record RunOf s status reads does = does
 by_record (Explain asked) s status reads does = does
 by_record (Show asked) s status reads does = does
+by_record (Outcomes asked) s status reads does = does
 by_record Upgrade s status reads does = does
 by_record (Merge error) s status reads does = absurd cc

@@ -4,7 +4,8 @@ use Rattle.std.specs.Prelude.{List, [], ◌∷◌, length, Option, Some, None, c
 use Rattle.std.specs.Prelude.{MatchOption, map, Result, Ok, Err, string_bytes}
 use Rattle.pg_plan.specs.declared.request.Command.{Command}
 use Rattle.pg_plan.specs.declared.request.Command.TheVariants.{Check, Certify, Run, RunOf}
-use Rattle.pg_plan.specs.declared.request.Command.TheVariants.{Explain, Show, Upgrade, Merge}
+use Rattle.pg_plan.specs.declared.request.Command.TheVariants.{Explain, Show, Outcomes, Upgrade}
+use Rattle.pg_plan.specs.declared.request.Command.TheVariants.{Merge}
 use Rattle.pg_plan.specs.declared.request.Invocation.{Invocation}
 use Rattle.pg_plan.specs.declared.request.Usage.{Usage}
 use Rattle.pg_plan.specs.declared.request.Usage.TheVariants.{Help, Version, Fault, Memory}
@@ -46,6 +47,7 @@ DoesCommand (Run asked) s status = RunsGuest asked.single asked.bytes s status
 DoesCommand RunOf s status = DoesOfRecord RunOf s status
 DoesCommand (Explain asked) s status = DoesOfRecord (Explain asked) s status
 DoesCommand (Show asked) s status = DoesOfRecord (Show asked) s status
+DoesCommand (Outcomes asked) s status = DoesOfRecord (Outcomes asked) s status
 DoesCommand Upgrade s status = DoesOfRecord Upgrade s status
 DoesCommand (Merge error) s status = ⊥
 
@@ -90,6 +92,7 @@ widening_of (Run asked) = None
 widening_of RunOf = None
 widening_of (Explain asked) = None
 widening_of (Show asked) = None
+widening_of (Outcomes asked) = None
 widening_of Upgrade = None
 
 -- the logs that are named are merged

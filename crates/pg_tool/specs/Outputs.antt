@@ -5,7 +5,8 @@ use Rattle.std.specs.Fn.{FnReturnsAt, Shared}
 use Rattle.pg_codec.specs.declared.stream.Sink as sinks
 use Rattle.pg_plan.specs.declared.request.Command.{Command}
 use Rattle.pg_plan.specs.declared.request.Command.TheVariants.{Check, Certify, Run, RunOf}
-use Rattle.pg_plan.specs.declared.request.Command.TheVariants.{Explain, Show, Upgrade, Merge}
+use Rattle.pg_plan.specs.declared.request.Command.TheVariants.{Explain, Show, Outcomes, Upgrade}
+use Rattle.pg_plan.specs.declared.request.Command.TheVariants.{Merge}
 use Rattle.pg_plan.specs.declared.request.Plan.{Plan}
 use Rattle.pg_report.specs.Changes.{Change, Works, filled}
 use Rattle.pg_auditing.specs.Refusals.{StaysSame, Tells, uncreated_line}
@@ -30,6 +31,7 @@ writes_bytes (Run asked) = asked.bytes
 writes_bytes RunOf = false
 writes_bytes (Explain asked) = false
 writes_bytes (Show asked) = false
+writes_bytes (Outcomes asked) = false
 writes_bytes Upgrade = true
 writes_bytes (Merge error) = true
 

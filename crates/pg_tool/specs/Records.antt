@@ -5,7 +5,8 @@ use Rattle.std.specs.Prelude.{IfSome}
 use Rattle.std.specs.Io.KnownBytes.{Keeps}
 use Rattle.pg_plan.specs.declared.request.Command.{Command}
 use Rattle.pg_plan.specs.declared.request.Command.TheVariants.{Check, Certify, Run, RunOf}
-use Rattle.pg_plan.specs.declared.request.Command.TheVariants.{Explain, Show, Upgrade, Merge}
+use Rattle.pg_plan.specs.declared.request.Command.TheVariants.{Explain, Show, Outcomes, Upgrade}
+use Rattle.pg_plan.specs.declared.request.Command.TheVariants.{Merge}
 use Rattle.pg_plan.specs.declared.request.CertifyOptions.{CertifyOptions}
 use Rattle.pg_plan.specs.declared.request.CheckOptions.{CheckOptions}
 use Rattle.pg_plan.specs.declared.request.ExplainOptions.{ExplainOptions}
@@ -81,6 +82,8 @@ DoesPlain (Explain asked) s status =
     AnswersRecord (telling_question asked.telling) (telling_format asked) 1 s status
 DoesPlain (Show asked) s status =
     AnswersRecord (questions.Show asked.selection) (format_of asked.json) 1 s status
+DoesPlain (Outcomes asked) s status =
+    AnswersRecord (questions.Outcomes asked.event asked.most) (format_of asked.json) 1 s status
 DoesPlain Upgrade s status = Upgrades s status
 DoesPlain (Merge error) s status = ⊥
 
@@ -100,6 +103,8 @@ question_of (Run asked) = None
 question_of RunOf = None
 question_of (Explain asked) = in_json asked.json (telling_question asked.telling)
 question_of (Show asked) = in_json asked.json (questions.Show asked.selection)
+question_of (Outcomes asked) =
+    in_json asked.json (questions.Outcomes asked.event asked.most)
 question_of Upgrade = None
 question_of (Merge error) = None
 
@@ -130,6 +135,7 @@ DoesSpanned (Run asked) s status = ⊥
 DoesSpanned RunOf s status = RefusesSpans s.output s.errors status
 DoesSpanned (Explain asked) s status = OrdersRecord (told_of asked.telling) s status
 DoesSpanned (Show asked) s status = ShowsSpans asked.selection s status
+DoesSpanned (Outcomes asked) s status = RefusesSpans s.output s.errors status
 DoesSpanned Upgrade s status = RefusesSpans s.output s.errors status
 DoesSpanned (Merge error) s status = ⊥
 
@@ -177,5 +183,6 @@ reads_record (Run asked) = false
 reads_record RunOf = true
 reads_record (Explain asked) = true
 reads_record (Show asked) = true
+reads_record (Outcomes asked) = true
 reads_record Upgrade = true
 reads_record (Merge error) = false

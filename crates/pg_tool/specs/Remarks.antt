@@ -4,7 +4,8 @@ use Rattle.std.specs.Prelude.{◌&&◌, ◌++◌, ℕ, Bool, true, false, not, n
 use Rattle.std.specs.Prelude.{None, codes, decimal}
 use Rattle.pg_plan.specs.declared.request.Command.{Command}
 use Rattle.pg_plan.specs.declared.request.Command.TheVariants.{Check, Certify, Run, RunOf}
-use Rattle.pg_plan.specs.declared.request.Command.TheVariants.{Explain, Show, Upgrade, Merge}
+use Rattle.pg_plan.specs.declared.request.Command.TheVariants.{Explain, Show, Outcomes, Upgrade}
+use Rattle.pg_plan.specs.declared.request.Command.TheVariants.{Merge}
 use Rattle.pg_report.specs.Changes.{Change, Stream}
 use Rattle.pg_auditing.specs.Refusals.{StaysSame, Tells}
 
@@ -23,6 +24,7 @@ writes_json (Run asked) = false
 writes_json RunOf = false
 writes_json (Explain asked) = asked.json
 writes_json (Show asked) = asked.json
+writes_json (Outcomes asked) = asked.json
 writes_json Upgrade = false
 writes_json (Merge error) = false
 
@@ -38,6 +40,7 @@ judges_by_moments (Run asked) = false
 judges_by_moments RunOf = true
 judges_by_moments (Explain asked) = true
 judges_by_moments (Show asked) = false
+judges_by_moments (Outcomes asked) = false
 judges_by_moments Upgrade = true
 judges_by_moments (Merge error) = false
 

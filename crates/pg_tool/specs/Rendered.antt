@@ -7,7 +7,7 @@ use Rattle.pg_report.specs.declared.error.AuditError.{AuditError}
 use Rattle.pg_report.specs.Changes.{Change}
 use Rattle.pg_answers.specs.declared.answer.Answer.{Answer}
 use Rattle.pg_answers.specs.declared.answer.Answer.TheVariants.{Report, Summary, Cause, Causes}
-use Rattle.pg_answers.specs.declared.answer.Answer.TheVariants.{Rejection, Events}
+use Rattle.pg_answers.specs.declared.answer.Answer.TheVariants.{Rejection, Events, Prospect}
 use Rattle.pg_answers.specs.declared.question.Question.{Question}
 use Rattle.pg_answers.specs.declared.question.Question.TheVariants as questions
 use Rattle.pg_answers.specs.Answers.{IsAnswer, answer_status}
@@ -30,6 +30,7 @@ IsDrawn (Cause report r x) text = IsPicture r.head r.events x text
 IsDrawn (Causes report r xs s) text = text ≡ answer_text (Causes report r xs s)
 IsDrawn (Rejection x) text = text ≡ answer_text (Rejection x)
 IsDrawn (Events r selection) text = text ≡ answer_text (Events r selection)
+IsDrawn (Prospect x) text = text ≡ answer_text (Prospect x)
 
 abbrev pub IsRendered : Format → Answer → List ℕ → Type 0
 IsRendered Text x text = text ≡ answer_text x
@@ -56,6 +57,7 @@ IsOnly questions.Certify Picture bytes answer = Unit {0}
 IsOnly questions.Explain format bytes answer = Unit {0}
 IsOnly (questions.ExplainAll most) format bytes answer = Unit {0}
 IsOnly (questions.Show selection) format bytes answer = Unit {0}
+IsOnly (questions.Outcomes asked most) format bytes answer = Unit {0}
 
 -- By so many checkers: the status is that of such an answer, and standard error has its line or its
 -- object.

@@ -33,7 +33,8 @@ fn drawn(alloc: Global, answer: &Answer) -> Result<String, AllocError>
         | Answer::Summary(..)
         | Answer::Causes(..)
         | Answer::Rejection(_)
-        | Answer::Events(..) => answer_text(alloc, answer),
+        | Answer::Events(..)
+        | Answer::Prospect(_) => answer_text(alloc, answer),
     }
 }
 

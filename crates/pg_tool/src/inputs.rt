@@ -53,6 +53,7 @@ fn perform<T: AllocGlobal + Threads + Wait + Sync, R: Source, O: Sink, E: Sink, 
         | Command::RunOf
         | Command::Explain(_)
         | Command::Show(_)
+        | Command::Outcomes(_)
         | Command::Upgrade => do_of_record(rt, &plan.command, input, output, errors),
         Command::Merge { .. } => unreachable!(),
     }
@@ -175,6 +176,7 @@ pub(crate) fn widening_of(command: &Command) -> Option<u32>
         | Command::RunOf
         | Command::Explain(_)
         | Command::Show(_)
+        | Command::Outcomes(_)
         | Command::Upgrade => None,
     }
 }

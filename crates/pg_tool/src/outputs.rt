@@ -30,7 +30,11 @@ fn writes_bytes(command: &Command) -> bool
         Command::Certify(asked) => asked.bytes,
         Command::Run(asked) => asked.bytes,
         Command::Upgrade | Command::Merge { .. } => true,
-        Command::Check(_) | Command::RunOf | Command::Explain(_) | Command::Show(_) => false,
+        Command::Check(_)
+        | Command::RunOf
+        | Command::Explain(_)
+        | Command::Show(_)
+        | Command::Outcomes(_) => false,
     }
 }
 

@@ -121,6 +121,7 @@ fn tells_of_reading(plan: &Plan) -> bool {
         | Command::RunOf
         | Command::Explain(_)
         | Command::Show(_)
+        | Command::Outcomes(_)
         | Command::Upgrade
         | Command::Merge { .. } => plan.progress,
     }

@@ -159,6 +159,19 @@ fn do_of_plain<T: AllocGlobal + Threads + Wait + Sync, R: Source, O: Sink, E: Si
                 errors,
             )
         }
+        Command::Outcomes(asked) => {
+            let question = Question::Outcomes(asked.event, asked.most);
+            let format = format_of(asked.json);
+            answer(
+                rt,
+                Checkers::default(),
+                question,
+                format,
+                input,
+                output,
+                errors,
+            )
+        }
         Command::Upgrade => upgrade(alloc, input, output, errors),
         Command::Run(_) | Command::Merge { .. } => unreachable!(),
     }
@@ -187,6 +200,9 @@ fn question_of(command: &Command) -> Option<Question>
         Command::Certify(asked) => in_json(is_json(asked), Question::Certify),
         Command::Explain(asked) => in_json(asked.json, telling_question(asked.telling)),
         Command::Show(asked) => in_json(asked.json, Question::Show(asked.selection)),
+        Command::Outcomes(asked) => {
+            in_json(asked.json, Question::Outcomes(asked.event, asked.most))
+        }
         Command::Run(_) | Command::RunOf | Command::Upgrade | Command::Merge { .. } => None,
     }
 }
@@ -268,7 +284,9 @@ fn do_of_spanned<R: Source, O: Sink, E: Sink>(
         Command::Certify(asked) => order_by(alloc, asked, input, output, errors),
         Command::Explain(asked) => explain_order(alloc, asked.telling, input, output, errors),
         Command::Show(asked) => { show_spanned(alloc, asked.selection, input, output, errors) }
-        Command::Check(_) | Command::RunOf | Command::Upgrade => refuse_spans(output, errors),
+        Command::Check(_) | Command::RunOf | Command::Outcomes(_) | Command::Upgrade => {
+            refuse_spans(output, errors)
+        }
         Command::Run(_) | Command::Merge { .. } => unreachable!(),
     }
 }

@@ -21,6 +21,7 @@ fn writes_json(command: &Command) -> bool
         Command::Certify(asked) => asked.json,
         Command::Explain(asked) => asked.json,
         Command::Show(asked) => asked.json,
+        Command::Outcomes(asked) => asked.json,
         Command::Run(_) | Command::RunOf | Command::Upgrade | Command::Merge { .. } => false,
     }
 }
@@ -39,7 +40,11 @@ pub(crate) fn judges_by_moments(command: &Command) -> bool
 {
     match command {
         Command::Check(_) | Command::RunOf | Command::Explain(_) | Command::Upgrade => true,
-        Command::Certify(_) | Command::Run(_) | Command::Show(_) | Command::Merge { .. } => false,
+        Command::Certify(_)
+        | Command::Run(_)
+        | Command::Show(_)
+        | Command::Outcomes(_)
+        | Command::Merge { .. } => false,
     }
 }
 

@@ -1,0 +1,136 @@
+//! What may come of an event, as text.
+
+ghost use Rattle.std.specs.Prelude.{◌≡◌, ◌++◌, IfOk, OnOk, string_bytes};
+ghost use Rattle.pg_explain.specs.Line.{numbers_text};
+ghost use Rattle.pg_answers.specs.ProspectTexts.{asked_line, result_text, allowed_line};
+ghost use Rattle.pg_answers.specs.ProspectTexts.{allowed_lines, more_line, counted_line};
+ghost use Rattle.pg_answers.specs.ProspectTexts.{outcomes_text, may_line, coming_text};
+ghost use Rattle.pg_answers.specs.ProspectTexts.{neither_text, prospect_text};
+
+use crate::answer::{Coming, Outcomes, Prospect};
+use pg_event::{Event, Moments, Outcome};
+use pg_explain::push_claim_line;
+use pg_outcomes::Allowed;
+use std::alloc::{AllocError, Global};
+
+/// Appends the line of the event.
+fn push_asked(text: &mut String, number: u32, event: &Event) -> Result<(), AllocError>
+    ensures { OnOk result
+        (string_bytes text.new ≡ string_bytes text.old ++ asked_line number event.now) }
+{
+    text.push_str("event: ")?;
+    push_claim_line(text, number, event)?;
+    text.push_str("\n")
+}
+
+/// Appends an outcome.
+fn push_result(text: &mut String, outcome: Outcome) -> Result<(), AllocError>
+    ensures { OnOk result
+        (string_bytes text.new ≡ string_bytes text.old ++ result_text outcome) }
+{
+    match outcome {
+        Outcome::Page(page) => write!(text, "0x{page:x}"),
+        Outcome::Fault(code) => write!(text, "fault 0x{code:x}"),
+    }
+}
+
+/// Appends numbers, each after a space.
+fn push_numbers(text: &mut String, numbers: &[u32]) -> Result<(), AllocError>
+    ensures { OnOk result
+        (string_bytes text.new ≡ string_bytes text.old ++ numbers_text numbers.now) }
+{
+    for number in numbers {
+        write!(text, " {number}")?;
+    }
+    Ok(())
+}
+
+/// Appends the line of an outcome.
+fn push_allowed(text: &mut String, allowed: &Allowed) -> Result<(), AllocError>
+    ensures { OnOk result
+        (string_bytes text.new ≡ string_bytes text.old ++ allowed_line allowed.now) }
+{
+    push_result(text, allowed.outcome)?;
+    text.push_str(" by")?;
+    push_numbers(text, allowed.moments.as_slice())?;
+    text.push_str("\n")
+}
+
+fn push_each(text: &mut String, found: &[Allowed]) -> Result<(), AllocError>
+    ensures { OnOk result
+        (string_bytes text.new ≡ string_bytes text.old ++ allowed_lines found.now) }
+{
+    for allowed in found {
+        push_allowed(text, allowed)?;
+    }
+    Ok(())
+}
+
+/// Appends how many outcomes are not told, where some are not.
+fn push_more(text: &mut String, count: usize, most: u32) -> Result<(), AllocError>
+    ensures { OnOk result
+        (string_bytes text.new ≡ string_bytes text.old ++ more_line count most) }
+{
+    if (most as usize) < count {
+        let more = count - most as usize;
+        write!(text, "more: {more}\n")?;
+    }
+    Ok(())
+}
+
+fn push_outcomes(text: &mut String, outcomes: &Outcomes) -> Result<(), AllocError>
+    ensures { OnOk result
+        (string_bytes text.new ≡ string_bytes text.old ++ outcomes_text outcomes.now) }
+{
+    let count = outcomes.found.len();
+    push_asked(text, outcomes.number, &outcomes.event)?;
+    push_each(text, outcomes.told())?;
+    push_more(text, count, outcomes.most)?;
+    write!(text, "outcomes: {count}\n")
+}
+
+/// Appends whether an assist may come.
+fn push_may(text: &mut String, moments: Option<Moments>) -> Result<(), AllocError>
+    ensures { OnOk result
+        (string_bytes text.new ≡ string_bytes text.old ++ may_line moments) }
+{
+    match moments {
+        Some(moments) => {
+            text.push_str("may come by")?;
+            push_numbers(text, moments.as_slice())?;
+            text.push_str("\n")
+        }
+        None => text.push_str("may not come\n"),
+    }
+}
+
+fn push_coming(text: &mut String, coming: &Coming) -> Result<(), AllocError>
+    ensures { OnOk result
+        (string_bytes text.new ≡ string_bytes text.old ++ coming_text coming.now) }
+{
+    push_asked(text, coming.number, &coming.event)?;
+    push_may(text, coming.moments)
+}
+
+fn push_neither(text: &mut String, number: Option<u32>) -> Result<(), AllocError>
+    ensures { OnOk result
+        (string_bytes text.new ≡ string_bytes text.old ++ neither_text number) }
+{
+    match number {
+        Some(number) => write!(text, "no access: event {number}\n"),
+        None => text.push_str("no access\n"),
+    }
+}
+
+/// What may come of an event. Fails only when out of memory.
+pub(crate) fn prospect_text(alloc: Global, prospect: &Prospect) -> Result<String, AllocError>
+    ensures { IfOk result (λ t. string_bytes t ≡ prospect_text prospect.now) }
+{
+    let mut text = String::new(alloc);
+    match prospect {
+        Prospect::Access(outcomes) => push_outcomes(&mut text, outcomes)?,
+        Prospect::Assist(coming) => push_coming(&mut text, coming)?,
+        Prospect::Neither(number) => push_neither(&mut text, *number)?,
+    }
+    Ok(text)
+}

@@ -1,0 +1,86 @@
+//! What may come of an event of a record.
+
+ghost use Rattle.std.specs.Prelude.{◌<◌, ◌^◌, length, IfOk};
+ghost use Rattle.pg_answers.specs.Answers.{IsForeseen, IsForeseenAt};
+ghost use Rattle.pg_answers.specs.Prospects.{IsAskedEvent, IsLastAccess};
+
+use crate::answer::{Answer, Coming, Outcomes, Prospect};
+use crate::denials::denial_in;
+use pg_certify::denied_events_have_no_run;
+use pg_check::History;
+use pg_event::Event;
+use pg_outcomes::{Found, is_access, outcomes_of};
+use std::alloc::{AllocError, Global};
+
+/// The number of the last access, if there is one.
+fn last_access(events: &[Event]) -> Option<u32>
+    requires { length events.now < 2 ^ 32 }
+    ensures { IsLastAccess events.now (length events.now) result }
+{
+    let mut last = None;
+    for i in 0..events.len() as u32 {
+        if is_access(&events[i as usize]) {
+            last = Some(i);
+        }
+    }
+    last
+}
+
+/// The number of the event that is asked about, if there is such an event: the last access, where
+/// no number is given.
+fn asked_event(events: &[Event], asked: Option<u32>) -> Option<u32>
+    requires { length events.now < 2 ^ 32 }
+    ensures { IsAskedEvent events.now asked result }
+{
+    match asked {
+        Some(number) if (number as usize) < events.len() => Some(number),
+        Some(_) => None,
+        None => last_access(events),
+    }
+}
+
+/// What may come of the event with this number.
+fn foreseen_at(
+    alloc: Global,
+    history: &History,
+    number: u32,
+    most: u32,
+) -> Result<Answer, AllocError>
+    requires { number < length history.now.events }
+    ensures { IfOk result (IsForeseenAt history.now number most) }
+{
+    // What a no says of runs.
+    denied_events_have_no_run();
+    let event = history.events()[number as usize];
+    match outcomes_of(alloc, history, number)? {
+        Found::Rejected(denied) => Ok(Answer::Rejection(denial_in(alloc, history, denied)?)),
+        Found::Outcomes(found) => Ok(Answer::Prospect(Prospect::Access(Outcomes {
+            number,
+            event,
+            found,
+            most,
+        }))),
+        Found::Assist(moments) => Ok(Answer::Prospect(Prospect::Assist(Coming {
+            number,
+            event,
+            moments,
+        }))),
+        Found::NoAccess => Ok(Answer::Prospect(Prospect::Neither(Some(number)))),
+    }
+}
+
+/// What may come of the event that is asked about: why no run has the events before it, where none
+/// has.
+pub(crate) fn foreseen(
+    alloc: Global,
+    history: &History,
+    asked: Option<u32>,
+    most: u32,
+) -> Result<Answer, AllocError>
+    ensures { IfOk result (IsForeseen asked most history.now) }
+{
+    match asked_event(history.events(), asked) {
+        Some(number) => foreseen_at(alloc, history, number, most),
+        None => Ok(Answer::Prospect(Prospect::Neither(asked))),
+    }
+}

@@ -1,0 +1,137 @@
+//! What may come of an event, as JSON.
+
+ghost use Rattle.std.specs.Prelude.{◌≡◌, List, codes, map, take, IfOk, OnOk, string_bytes};
+ghost use Rattle.serde_json.specs.View.{view, members_view};
+ghost use Rattle.pg_json.specs.Tree.{Fields as ToldFields, data_of, members_of, counts, field};
+ghost use Rattle.pg_json.specs.Tree.{no_fields, object, json_line};
+ghost use Rattle.pg_json_answers.specs.Answers.{with_result, allowed_json, asked_fields};
+ghost use Rattle.pg_json_answers.specs.Answers.{outcomes_fields, by_json, coming_fields};
+ghost use Rattle.pg_json_answers.specs.Answers.{number_json, neither_fields, prospect_fields};
+
+use pg_answers::{Coming, Outcomes, Prospect};
+use pg_event::{Event, Moments, Outcome};
+use pg_json::{Fields, claim_json, line_of, list_of, numbers_json, object_of, put_count, put_hex};
+use pg_outcomes::Allowed;
+use serde_json::{Map, Value, put};
+use std::alloc::{AllocError, Global};
+
+/// Puts an outcome.
+fn put_result(fields: &mut Fields, alloc: Global, outcome: Outcome) -> Result<(), AllocError>
+    ensures { (told : ToldFields) → members_view fields.old.entries ≡ members_of told →
+        OnOk result (members_view fields.new.entries ≡ members_of (with_result outcome told)) }
+{
+    match outcome {
+        Outcome::Page(page) => put_hex(fields, alloc, "page", page),
+        Outcome::Fault(code) => put_hex(fields, alloc, "fault", code as u64),
+    }
+}
+
+/// Moments alone.
+fn by_fields(alloc: Global, moments: &[u32]) -> Result<Fields, AllocError>
+    ensures { IfOk result (λ m. members_view m.entries
+        ≡ members_of (field (codes "by") (counts moments.now) no_fields)) }
+{
+    let mut fields = Map::new(alloc);
+    let by = numbers_json(alloc, moments)?;
+    put(&mut fields, alloc, "by", by)?;
+    Ok(fields)
+}
+
+fn allowed_json(alloc: Global, allowed: &Allowed) -> Result<Value, AllocError>
+    ensures { IfOk result (λ v. view v ≡ data_of (allowed_json allowed.now)) }
+{
+    let mut fields = by_fields(alloc, allowed.moments.as_slice())?;
+    put_result(&mut fields, alloc, allowed.outcome)?;
+    Ok(object_of(fields))
+}
+
+fn each(alloc: Global, found: &[Allowed]) -> Result<Vec<Value>, AllocError>
+    ensures { IfOk result (λ vs. map view vs.items
+        ≡ map (λ x. data_of (allowed_json x)) found.now) }
+{
+    let mut values = Vec::new(alloc);
+    for allowed in found {
+        let value = allowed_json(alloc, allowed)?;
+        values.push(value)?;
+    }
+    Ok(values)
+}
+
+/// The event, without its moments.
+fn asked_fields(alloc: Global, number: u32, event: &Event) -> Result<Fields, AllocError>
+    ensures { IfOk result (λ m. members_view m.entries
+        ≡ members_of (asked_fields number event.now)) }
+{
+    let mut fields = Map::new(alloc);
+    let told = claim_json(alloc, number as u64, event)?;
+    put(&mut fields, alloc, "event", told)?;
+    Ok(fields)
+}
+
+fn outcomes_fields(alloc: Global, outcomes: &Outcomes) -> Result<Fields, AllocError>
+    ensures { IfOk result (λ m. members_view m.entries
+        ≡ members_of (outcomes_fields outcomes.now)) }
+{
+    let mut fields = asked_fields(alloc, outcomes.number, &outcomes.event)?;
+    put_count(&mut fields, alloc, "count", outcomes.found.len() as u64)?;
+    let told = each(alloc, outcomes.told())?;
+    put(&mut fields, alloc, "outcomes", list_of(told))?;
+    Ok(fields)
+}
+
+/// Moments, or null where there are none.
+fn by_json(alloc: Global, moments: Option<Moments>) -> Result<Value, AllocError>
+    ensures { IfOk result (λ v. view v ≡ data_of (by_json moments)) }
+{
+    match moments {
+        Some(moments) => numbers_json(alloc, moments.as_slice()),
+        None => Ok(Value::Null),
+    }
+}
+
+fn coming_fields(alloc: Global, coming: &Coming) -> Result<Fields, AllocError>
+    ensures { IfOk result (λ m. members_view m.entries ≡ members_of (coming_fields coming.now)) }
+{
+    let mut fields = asked_fields(alloc, coming.number, &coming.event)?;
+    let by = by_json(alloc, coming.moments)?;
+    put(&mut fields, alloc, "by", by)?;
+    Ok(fields)
+}
+
+/// A number, or null.
+fn number_json(number: Option<u32>) -> Value
+    ensures { view result ≡ data_of (number_json number) }
+{
+    match number {
+        Some(number) => Value::from(number),
+        None => Value::Null,
+    }
+}
+
+fn neither_fields(alloc: Global, number: Option<u32>) -> Result<Fields, AllocError>
+    ensures { IfOk result (λ m. members_view m.entries ≡ members_of (neither_fields number)) }
+{
+    let mut fields = Map::new(alloc);
+    put(&mut fields, alloc, "no_access", number_json(number))?;
+    Ok(fields)
+}
+
+fn prospect_fields(alloc: Global, prospect: &Prospect) -> Result<Fields, AllocError>
+    ensures { IfOk result (λ m. members_view m.entries
+        ≡ members_of (prospect_fields prospect.now)) }
+{
+    match prospect {
+        Prospect::Access(outcomes) => outcomes_fields(alloc, outcomes),
+        Prospect::Assist(coming) => coming_fields(alloc, coming),
+        Prospect::Neither(number) => neither_fields(alloc, *number),
+    }
+}
+
+/// The line of what may come of an event.
+pub(crate) fn prospect_line(alloc: Global, prospect: &Prospect) -> Result<String, AllocError>
+    ensures { IfOk result (λ t. string_bytes t
+        ≡ json_line (object (prospect_fields prospect.now))) }
+{
+    let fields = prospect_fields(alloc, prospect)?;
+    line_of(alloc, fields)
+}

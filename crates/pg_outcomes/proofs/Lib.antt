@@ -1,0 +1,5 @@
+mod Words
+mod Walks
+mod Whole
+mod Steps
+mod Meaning

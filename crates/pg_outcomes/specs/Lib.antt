@@ -1,0 +1,6 @@
+pub mod Placed
+pub mod Allowing
+pub mod Pages
+pub mod Candidates
+pub mod Law
+pub mod Asked

@@ -1,0 +1,15 @@
+// SPDX-License-Identifier: MIT OR Apache-2.0
+//! Every outcome that an access may have after the events before it.
+#![tactic(auto)]
+
+mod allowed;
+mod asked;
+mod candidates;
+mod laws;
+mod outcomes;
+mod pages;
+
+pub use allowed::{Allowed, is_access, with_outcome};
+pub use asked::{Found, outcomes_of};
+pub use laws::allowed_exactly_where_a_run_exists;
+pub use outcomes::outcomes_at;
