@@ -108,7 +108,7 @@ pub fn deny_event(
     ensures { IfOk result (IsDenialFor seen.now.head seen.now.events number event.now) }
 {
     let last = last_moments_at(alloc, seen, number, event)?;
-    let dropped = drop_for(alloc, seen, number, event, last)?;
+    let dropped = drop_for(alloc, seen, number, event, &last)?;
     let lacking = lacking_now(alloc, seen, number, event)?;
     let Now { walk, given } = walk_now(alloc, seen, number, event)?;
     Ok(Denial {
