@@ -43,7 +43,7 @@ pub record IsOutcomesOf (r : Recorded) (n most : ℕ) (x : Outcomes) : Type 0 wh
   pub access : is_access x.event ≡ true
   pub run : HasRunBefore r n
   pub outcomes : AreOutcomes r n x.event x.found.items
-  pub most : x.most ≡ most
+  pub bound : x.most ≡ most
 
 -- whether assist n may come
 pub record IsComingOf (r : Recorded) (n : ℕ) (x : Coming) : Type 0 where
