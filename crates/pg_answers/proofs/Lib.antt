@@ -13,4 +13,3 @@ pub mod OneDenial
 pub mod OneCertificate
 pub mod GivenFirsts
 mod FirstChecks
-mod Foreseen
