@@ -1,28 +1,25 @@
 -- What it says of runs of the machine that an outcome is allowed.
-use Rattle.std.proofs.Common.{◌≡◌, ℕ, zero, suc, ◌+◌, ◌-◌, ◌^◌, ◌<◌, ◌≤◌, true, List, [], ◌∷◌, ◌++◌, length, refl, ap, sym, ◌∙◌, subst, inl, inr, arith, Option, Some, None, take, take_all, map, length-append}
+use Rattle.std.proofs.Common.{◌≡◌, ℕ, zero, suc, ◌+◌, ◌-◌, ◌^◌, ◌<◌, ◌≤◌, List, [], ◌∷◌, ◌++◌, length, refl, ap, sym, ◌∙◌, subst, inl, inr, arith, Option, Some, None, take, take_all, map, length-append}
 use Rattle.std.specs.Prelude.{slice_get, option_and_then}
 use Rattle.std.specs.List.{AllByRecursion}
 use Rattle.std.proofs.lemmas.Bool.{cases_lt}
-use Rattle.std.proofs.lemmas.List.{length-take, length-map, map-append, take-map, take-take}
+use Rattle.std.proofs.lemmas.List.{length-take, map-append, take-map, take-take}
 use Rattle.pg_event.specs.declared.event.Event.{Event}
 use Rattle.pg_event.specs.declared.event.Event.TheVariants.{Write, Access, Assist, MovCr3, Invlpg, Invpcid, MovCr4Pge}
 use Rattle.pg_event.specs.declared.event.Outcome.{Outcome}
 use Rattle.pg_event.specs.declared.event.Reason.{Reason}
 use Rattle.pg_event.specs.Heads.{Head}
 use Rattle.pg_event.specs.Form.{broken_rule}
-use Rattle.pg_event.specs.Witness.{failing_event, failing, first_bad_from, first_some, Accepted, IsEachWitnessed}
+use Rattle.pg_event.specs.Witness.{failing_event, failing, first_some, Accepted, IsEachWitnessed}
 use Rattle.pg_event.proofs.Accepted.{accepted_where_each_is_witnessed}
 use Rattle.pg_event.proofs.Alike.{same_judged, failing_depends_on_the_past}
 use Rattle.pg_check.specs.Kept.{AreWellFormed}
-use Rattle.pg_machine.specs.Machine.{visible}
 use Rattle.pg_run_of.specs.Converse.{without_moments, AreSameButMoments, HasMoments}
 use Rattle.pg_run_of.proofs.Moments.{judged_alike}
 use Rattle.pg_run_of.proofs.Whole.{accepted_events_run}
 use Rattle.pg_search.specs.Law.{with_moments, AreWitness}
-use Rattle.pg_certify.specs.Certified.{IsCertified, IsDenied, CanBeCertified, HasRunButMoments, CertifiedExactlyWhereARunExists, DeniedEventsHaveNoRun}
+use Rattle.pg_certify.specs.Certified.{IsDenied, CanBeCertified, HasRunButMoments, CertifiedExactlyWhereARunExists, DeniedEventsHaveNoRun}
 use Rattle.pg_certify.proofs.Named.{same_count, well_alike}
-use Rattle.pg_outcomes.specs.Placed.{is_access, with_outcome}
-use Rattle.pg_outcomes.specs.Allowing.{IsAllowed}
 use Rattle.pg_outcomes.specs.Law.{AllowedExactlyWhereARunExists}
 
 -- ---- lists
@@ -72,12 +69,14 @@ accepted_front head xs n low good = (accepted_where_each_is_witnessed head (take
 pub front_certified : (head : Head) (xs : List Event) (n : ℕ) → n ≤ length xs → CanBeCertified head xs → CanBeCertified head (take n xs)
 front_certified head xs n low h =
     let found : List Event = h.0 in
-    let count : length found ≡ length xs = same_count found xs h.1.same in
-    (take n found, record {
-      same = sym (take-map without_moments n found) ∙ ap (take n) h.1.same ∙ take-map without_moments n xs;
-      fits = all_front HasMoments n found h.1.fits;
-      good = accepted_front head found n (omega (arith, count, low)) h.1.good;
-    })
+    let count : length found ≡ length xs = same_count found xs h.1.same in (
+      take n found,
+      record {
+        same = sym (take-map without_moments n found) ∙ ap (take n) h.1.same ∙ take-map without_moments n xs;
+        fits = all_front HasMoments n found h.1.fits;
+        good = accepted_front head found n (omega (arith, count, low)) h.1.good;
+      },
+    )
 
 -- a run has the events of a front, where it has all, and where the first that is denied comes later
 

@@ -1,7 +1,7 @@
 -- Outcomes that are found, one candidate after another.
-use Rattle.std.proofs.Common.{◌≡◌, ℕ, zero, suc, ◌+◌, ◌<◌, ◌≤◌, List, [], ◌∷◌, ◌++◌, length, take, take_all, get_or, refl, ap, sym, ◌∙◌, subst, inl, inr, ◌⊎◌, arith, Option, Some, None, length-append}
+use Rattle.std.proofs.Common.{◌≡◌, ℕ, zero, suc, ◌+◌, ◌<◌, ◌≤◌, List, [], ◌∷◌, ◌++◌, length, take, take_all, get_or, sym, ◌∙◌, subst, inl, inr, arith, length-append}
 use Rattle.std.specs.Prelude.{Result, Ok, Err, IfOk}
-use Rattle.std.specs.List.{All, Any, AllPairs, Contains}
+use Rattle.std.specs.List.{Any, AllPairs, Contains}
 use Rattle.std.proofs.lemmas.List.{take_more, get_or-take, get_or_append_left, length-take}
 use Rattle.std.proofs.lemmas.List.Elements.{All-nil, All-push, Contains-append_left, Contains-append_cases, Contains-push}
 use Rattle.std.proofs.lemmas.List.Quantifiers.{Any-push, all_pairs_push}
@@ -68,7 +68,7 @@ met r n e os xs o x h pairs told = record {
     | inr new ↦ Any-push (λ (y : Allowed). y.outcome ≡ p) xs x (told.0 ∙ only o p new)
   ];
   rising = all_pairs_push (λ (y z : Allowed). IsBefore y.outcome z.outcome) xs x h.rising
-  (λ k d lt. subst (IsBefore (get_or xs k d).outcome) (sym told.0) (before_last os o (get_or xs k d).outcome pairs (h.among k d lt)));
+      (λ k d lt. subst (IsBefore (get_or xs k d).outcome) (sym told.0) (before_last os o (get_or xs k d).outcome pairs (h.among k d lt)));
 }
 
 -- the next of some outcomes

@@ -1,5 +1,5 @@
 -- Outcomes among which are all that an access may have.
-use Rattle.std.specs.Prelude.{◌≡◌, ℕ, List, [], ◌∷◌, take}
+use Rattle.std.specs.Prelude.{◌≡◌, ℕ, List, [], ◌∷◌}
 use Rattle.std.specs.List.{All, Any, AllPairs, Contains}
 use Rattle.pg_entry.specs.declared.Cfg.{Cfg}
 use Rattle.pg_entry.specs.declared.AccessKind.{AccessKind}
@@ -7,7 +7,7 @@ use Rattle.pg_entry.specs.declared.Cause.TheVariants as causes
 use Rattle.pg_entry.specs.Permission.{fault_code}
 use Rattle.pg_event.specs.declared.event.Event.{Event}
 use Rattle.pg_event.specs.declared.event.Outcome.{Outcome}
-use Rattle.pg_event.specs.declared.event.Outcome.TheVariants.{Page, Fault}
+use Rattle.pg_event.specs.declared.event.Outcome.TheVariants.{Fault}
 use Rattle.pg_event.specs.Spelling.{Recorded}
 use Rattle.pg_outcomes.specs.declared.allowed.Allowed.{Allowed}
 use Rattle.pg_outcomes.specs.Allowing.{IsAllowed, IsBefore, IsTold}

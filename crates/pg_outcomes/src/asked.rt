@@ -29,11 +29,7 @@ pub enum Found {
 
 /// The least event before this number that no moments witness. Where there is none, some run of the
 /// machine has the events before it.
-fn rejected_before(
-    alloc: Global,
-    history: &History,
-    number: u32,
-) -> Result<Option<u64>, AllocError>
+fn rejected_before(alloc: Global, history: &History, number: u32) -> Result<Option<u64>, AllocError>
     requires { number < length history.now.events }
     ensures some { IfOk result (λ found. IfSome found (IsRejectedBefore history.now number)) }
     ensures none { IfOk result (λ found. IfNone found

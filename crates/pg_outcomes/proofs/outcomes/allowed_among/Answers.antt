@@ -1,4 +1,4 @@
-use Rattle.std.proofs.Common.{◌≡◌, ◌+◌, take, ℕ, List, sym, subst}
+use Rattle.std.proofs.Common.{◌+◌, take, ℕ, List, sym, subst}
 use Rattle.pg_event.specs.declared.event.Event.{Event}
 use Rattle.pg_event.specs.declared.event.Outcome.{Outcome}
 use Rattle.pg_event.specs.Spelling.{Recorded}
