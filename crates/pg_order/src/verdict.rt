@@ -36,6 +36,9 @@ pub enum Verdict {
 /// All orders are tried of a run of so many events.
 const MOST_TRIED: usize = 64;
 
+/// The order in which the events ended is tried first of a run of so many events.
+const MOST_IN_ENDS: usize = 65_536;
+
 /// The numbers below one, in their order.
 fn numbers_below(alloc: Global, count: u32) -> Result<Vec<u32>, AllocError>
     ensures { IfOk result (λ numbers. numbers.items ≡ range_with_len 0 count) }
@@ -165,9 +168,8 @@ fn verdict_in(alloc: Global, run: &SpannedRun, order: Vec<u32>) -> Result<Verdic
     }
 }
 
-/// The verdict of a run whose events have several orders: of the order in which they ended, or of a
-/// search.
-fn verdict_of_several(alloc: Global, run: &SpannedRun) -> Result<Verdict, AllocError>
+/// The verdict of a run of few events: of the order in which they ended, or of a search.
+fn verdict_of_few(alloc: Global, run: &SpannedRun) -> Result<Verdict, AllocError>
     requires { EachPrecedesNext run.now → ⊥ }
     ensures { IfOk result (IsVerdict run.now) }
 {
@@ -180,13 +182,58 @@ fn verdict_of_several(alloc: Global, run: &SpannedRun) -> Result<Verdict, AllocE
     }
 }
 
+/// The verdict of a run whose search came to no order with a run: of the order in which the events
+/// ended, or by the events that waited.
+fn verdict_in_ends(alloc: Global, run: &SpannedRun, waiting: &[u32]) -> Result<Verdict, AllocError>
+    requires { EachPrecedesNext run.now → ⊥ }
+    ensures { IfOk result (IsVerdict run.now) }
+{
+    match yes_in_ends(alloc, run)? {
+        Some(verdict) => Ok(verdict),
+        None => verdict_of_waiting(alloc, run, waiting),
+    }
+}
+
+/// The verdict of a run of many events: of a search, or of the order in which they ended. That one
+/// is tried last, since of many events it seldom has a run, and its first event without one may
+/// stand near its end.
+fn verdict_of_many(alloc: Global, run: &SpannedRun) -> Result<Verdict, AllocError>
+    requires { EachPrecedesNext run.now → ⊥ }
+    ensures { IfOk result (IsVerdict run.now) }
+{
+    let order = match find_order(alloc, run)? {
+        Sought::Order(order) => order,
+        Sought::Stuck(waiting) => return verdict_in_ends(alloc, run, &waiting),
+    };
+    match certify_in_order(alloc, run, &order)? {
+        InOrder::Certified => Ok(Verdict::Yes(order)),
+        InOrder::Denied(place) => {
+            let number = number_at(run, &order, place);
+            verdict_in_ends(alloc, run, &[number])
+        }
+        InOrder::NoOrder => verdict_in_ends(alloc, run, &[]),
+    }
+}
+
+/// The verdict of a run whose events have several orders.
+fn verdict_of_several(alloc: Global, run: &SpannedRun) -> Result<Verdict, AllocError>
+    requires { EachPrecedesNext run.now → ⊥ }
+    ensures { IfOk result (IsVerdict run.now) }
+{
+    if run.len() > MOST_IN_ENDS {
+        verdict_of_many(alloc, run)
+    } else {
+        verdict_of_few(alloc, run)
+    }
+}
+
 /// Looks for an order of the events of a run in which some run of the machine has them. A yes has
 /// the order, in which `moments_in_order` names the moments. Where the events have one order alone
 /// the answer is a yes or a no, and so it is where there are at most eight events. Else it is a no
 /// of the least event that no memory gives, as `first_not_given` of `pg_relaxed` tells. Where there
-/// is none, the order in which the events ended is tried first, then a search. It is a no where in
-/// no order a run comes to an event that waits when the search gives up, as far as `refute` of
-/// `pg_relaxed` tells; where a run of at most 64 events has no order with a run, as far as a trial
+/// is none, the order in which the events ended is tried, and a search: of at most 65,536 events
+/// that order first, and of more the search first. It is a no where in no order a run comes to an
+/// event that waits when the search gives up, as far as `refute` of `pg_relaxed` tells; where a run of at most 64 events has no order with a run, as far as a trial
 /// of all goes; or where no run comes to an access near the first event that waits, as far as
 /// `refute_near` tells.
 ///

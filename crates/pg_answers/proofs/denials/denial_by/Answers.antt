@@ -24,14 +24,14 @@ deny_event-requires-clause-well c =
 pub deny_event-requires-clause-names : goal.deny_event-requires-clause-names
 deny_event-requires-clause-names c = names c.args.account.now c.requires.0 c.args.number c.args.event.now c.requires.1
 
-pub taken_of-taken-requires : goal.taken_of-taken-requires
-taken_of-taken-requires c =
+pub taken_of-requires : goal.taken_of-requires
+taken_of-requires c =
     let kept : Recorded = c.args.account.now.findings.kept in
     let of : IsDenialFor kept.head kept.events c.args.number c.args.event.now c.in_ok-denial.denial = subst (λ (q : Recorded). IsDenialFor q.head q.events c.args.number c.args.event.now c.in_ok-denial.denial) (c.among-seen.ensures ∙ c.kept.ensures ∙ ap (λ (f : Findings). f.kept) c.certifying-certifying.ensures) c.in_ok-denial.ensures in
     within c.args.account.now c.requires.0 c.args.number c.args.event.now c.requires.1 c.in_ok-denial.denial.last of.last
 
-pub dropped_of-dropped-requires : goal.dropped_of-dropped-requires
-dropped_of-dropped-requires c =
+pub dropped_of-requires : goal.dropped_of-requires
+dropped_of-requires c =
     let kept : Recorded = c.args.account.now.findings.kept in
     let of : IsDenialFor kept.head kept.events c.args.number c.args.event.now c.in_ok-denial.denial = subst (λ (q : Recorded). IsDenialFor q.head q.events c.args.number c.args.event.now c.in_ok-denial.denial) (c.among-seen.ensures ∙ c.kept.ensures ∙ ap (λ (f : Findings). f.kept) c.certifying-certifying.ensures) c.in_ok-denial.ensures in
     dropped_within c.args.account.now c.requires.0 c.args.number c.args.event.now c.requires.1 c.in_ok-denial.denial.last c.in_ok-denial.denial.dropped of.dropped
@@ -50,7 +50,7 @@ returns c = λ r h.
       number = of.number;
       denial = denial_is a r c.args.number e h c.denials_among_kept.ensures c.taken_by_a_change.ensures c.dropped_by_a_change.ensures denial of;
       event = h.there;
-      takers = cc (c.taken_of-taken.ensures r.head r.events h.known changes, c.dropped_of-dropped.ensures r.head r.events h.known dropped);
+      takers = cc (c.taken_of.ensures r.head r.events h.known changes, c.dropped_of.ensures r.head r.events h.known dropped);
       count = c.len.ensures r.head r.events known;
       segments = c.segments.ensures r.head r.events known;
     }
