@@ -69,8 +69,8 @@ fn foreseen_at(
     }
 }
 
-/// What may come of the event that is asked about: why no run has the events before it, where none
-/// has.
+/// What may come of the event that is asked about. If no run has the events before it, the cause of
+/// their rejection.
 pub(crate) fn foreseen(
     alloc: Global,
     history: &History,
