@@ -81,6 +81,7 @@ bad_in (answers.Cause report r x) = None
 bad_in (answers.Causes report r xs s) = None
 bad_in (answers.Rejection x) = None
 bad_in (answers.Events r selection) = None
+bad_in (answers.Prospect x) = None
 
 -- ---- what is written
 
