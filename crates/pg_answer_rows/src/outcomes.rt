@@ -62,12 +62,14 @@ $ outcomes --limit 1
 $ outcomes --event 3
 < @stale_leaf
 > no access: event 3
+! pcid-audit: input: standard input
 ? 2
 
 == no_such_event
 $ outcomes --event 7
 < @stale_leaf
 > no access: event 7
+! pcid-audit: input: standard input
 ? 2
 
 == a_page_and_a_fault_as_json

@@ -77,10 +77,14 @@ fn words_behind(line: &str) -> &'static str {
     ""
 }
 
-/// What follows that: the input is named where it was refused, but not in JSON.
+/// The line that names the input.
+const INPUT: &str = "pcid-audit: input: standard input\n";
+
+/// What follows that: the input is named where it was refused, but not in JSON. A case whose output
+/// says why has that line alone.
 fn input_behind(line: &str, status: u8) -> &'static str {
-    if status == 2 && line.starts_with("pcid-audit: ") {
-        "pcid-audit: input: standard input\n"
+    if status == 2 && line.starts_with("pcid-audit: ") && line != INPUT {
+        INPUT
     } else {
         ""
     }
