@@ -1,4 +1,5 @@
-//! What may come of an event, by the whole program over memory. Expected lines were written by hand.
+//! What may come of an event, by the whole program over memory. Expected lines were written by
+//! hand.
 
 /// Records that rows name.
 pub const RECORDS: &str = "

@@ -52,7 +52,7 @@ const WORDS: usize = 512;
 /// An odd number whose multiples by the numbers from 0 on, cut to 64 bits, lie evenly apart.
 const SPREAD: u64 = 0x9e37_79b9_7f4a_7c15;
 
-/// What was asked last of each processor, and words of tables that were read recently, always of the
+/// What was asked last of each processor, and words of tables that were read last, always of the
 /// same `Seen`. Where memory is refused, some are not kept.
 #[derive(Drop)]
 pub(crate) struct RecentLookups {

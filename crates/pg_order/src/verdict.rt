@@ -233,9 +233,9 @@ fn verdict_of_several(alloc: Global, run: &SpannedRun) -> Result<Verdict, AllocE
 /// of the least event that no memory gives, as `first_not_given` of `pg_relaxed` tells. Where there
 /// is none, the order in which the events ended is tried, and a search: of at most 65,536 events
 /// that order first, and of more the search first. It is a no where in no order a run comes to an
-/// event that waits when the search gives up, as far as `refute` of `pg_relaxed` tells; where a run of at most 64 events has no order with a run, as far as a trial
-/// of all goes; or where no run comes to an access near the first event that waits, as far as
-/// `refute_near` tells.
+/// event that waits when the search gives up, as far as `refute` of `pg_relaxed` tells; where a run
+/// of at most 64 events has no order with a run, as far as a trial of all goes; or where no run
+/// comes to an access near the first event that waits, as far as `refute_near` tells.
 ///
 /// It fails only where memory is refused.
 pub fn find_ordered_run(alloc: Global, run: &SpannedRun) -> Result<Verdict, AllocError>
