@@ -3,3 +3,4 @@ mod Walks
 mod Whole
 mod Steps
 mod Meaning
+pub mod One

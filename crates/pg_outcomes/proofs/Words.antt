@@ -1,10 +1,11 @@
 -- The addresses that words give, from one moment to the next.
-use Rattle.std.proofs.Common.{◌≡◌, ◌≢◌, ℕ, suc, ◌+◌, ◌%◌, ◌==◌, Bool, true, false, cond, List, [], ◌∷◌, ◌++◌, take, refl, ap, sym, ◌∙◌, subst, inl, inr, arith, Option, Some, None}
+use Rattle.std.proofs.Common.{◌≡◌, ◌≢◌, ℕ, zero, suc, ◌+◌, ◌<◌, ◌≤◌, ◌⊎◌, ◌%◌, ◌==◌, Bool, true, false, cond, List, [], ◌∷◌, ◌++◌, length, take, refl, ap, sym, ◌∙◌, subst, inl, inr, arith, Option, Some, None}
 use Rattle.std.specs.Prelude.{slice_get, fold, option_to_list}
 use Rattle.std.specs.List.{Contains}
 use Rattle.std.proofs.lemmas.Bool.{cases_Bool, cases_eq, cases_lt, eqb-true}
 use Rattle.std.proofs.lemmas.List.Elements.{Contains-append_left, Contains-append_right}
 use Rattle.std.proofs.lemmas.List.Sums.{fold-append}
+use Rattle.std.proofs.lemmas.Option.{slice_get-get_or}
 use Rattle.pg_entry.specs.declared.Cfg.{Cfg}
 use Rattle.pg_entry.specs.declared.Kind.{Kind}
 use Rattle.pg_entry.specs.declared.Kind.TheVariants as kinds
@@ -18,7 +19,9 @@ use Rattle.pg_event.specs.Spelling.{Recorded}
 use Rattle.pg_event.specs.Values.{written, mem_at}
 use Rattle.pg_event.specs.Walk.{entry_address}
 use Rattle.pg_search.proofs.Stepping.{take_next}
-use Rattle.pg_outcomes.specs.Pages.{word_of, page_of, page_by, page_at, with_pages, HavePages}
+use Rattle.pg_search.specs.Writers.{word_of, written_from, HaveWritten}
+use Rattle.pg_search.specs.declared.written.Written.{Written}
+use Rattle.pg_outcomes.specs.Pages.{page_of, page_by, page_at, with_pages, HavePages}
 
 -- ---- memory
 
@@ -80,11 +83,10 @@ listed : (o : Option ℕ) (page : ℕ) → o ≡ Some page → Contains (option_
 listed (Some x) page h = let is : x ≡ page = cc in (0, omega arith, is)
 listed None page h = absurd (cc)
 
-pub have_none : (r : Recorded) (la : ℕ) → HavePages r 0 la []
-have_none r la w word page level low h =
-    let first : w ≡ 0 = omega (arith, low) in
-    let value : mem_at r.events w word ≡ 0 = ap (λ k. mem_at r.events k word) first ∙ nothing_yet r.events word in
-    absurd (absent level (subst (λ v. page_by r.head.cfg level v la ≡ Some page) value (by_value r w word level la page h).1))
+-- a word that was never written gives none
+no_page_of_nothing : (r : Recorded) (w word : ℕ) (level : Level) (la page : ℕ) → mem_at r.events w word ≡ 0 → page_at r w word level la ≡ Some page → ⊥
+no_page_of_nothing r w word level la page value h =
+    absent level (subst (λ v. page_by r.head.cfg level v la ≡ Some page) value (by_value r w word level la page h).1)
   where
     absent : (l : Level) → page_by r.head.cfg l 0 la ≡ Some page → ⊥
     absent l given = cc
@@ -99,34 +101,72 @@ of_word xs r w word la page Two h =
 of_word xs r w word la page One h =
     Contains-append_right (xs ++ option_to_list (page_at r w word Three la) ++ option_to_list (page_at r w word Two la)) _ page (listed (page_at r w word One la) page h)
 
--- one event more, for a list that has what it had
-more : (r : Recorded) (i la : ℕ) (e : Event) (xs ys : List ℕ) → slice_get r.events i ≡ Some e → HavePages r i la xs → ((page : ℕ) → Contains xs page → Contains ys page) →
-    ((word page : ℕ) (level : Level) → word_of e ≡ Some word → page_at r (i + 1) word level la ≡ Some page → Contains ys page) → HavePages r (i + 1) la ys
-more r i la e xs ys at have keep here w word page level low h =
-    elim (cases_lt i w) as (λ _. Contains ys page) [
-      | inl lt ↦
-          let last : w ≡ i + 1 = omega (arith, lt, low) in
-          let given : page_at r (i + 1) word level la ≡ Some page = subst (λ k. page_at r k word level la ≡ Some page) last h in
-          by_word (word_of e) refl given
-      | inr le ↦ keep page (have w word page level le h)
-    ]
+event_there : (xs : List Event) (n : ℕ) → n < length xs → (e : Event) × (slice_get xs n ≡ Some e)
+event_there [] n lt = absurd (omega (arith, lt))
+event_there (x ∷ xs) zero lt = (x, refl)
+event_there (x ∷ xs) (suc n) lt = event_there xs n (omega (arith, lt))
+
+-- what a word has at a moment it had at none, or an event before it left it
+last_left : (events : List Event) (w word : ℕ) → w ≤ length events → (mem_at events w word ≡ 0)
+    ⊎ ((i : ℕ) × (e : Event) × (i < w) × (slice_get events i ≡ Some e) × (word_of e ≡ Some word) × (mem_at events (i + 1) word ≡ mem_at events w word))
+last_left events zero word le = inl (nothing_yet events word)
+last_left events (suc w) word le =
+    let there = event_there events w (omega (arith, le)) in
+    by_event there.0 there.1 (word_of there.0) refl
   where
-    by_word : (o : Option ℕ) → word_of e ≡ o → page_at r (i + 1) word level la ≡ Some page → Contains ys page
-    by_word None is given =
-        keep page (have i word page level (omega arith) (same_page r (i + 1) i word level la page (same_value r.events i word e at (λ (same : word_of e ≡ Some word). let no : None ≡ Some word = sym is ∙ same in absurd (cc))) given))
-    by_word (Some x) is given =
-        elim (cases_eq x word) as (λ _. Contains ys page) [
-          | inl same ↦ here word page level (is ∙ ap Some same) given
-          | inr apart ↦
-              keep page (have i word page level (omega arith) (same_page r (i + 1) i word level la page (same_value r.events i word e at (λ (same : word_of e ≡ Some word). let both : Some x ≡ Some word = sym is ∙ same in let one : x ≡ word = cc in apart one)) given))
+    next : w + 1 ≡ suc w
+    next = omega arith
+
+    kept : (e : Event) → slice_get events w ≡ Some e → word_of e ≢ Some word → mem_at events w word ≡ mem_at events (suc w) word
+    kept e at apart = sym (same_value events w word e at apart) ∙ ap (λ k. mem_at events k word) next
+
+    before : (e : Event) → slice_get events w ≡ Some e → word_of e ≢ Some word → (mem_at events (suc w) word ≡ 0)
+        ⊎ ((i : ℕ) × (e : Event) × (i < suc w) × (slice_get events i ≡ Some e) × (word_of e ≡ Some word) × (mem_at events (i + 1) word ≡ mem_at events (suc w) word))
+    before e at apart =
+        elim (last_left events w word (omega (arith, le))) [
+          | inl none ↦ inl (sym (kept e at apart) ∙ none)
+          | inr h ↦ inr (h.0, h.1, omega (arith, h.2), h.3, h.4, h.5 ∙ kept e at apart)
         ]
 
-pub have_more : (r : Recorded) (i la word : ℕ) (e : Event) (xs : List ℕ) → slice_get r.events i ≡ Some e → word_of e ≡ Some word → HavePages r i la xs → HavePages r (i + 1) la (with_pages xs r (i + 1) word la)
-have_more r i la word e xs at is have =
-    more r i la e xs _ at have
-    (λ page h. Contains-append_left _ _ page (Contains-append_left _ _ page (Contains-append_left xs _ page h)))
-    (λ x page level same h. let both : Some x ≡ Some word = sym same ∙ is in let one : x ≡ word = cc in of_word xs r (i + 1) word la page level (subst (λ a. page_at r (i + 1) a level la ≡ Some page) one h))
+    by_event : (e : Event) → slice_get events w ≡ Some e → (o : Option ℕ) → word_of e ≡ o → (mem_at events (suc w) word ≡ 0)
+        ⊎ ((i : ℕ) × (e : Event) × (i < suc w) × (slice_get events i ≡ Some e) × (word_of e ≡ Some word) × (mem_at events (i + 1) word ≡ mem_at events (suc w) word))
+    by_event e at None is = before e at (λ (same : word_of e ≡ Some word). let no : None ≡ Some word = sym is ∙ same in absurd (cc))
+    by_event e at (Some x) is =
+        elim (cases_eq x word) [
+          | inl same ↦ inr (w, e, omega arith, at, is ∙ ap Some same, ap (λ k. mem_at events k word) next)
+          | inr apart ↦ before e at (λ (same : word_of e ≡ Some word). let both : Some x ≡ Some word = sym is ∙ same in let one : x ≡ word = cc in apart one)
+        ]
 
-pub have_same : (r : Recorded) (i la : ℕ) (e : Event) (xs : List ℕ) → slice_get r.events i ≡ Some e → word_of e ≡ None → HavePages r i la xs → HavePages r (i + 1) la xs
-have_same r i la e xs at is have =
-    more r i la e xs xs at have (λ page h. h) (λ x page level same h. let no : None ≡ Some x = sym is ∙ same in absurd (cc))
+-- ---- words that were written, one after another
+
+-- what the first so many of these give is in the list
+abbrev pub HaveFirst : Recorded → ℕ → List Written → ℕ → List ℕ → Type 0
+HaveFirst r la ws k pages = (j page : ℕ) (x : Written) (level : Level) → j < k → slice_get ws j ≡ Some x → page_at r x.since x.word level la ≡ Some page → Contains pages page
+
+pub first_none : (r : Recorded) (la : ℕ) (ws : List Written) → HaveFirst r la ws 0 []
+first_none r la ws j page x level lt at h = absurd (omega (arith, lt))
+
+some_written : (x y : Written) → Some x ≡ Some y → x ≡ y
+some_written x y h = cc
+
+pub first_more : (r : Recorded) (la : ℕ) (ws : List Written) (k : ℕ) (x : Written) (pages : List ℕ) → slice_get ws k ≡ Some x → HaveFirst r la ws k pages → HaveFirst r la ws (k + 1) (with_pages pages r x.since x.word la)
+first_more r la ws k x pages there h j page y level lt at given =
+    elim (cases_lt j k) as (λ _. Contains (with_pages pages r x.since x.word la) page) [
+      | inl before ↦ Contains-append_left _ _ page (Contains-append_left _ _ page (Contains-append_left pages _ page (h j page y level before at given)))
+      | inr end ↦
+          let same : j ≡ k = omega (arith, lt, end) in
+          let one : y ≡ x = some_written y x (sym at ∙ ap (slice_get ws) same ∙ there) in
+          of_word pages r x.since x.word la page level (subst (λ (z : Written). page_at r z.since z.word level la ≡ Some page) one given)
+    ]
+
+-- all that a word gives at a moment is in the list
+pub first_all : (r : Recorded) (la moment k : ℕ) (ws : List Written) (pages : List ℕ) → moment ≤ length r.events → length ws ≤ k → HaveWritten r.events moment ws → HaveFirst r la ws k pages → HavePages r moment la pages
+first_all r la moment k ws pages le all have h w word page level low given =
+    elim (last_left r.events w word (omega (arith, le, low))) as (λ _. Contains pages page) [
+      | inl none ↦ absurd (no_page_of_nothing r w word level la page none given)
+      | inr left ↦
+          let there = have left.0 word left.1 (omega (arith, left.2, low)) left.3 left.4 in
+          let at : slice_get ws there.0 ≡ Some (written_from (left.0 + 1) word) = slice_get-get_or ws there.0 (written_from (left.0 + 1) word) there.1 ∙ ap Some there.2 in
+          h there.0 page (written_from (left.0 + 1) word) level (omega (arith, all, there.1)) at
+          (same_page r w (left.0 + 1) word level la page (sym left.5) given)
+    ]

@@ -9,22 +9,9 @@ use Rattle.pg_entry.specs.declared.Kind.TheVariants as kinds
 use Rattle.pg_entry.specs.declared.Level.{Level}
 use Rattle.pg_entry.specs.declared.Level.TheVariants.{Three, Two, One}
 use Rattle.pg_entry.specs.Kinds.{kind_of}
-use Rattle.pg_event.specs.declared.event.Event.{Event}
-use Rattle.pg_event.specs.declared.event.Event.TheVariants.{Write, Access, Assist, MovCr3, Invlpg}
-use Rattle.pg_event.specs.declared.event.Event.TheVariants.{Invpcid, MovCr4Pge}
 use Rattle.pg_event.specs.Spelling.{Recorded}
 use Rattle.pg_event.specs.Values.{mem_at}
 use Rattle.pg_event.specs.Walk.{entry_address}
-
--- the address of the word that an event writes
-abbrev pub word_of : Event → Option ℕ
-word_of (Write p addr value) = Some addr
-word_of (Access p flags la outcome moments) = None
-word_of (Assist p flags la word moments) = Some word
-word_of (MovCr3 p operand) = None
-word_of (Invlpg p la) = None
-word_of (Invpcid p kind pcid la) = None
-word_of (MovCr4Pge p on) = None
 
 -- the physical address that a linear one gets by an entry of a kind, where that is a page
 abbrev pub page_of : Kind → ℕ → Option ℕ

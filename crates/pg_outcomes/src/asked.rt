@@ -61,7 +61,10 @@ fn found_for(
     ensures { IfOk result (IsFoundFor history.now number event.now) }
 {
     match event {
-        Event::Access { .. } => Ok(Found::Outcomes(outcomes_at(alloc, history, number, event)?)),
+        Event::Access { .. } => {
+            let seen = Seen::of(history);
+            Ok(Found::Outcomes(outcomes_at(alloc, &seen, number, event)?))
+        }
         Event::Assist { .. } => {
             let seen = Seen::of(history);
             Ok(Found::Assist(freshest_moments_at(alloc, &seen, number, event)?))

@@ -6,9 +6,9 @@ ghost use Rattle.pg_outcomes.specs.Placed.{is_access};
 ghost use Rattle.pg_outcomes.specs.Candidates.{faults_of, AreCandidates};
 
 use crate::pages::pages;
-use pg_check::History;
 use pg_entry::{AccessKind, Cause, Cfg, error_code};
 use pg_event::{Event, Outcome, access_kind};
+use pg_search::Seen;
 use std::alloc::{AllocError, Global};
 
 /// These addresses as outcomes.
@@ -34,19 +34,19 @@ fn add_faults(outcomes: &mut Vec<Outcome>, cfg: Cfg, kind: AccessKind) -> Result
 /// number: the addresses by all values that words had before it, and the faults.
 pub(crate) fn candidates(
     alloc: Global,
-    history: &History,
+    seen: &Seen<'_>,
     number: u32,
     event: &Event,
 ) -> Result<Vec<Outcome>, AllocError>
-    requires within { number ≤ length history.now.events }
+    requires within { number ≤ length seen.now.events }
     requires access { is_access event.now ≡ true }
-    ensures { IfOk result (λ outcomes. AreCandidates history.now number event.now outcomes.items) }
+    ensures { IfOk result (λ outcomes. AreCandidates seen.now number event.now outcomes.items) }
 {
     let Event::Access { flags, la, .. } = *event else {
         return Ok(Vec::new(alloc));
     };
-    let pages = pages(alloc, history, number, la)?;
+    let pages = pages(alloc, seen, number, la)?;
     let mut outcomes = as_outcomes(alloc, &pages)?;
-    add_faults(&mut outcomes, history.header().cfg, access_kind(flags))?;
+    add_faults(&mut outcomes, seen.header().cfg, access_kind(flags))?;
     Ok(outcomes)
 }

@@ -1,9 +1,11 @@
-//! What it says of runs that an outcome is allowed. The function does nothing: its contract is the
-//! law.
+//! What is said of allowed outcomes whatever the run is. The functions do nothing: their contracts
+//! are the laws.
 
-ghost use Rattle.pg_outcomes.specs.Law.{AllowedExactlyWhereARunExists};
+ghost use Rattle.pg_outcomes.specs.Law.{AllowedExactlyWhereARunExists, OutcomesAmongKept};
+ghost use Rattle.pg_outcomes.specs.Law.{OutcomesAreOne};
 
 use pg_certify::certified_exactly_where_a_run_exists;
+use pg_search::witnessed_among_kept;
 
 /// Where some run of the machine has the events before a number, an outcome of an access there is
 /// allowed exactly where some run has these events and then the access with that outcome.
@@ -12,3 +14,15 @@ pub fn allowed_exactly_where_a_run_exists()
 {
     certified_exactly_where_a_run_exists();
 }
+
+/// The outcomes of an access by what is kept of a run are those by all of its events.
+pub fn outcomes_among_kept()
+    ensures { OutcomesAmongKept }
+{
+    witnessed_among_kept();
+}
+
+/// There is one list of the outcomes of an access, with one choice of moments for each.
+pub fn outcomes_are_one()
+    ensures { OutcomesAreOne }
+{}

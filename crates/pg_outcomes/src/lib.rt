@@ -11,5 +11,5 @@ mod pages;
 
 pub use allowed::{Allowed, is_access, with_outcome};
 pub use asked::{Found, outcomes_of};
-pub use laws::allowed_exactly_where_a_run_exists;
+pub use laws::{allowed_exactly_where_a_run_exists, outcomes_among_kept, outcomes_are_one};
 pub use outcomes::outcomes_at;

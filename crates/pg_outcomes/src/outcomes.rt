@@ -9,7 +9,6 @@ ghost use Rattle.pg_outcomes.specs.Candidates.{AreFound, IsToldOf};
 
 use crate::allowed::{Allowed, with_outcome};
 use crate::candidates::candidates;
-use pg_check::History;
 use pg_event::{Event, Outcome};
 use pg_reach::freshest_moments_at;
 use pg_search::Seen;
@@ -61,24 +60,24 @@ fn allowed_among(
 }
 
 /// Every outcome that an access may have as the event with this number, which need not be one of
-/// the history's: exactly those that some moments witness after the events before it. The outcome
-/// that the access has itself is not looked at. Pages come first, by rising address, then faults,
-/// by rising error code.
+/// the run's: exactly those that some moments witness after the events before it. The outcome that
+/// the access has itself is not looked at. Pages come first, by rising address, then faults, by
+/// rising error code.
 ///
 /// It searches moments for each address that a value gives which a word had before, and for each
-/// cause of a fault. It fails only where memory is refused.
+/// cause of a fault. It fails only where memory is refused. Of a run of which changes are kept
+/// alone, the outcomes are those among all events (`outcomes_among_kept`).
 pub fn outcomes_at(
     alloc: Global,
-    history: &History,
+    seen: &Seen<'_>,
     number: u32,
     event: &Event,
 ) -> Result<Vec<Allowed>, AllocError>
-    requires within { number ≤ length history.now.events }
-    requires well { broken_rule history.now.head event.now ≡ None }
+    requires within { number ≤ length seen.now.events }
+    requires well { broken_rule seen.now.head event.now ≡ None }
     requires access { is_access event.now ≡ true }
-    ensures { IfOk result (λ found. AreOutcomes history.now number event.now found.items) }
+    ensures { IfOk result (λ found. AreOutcomes seen.now number event.now found.items) }
 {
-    let candidates = candidates(alloc, history, number, event)?;
-    let seen = Seen::of(history);
-    allowed_among(alloc, &seen, number, event, &candidates)
+    let candidates = candidates(alloc, seen, number, event)?;
+    allowed_among(alloc, seen, number, event, &candidates)
 }

@@ -1,24 +1,14 @@
 //! The addresses that an access may get from any value that a word had.
 
 ghost use Rattle.std.specs.Prelude.{◌≡◌, ◌≤◌, ◌++◌, length, IfOk, OnOk, option_to_list};
-ghost use Rattle.pg_outcomes.specs.Pages.{word_of, page_by, page_at, with_pages, HavePages};
+ghost use Rattle.pg_outcomes.specs.Pages.{page_by, page_at, with_pages, HavePages};
 ghost use Rattle.std.specs.List.Sorted.{IsStrictlyIncreasing};
 ghost use Rattle.pg_outcomes.specs.Pages.{AreAscending};
 
-use pg_check::History;
 use pg_entry::{Cfg, Entry, Kind, Level, classify, page_offset};
-use pg_event::{Event, MemoryChange, entry_address};
+use pg_event::entry_address;
+use pg_search::Seen;
 use std::alloc::{AllocError, Global};
-
-/// The physical address of the word that an event writes, if it writes one.
-fn word_of(event: &Event) -> Option<u64>
-    ensures { result ≡ word_of event.now }
-{
-    match event.memory_change() {
-        MemoryChange::Value { addr, .. } | MemoryChange::Flags { addr, .. } => Some(addr),
-        MemoryChange::Nothing => None,
-    }
-}
 
 /// The physical address that an access to a linear one gets by an entry of a level, where the entry
 /// refers to a page.
@@ -34,14 +24,14 @@ fn page_by(cfg: Cfg, level: Level, value: u64, la: u64) -> Option<u64>
 
 /// That address by the value that a word has at a moment, where the word may be the entry of the
 /// level: its place in a table is that of the entry.
-fn page_at(history: &History, moment: u32, word: u64, level: Level, la: u64) -> Option<u64>
-    ensures { result ≡ page_at history.now moment word level la }
+fn page_at(seen: &Seen<'_>, moment: u32, word: u64, level: Level, la: u64) -> Option<u64>
+    ensures { result ≡ page_at seen.now moment word level la }
 {
     if word % 4096 != entry_address(0, level, la) {
         return None;
     }
-    let cfg = history.header().cfg;
-    page_by(cfg, level, history.value_at(moment, word), la)
+    let cfg = seen.header().cfg;
+    page_by(cfg, level, seen.value_at(moment, word), la)
 }
 
 /// Adds an address, where there is one.
@@ -57,35 +47,34 @@ fn add_some(pages: &mut Vec<u64>, page: Option<u64>) -> Result<(), AllocError>
 /// Adds those addresses that a word gives at a moment, as the entry of any level.
 fn add_pages(
     pages: &mut Vec<u64>,
-    history: &History,
+    seen: &Seen<'_>,
     moment: u32,
     word: u64,
     la: u64,
 ) -> Result<(), AllocError>
     ensures { OnOk result
-        (pages.new.items ≡ with_pages pages.old.items history.now moment word la) }
+        (pages.new.items ≡ with_pages pages.old.items seen.now moment word la) }
 {
-    add_some(pages, page_at(history, moment, word, Level::Three, la))?;
-    add_some(pages, page_at(history, moment, word, Level::Two, la))?;
-    add_some(pages, page_at(history, moment, word, Level::One, la))
+    add_some(pages, page_at(seen, moment, word, Level::Three, la))?;
+    add_some(pages, page_at(seen, moment, word, Level::Two, la))?;
+    add_some(pages, page_at(seen, moment, word, Level::One, la))
 }
 
 /// The addresses by all values that words had up to a moment: each write, and each update of flags,
 /// gives a value.
 fn pages_before(
     alloc: Global,
-    history: &History,
+    seen: &Seen<'_>,
     moment: u32,
     la: u64,
 ) -> Result<Vec<u64>, AllocError>
-    requires { moment ≤ length history.now.events }
-    ensures { IfOk result (λ pages. HavePages history.now moment la pages.items) }
+    requires { moment ≤ length seen.now.events }
+    ensures { IfOk result (λ pages. HavePages seen.now moment la pages.items) }
 {
     let mut pages = Vec::new(alloc);
-    for i in 0..moment {
-        if let Some(word) = word_of(&history.events()[i as usize]) {
-            add_pages(&mut pages, history, i + 1, word, la)?;
-        }
+    let written = seen.written(alloc, moment)?;
+    for left in &written {
+        add_pages(&mut pages, seen, left.since, left.word, la)?;
     }
     Ok(pages)
 }
@@ -103,13 +92,13 @@ fn ascending(numbers: Vec<u64>) -> Vec<u64>
 /// Those addresses, ascending, each once.
 pub(crate) fn pages(
     alloc: Global,
-    history: &History,
+    seen: &Seen<'_>,
     moment: u32,
     la: u64,
 ) -> Result<Vec<u64>, AllocError>
-    requires { moment ≤ length history.now.events }
-    ensures pages { IfOk result (λ pages. HavePages history.now moment la pages.items) }
+    requires { moment ≤ length seen.now.events }
+    ensures pages { IfOk result (λ pages. HavePages seen.now moment la pages.items) }
     ensures rise { IfOk result (λ pages. IsStrictlyIncreasing pages.items) }
 {
-    Ok(ascending(pages_before(alloc, history, moment, la)?))
+    Ok(ascending(pages_before(alloc, seen, moment, la)?))
 }

@@ -375,7 +375,7 @@ idle_or v ps bs a k None at h = absurd (false≢true h)
 idle_or v ps bs a k (Some b) at h = (b, found_at bs k b at)
 
 -- an event that writes is kept
-kept_writer : (v : Keyed ℕ ℕ) (ps : List Pair) (bs : List Brief) (n a k : ℕ) → writes_some a (slice_get (events_from v ps bs 0 n) k) ≡ true → (b : Brief) × IsFoundAt bs k b
+pub kept_writer : (v : Keyed ℕ ℕ) (ps : List Pair) (bs : List Brief) (n a k : ℕ) → writes_some a (slice_get (events_from v ps bs 0 n) k) ≡ true → (b : Brief) × IsFoundAt bs k b
 kept_writer v ps bs n a k h =
     elim (cases_lt k n) as (λ _. (b : Brief) × IsFoundAt bs k b) [
       | inl lt ↦

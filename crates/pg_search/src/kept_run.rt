@@ -8,7 +8,7 @@ ghost use Rattle.pg_check.specs.Kept.{AreWellFormed};
 ghost use Rattle.pg_search.specs.Seen.{IsSeen};
 ghost use Rattle.pg_search.specs.Placeholders.{with_placeholder};
 ghost use Rattle.pg_search.specs.Changes.{changes_something, idle, kept_of};
-ghost use Rattle.pg_search.specs.Writers.{writes, IsWriter};
+ghost use Rattle.pg_search.specs.Writers.{writes, word_of, IsWriter, HaveWritten};
 ghost use Rattle.pg_search.specs.Briefs.{event_by, event_of, pair_at};
 ghost use Rattle.pg_moment.specs.Versions.{value_at};
 ghost use Rattle.pg_event.specs.Witness.{failing_event};
@@ -17,6 +17,7 @@ use crate::brief::{
     Brief, Pair, Sort, brief_of, changes_something, event_by, idle, with_placeholder, writes,
 };
 use crate::places::{Places, place_of};
+use crate::written::{Written, list_written, word_of};
 use pg_chain::Past;
 use pg_check::{Kept, failing_next, failing_where_kept};
 use pg_event::{Event, Header, Reason};
@@ -91,6 +92,14 @@ fn brief_writes(pairs: &[Pair], address: u64, brief: Brief) -> bool
     writes(address, &event_by(0, brief, pair_at(pairs, brief.place)))
 }
 
+/// The physical address of the word that an event writes which is kept in brief.
+fn brief_word(pairs: &[Pair], brief: Brief) -> Option<u64>
+    ensures { (left : ℕ) → result
+        ≡ word_of (event_by left brief (pair_at pairs.now brief.place)) }
+{
+    word_of(&event_by(0, brief, pair_at(pairs, brief.place)))
+}
+
 impl KeptRun {
     /// No event yet. Fails where memory is refused.
     pub fn new(alloc: Global, header: Header) -> Result<KeptRun, AllocError>
@@ -163,6 +172,18 @@ impl KeptRun {
             }
         }
         last
+    }
+
+    /// The words that the events below a moment write.
+    pub(crate) fn written(&self, alloc: Global, moment: u32) -> Result<Vec<Written>, AllocError>
+        ensures { IfOk result (λ found. HaveWritten self.now.events moment found.items) }
+    {
+        let mut found = Vec::new(alloc);
+        for brief in &self.briefs {
+            let word = brief_word(self.pairs.as_slice(), *brief);
+            list_written(&mut found, moment, brief.number, word)?;
+        }
+        Ok(found)
     }
 
     /// Keeps one event more, which changes something. Fails where memory is refused, and then

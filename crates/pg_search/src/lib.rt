@@ -11,6 +11,7 @@ mod laws;
 mod lookup;
 mod places;
 mod seen;
+mod written;
 
 pub use brief::{changes_something, names_moments, with_moments, writes};
 pub use fresh::are_as_fresh;
@@ -22,3 +23,4 @@ pub use laws::{
 };
 pub use lookup::Lookup;
 pub use seen::Seen;
+pub use written::Written;

@@ -1,6 +1,6 @@
 //! What a search sees of a run.
 
-ghost use Rattle.std.specs.Prelude.{◌≡◌, ◌<◌, ◌≤◌, ◌^◌, false, length};
+ghost use Rattle.std.specs.Prelude.{◌≡◌, ◌<◌, ◌≤◌, ◌^◌, false, length, IfOk};
 ghost use Rattle.pg_entry.specs.Kinds.{IsPageShift};
 ghost use Rattle.pg_event.specs.Spelling.{IsHead};
 ghost use Rattle.pg_event.specs.Values.{mem_at, control_at};
@@ -11,16 +11,18 @@ ghost use Rattle.pg_timeline.specs.Timelines.{IsSpan};
 ghost use Rattle.pg_inval.specs.Drops.{IsTableLevel};
 ghost use Rattle.pg_chain.specs.Standing.{IsPast};
 ghost use Rattle.pg_search.specs.Lasts.{IsEnd};
-ghost use Rattle.pg_search.specs.Writers.{IsWriter};
+ghost use Rattle.pg_search.specs.Writers.{IsWriter, HaveWritten};
 
 use crate::brief::writes;
 use crate::kept_run::KeptRun;
 use crate::lookup::Lookup;
+use crate::written::{Written, written_among};
 use pg_chain::Past;
 use pg_check::{History, Memo, Stretch};
 use pg_entry::Level;
 use pg_event::{Control, Event, Header, Window, structure_key, translation_key};
 use pg_timeline::{Probes, Span};
+use std::alloc::{AllocError, Global};
 use std::marker::Model;
 
 /// The events of a run, as somebody has kept them.
@@ -121,6 +123,17 @@ impl<'a> Seen<'a> {
         match self.events {
             Events::Whole(events) => writer_among(events, address, moment),
             Events::Kept(kept) => kept.writer(address, moment),
+        }
+    }
+
+    /// The words that the events below a moment write, for each of these events. It takes one pass
+    /// over the events that are kept.
+    pub fn written(&self, alloc: Global, moment: u32) -> Result<Vec<Written>, AllocError>
+        ensures { IfOk result (λ found. HaveWritten self.now.events moment found.items) }
+    {
+        match self.events {
+            Events::Whole(events) => written_among(alloc, events, moment),
+            Events::Kept(kept) => kept.written(alloc, moment),
         }
     }
 

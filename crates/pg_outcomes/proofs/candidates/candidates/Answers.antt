@@ -10,12 +10,12 @@ use Rattle.pg_outcomes.proofs.candidates.candidates.Goals as goal
 pub returns : goal.returns
 returns c =
     let at = c.in-Access in
-    let head : Head = c.args.history.now.head in
+    let head : Head = c.args.seen.now.head in
     let pages : List ℕ = c.in_ok-pages.pages.items in
     let outcomes = c.in_ok-outcomes.ensures ∙ ap (λ (ps : List ℕ). map Page ps) c.deref.ensures.value in
     let is =
     c.in_ok-add_faults.ensures
-    ∙ ap (λ (os : List Outcome). os ++ faults_of c.behind-history.inside.cfg c.access_kind.result) outcomes
+    ∙ ap (λ (os : List Outcome). os ++ faults_of c.behind-seen.inside.cfg c.access_kind.result) outcomes
     ∙ ap (λ (h : Head). map Page pages ++ faults_of h.cfg c.access_kind.result) (c.behind-history.view_is ∙ c.header.ensures.header)
     ∙ ap (λ (k : AccessKind). map Page pages ++ faults_of head.cfg k) c.access_kind.ensures in
-    rw at.is (are_candidates c.args.history.now c.args.number at.p at.flags at.la at.outcome at.moments pages _ c.in_ok-pages.ensures.pages c.in_ok-pages.ensures.rise is)
+    rw at.is (are_candidates c.args.seen.now c.args.number at.p at.flags at.la at.outcome at.moments pages _ c.in_ok-pages.ensures.pages c.in_ok-pages.ensures.rise is)

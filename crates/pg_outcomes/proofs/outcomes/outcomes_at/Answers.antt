@@ -8,10 +8,10 @@ use Rattle.pg_outcomes.proofs.outcomes.outcomes_at.Goals as goal
 
 pub returns : goal.returns
 returns c =
-    let r : Recorded = c.args.history.now in
+    let r : Recorded = c.args.seen.now in
     let n : ℕ = c.args.number in
     let e : Event = c.args.event.now in
     let os : List Outcome = c.in_ok-candidates.candidates.items in
     ok_more _ _ (λ found h. are_outcomes r n e os found.items c.in_ok-candidates.ensures
-    (subst (λ (q : Recorded). AreFound q n e os found.items) c.of-seen.ensures (subst (λ (ps : List Outcome). AreFound c.of-seen.result n e ps found.items) c.deref.ensures.value h)))
+    (subst (λ (ps : List Outcome). AreFound r n e ps found.items) c.deref.ensures.value h))
     c.allowed_among.result c.allowed_among.ensures

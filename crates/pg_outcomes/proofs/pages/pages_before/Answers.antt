@@ -1,28 +1,28 @@
-use Rattle.std.proofs.Common.{◌≡◌, ◌+◌, ◌<◌, ℕ, List, length, Some, refl, sym, subst, ◌∙◌, arith}
+use Rattle.std.proofs.Common.{◌≡◌, ◌+◌, ◌<◌, ℕ, List, length, get_or, Some, ap, sym, subst, ◌∙◌, arith}
 use Rattle.std.specs.Prelude.{slice_get}
-use Rattle.std.proofs.lemmas.Option.{slice_get_read}
-use Rattle.pg_event.specs.declared.event.Event.{Event}
+use Rattle.std.proofs.lemmas.Option.{slice_get-get_or}
 use Rattle.pg_event.specs.Spelling.{Recorded}
+use Rattle.pg_search.specs.Writers.{written_from}
+use Rattle.pg_search.specs.declared.written.Written.{Written}
 use Rattle.pg_outcomes.specs.Pages.{HavePages}
-use Rattle.pg_outcomes.proofs.Words.{have_more, have_same}
+use Rattle.pg_outcomes.proofs.Words.{HaveFirst, first_none, first_more, first_all}
 use Rattle.pg_outcomes.proofs.pages.pages_before.Goals as goal
-use Rattle.pg_outcomes.proofs.pages.pages_before.Goals.{in-Some+in_ok-add_pages, in_default}
 
-pub loop-i-preserved : goal.loop-i-preserved
-loop-i-preserved c =
-    let r : Recorded = c.args.history.now in
-    let i : ℕ = c.loop-i.i in
-    let la : ℕ = c.args.la in
-    let e : Event = c.index-events-i.result in
-    let xs : List ℕ = c.loop-i.pages.items in
-    let within : i < length r.events = omega (arith, c.loop-i-test.true, c.requires) in
-    let at : slice_get r.events i ≡ Some e = slice_get_read _ _ _ _ refl within (rw c.events.ensures.events at c.index-events-i.is) in
-    elim c.match-word_of.branch as (λ _. HavePages r (i + 1) la c.match-word_of.pages.items) [
-      | in-Some+in_ok-add_pages w ↦
-          let more = have_more r i la w.in-Some.word e xs at (sym c.word_of.ensures ∙ w.in-Some.is) c.loop-i.invariant in
-          rw w.pages-is (subst (HavePages r (i + 1) la) (sym w.in_ok-add_pages.ensures) more)
-      | in_default w ↦ rw w.pages-is (have_same r i la e xs at (sym c.word_of.ensures ∙ w.in_default.is) c.loop-i.invariant)
-    ]
+pub loop-left-initially : goal.loop-left-initially
+loop-left-initially c = first_none c.args.seen.now c.args.la c.in_ok-written.written.items
+
+pub loop-left-preserved : goal.loop-left-preserved
+loop-left-preserved c =
+    let r : Recorded = c.args.seen.now in
+    let ws : List Written = c.in_ok-written.written.items in
+    let k : ℕ = c.loop-left.left-index in
+    let x : Written = get_or c.deref-left-items.result.now k (written_from 0 0) in
+    let at : slice_get ws k ≡ Some x = ap (λ (ys : List Written). slice_get ys k) (sym c.deref-left-items.ensures.value) ∙ slice_get-get_or c.deref-left-items.result.now k (written_from 0 0) c.loop-left-test.true in
+    subst (HaveFirst r c.args.la ws (k + 1)) (sym c.in_ok-add_pages.ensures) (first_more r c.args.la ws k x c.loop-left.pages.items at c.loop-left.invariant)
 
 pub returns : goal.returns
-returns c = λ w word page level low h. c.loop-i.invariant w word page level (omega (arith, low, c.loop-i-test.false)) h
+returns c =
+    let r : Recorded = c.args.seen.now in
+    let ws : List Written = c.in_ok-written.written.items in
+    let all : length ws ≡ length c.deref-left-items.result.now = ap (λ (ys : List Written). length ys) (sym c.deref-left-items.ensures.value) in
+    first_all r c.args.la c.args.moment c.loop-left.left-index ws c.loop-left.pages.items c.requires (omega (arith, all, c.loop-left-test.false)) c.in_ok-written.ensures c.loop-left.invariant

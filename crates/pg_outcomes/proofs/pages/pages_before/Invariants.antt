@@ -1,5 +1,5 @@
-use Rattle.pg_outcomes.specs.Pages.{HavePages}
+use Rattle.pg_outcomes.proofs.Words.{HaveFirst}
 use Rattle.pg_outcomes.proofs.pages.pages_before.Given as goal
 
-abbrev pub invariant-loop-i : goal.invariant-loop-i
-invariant-loop-i l = HavePages l.history l.i l.la l.pages.items
+abbrev pub invariant-loop-left : goal.invariant-loop-left
+invariant-loop-left l = HaveFirst l.seen l.la l.written.items l.left-index l.pages.items
