@@ -16,7 +16,7 @@ use Rattle.pg_explain.specs.declared.last_lines.Takers.{Takers}
 use Rattle.pg_explain.specs.Denied.{denial_text, denial_text_by}
 use Rattle.pg_report.specs.Text.{report_text}
 use Rattle.pg_answers.specs.declared.answer.Answer.{Answer}
-use Rattle.pg_answers.specs.declared.answer.Answer.TheVariants.{Report, Summary, Cause, Causes, Rejection, Events, Prospect}
+use Rattle.pg_answers.specs.declared.answer.Answer.TheVariants.{Report, Summary, Cause, Causes, Rejection, Events, Outcomes}
 use Rattle.pg_answers.specs.declared.answer.Rejection.{Rejection as Rejected}
 use Rattle.pg_answers.specs.Answers.{IsCertificate, IsRejection, TellsDenial, denied_in}
 use Rattle.pg_answers.specs.AnswerTexts.{answer_text, denied_report, rejection_text}
@@ -78,20 +78,20 @@ one_certificate r (Rejection x) (Rejection y) h k =
     let one = one_rejection r x y h k in
     (ap Some one.0, one.1)
 one_certificate r (Report a) (Summary b s) h k = absurd k
-one_certificate r (Report a) (Cause b q e) h k = absurd k
+one_certificate r (Report a) (Cause b q e u) h k = absurd k
 one_certificate r (Report a) (Causes b q es s) h k = absurd k
 one_certificate r (Report a) (Events q f) h k = absurd k
-one_certificate r (Report a) (Prospect q) h k = absurd k
+one_certificate r (Report a) (Outcomes q) h k = absurd k
 one_certificate r (Rejection x) (Summary b s) h k = absurd k
-one_certificate r (Rejection x) (Cause b q e) h k = absurd k
+one_certificate r (Rejection x) (Cause b q e u) h k = absurd k
 one_certificate r (Rejection x) (Causes b q es s) h k = absurd k
 one_certificate r (Rejection x) (Events q f) h k = absurd k
-one_certificate r (Rejection x) (Prospect q) h k = absurd k
+one_certificate r (Rejection x) (Outcomes q) h k = absurd k
 one_certificate r (Summary a t) y h k = absurd h
-one_certificate r (Cause a p d) y h k = absurd h
+one_certificate r (Cause a p d u) y h k = absurd h
 one_certificate r (Causes a p ds t) y h k = absurd h
 one_certificate r (Events p g) y h k = absurd h
-one_certificate r (Prospect p) y h k = absurd h
+one_certificate r (Outcomes p) y h k = absurd h
 
 pub the_certificate : (bytes : List ℕ) (checkers : ℕ) (input output : Change) (answer : Result Answer AuditError) → GivesText IsCertificateText checkers bytes input output answer → IsTheCertificate bytes answer
 the_certificate bytes checkers input output (Err e) gives = tt

@@ -1,6 +1,6 @@
 -- What is answered of a record with one order, whatever the format is in which it is written.
 use Rattle.std.specs.Prelude.{◌≡◌, ◌<◌, ℕ, List, [], ◌∷◌, length, take, Option, Some, None}
-use Rattle.std.specs.Prelude.{Result, Ok, Err, slice_get, Bool, true, false}
+use Rattle.std.specs.Prelude.{Result, Ok, Err, slice_get, Bool, true, false, not, ◌&&◌, nat_le}
 use Rattle.pg_event.specs.declared.selection.Selection.{Selection}
 use Rattle.pg_event.specs.declared.event.Event.{Event}
 use Rattle.pg_event.specs.declared.event.Reason.{Reason}
@@ -22,16 +22,18 @@ use Rattle.pg_report.specs.Text.{report_of}
 use Rattle.pg_auditing.specs.Status.{error_status, verdict_status}
 use Rattle.pg_answers.specs.declared.answer.Answer.{Answer}
 use Rattle.pg_answers.specs.declared.answer.Answer.TheVariants.{Report, Summary, Cause, Causes}
-use Rattle.pg_answers.specs.declared.answer.Answer.TheVariants.{Rejection, Events, Prospect}
-use Rattle.pg_answers.specs.declared.answer.Prospect.{Prospect as Foreseen}
-use Rattle.pg_answers.specs.declared.answer.Prospect.TheVariants.{Access, Assist, Neither}
+use Rattle.pg_answers.specs.declared.answer.Answer.TheVariants.{Rejection, Events, Outcomes}
+use Rattle.pg_answers.specs.declared.answer.EventOutcomes.{EventOutcomes}
+use Rattle.pg_answers.specs.declared.answer.EventOutcomes.TheVariants.{Access, Assist, NoAccess}
 use Rattle.pg_answers.specs.declared.answer.Rejection.{Rejection as Rejected}
 use Rattle.pg_answers.specs.declared.answer.Summary.{Summary as Summed}
 use Rattle.pg_answers.specs.declared.question.Question.{Question}
 use Rattle.pg_answers.specs.declared.question.Question.TheVariants.{Check, CheckAll, Certify}
-use Rattle.pg_answers.specs.declared.question.Question.TheVariants.{Explain, ExplainAll, Show}
-use Rattle.pg_answers.specs.declared.question.Question.TheVariants.{Outcomes}
-use Rattle.pg_answers.specs.Prospects.{IsAskedEvent, IsProspectOf}
+use Rattle.pg_answers.specs.declared.question.Question.TheVariants.{Explain, ExplainAt, ExplainAll, Show}
+use Rattle.pg_answers.specs.declared.question.Question.TheVariants as questions
+use Rattle.pg_answers.specs.Outcomes.{AreAllowed, AreAllowedAt, IsAskedEvent}
+use Rattle.pg_answers.specs.Outcomes.{IsEventOutcomesOf}
+use Rattle.pg_answers.specs.AllowedTexts.{most_allowed}
 use Rattle.pg_answers.specs.Unnamed.{is_unnamed}
 
 -- ---- `certify`
@@ -61,6 +63,7 @@ pub record TellsDenial (r : Recorded) (n : ℕ) (x : Rejected) : Type 0 where
   pub denial : IsDenialOf r.head r.events n x.denial
   pub event : slice_get r.events n ≡ Some x.event
   pub takers : x.takers ≡ takers_in r.events x.denial
+  pub allowed : AreAllowed r n x.event x.allowed
   pub count : x.events ≡ length r.events
   pub segments : x.segments ≡ segment_count r
 
@@ -89,24 +92,25 @@ pub record IsSummary (xs : List Bad) (s : Summed) : Type 0 where
 abbrev pub IsCertificate : Recorded → Answer → Type 0
 IsCertificate r (Report report) = IsCertifiedRecord r × (report ≡ certified_report r)
 IsCertificate r (Summary report s) = ⊥
-IsCertificate r (Cause report q x) = ⊥
+IsCertificate r (Cause report q x allowed) = ⊥
 IsCertificate r (Causes report q xs s) = ⊥
 IsCertificate r (Rejection x) = IsRejection r x
 IsCertificate r (Events q selection) = ⊥
-IsCertificate r (Prospect x) = ⊥
+IsCertificate r (Outcomes x) = ⊥
 
--- the report, and of a no the cause of the first bad event
+-- the report, and of a no the cause of the first bad event, and what that might have come to
 abbrev pub IsCause : Recorded → Answer → Type 0
 IsCause r (Report report) =
     (report ≡ report_of r) × (first_bad r.head r.events ≡ None)
 IsCause r (Summary report s) = ⊥
-IsCause r (Cause report q x) =
+IsCause r (Cause report q x allowed) =
     (report ≡ report_of r) × (q ≡ r) × (n : ℕ) × (reason : Reason)
     × (first_bad r.head r.events ≡ Some (n, reason)) × IsExplained r.head r.events n x
+    × AreAllowedAt r n allowed
 IsCause r (Causes report q xs s) = ⊥
 IsCause r (Rejection x) = ⊥
 IsCause r (Events q selection) = ⊥
-IsCause r (Prospect x) = ⊥
+IsCause r (Outcomes x) = ⊥
 
 -- `explain`: that, of a record that names moments; of one that names none what `certify` answers
 abbrev pub IsExplanationOf : Bool → Recorded → Answer → Type 0
@@ -119,42 +123,58 @@ IsExplanation r x = IsExplanationOf (is_unnamed r.events) r x
 abbrev pub IsSummed : Recorded → Answer → Type 0
 IsSummed r (Report report) = ⊥
 IsSummed r (Summary report s) = (report ≡ report_of r) × IsSummary (bads r.head r.events) s
-IsSummed r (Cause report q x) = ⊥
+IsSummed r (Cause report q x allowed) = ⊥
 IsSummed r (Causes report q xs s) = ⊥
 IsSummed r (Rejection x) = ⊥
 IsSummed r (Events q selection) = ⊥
-IsSummed r (Prospect x) = ⊥
+IsSummed r (Outcomes x) = ⊥
 
 abbrev pub AreCauses : ℕ → Recorded → Answer → Type 0
 AreCauses most r (Report report) = ⊥
 AreCauses most r (Summary report s) = ⊥
-AreCauses most r (Cause report q x) = ⊥
+AreCauses most r (Cause report q x allowed) = ⊥
 AreCauses most r (Causes report q xs s) =
     (report ≡ report_of r) × (q ≡ r)
     × AreExplanations r.head r.events (take most (bads r.head r.events)) xs.items
     × IsSummary (bads r.head r.events) s
 AreCauses most r (Rejection x) = ⊥
 AreCauses most r (Events q selection) = ⊥
-AreCauses most r (Prospect x) = ⊥
+AreCauses most r (Outcomes x) = ⊥
 
 -- `outcomes`: what may come of event n; or no run has the events before it, and why
-abbrev pub IsForeseenAt : Recorded → ℕ → ℕ → Answer → Type 0
-IsForeseenAt r n most (Report report) = ⊥
-IsForeseenAt r n most (Summary report s) = ⊥
-IsForeseenAt r n most (Cause report q x) = ⊥
-IsForeseenAt r n most (Causes report q xs s) = ⊥
-IsForeseenAt r n most (Rejection x) = IsRejection r x × (x.denial.number < n)
-IsForeseenAt r n most (Events q selection) = ⊥
-IsForeseenAt r n most (Prospect x) = IsProspectOf r n most x
+abbrev pub IsOutcomesAnswerAt : Recorded → ℕ → ℕ → Answer → Type 0
+IsOutcomesAnswerAt r n most (Report report) = ⊥
+IsOutcomesAnswerAt r n most (Summary report s) = ⊥
+IsOutcomesAnswerAt r n most (Cause report q x allowed) = ⊥
+IsOutcomesAnswerAt r n most (Causes report q xs s) = ⊥
+IsOutcomesAnswerAt r n most (Rejection x) = IsRejection r x × (x.denial.number < n)
+IsOutcomesAnswerAt r n most (Events q selection) = ⊥
+IsOutcomesAnswerAt r n most (Outcomes x) = IsEventOutcomesOf r n most x
 
 -- of the event that is asked about; or there is no such event
-abbrev pub IsForeseenOf : Option ℕ → ℕ → Recorded → Answer → Option ℕ → Type 0
-IsForeseenOf asked most r x (Some n) = IsForeseenAt r n most x
-IsForeseenOf asked most r x None = x ≡ Prospect (Neither asked)
+abbrev pub IsOutcomesAnswerOf : Option ℕ → ℕ → Recorded → Answer → Option ℕ → Type 0
+IsOutcomesAnswerOf asked most r x (Some n) = IsOutcomesAnswerAt r n most x
+IsOutcomesAnswerOf asked most r x None = x ≡ Outcomes (NoAccess asked)
 
-abbrev pub IsForeseen : Option ℕ → ℕ → Recorded → Answer → Type 0
-IsForeseen asked most r x =
-    (found : Option ℕ) × IsAskedEvent r.events asked found × IsForeseenOf asked most r x found
+abbrev pub IsOutcomesAnswer : Option ℕ → ℕ → Recorded → Answer → Type 0
+IsOutcomesAnswer asked most r x =
+    (found : Option ℕ) × IsAskedEvent r.events asked found × IsOutcomesAnswerOf asked most r x found
+
+-- `explain --event n`: the cause of a rejection, where event n or one before it is bad by the moments that are named;
+-- else what `outcomes` answers of event n
+abbrev pub is_bad_up_to : ℕ → Option (ℕ × Reason) → Bool
+is_bad_up_to n None = false
+is_bad_up_to n (Some found) = nat_le found.0 n
+
+abbrev pub has_cause_up_to : ℕ → Recorded → Bool
+has_cause_up_to n r = not (is_unnamed r.events) && is_bad_up_to n (first_bad r.head r.events)
+
+abbrev pub IsExplanationAtOf : Bool → ℕ → Recorded → Answer → Type 0
+IsExplanationAtOf true n r x = IsCause r x
+IsExplanationAtOf false n r x = IsOutcomesAnswer (Some n) most_allowed r x
+
+abbrev pub IsExplanationAt : ℕ → Recorded → Answer → Type 0
+IsExplanationAt n r x = IsExplanationAtOf (has_cause_up_to n r) n r x
 
 -- the answer of a question of a record
 abbrev pub IsAnswer : Question → Recorded → Answer → Type 0
@@ -162,35 +182,36 @@ IsAnswer Check r x = x ≡ Report (report_of r)
 IsAnswer CheckAll r x = IsSummed r x
 IsAnswer Certify r x = IsCertificate r x
 IsAnswer Explain r x = IsExplanation r x
+IsAnswer (ExplainAt n) r x = IsExplanationAt n r x
 IsAnswer (ExplainAll most) r x = AreCauses most r x
 IsAnswer (Show selection) r x = x ≡ Events r selection
-IsAnswer (Outcomes asked most) r x = IsForeseen asked most r x
+IsAnswer (questions.Outcomes asked most) r x = IsOutcomesAnswer asked most r x
 
 -- the event that an answer of `certify` names, if it is no
 abbrev pub denied_in : Answer → Option ℕ
 denied_in (Report report) = None
 denied_in (Summary report s) = None
-denied_in (Cause report r x) = None
+denied_in (Cause report r x allowed) = None
 denied_in (Causes report r xs s) = None
 denied_in (Rejection x) = Some x.denial.number
 denied_in (Events r selection) = None
-denied_in (Prospect x) = None
+denied_in (Outcomes x) = None
 
 -- ---- statuses: 0 yes, and what was shown; 1 no; 2 an event that is no access and no assist
 
-abbrev pub prospect_status : Foreseen → ℕ
-prospect_status (Access x) = 0
-prospect_status (Assist x) = 0
-prospect_status (Neither told) = 2
+abbrev pub event_outcomes_status : EventOutcomes → ℕ
+event_outcomes_status (Access x) = 0
+event_outcomes_status (Assist x) = 0
+event_outcomes_status (NoAccess told) = 2
 
 abbrev pub status_of : Answer → ℕ
 status_of (Report report) = verdict_status report.verdict
 status_of (Summary report s) = verdict_status report.verdict
-status_of (Cause report r x) = 1
+status_of (Cause report r x allowed) = 1
 status_of (Causes report r xs s) = verdict_status report.verdict
 status_of (Rejection x) = 1
 status_of (Events r selection) = 0
-status_of (Prospect x) = prospect_status x
+status_of (Outcomes x) = event_outcomes_status x
 
 abbrev pub answer_status : Result Answer AuditError → ℕ
 answer_status (Ok x) = status_of x

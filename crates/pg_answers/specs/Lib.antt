@@ -5,9 +5,10 @@ pub mod Upgrades
 pub mod Texts
 pub mod Found
 pub mod Unnamed
-pub mod Prospects
+pub mod Outcomes
+pub mod OutcomeTexts
+pub mod AllowedTexts
 pub mod Answers
-pub mod ProspectTexts
 pub mod AnswerTexts
 pub mod Certificates
 pub mod Audited

@@ -1,7 +1,7 @@
 //! Answers as data, which each format renders.
 
 ghost use Rattle.std.specs.Prelude.{◌≡◌, take};
-ghost use Rattle.pg_answers.specs.Answers.{answer_status, prospect_status};
+ghost use Rattle.pg_answers.specs.Answers.{answer_status, event_outcomes_status};
 
 use pg_auditing::{NO, REFUSED, YES, error_status, verdict_status};
 use pg_check::History;
@@ -32,11 +32,14 @@ pub struct Rejection {
     pub event: Event,
     /// The events that took its last moments away.
     pub takers: Takers,
+    /// Every outcome that it may have in the place of its own, in rising order, where it is an
+    /// access.
+    pub allowed: Option<Vec<Allowed>>,
 }
 
 /// Every outcome that an access may have after the events before it.
 #[derive(Drop)]
-pub struct Outcomes {
+pub struct AccessOutcomes {
     /// The number of the access.
     pub number: u32,
     /// The access, with the outcome that the record has.
@@ -47,7 +50,7 @@ pub struct Outcomes {
     pub most: u32,
 }
 
-impl Outcomes {
+impl AccessOutcomes {
     /// The outcomes that are told: the first of them, so many at most.
     pub fn told(&self) -> &[Allowed]
         ensures { result.now ≡ take self.now.most self.now.found.items }
@@ -62,7 +65,7 @@ impl Outcomes {
 
 /// Whether an assist may come after the events before it.
 #[derive(Drop)]
-pub struct Coming {
+pub struct AssistOutcome {
     /// The number of the assist.
     pub number: u32,
     /// The assist.
@@ -71,16 +74,16 @@ pub struct Coming {
     pub moments: Option<Moments>,
 }
 
-/// What may come of an event after the events before it.
+/// The outcomes of an event after the events before it.
 #[derive(Drop)]
-pub enum Prospect {
+pub enum EventOutcomes {
     /// Of an access.
-    Access(Outcomes),
+    Access(AccessOutcomes),
     /// Of an assist.
-    Assist(Coming),
+    Assist(AssistOutcome),
     /// The event with this number is neither, or there is none; or no number was given, and no
     /// event is an access.
-    Neither(Option<u32>),
+    NoAccess(Option<u32>),
 }
 
 /// What is answered of a record with one order, before it is written in any format.
@@ -90,25 +93,26 @@ pub enum Answer {
     Report(Report),
     /// The report, and a summary of the bad events.
     Summary(Report, Summary),
-    /// The report of a no, the record, and the cause of its first bad event.
-    Cause(Report, History, Explanation),
+    /// The report of a no, the record, the cause of its first bad event, and every outcome that this
+    /// event may have, where it is an access.
+    Cause(Report, History, Explanation, Option<Vec<Allowed>>),
     /// The report, the record, the causes of its first bad events, and a summary of all of them.
     Causes(Report, History, Vec<Explanation>, Summary),
     /// Why no run has the record's events.
     Rejection(Rejection),
     /// The record, of which a selection's events are shown.
     Events(History, Selection),
-    /// What may come of one of its events.
-    Prospect(Prospect),
+    /// The outcomes of one of its events.
+    Outcomes(EventOutcomes),
 }
 
-/// The exit status of what may come of an event: 2 where the event is no access and no assist.
-fn prospect_status(prospect: &Prospect) -> u8
-    ensures { result ≡ prospect_status prospect.now }
+/// The exit status of the outcomes of an event: 2 where the event is no access and no assist.
+pub fn event_outcomes_status(outcomes: &EventOutcomes) -> u8
+    ensures { result ≡ event_outcomes_status outcomes.now }
 {
-    match prospect {
-        Prospect::Access(_) | Prospect::Assist(_) => YES,
-        Prospect::Neither(_) => REFUSED,
+    match outcomes {
+        EventOutcomes::Access(_) | EventOutcomes::Assist(_) => YES,
+        EventOutcomes::NoAccess(_) => REFUSED,
     }
 }
 
@@ -123,7 +127,7 @@ pub fn answer_status(answer: &Result<Answer, AuditError>) -> u8
         Ok(Answer::Causes(report, ..)) => verdict_status(report.verdict),
         Ok(Answer::Rejection(_)) => NO,
         Ok(Answer::Events(..)) => YES,
-        Ok(Answer::Prospect(prospect)) => prospect_status(prospect),
+        Ok(Answer::Outcomes(outcomes)) => event_outcomes_status(outcomes),
         Err(error) => error_status(*error),
     }
 }

@@ -7,8 +7,8 @@ ghost use Rattle.pg_answers.specs.Found.{IsFound};
 use crate::answer::Answer;
 use crate::certificates::certify;
 use crate::checks::check;
-use crate::explanations::explained;
-use crate::prospects::foreseen;
+use crate::explanations::{explained, explained_at};
+use crate::outcomes::outcomes_asked;
 use crate::question::Question;
 use crate::summaries::{all_explained, summed};
 use pg_codec::Source;
@@ -44,6 +44,17 @@ fn explain<T: AllocGlobal + Threads + Wait + Sync, R: Source>(
     }
 }
 
+/// The cause of a rejection at this event or before it; else the event's outcomes.
+fn explain_at<R: Source>(alloc: Global, number: u32, input: &mut R) -> Result<Answer, AuditError>
+    ensures { IsFound (IsAnswer (Question.ExplainAt number)) 1
+        (drawn R.Source input.old input.new) result }
+{
+    match read_record(alloc, input) {
+        Ok(history) => Ok(explained_at(alloc, history, number)?),
+        Err(error) => Err(error),
+    }
+}
+
 /// Its report, the causes of so many bad events at most, and a summary of all of them.
 fn explain_all<R: Source>(alloc: Global, most: u32, input: &mut R) -> Result<Answer, AuditError>
     ensures { IsFound (IsAnswer (Question.ExplainAll most)) 1
@@ -66,8 +77,8 @@ fn show<R: Source>(alloc: Global, selection: Selection, input: &mut R) -> Result
     }
 }
 
-/// What may come of one of its events.
-fn foresee<R: Source>(
+/// The outcomes of one of its events.
+fn outcomes_of_record<R: Source>(
     alloc: Global,
     asked: Option<u32>,
     most: u32,
@@ -77,7 +88,7 @@ fn foresee<R: Source>(
         (drawn R.Source input.old input.new) result }
 {
     match read_record(alloc, input) {
-        Ok(history) => Ok(foreseen(alloc, &history, asked, most)?),
+        Ok(history) => Ok(outcomes_asked(alloc, &history, asked, most)?),
         Err(error) => Err(error),
     }
 }
@@ -99,8 +110,9 @@ pub fn answer_record<T: AllocGlobal + Threads + Wait + Sync, R: Source>(
         Question::CheckAll => check_all(rt.alloc(), input),
         Question::Certify => certify(rt, checkers, input),
         Question::Explain => explain(rt, checkers, input),
+        Question::ExplainAt(number) => explain_at(rt.alloc(), number, input),
         Question::ExplainAll(most) => explain_all(rt.alloc(), most, input),
         Question::Show(selection) => show(rt.alloc(), selection, input),
-        Question::Outcomes(asked, most) => foresee(rt.alloc(), asked, most, input),
+        Question::Outcomes(asked, most) => outcomes_of_record(rt.alloc(), asked, most, input),
     }
 }

@@ -1,22 +1,42 @@
 //! A record's report, and the cause of a rejection.
 
-ghost use Rattle.std.specs.Prelude.{IfErr, IfOk};
-ghost use Rattle.pg_answers.specs.Answers.{IsCause, IsExplanation};
+ghost use Rattle.std.specs.Prelude.{◌≡◌, ◌<◌, IfErr, IfOk, length};
+ghost use Rattle.pg_answers.specs.Answers.{IsCause, IsExplanation, IsExplanationAt};
+ghost use Rattle.pg_answers.specs.Answers.{has_cause_up_to};
+ghost use Rattle.pg_answers.specs.Outcomes.{AreAllowedAt};
 ghost use Rattle.pg_answers.specs.Found.{MayFail};
 
+use crate::allowed::allowed_at;
+use crate::allowed_text::MOST_ALLOWED;
 use crate::answer::Answer;
 use crate::certificates::certify_whole;
+use crate::outcomes::outcomes_asked;
 use crate::summaries::cause_of;
 use crate::unnamed::is_unnamed;
 use pg_check::History;
+use pg_outcomes::Allowed;
 use pg_plan::Checkers;
 use pg_report::{AuditError, Verdict, report_of};
+use pg_search::Seen;
 use std::alloc::{AllocError, AllocGlobal, Global};
 use std::sync::Wait;
 use std::thread::Threads;
 
+/// Every outcome that the event with this number of a history may have, where it is an access.
+fn allowed_in(
+    alloc: Global,
+    history: &History,
+    number: u64,
+) -> Result<Option<Vec<Allowed>>, AllocError>
+    requires { number < length history.now.events }
+    ensures { IfOk result (AreAllowedAt history.now number) }
+{
+    let event = history.events()[number as usize];
+    allowed_at(alloc, &Seen::of(history), number as u32, &event)
+}
+
 /// The report of a history, and the cause if it is rejected: the first bad event, what its moments
-/// read, what the reason found, and whether other moments would do.
+/// read, what the reason found, whether other moments would do, and what it might have come to.
 fn caused(alloc: Global, history: History) -> Result<Answer, AllocError>
     ensures { IfOk result (IsCause history) }
 {
@@ -25,13 +45,43 @@ fn caused(alloc: Global, history: History) -> Result<Answer, AllocError>
         Verdict::Yes => Ok(Answer::Report(report)),
         Verdict::No { event, .. } => {
             let cause = cause_of(alloc, &history, event)?;
-            Ok(Answer::Cause(report, history, cause))
+            let allowed = allowed_in(alloc, &history, event)?;
+            Ok(Answer::Cause(report, history, cause, allowed))
         }
     }
 }
 
-/// That, of a history that names moments. One that names none has no cause by its moments: it is
-/// certified by so many checkers.
+/// Whether it names moments by which this event, or one before it, is bad.
+fn has_cause_up_to(history: &History, number: u32) -> bool
+    ensures { result ≡ has_cause_up_to number history.now }
+{
+    if is_unnamed(history.events()) {
+        return false;
+    }
+    match report_of(history).verdict {
+        Verdict::Yes => false,
+        Verdict::No { event, .. } => event <= number as u64,
+    }
+}
+
+/// The cause of a rejection of a history at this event or before it; else what the event may come
+/// to.
+pub(crate) fn explained_at(
+    alloc: Global,
+    history: History,
+    number: u32,
+) -> Result<Answer, AllocError>
+    ensures { IfOk result (IsExplanationAt number history) }
+{
+    if has_cause_up_to(&history, number) {
+        caused(alloc, history)
+    } else {
+        outcomes_asked(alloc, &history, Some(number), MOST_ALLOWED as u32)
+    }
+}
+
+/// The report of a history that names moments, and the cause if it is rejected. One that names none
+/// has no cause by its moments: it is certified by so many checkers.
 pub(crate) fn explained<T: AllocGlobal + Threads + Wait + Sync>(
     rt: &T,
     checkers: Checkers,

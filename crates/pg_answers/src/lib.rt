@@ -3,6 +3,8 @@
 #![tactic(auto)]
 
 mod accounts;
+mod allowed;
+mod allowed_text;
 mod answer;
 mod answering;
 mod certificates;
@@ -13,8 +15,8 @@ mod first_checks;
 mod firsts;
 mod laws;
 mod naming;
-mod prospect_text;
-mod prospects;
+mod event_outcomes_text;
+mod outcomes;
 mod question;
 mod replayer;
 mod runs;
@@ -24,15 +26,21 @@ mod text;
 mod unnamed;
 mod upgrader;
 
-pub use answer::{Answer, Coming, Outcomes, Prospect, Rejection, Summary, answer_status};
+pub use answer::{
+    AccessOutcomes, Answer, AssistOutcome, EventOutcomes, Rejection, Summary, answer_status,
+    event_outcomes_status,
+};
+pub use allowed_text::{MOST_ALLOWED, allowed_note, first_allowed};
 pub use answering::answer_record;
 pub use first_checks::check_first;
 pub use firsts::certify_first;
 pub use laws::checks_are_audits;
 pub use naming::name_moments;
+pub use outcomes::asked_event;
 pub use question::Question;
 pub use replayer::run_of;
 pub use runs::run_text;
 pub use shown::Shown;
+pub use outcomes_text::event_outcomes_text;
 pub use text::answer_text;
 pub use upgrader::upgrade;

@@ -11,11 +11,13 @@ pub enum Question {
     Certify,
     /// Its report, and the cause of a rejection.
     Explain,
+    /// The cause of a rejection at the event with this number or before it; else its outcomes.
+    ExplainAt(u32),
     /// Its report, the causes of so many bad events at most, and the summary.
     ExplainAll(u32),
     /// The events that a selection asks for.
     Show(Selection),
-    /// What may come of the event with a number, or of the last access where no number is given; so
-    /// many outcomes are told at most.
+    /// The outcomes of the event with a number, or of the last access where no number is given; so
+    /// many of them are told at most.
     Outcomes(Option<u32>, u32),
 }

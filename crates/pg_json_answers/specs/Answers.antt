@@ -1,6 +1,8 @@
 -- Answers as JSON: the same answer as that of the text, in another form.
 use Rattle.std.specs.Prelude.{ℕ, ◌+◌, Bool, if◌then◌else◌, List, [], ◌∷◌, ◌++◌, map, codes}
 use Rattle.std.specs.Prelude.{Option, Some, None, take, length}
+use Rattle.std.specs.declared.alloc.Global.{Global}
+use Rattle.std.specs.declared.vec.Vec.{Vec}
 use Rattle.pg_event.specs.declared.event.Event.{Event}
 use Rattle.pg_event.specs.declared.event.Outcome.{Outcome}
 use Rattle.pg_event.specs.declared.event.Outcome.TheVariants.{Page, Fault}
@@ -10,19 +12,21 @@ use Rattle.pg_explain.specs.Filters.{is_shown}
 use Rattle.pg_answers.specs.declared.answer.Answer.{Answer}
 use Rattle.pg_answers.specs.declared.answer.Answer.TheVariants.{Report, Summary, Cause, Causes}
 use Rattle.pg_outcomes.specs.declared.allowed.Allowed.{Allowed}
-use Rattle.pg_answers.specs.declared.answer.Answer.TheVariants.{Rejection, Events, Prospect}
-use Rattle.pg_answers.specs.declared.answer.Coming.{Coming}
-use Rattle.pg_answers.specs.declared.answer.Outcomes.{Outcomes}
-use Rattle.pg_answers.specs.declared.answer.Prospect.{Prospect as Foreseen}
-use Rattle.pg_answers.specs.declared.answer.Prospect.TheVariants.{Access, Assist, Neither}
+use Rattle.pg_answers.specs.declared.answer.Answer.TheVariants.{Rejection, Events, Outcomes}
+use Rattle.pg_answers.specs.declared.answer.AssistOutcome.{AssistOutcome}
+use Rattle.pg_answers.specs.declared.answer.AccessOutcomes.{AccessOutcomes}
+use Rattle.pg_answers.specs.declared.answer.EventOutcomes.{EventOutcomes}
+use Rattle.pg_answers.specs.declared.answer.EventOutcomes.TheVariants.{Access, Assist, NoAccess}
 use Rattle.pg_answers.specs.declared.answer.Rejection.{Rejection as Rejected}
 use Rattle.pg_answers.specs.declared.answer.Summary.{Summary as Summed}
 use Rattle.pg_json.specs.Tree.{Json, nothing, count, counts, hex, list, elements, object}
 use Rattle.pg_json.specs.Tree.{json_line}
+use Rattle.pg_answers.specs.AllowedTexts.{most_allowed}
 use Rattle.pg_json.specs.Tree.{Fields, no_fields, field}
 use Rattle.pg_json.specs.Events.{event_json, claim_json}
 use Rattle.pg_json.specs.Reports.{with_counts, with_no, with_report}
 use Rattle.pg_json_causes.specs.Causes.{explanation_json, denial_json}
+use Rattle.pg_json_causes.specs.Entries.{number_json}
 use Rattle.pg_json_causes.specs.Tallies.{tallies_json}
 
 -- ---- objects
@@ -43,10 +47,31 @@ causes_fields events xs s =
     field (codes "causes") (list (elements (map (explanation_json events) xs)))
     (summary_fields s)
 
--- the report of a no by `certify`, and the cause
+-- ---- outcomes
+
+abbrev pub with_result : Outcome → Fields → Fields
+with_result (Page page) others = field (codes "page") (hex page) others
+with_result (Fault code) others = field (codes "fault") (hex code) others
+
+-- an outcome, and the moments by which it comes
+abbrev pub allowed_json : Allowed → Json
+allowed_json x = object (with_result x.outcome (field (codes "by") (counts x.moments) no_fields))
+
+-- what an access might have come to, of which sixteen outcomes are told at most, and how many there
+-- are; of an event that is no access there is nothing
+abbrev pub with_allowed : Option (Vec Allowed Global) → Fields → Fields
+with_allowed None others = others
+with_allowed (Some xs) others =
+    field (codes "allowed") (list (elements (map allowed_json (take most_allowed xs.items))))
+    (field (codes "allowed_count") (count (length xs.items)) others)
+
+-- ---- a no of `certify`
+
+-- its report, the cause, and what the event might have come to
 abbrev pub rejection_json : Rejected → Json
 rejection_json x = object (with_no x.denial.number 14 (codes "no moments")
-    (with_counts x.events x.segments (cause_fields (denial_json x.event x.takers x.denial))))
+    (with_counts x.events x.segments
+    (with_allowed x.allowed (cause_fields (denial_json x.event x.takers x.denial)))))
 
 -- ---- events
 
@@ -64,19 +89,11 @@ shown_json f events = lines_where (is_shown f events) 0 events
 
 -- ---- what may come of an event
 
-abbrev pub with_result : Outcome → Fields → Fields
-with_result (Page page) others = field (codes "page") (hex page) others
-with_result (Fault code) others = field (codes "fault") (hex code) others
-
--- an outcome, and the moments by which it comes
-abbrev pub allowed_json : Allowed → Json
-allowed_json x = object (with_result x.outcome (field (codes "by") (counts x.moments) no_fields))
-
 -- the event, without its moments
 abbrev pub asked_fields : ℕ → Event → Fields
 asked_fields number e = field (codes "event") (claim_json number e) no_fields
 
-abbrev pub outcomes_fields : Outcomes → Fields
+abbrev pub outcomes_fields : AccessOutcomes → Fields
 outcomes_fields x =
     field (codes "outcomes") (list (elements (map allowed_json (take x.most x.found.items))))
     (field (codes "count") (count (length x.found.items)) (asked_fields x.number x.event))
@@ -86,31 +103,27 @@ abbrev pub by_json : Option (List ℕ) → Json
 by_json None = nothing
 by_json (Some ws) = counts ws
 
-abbrev pub coming_fields : Coming → Fields
-coming_fields x = field (codes "by") (by_json x.moments) (asked_fields x.number x.event)
+abbrev pub assist_fields : AssistOutcome → Fields
+assist_fields x = field (codes "by") (by_json x.moments) (asked_fields x.number x.event)
 
--- a number, or null
-abbrev pub number_json : Option ℕ → Json
-number_json None = nothing
-number_json (Some n) = count n
+abbrev pub no_access_fields : Option ℕ → Fields
+no_access_fields told = field (codes "no_access") (number_json told) no_fields
 
-abbrev pub neither_fields : Option ℕ → Fields
-neither_fields told = field (codes "no_access") (number_json told) no_fields
-
-abbrev pub prospect_fields : Foreseen → Fields
-prospect_fields (Access x) = outcomes_fields x
-prospect_fields (Assist x) = coming_fields x
-prospect_fields (Neither told) = neither_fields told
+abbrev pub event_outcomes_fields : EventOutcomes → Fields
+event_outcomes_fields (Access x) = outcomes_fields x
+event_outcomes_fields (Assist x) = assist_fields x
+event_outcomes_fields (NoAccess told) = no_access_fields told
 
 -- ---- an answer
 
 abbrev pub answer_json : Answer → List ℕ
 answer_json (Report report) = json_line (object (with_report report no_fields))
 answer_json (Summary report s) = json_line (object (with_report report (summary_fields s)))
-answer_json (Cause report r x) =
-    json_line (object (with_report report (cause_fields (explanation_json r.events x))))
+answer_json (Cause report r x allowed) =
+    json_line (object (with_report report
+    (with_allowed allowed (cause_fields (explanation_json r.events x)))))
 answer_json (Causes report r xs s) =
     json_line (object (with_report report (causes_fields r.events xs.items s)))
 answer_json (Rejection x) = json_line (rejection_json x)
 answer_json (Events r selection) = shown_json selection r.events
-answer_json (Prospect x) = json_line (object (prospect_fields x))
+answer_json (Outcomes x) = json_line (object (event_outcomes_fields x))

@@ -4,8 +4,9 @@
 
 mod json;
 mod lines;
-mod prospects;
+mod outcomes;
 mod refusals;
 
 pub use json::answer_json;
+pub use outcomes::event_outcomes_fields;
 pub use refusals::{tell_error_json, tell_json, tell_malformed_json, tell_spans_json};

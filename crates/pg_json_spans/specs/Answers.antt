@@ -13,12 +13,8 @@ use Rattle.pg_order.specs.Verdicts.{IsVerdict}
 use Rattle.pg_ordering.specs.Answers.{status_of}
 use Rattle.pg_ordering.specs.Readings.{ReadsRun, DeviceTold}
 use Rattle.pg_json.specs.Tree.{json_line}
-use Rattle.pg_answers.specs.declared.question.Question.{Question}
-use Rattle.pg_answers.specs.declared.question.Question.TheVariants.{Check, CheckAll, Certify}
-use Rattle.pg_answers.specs.declared.question.Question.TheVariants.{Explain, ExplainAll, Show}
-use Rattle.pg_answers.specs.declared.question.Question.TheVariants.{Outcomes}
-use Rattle.pg_json_answers.specs.Refusals.{error_json, spans_json}
-use Rattle.pg_json_spans.specs.Refusals.{Refuses, WantsMemory, TellsUnread}
+use Rattle.pg_json_answers.specs.Refusals.{error_json}
+use Rattle.pg_json_spans.specs.Refusals.{WantsMemory, TellsUnread}
 use Rattle.pg_json_spans.specs.Verdicts.{verdict_json}
 use Rattle.pg_json_spans.specs.Lines.{spanned_json_lines}
 
@@ -69,14 +65,3 @@ abbrev pub ShowsJson : Selection → Streams → ℕ → Type 0
 ShowsJson selection st status =
     (read : Result Spanned Unread) × ReadsRun st.input.old.bytes read
     × DeviceTold st.input read × ShownFollows selection read st.output st.errors status
-
--- ---- the answer of a question: `explain` answers what `certify` does, and `check` refuses
-
-abbrev pub AnswersSpans : Question → Streams → ℕ → Type 0
-AnswersSpans Check st status = Refuses spans_json st.output st.errors status
-AnswersSpans CheckAll st status = Refuses spans_json st.output st.errors status
-AnswersSpans Certify st status = OrdersJson st status
-AnswersSpans Explain st status = OrdersJson st status
-AnswersSpans (ExplainAll most) st status = OrdersJson st status
-AnswersSpans (Show selection) st status = ShowsJson selection st status
-AnswersSpans (Outcomes asked most) st status = Refuses spans_json st.output st.errors status

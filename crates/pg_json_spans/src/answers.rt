@@ -5,9 +5,11 @@ ghost use Rattle.pg_report.specs.Changes.{filled};
 ghost use Rattle.pg_auditing.specs.Streams.{streams};
 ghost use Rattle.pg_ordering.specs.Answers.{status_of};
 ghost use Rattle.pg_json_spans.specs.Answers.{GivesLine, GivesVerdict, GivesShown, AnswersRun};
-ghost use Rattle.pg_json_spans.specs.Answers.{OrdersJson, ShowsJson, AnswersSpans};
+ghost use Rattle.pg_json_spans.specs.Answers.{OrdersJson, ShowsJson};
+ghost use Rattle.pg_json_spans.specs.Questions.{OutcomesJson, AnswersSpans};
 
 use crate::lines::spanned_json_lines;
+use crate::outcomes::answer_outcomes;
 use crate::refusals::{tell_memory, tell_spans, tell_unread};
 use crate::verdict::verdict_line;
 use pg_answers::Question;
@@ -22,7 +24,7 @@ use pg_spanned::SpannedRun;
 use std::alloc::Global;
 
 /// Writes a text to standard output, and gives the status, which is this one where that works.
-fn give_line<O: Sink, E: Sink>(output: &mut O, errors: &mut E, text: &str, good: u8) -> u8
+pub(crate) fn give_line<O: Sink, E: Sink>(output: &mut O, errors: &mut E, text: &str, good: u8) -> u8
     ensures { GivesLine text.now good
         (filled O.Sink output.old output.new) (filled E.Sink errors.old errors.new) result }
 {
@@ -36,7 +38,7 @@ fn give_line<O: Sink, E: Sink>(output: &mut O, errors: &mut E, text: &str, good:
 }
 
 /// Writes a verdict on a run.
-fn give_verdict<O: Sink, E: Sink>(
+pub(crate) fn give_verdict<O: Sink, E: Sink>(
     alloc: Global,
     run: &SpannedRun,
     verdict: &Verdict,
@@ -116,10 +118,27 @@ fn show_json<R: Source, O: Sink, E: Sink>(
     }
 }
 
+fn outcomes_json<R: Source, O: Sink, E: Sink>(
+    alloc: Global,
+    event: Option<u32>,
+    most: u32,
+    input: &mut R,
+    output: &mut O,
+    errors: &mut E,
+) -> u8
+    ensures { OutcomesJson event most (streams R.Source O.Sink E.Sink
+        (input.old, output.old, errors.old) (input.new, output.new, errors.new)) result }
+{
+    match read_run(alloc, input) {
+        Ok(run) => answer_outcomes(alloc, event, most, &run, output, errors),
+        Err(why) => tell_unread(output, errors, why),
+    }
+}
+
 /// Writes the answer of a question of the record of version 3 or 4 on `input` as JSON, or an object
 /// to `errors` that says why there is none: whether the events have an order in which some run of
-/// the machine has them, or the events with their spans. What is judged in one order is refused by
-/// the version. The record is held in memory whole, and nothing is written before it is ready. It
+/// the machine has them, the outcomes of an event in it, or the events with their spans. What is
+/// judged in one order is refused by the version. The record is held in memory whole, and nothing is written before it is ready. It
 /// gives the exit status: 0 yes, or shown, 1 no, 2 refused, 3 memory, 4 undecided.
 pub fn answer_spans_json<R: Source, O: Sink, E: Sink>(
     alloc: Global,
@@ -136,8 +155,11 @@ pub fn answer_spans_json<R: Source, O: Sink, E: Sink>(
         Question::CheckAll => tell_spans(output, errors),
         Question::Certify => certify_json(alloc, input, output, errors),
         Question::Explain => certify_json(alloc, input, output, errors),
+        Question::ExplainAt(_) => certify_json(alloc, input, output, errors),
         Question::ExplainAll(_) => certify_json(alloc, input, output, errors),
         Question::Show(selection) => show_json(alloc, selection, input, output, errors),
-        Question::Outcomes(..) => tell_spans(output, errors),
+        Question::Outcomes(event, most) => {
+            outcomes_json(alloc, event, most, input, output, errors)
+        }
     }
 }

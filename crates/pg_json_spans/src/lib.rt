@@ -6,6 +6,7 @@ mod answers;
 mod cause;
 mod edges;
 mod lines;
+mod outcomes;
 mod refusals;
 mod verdict;
 

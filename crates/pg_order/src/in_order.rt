@@ -142,8 +142,24 @@ fn history_of(alloc: Global, run: &SpannedRun, order: &[u32]) -> Result<History,
     Ok(history)
 }
 
-/// The events of a run in an order in which `certify_in_order` says that some moments witness them,
-/// each with such moments.
+/// The events of a run in an order in which `certify_in_order` says that some moments witness them.
+///
+/// It fails only where memory is refused.
+pub fn history_in_order(
+    alloc: Global,
+    run: &SpannedRun,
+    order: &[u32],
+) -> Result<History, AllocError>
+    requires { IsOrderedRun run.now order.now }
+    ensures { IfOk result (λ history. history ≡ record {
+      head = run.now.head;
+      events = ordered run.now.events order.now;
+    }) }
+{
+    history_of(alloc, run, order)
+}
+
+/// These events, each with moments that witness it.
 ///
 /// It fails only where memory is refused.
 pub fn moments_in_order(

@@ -8,6 +8,6 @@ mod laws;
 mod trying;
 mod verdict;
 
-pub use in_order::{InOrder, certify_in_order, moments_in_order};
+pub use in_order::{InOrder, certify_in_order, history_in_order, moments_in_order};
 pub use laws::{one_order_alone, ordered_events_run, ordered_exactly_where_a_run_exists};
 pub use verdict::{Verdict, find_ordered_run};

@@ -1,5 +1,5 @@
 -- What `certify` answers of a record with no one order (versions 3 and 4).
-use Rattle.std.specs.Prelude.{◌≡◌, ◌⊎◌, ℕ, List, Result, Ok, Err}
+use Rattle.std.specs.Prelude.{◌≡◌, ◌⊎◌, ℕ, List, Option, Result, Ok, Err}
 use Rattle.pg_event.specs.declared.event.Event.{Event}
 use Rattle.pg_event.specs.Spelling.{Recorded, record_bytes}
 use Rattle.pg_run_of.specs.Law.{HasRun}
@@ -18,6 +18,10 @@ use Rattle.pg_ordering.specs.declared.reading.Unread.{Unread}
 use Rattle.pg_ordering.specs.declared.reading.Unread.TheVariants.{Refused, Device, Memory}
 use Rattle.pg_ordering.specs.declared.asked.Asked.{Asked}
 use Rattle.pg_ordering.specs.declared.asked.Asked.TheVariants.{Report, Picture, Record, Order}
+use Rattle.pg_ordering.specs.declared.asked.Asked.TheVariants.{Outcomes}
+use Rattle.pg_ordering.specs.declared.outcomes.OrderedOutcomes.{OrderedOutcomes}
+use Rattle.pg_ordering.specs.Outcomes.{AreInOrder, ordered_outcomes_text}
+use Rattle.pg_answers.specs.Answers.{event_outcomes_status}
 use Rattle.pg_ordering.specs.Readings.{ReadsRun, DeviceTold}
 use Rattle.pg_ordering.specs.Refusals.{spans_line}
 use Rattle.pg_ordering.specs.Texts.{report_text, drawn_text, order_text}
@@ -111,12 +115,38 @@ GivesOrdered s (NoneOfAll n) output errors status =
 GivesOrdered s (Undecided n) output errors status =
     GivesReportAside s (Undecided n) output errors status
 
--- what is asked for of a verdict: its report, its picture, a record or an order
+-- the outcomes of an event, or memory ran out
+abbrev pub GivesTold : OrderedOutcomes → Change → Change → ℕ → Type 0
+GivesTold x output errors status =
+    GivesOut (ordered_outcomes_text x) (event_outcomes_status x.outcomes) output errors status
+    ⊎ WantsMemory output errors status
+
+-- those in an order that has a run
+abbrev pub GivesOutcomesIn : Option ℕ → ℕ → Spanned → List ℕ → Change → Change → ℕ → Type 0
+GivesOutcomesIn event most s order output errors status =
+    ((x : OrderedOutcomes) × AreInOrder s order event most x × GivesTold x output errors status)
+    ⊎ WantsMemory output errors status
+
+-- those of a yes in the order that was found; or the report of another verdict
+abbrev pub GivesOutcomes : Option ℕ → ℕ → Spanned → Verdict → Change → Change → ℕ → Type 0
+GivesOutcomes event most s (Yes order) output errors status =
+    GivesOutcomesIn event most s order.items output errors status
+GivesOutcomes event most s (Never n edges) output errors status =
+    GivesReport s (Never n edges) output errors status
+GivesOutcomes event most s (NoneOfAll n) output errors status =
+    GivesReport s (NoneOfAll n) output errors status
+GivesOutcomes event most s (Undecided n) output errors status =
+    GivesReport s (Undecided n) output errors status
+
+-- what is asked for of a verdict: its report, its picture, a record, an order, or the outcomes of
+-- an event
 abbrev pub Gives : Asked → Spanned → Verdict → Change → Change → ℕ → Type 0
 Gives Report s verdict output errors status = GivesReport s verdict output errors status
 Gives Picture s verdict output errors status = GivesPicture s verdict output errors status
 Gives Record s verdict output errors status = GivesNamed s verdict output errors status
 Gives Order s verdict output errors status = GivesOrdered s verdict output errors status
+Gives (Outcomes event most) s verdict output errors status =
+    GivesOutcomes event most s verdict output errors status
 
 -- a verdict on a run that is so is given, or memory ran out
 abbrev pub AnswersRun : Asked → Spanned → Change → Change → ℕ → Type 0

@@ -11,12 +11,15 @@ ghost use Rattle.pg_auditing.specs.Streams.{streams};
 ghost use Rattle.pg_ordering.specs.Answers.{GivesOut, GivesError, AnswersRun, OrdersRecord};
 ghost use Rattle.pg_ordering.specs.Answers.{Gives, GivesNamed, GivesOrdered, GivesReport};
 ghost use Rattle.pg_ordering.specs.Answers.{GivesReportAside, GivesPicture, GivesRecord};
+ghost use Rattle.pg_ordering.specs.Answers.{GivesOutcomes, GivesOutcomesIn, GivesTold};
 ghost use Rattle.pg_ordering.specs.Answers.{GivesOrder, TellsUnread, WantsMemory, status_of};
 
 use crate::asked::Asked;
+use crate::outcomes::{OrderedOutcomes, ordered_outcomes_text, outcomes_in_order};
 use crate::reading::{Unread, read_run};
 use crate::refusals::tell_refusal;
 use crate::texts::{drawn_text, order_text, report_text};
+use pg_answers::event_outcomes_status;
 use pg_auditing::{MEMORY, NO, REFUSED, YES, tell};
 use pg_codec::{Sink, Source, put_all, write_record};
 use pg_event::{Event, Header};
@@ -220,6 +223,67 @@ fn give_order_if<O: Sink, E: Sink>(
     }
 }
 
+/// Writes the outcomes of an event in an order that has a run.
+fn give_outcomes<O: Sink, E: Sink>(
+    alloc: Global,
+    event: Option<u32>,
+    most: u32,
+    run: &SpannedRun,
+    order: &[u32],
+    output: &mut O,
+    errors: &mut E,
+) -> u8
+    requires { IsOrderedRun run.now order.now }
+    ensures { GivesOutcomesIn event most run.now order.now
+        (filled O.Sink output.old output.new) (filled E.Sink errors.old errors.new) result }
+{
+    match outcomes_in_order(alloc, run, order, event, most) {
+        Ok(told) => give_told(alloc, &told, output, errors),
+        Err(_) => tell_memory(output, errors),
+    }
+}
+
+/// Writes them, once they are known.
+fn give_told<O: Sink, E: Sink>(
+    alloc: Global,
+    told: &OrderedOutcomes,
+    output: &mut O,
+    errors: &mut E,
+) -> u8
+    ensures { GivesTold told.now
+        (filled O.Sink output.old output.new) (filled E.Sink errors.old errors.new) result }
+{
+    match ordered_outcomes_text(alloc, told) {
+        Ok(text) => {
+            let status = event_outcomes_status(&told.outcomes);
+            give_out(output, errors, text.as_bytes(), status)
+        }
+        Err(_) => tell_memory(output, errors),
+    }
+}
+
+/// Writes them of a yes, and the report of another verdict.
+fn give_outcomes_if<O: Sink, E: Sink>(
+    alloc: Global,
+    event: Option<u32>,
+    most: u32,
+    run: &SpannedRun,
+    verdict: &Verdict,
+    output: &mut O,
+    errors: &mut E,
+) -> u8
+    requires { IsVerdict run.now verdict.now }
+    ensures { GivesOutcomes event most run.now verdict.now
+        (filled O.Sink output.old output.new) (filled E.Sink errors.old errors.new) result }
+{
+    match verdict {
+        Verdict::Yes(order) => give_outcomes(alloc, event, most, run, order, output, errors),
+        Verdict::Never(..) => give_report(alloc, run, verdict, output, errors),
+        Verdict::NoneOfAll(_) => give_report(alloc, run, verdict, output, errors),
+        Verdict::Undecided(_) => give_report(alloc, run, verdict, output, errors),
+    }
+}
+
 /// Writes what is asked for of a verdict on a run.
 fn give_verdict<O: Sink, E: Sink>(
     alloc: Global,
@@ -238,6 +302,9 @@ fn give_verdict<O: Sink, E: Sink>(
         Asked::Picture => give_picture(alloc, run, verdict, output, errors),
         Asked::Record => give_named_if(alloc, run, verdict, output, errors),
         Asked::Order => give_order_if(alloc, run, verdict, output, errors),
+        Asked::Outcomes(event, most) => give_outcomes_if(
+            alloc, event, most, run, verdict, output, errors,
+        ),
     }
 }
 
@@ -279,7 +346,7 @@ pub(crate) fn tell_unread<O: Sink, E: Sink>(output: &mut O, errors: &mut E, why:
 /// Reads the record of version 3 or 4 that `input` has left, and writes whether its events have an
 /// order in which some run of the machine has them (Intel SDM, vol. 3, 4.10): the report, or where
 /// the answer is yes the record or the order that is asked for in its place; then the report of
-/// another answer goes to `errors`. Where a picture is asked for, that of a no's cause is written
+/// another answer goes to `errors`; or the outcomes of an event in that order. Where a picture is asked for, that of a no's cause is written
 /// in the place of its report. Nothing is written before it is ready. It gives the exit status: 0
 /// yes, 1 no, 2 refused, 3 memory, 4 undecided.
 ///

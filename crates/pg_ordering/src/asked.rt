@@ -10,4 +10,8 @@ pub enum Asked {
     Record,
     /// Of a yes the order: the number of each event, a line each.
     Order,
+    /// Of a yes the outcomes that the event with a number may have after those before it in the
+    /// order that was found, or the last access where no number is given; so many of them are told
+    /// at most.
+    Outcomes(Option<u32>, u32),
 }

@@ -97,9 +97,10 @@ fn push_lines(
     text: &mut String,
     events: &[Event],
     explanation: &Explanation,
+    note: &str,
 ) -> Result<(), AllocError>
     ensures { OnOk result (string_bytes text.new
-        ≡ string_bytes text.old ++ lines_text events.now explanation.now) }
+        ≡ string_bytes text.old ++ lines_text events.now explanation.now note.now) }
 {
     let mut finding = String::new(alloc);
     push_finding(&mut finding, events, explanation.finding)?;
@@ -110,7 +111,8 @@ fn push_lines(
     push_placed(text, 10, 44, other.as_str())?;
     let mut taken = String::new(alloc);
     push_taken(&mut taken, explanation.other, explanation.last)?;
-    push_placed(text, 10, 62, taken.as_str())
+    push_placed(text, 10, 62, taken.as_str())?;
+    push_placed(text, 10, 80, note)
 }
 
 fn push_lanes(text: &mut String, foot: u64, lanes: &[Lane]) -> Result<(), AllocError>
@@ -192,16 +194,17 @@ fn push_head(
     text: &mut String,
     events: &[Event],
     explanation: &Explanation,
+    note: &str,
     layout: &Layout,
 ) -> Result<(), AllocError>
     ensures { OnOk result (string_bytes text.new
-        ≡ string_bytes text.old ++ head_text events.now explanation.now layout.now) }
+        ≡ string_bytes text.old ++ head_text events.now explanation.now note.now layout.now) }
 {
     push_open(text, layout.height, layout.letters)?;
     push_title(text, explanation.number)?;
     push_markers(text)?;
     push_paper(text, layout.height)?;
-    push_lines(alloc, text, events, explanation)
+    push_lines(alloc, text, events, explanation, note)
 }
 
 fn push_all_lanes(text: &mut String, layout: &Layout) -> Result<(), AllocError>
@@ -232,13 +235,14 @@ fn svg_text(
     alloc: Global,
     events: &[Event],
     explanation: &Explanation,
+    note: &str,
     layout: &Layout,
 ) -> Result<String, AllocError>
     ensures { IfOk result (λ t. string_bytes t
-        ≡ svg_text events.now explanation.now layout.now) }
+        ≡ svg_text events.now explanation.now note.now layout.now) }
 {
     let mut text = String::new(alloc);
-    push_head(alloc, &mut text, events, explanation, layout)?;
+    push_head(alloc, &mut text, events, explanation, note, layout)?;
     push_all_lanes(&mut text, layout)?;
     push_keys(&mut text)?;
     push_things(alloc, &mut text, events, layout)?;
@@ -248,16 +252,17 @@ fn svg_text(
 
 /// An explanation as a picture: one SVG, 1,200 pixels wide, without scripts. It shows each event
 /// that the explanation names, in the lane of its processor, the entries of the walk at their
-/// moments, and which event wrote or dropped which entry. It takes one pass over the events. Fails
-/// only when out of memory.
+/// moments, and which event wrote or dropped which entry. A note stands in a line of its own above
+/// them. It takes one pass over the events. Fails only when out of memory.
 pub fn picture_text(
     alloc: Global,
     history: &History,
     explanation: &Explanation,
+    note: &str,
 ) -> Result<String, AllocError>
     ensures { IfOk result (λ t. IsPicture history.now.head history.now.events explanation.now
-        (string_bytes t)) }
+        note.now (string_bytes t)) }
 {
     let layout = lay_out(alloc, history, explanation)?;
-    svg_text(alloc, history.events(), explanation, &layout)
+    svg_text(alloc, history.events(), explanation, note, &layout)
 }

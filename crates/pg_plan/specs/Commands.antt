@@ -169,7 +169,8 @@ explain_line =
     let all = with_rule (new_app (codes "explain")) (switch_rule (codes "all")) in
     let most = with_rule all most_rule in
     let svg = with_rule most (switch_rule (codes "svg")) in
-    with_files (with_json svg)
+    let event = with_rule svg (number_rule (codes "event")) in
+    with_files (with_json event)
 
 -- a number from 1 to 1,000,000 after `--limit`
 abbrev pub limit_rule : Rule
@@ -300,7 +301,7 @@ pub record IsSelectionOf (rows : List Row) (asked : Selection) : Type 0 where
 -- this is what options ask to be told of bad events
 abbrev pub IsTellingOf : List Row → Telling → Type 0
 IsTellingOf rows = IsTelling (has (codes "all") rows) (has (codes "svg") rows)
-    (first_of (codes "most") rows)
+    (first_of (codes "most") rows) (first_of (codes "event") rows)
 
 -- so many checkers are asked for
 abbrev pub AreCheckersOf : List Row → ℕ → Type 0

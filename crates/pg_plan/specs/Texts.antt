@@ -24,8 +24,8 @@ number_text =
 -- options ask to be told of bad events in two ways, or of so many without all
 abbrev pub telling_text : Text
 telling_text =
-    codes "error: --most goes with --all alone, by digits alone, and --svg goes without --all"
-    ++ more_text
+    codes "error: --most goes with --all alone, by digits alone, and --svg goes without --all;"
+    ++ (codes "\n  --event goes without --all, --most and --svg, by digits alone" ++ more_text)
 
 -- of two options one has no effect beside the other
 abbrev pub conflict_text : Text

@@ -6,7 +6,7 @@ use Rattle.clap.specs.Walk.{Text}
 use Rattle.pg_event.specs.Form.{is_canonical}
 pub use Rattle.pg_plan.specs.Counts.{AreFrom1To64}
 use Rattle.pg_plan.specs.declared.request.Telling.{Telling}
-use Rattle.pg_plan.specs.declared.request.Telling.TheVariants.{First, All, Picture}
+use Rattle.pg_plan.specs.declared.request.Telling.TheVariants.{First, At, All, Picture}
 
 -- what was read is some value just where that value is so
 abbrev pub Reads : {A : Type 0} → Option A → (A → Type 0) → Type 0
@@ -58,9 +58,20 @@ IsOptional IsIn None (Some n) = ⊥
 IsOptional IsIn (Some text) None = ⊥
 IsOptional IsIn (Some text) (Some n) = IsIn text n
 
--- What is told of bad events, where `--all` and `--svg` are given or not, and `--most` with this
--- text or not: so many at most have to do with all alone, and all are not drawn.
-abbrev pub IsTelling : Bool → Bool → Option Text → Telling → Type 0
-IsTelling all svg most First = (all ≡ false) × (svg ≡ false) × (most ≡ None)
-IsTelling all svg most (All n) = (all ≡ true) × (svg ≡ false) × IsMost most n
-IsTelling all svg most Picture = (all ≡ false) × (svg ≡ true) × (most ≡ None)
+-- the event number that a text spells, which has to be given
+abbrev pub IsNumberGiven : Option Text → ℕ → Type 0
+IsNumberGiven None n = ⊥
+IsNumberGiven (Some text) n = IsNumberIn text n
+
+-- What is told of bad events, where `--all` and `--svg` are given or not, and `--most` and `--event`
+-- with these texts or not: so many at most have to do with all alone, all are not drawn, and one
+-- event is neither all nor drawn.
+abbrev pub IsTelling : Bool → Bool → Option Text → Option Text → Telling → Type 0
+IsTelling all svg most event First =
+    (all ≡ false) × (svg ≡ false) × (most ≡ None) × (event ≡ None)
+IsTelling all svg most event (At n) =
+    (all ≡ false) × (svg ≡ false) × (most ≡ None) × IsNumberGiven event n
+IsTelling all svg most event (All n) =
+    (all ≡ true) × (svg ≡ false) × IsMost most n × (event ≡ None)
+IsTelling all svg most event Picture =
+    (all ≡ false) × (svg ≡ true) × (most ≡ None) × (event ≡ None)

@@ -123,6 +123,9 @@ pub(crate) const EVENT: &str = "event";
 
 const EVENT_ABOUT: &str = "Number of the access, or of an assist (default: the last access)";
 
+const TOLD_EVENT_ABOUT: &str =
+    "Explain up to the event with this number; if none is bad, write the outcomes it may have";
+
 const MOST_ABOUT: &str =
     "With --all, explain at most this many bad events, 1 to 1000000 (default 100)";
 
@@ -474,6 +477,7 @@ fn explain_line<'a>(alloc: Global) -> Result<CommandLine<'a>, AllocError>
     let line = with_option(line, switch(alloc, ALL, ALL_ABOUT));
     let line = with_made(line, most_option(alloc));
     let line = with_option(line, switch(alloc, SVG, SVG_ABOUT));
+    let line = with_option(line, number_option(alloc, EVENT, "N", TOLD_EVENT_ABOUT));
     let line = with_option(line, switch(alloc, JSON, JSON_ABOUT));
     with_files(alloc, line)
 }

@@ -48,7 +48,7 @@ const NO_NUMBER: &str = "error: a number is given by digits alone, an address by
     For more information, try '--help'.\n";
 
 const NO_TELLING: &str = "error: --most goes with --all alone, by digits alone, and --svg goes \
-    without --all\n\n\
+    without --all;\n  --event goes without --all, --most and --svg, by digits alone\n\n\
     For more information, try '--help'.\n";
 
 const CONFLICT: &str = "error: --json, --bytes, --order, --svg and --first exclude one another, \
@@ -213,7 +213,12 @@ fn selection_of(own: &ArgMatches<'_>) -> Option<Selection>
 fn telling_in(own: &ArgMatches<'_>) -> Option<Telling>
     ensures { Reads result (IsTellingOf (options_of own.now)) }
 {
-    telling_of(has(own, ALL), has(own, SVG), text_of(own, MOST))
+    telling_of(
+        has(own, ALL),
+        has(own, SVG),
+        text_of(own, MOST),
+        text_of(own, EVENT),
+    )
 }
 
 /// How many checkers the options ask for.

@@ -6,6 +6,9 @@ use pg_event::Selection;
 pub enum Telling {
     /// The cause of the first.
     First,
+    /// The cause of the first, if it is the event with this number or one before it; else the
+    /// outcomes that this event may have.
+    At(u32),
     /// The causes of so many of them at most, 1 to 1,000,000, and a summary of all. It is 100 if
     /// the arguments say nothing.
     All(u32),

@@ -1,6 +1,7 @@
 //! What the values of options spell.
 
-ghost use Rattle.std.specs.Prelude.{◌≡◌, ◌≢◌, ◌++◌, ℕ, List, codes, option_map, MatchOption};
+ghost use Rattle.std.specs.Prelude.{◌≡◌, ◌≢◌, ◌++◌, ℕ, List, Some, codes, option_map};
+ghost use Rattle.std.specs.Prelude.{MatchOption};
 ghost use Rattle.pg_plan.specs.Values.{IsNumberIn, AreAsked, IsAsked, AreHexDigits, IsAddressIn};
 ghost use Rattle.pg_plan.specs.Values.{IsCpuIn, IsMost, IsPageIn, IsOptional, IsTelling, Reads};
 
@@ -43,11 +44,31 @@ pub(crate) fn most_of(text: Option<&str>) -> Option<u32>
     Some(most)
 }
 
-/// What is told of bad events, where `--all` and `--svg` are given or not, and `--most` with this
-/// text.
-pub(crate) fn telling_of(all: bool, svg: bool, most: Option<&str>) -> Option<Telling>
-    ensures { Reads result (IsTelling all svg (option_map (λ s. s.now) most.entry)) }
+/// What is told of bad events, where `--event` is given with this text.
+fn told_at(all: bool, svg: bool, most: Option<&str>, event: &str) -> Option<Telling>
+    ensures { Reads result (IsTelling all svg
+        (option_map (λ s. s.now) most.entry) (Some event.now)) }
 {
+    if all || svg || most.is_some() {
+        return None;
+    }
+    Some(Telling::At(number_in(event)?))
+}
+
+/// What is told of bad events, where `--all` and `--svg` are given or not, and `--most` and
+/// `--event` with these texts.
+pub(crate) fn telling_of(
+    all: bool,
+    svg: bool,
+    most: Option<&str>,
+    event: Option<&str>,
+) -> Option<Telling>
+    ensures { Reads result (IsTelling all svg
+        (option_map (λ s. s.now) most.entry) (option_map (λ s. s.now) event.entry)) }
+{
+    if let Some(text) = event {
+        return told_at(all, svg, most, text);
+    }
     if all && svg {
         return None;
     }

@@ -6,4 +6,4 @@ pub mod Carries
 pub mod Changes
 mod Briefs
 pub mod Writers
-mod Written
+mod Listed

@@ -36,13 +36,13 @@ pub(crate) fn list_written(
     ensures { OnOk result
         (found.new.items ≡ found.old.items ++ listed_of moment number word) }
 {
-    match word {
-        Some(word) if number < moment => found.push(Written {
-            since: number + 1,
-            word,
-        }),
-        _ => Ok(()),
+    if let Some(word) = word {
+        if number < moment {
+            let since = number + 1;
+            found.push(Written { since, word })?;
+        }
     }
+    Ok(())
 }
 
 /// The words that those of these events write which are below a moment.

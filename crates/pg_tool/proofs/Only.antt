@@ -20,6 +20,7 @@ module _ (checkers : ℕ) (input output : Change) (answer : Result Answer AuditE
   of_bytes questions.Certify Json bytes gives = tt
   of_bytes questions.Certify Picture bytes gives = tt
   of_bytes questions.Explain format bytes gives = tt
+  of_bytes (questions.ExplainAt n) format bytes gives = tt
   of_bytes (questions.ExplainAll most) format bytes gives = tt
   of_bytes (questions.Show selection) format bytes gives = tt
   of_bytes (questions.Outcomes asked most) format bytes gives = tt

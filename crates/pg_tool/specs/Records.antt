@@ -11,7 +11,7 @@ use Rattle.pg_plan.specs.declared.request.CertifyOptions.{CertifyOptions}
 use Rattle.pg_plan.specs.declared.request.CheckOptions.{CheckOptions}
 use Rattle.pg_plan.specs.declared.request.ExplainOptions.{ExplainOptions}
 use Rattle.pg_plan.specs.declared.request.Telling.{Telling}
-use Rattle.pg_plan.specs.declared.request.Telling.TheVariants.{First, All, Picture}
+use Rattle.pg_plan.specs.declared.request.Telling.TheVariants.{First, At, All, Picture}
 use Rattle.pg_report.specs.declared.error.AuditError.TheVariants.{Device}
 use Rattle.pg_report.specs.Changes.{Change, Fails}
 use Rattle.pg_answers.specs.Firsts.{CertifiesFirst, ChecksFirst}
@@ -42,6 +42,7 @@ check_question all = if all then questions.CheckAll else questions.Check
 -- what is asked of bad events: a picture shows the first
 abbrev pub telling_question : Telling → Question
 telling_question First = questions.Explain
+telling_question (At n) = questions.ExplainAt n
 telling_question (All most) = questions.ExplainAll most
 telling_question Picture = questions.Explain
 
@@ -50,6 +51,7 @@ format_of json = if json then formats.Json else formats.Text
 
 abbrev pub telling_form : Bool → Telling → Format
 telling_form json First = format_of json
+telling_form json (At n) = format_of json
 telling_form json (All most) = format_of json
 telling_form json Picture = formats.Picture
 
@@ -119,6 +121,7 @@ asked_of asked =
 -- that cause
 abbrev pub told_of : Telling → Asked
 told_of First = asking.Report
+told_of (At n) = asking.Report
 told_of (All most) = asking.Report
 told_of Picture = asking.Picture
 
@@ -135,7 +138,8 @@ DoesSpanned (Run asked) s status = ⊥
 DoesSpanned RunOf s status = RefusesSpans s.output s.errors status
 DoesSpanned (Explain asked) s status = OrdersRecord (told_of asked.telling) s status
 DoesSpanned (Show asked) s status = ShowsSpans asked.selection s status
-DoesSpanned (Outcomes asked) s status = RefusesSpans s.output s.errors status
+DoesSpanned (Outcomes asked) s status =
+    OrdersRecord (asking.Outcomes asked.event asked.most) s status
 DoesSpanned Upgrade s status = RefusesSpans s.output s.errors status
 DoesSpanned (Merge error) s status = ⊥
 

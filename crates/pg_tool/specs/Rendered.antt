@@ -7,9 +7,10 @@ use Rattle.pg_report.specs.declared.error.AuditError.{AuditError}
 use Rattle.pg_report.specs.Changes.{Change}
 use Rattle.pg_answers.specs.declared.answer.Answer.{Answer}
 use Rattle.pg_answers.specs.declared.answer.Answer.TheVariants.{Report, Summary, Cause, Causes}
-use Rattle.pg_answers.specs.declared.answer.Answer.TheVariants.{Rejection, Events, Prospect}
+use Rattle.pg_answers.specs.declared.answer.Answer.TheVariants.{Rejection, Events, Outcomes}
 use Rattle.pg_answers.specs.declared.question.Question.{Question}
 use Rattle.pg_answers.specs.declared.question.Question.TheVariants as questions
+use Rattle.pg_answers.specs.AllowedTexts.{allowed_note}
 use Rattle.pg_answers.specs.Answers.{IsAnswer, answer_status}
 use Rattle.pg_answers.specs.AnswerTexts.{answer_text}
 use Rattle.pg_answers.specs.Certificates.{IsTheCertificate}
@@ -26,11 +27,12 @@ use Rattle.pg_tool.specs.declared.format.Format.TheVariants.{Text, Json, Picture
 abbrev pub IsDrawn : Answer → List ℕ → Type 0
 IsDrawn (Report report) text = text ≡ answer_text (Report report)
 IsDrawn (Summary report s) text = text ≡ answer_text (Summary report s)
-IsDrawn (Cause report r x) text = IsPicture r.head r.events x text
+IsDrawn (Cause report r x allowed) text =
+    IsPicture r.head r.events x (allowed_note allowed) text
 IsDrawn (Causes report r xs s) text = text ≡ answer_text (Causes report r xs s)
 IsDrawn (Rejection x) text = text ≡ answer_text (Rejection x)
 IsDrawn (Events r selection) text = text ≡ answer_text (Events r selection)
-IsDrawn (Prospect x) text = text ≡ answer_text (Prospect x)
+IsDrawn (Outcomes x) text = text ≡ answer_text (Outcomes x)
 
 abbrev pub IsRendered : Format → Answer → List ℕ → Type 0
 IsRendered Text x text = text ≡ answer_text x
@@ -55,6 +57,7 @@ IsOnly questions.Certify Text bytes answer = IsTheCertificate bytes answer
 IsOnly questions.Certify Json bytes answer = Unit {0}
 IsOnly questions.Certify Picture bytes answer = Unit {0}
 IsOnly questions.Explain format bytes answer = Unit {0}
+IsOnly (questions.ExplainAt n) format bytes answer = Unit {0}
 IsOnly (questions.ExplainAll most) format bytes answer = Unit {0}
 IsOnly (questions.Show selection) format bytes answer = Unit {0}
 IsOnly (questions.Outcomes asked most) format bytes answer = Unit {0}

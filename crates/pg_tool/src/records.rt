@@ -20,7 +20,9 @@ use pg_codec::{Sink, Source};
 use pg_json_answers::tell_json;
 use pg_json_spans::answer_spans_json;
 use pg_ordering::{Asked, certify_spanned, show_spanned};
-use pg_plan::{CertifyOptions, CheckOptions, Checkers, Command, ExplainOptions, Telling};
+use pg_plan::{
+    CertifyOptions, CheckOptions, Checkers, Command, ExplainOptions, OutcomesOptions, Telling,
+};
 use pg_report::AuditError;
 use pg_span_codec::Peeked;
 use std::alloc::{AllocGlobal, Global};
@@ -96,6 +98,7 @@ fn telling_question(telling: Telling) -> Question
 {
     match telling {
         Telling::First | Telling::Picture => Question::Explain,
+        Telling::At(number) => Question::ExplainAt(number),
         Telling::All(most) => Question::ExplainAll(most),
     }
 }
@@ -111,7 +114,7 @@ fn telling_format(asked: &ExplainOptions) -> Format
     ensures { result ≡ telling_format asked.now }
 {
     match asked.telling {
-        Telling::First | Telling::All(_) => format_of(asked.json),
+        Telling::First | Telling::At(_) | Telling::All(_) => format_of(asked.json),
         Telling::Picture => Format::Picture,
     }
 }
@@ -239,7 +242,7 @@ fn told_of(telling: Telling) -> Asked
     ensures { result ≡ told_of telling }
 {
     match telling {
-        Telling::First | Telling::All(_) => Asked::Report,
+        Telling::First | Telling::At(_) | Telling::All(_) => Asked::Report,
         Telling::Picture => Asked::Picture,
     }
 }
@@ -257,6 +260,22 @@ fn explain_order<R: Source, O: Sink, E: Sink>(
         (input.old, output.old, errors.old) (input.new, output.new, errors.new)) result }
 {
     certify_spanned(alloc, told_of(telling), input, output, errors)
+}
+
+/// Writes the outcomes of an event of the record with spans on `input`, in the order that is found.
+fn outcomes_by<R: Source, O: Sink, E: Sink>(
+    alloc: Global,
+    asked: &OutcomesOptions,
+    input: &mut R,
+    output: &mut O,
+    errors: &mut E,
+) -> u8
+    ensures { OrdersRecord (Asked.Outcomes asked.now.event asked.now.most)
+        (streams R.Source O.Sink E.Sink
+        (input.old, output.old, errors.old) (input.new, output.new, errors.new)) result }
+{
+    let told = Asked::Outcomes(asked.event, asked.most);
+    certify_spanned(alloc, told, input, output, errors)
 }
 
 /// Refuses a record with spans by its version, and says which command judges it.
@@ -284,9 +303,8 @@ fn do_of_spanned<R: Source, O: Sink, E: Sink>(
         Command::Certify(asked) => order_by(alloc, asked, input, output, errors),
         Command::Explain(asked) => explain_order(alloc, asked.telling, input, output, errors),
         Command::Show(asked) => { show_spanned(alloc, asked.selection, input, output, errors) }
-        Command::Check(_) | Command::RunOf | Command::Outcomes(_) | Command::Upgrade => {
-            refuse_spans(output, errors)
-        }
+        Command::Outcomes(asked) => outcomes_by(alloc, asked, input, output, errors),
+        Command::Check(_) | Command::RunOf | Command::Upgrade => refuse_spans(output, errors),
         Command::Run(_) | Command::Merge { .. } => unreachable!(),
     }
 }

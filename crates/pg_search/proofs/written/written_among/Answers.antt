@@ -3,11 +3,11 @@ use Rattle.std.specs.Prelude.{slice_get}
 use Rattle.std.proofs.lemmas.Option.{slice_get-get_or}
 use Rattle.pg_event.specs.declared.event.Event.{Event}
 use Rattle.pg_search.specs.Writers.{listed_of}
-use Rattle.pg_search.proofs.Written.{HaveBefore, none_before, one_before, all_before}
+use Rattle.pg_search.proofs.Listed.{HaveBefore, none_before, one_before, all_before}
 use Rattle.pg_search.proofs.written.written_among.Goals as goal
 
-pub loop-i-initially : goal.loop-i-initially
-loop-i-initially c = none_before c.args.events.now c.args.moment
+pub loop-i-init : goal.loop-i-init
+loop-i-init c = none_before c.args.events.now c.args.moment c.new-found.result.items
 
 pub loop-i-preserved : goal.loop-i-preserved
 loop-i-preserved c =

@@ -1,4 +1,4 @@
-use Rattle.pg_search.proofs.Written.{HaveBefore}
+use Rattle.pg_search.proofs.Listed.{HaveBefore}
 use Rattle.pg_search.proofs.written.written_among.Given as goal
 
 abbrev pub invariant-loop-i : goal.invariant-loop-i

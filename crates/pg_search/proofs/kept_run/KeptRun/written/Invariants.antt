@@ -1,4 +1,4 @@
-use Rattle.pg_search.proofs.Written.{HaveOfFirst}
+use Rattle.pg_search.proofs.Listed.{HaveOfFirst}
 use Rattle.pg_search.specs.Briefs.{events_from}
 use Rattle.pg_search.proofs.kept_run.KeptRun.written.Given as goal
 

@@ -1,10 +1,10 @@
 //! What may come of an event of a record.
 
 ghost use Rattle.std.specs.Prelude.{◌<◌, ◌^◌, length, IfOk};
-ghost use Rattle.pg_answers.specs.Answers.{IsForeseen, IsForeseenAt};
-ghost use Rattle.pg_answers.specs.Prospects.{IsAskedEvent, IsLastAccess};
+ghost use Rattle.pg_answers.specs.Answers.{IsOutcomesAnswer, IsOutcomesAnswerAt};
+ghost use Rattle.pg_answers.specs.Outcomes.{IsAskedEvent, IsLastAccess};
 
-use crate::answer::{Answer, Coming, Outcomes, Prospect};
+use crate::answer::{AccessOutcomes, Answer, AssistOutcome, EventOutcomes};
 use crate::denials::denial_in;
 use pg_certify::denied_events_have_no_run;
 use pg_check::History;
@@ -28,7 +28,7 @@ fn last_access(events: &[Event]) -> Option<u32>
 
 /// The number of the event that is asked about, if there is such an event: the last access, where
 /// no number is given.
-fn asked_event(events: &[Event], asked: Option<u32>) -> Option<u32>
+pub fn asked_event(events: &[Event], asked: Option<u32>) -> Option<u32>
     requires { length events.now < 2 ^ 32 }
     ensures { IsAskedEvent events.now asked result }
 {
@@ -40,47 +40,47 @@ fn asked_event(events: &[Event], asked: Option<u32>) -> Option<u32>
 }
 
 /// What may come of the event with this number.
-fn foreseen_at(
+fn outcomes_answer(
     alloc: Global,
     history: &History,
     number: u32,
     most: u32,
 ) -> Result<Answer, AllocError>
     requires { number < length history.now.events }
-    ensures { IfOk result (IsForeseenAt history.now number most) }
+    ensures { IfOk result (IsOutcomesAnswerAt history.now number most) }
 {
     // What a no says of runs.
     denied_events_have_no_run();
     let event = history.events()[number as usize];
     match outcomes_of(alloc, history, number)? {
         Found::Rejected(denied) => Ok(Answer::Rejection(denial_in(alloc, history, denied)?)),
-        Found::Outcomes(found) => Ok(Answer::Prospect(Prospect::Access(Outcomes {
+        Found::Outcomes(found) => Ok(Answer::Outcomes(EventOutcomes::Access(AccessOutcomes {
             number,
             event,
             found,
             most,
         }))),
-        Found::Assist(moments) => Ok(Answer::Prospect(Prospect::Assist(Coming {
+        Found::Assist(moments) => Ok(Answer::Outcomes(EventOutcomes::Assist(AssistOutcome {
             number,
             event,
             moments,
         }))),
-        Found::NoAccess => Ok(Answer::Prospect(Prospect::Neither(Some(number)))),
+        Found::NoAccess => Ok(Answer::Outcomes(EventOutcomes::NoAccess(Some(number)))),
     }
 }
 
 /// What may come of the event that is asked about. If no run has the events before it, the cause of
 /// their rejection.
-pub(crate) fn foreseen(
+pub(crate) fn outcomes_asked(
     alloc: Global,
     history: &History,
     asked: Option<u32>,
     most: u32,
 ) -> Result<Answer, AllocError>
-    ensures { IfOk result (IsForeseen asked most history.now) }
+    ensures { IfOk result (IsOutcomesAnswer asked most history.now) }
 {
     match asked_event(history.events(), asked) {
-        Some(number) => foreseen_at(alloc, history, number, most),
-        None => Ok(Answer::Prospect(Prospect::Neither(asked))),
+        Some(number) => outcomes_answer(alloc, history, number, most),
+        None => Ok(Answer::Outcomes(EventOutcomes::NoAccess(asked))),
     }
 }

@@ -20,10 +20,10 @@ use Rattle.pg_event.specs.declared.event.Outcome.TheVariants.{Page, Fault}
 use Rattle.pg_explain.specs.Denied.{claim_line}
 use Rattle.pg_explain.specs.Line.{hex, numbers_text}
 use Rattle.pg_outcomes.specs.declared.allowed.Allowed.{Allowed}
-use Rattle.pg_answers.specs.declared.answer.Coming.{Coming}
-use Rattle.pg_answers.specs.declared.answer.Outcomes.{Outcomes}
-use Rattle.pg_answers.specs.declared.answer.Prospect.{Prospect}
-use Rattle.pg_answers.specs.declared.answer.Prospect.TheVariants.{Access, Assist, Neither}
+use Rattle.pg_answers.specs.declared.answer.AssistOutcome.{AssistOutcome}
+use Rattle.pg_answers.specs.declared.answer.AccessOutcomes.{AccessOutcomes}
+use Rattle.pg_answers.specs.declared.answer.EventOutcomes.{EventOutcomes}
+use Rattle.pg_answers.specs.declared.answer.EventOutcomes.TheVariants.{Access, Assist, NoAccess}
 
 -- the event, with its number
 abbrev pub asked_line : ℕ → Event → List ℕ
@@ -51,7 +51,7 @@ more_line count most =
 abbrev pub counted_line : ℕ → List ℕ
 counted_line count = codes "outcomes: " ++ (decimal count ++ codes "\n")
 
-abbrev pub outcomes_text : Outcomes → List ℕ
+abbrev pub outcomes_text : AccessOutcomes → List ℕ
 outcomes_text x =
     ((asked_line x.number x.event ++ allowed_lines (take x.most x.found.items))
     ++ more_line (length x.found.items) x.most) ++ counted_line (length x.found.items)
@@ -61,14 +61,14 @@ abbrev pub may_line : Option (List ℕ) → List ℕ
 may_line None = codes "may not come\n"
 may_line (Some ws) = codes "may come by" ++ (numbers_text ws ++ codes "\n")
 
-abbrev pub coming_text : Coming → List ℕ
-coming_text x = asked_line x.number x.event ++ may_line x.moments
+abbrev pub assist_text : AssistOutcome → List ℕ
+assist_text x = asked_line x.number x.event ++ may_line x.moments
 
-abbrev pub neither_text : Option ℕ → List ℕ
-neither_text None = codes "no access\n"
-neither_text (Some n) = codes "no access: event " ++ (decimal n ++ codes "\n")
+abbrev pub no_access_text : Option ℕ → List ℕ
+no_access_text None = codes "no access\n"
+no_access_text (Some n) = codes "no access: event " ++ (decimal n ++ codes "\n")
 
-abbrev pub prospect_text : Prospect → List ℕ
-prospect_text (Access x) = outcomes_text x
-prospect_text (Assist x) = coming_text x
-prospect_text (Neither told) = neither_text told
+abbrev pub event_outcomes_text : AccessOutcomes → List ℕ
+event_outcomes_text (Access x) = outcomes_text x
+event_outcomes_text (Assist x) = assist_text x
+event_outcomes_text (NoAccess told) = no_access_text told

@@ -9,7 +9,7 @@ use Rattle.pg_certify.specs.Certified.{IsDenied}
 use Rattle.pg_outcomes.specs.Placed.{is_access}
 use Rattle.pg_outcomes.specs.Allowing.{AreOutcomes}
 use Rattle.pg_outcomes.specs.Asked.{MayCome}
-use Rattle.pg_answers.proofs.prospects.foreseen_at.Goals as goal
+use Rattle.pg_answers.proofs.outcomes.outcomes_answer.Goals as goal
 
 one_event : (e x : Event) → Some e ≡ Some x → e ≡ x
 one_event e x h = cc

@@ -2,12 +2,12 @@
 
 ghost use Rattle.std.specs.Prelude.{◌≡◌, ◌++◌, IfOk, OnOk, string_bytes};
 ghost use Rattle.pg_explain.specs.Line.{numbers_text};
-ghost use Rattle.pg_answers.specs.ProspectTexts.{asked_line, result_text, allowed_line};
-ghost use Rattle.pg_answers.specs.ProspectTexts.{allowed_lines, more_line, counted_line};
-ghost use Rattle.pg_answers.specs.ProspectTexts.{outcomes_text, may_line, coming_text};
-ghost use Rattle.pg_answers.specs.ProspectTexts.{neither_text, prospect_text};
+ghost use Rattle.pg_answers.specs.OutcomeTexts.{asked_line, result_text, allowed_line};
+ghost use Rattle.pg_answers.specs.OutcomeTexts.{allowed_lines, more_line, counted_line};
+ghost use Rattle.pg_answers.specs.OutcomeTexts.{outcomes_text, may_line, assist_text};
+ghost use Rattle.pg_answers.specs.OutcomeTexts.{no_access_text, event_outcomes_text};
 
-use crate::answer::{Coming, Outcomes, Prospect};
+use crate::answer::{AccessOutcomes, AssistOutcome, EventOutcomes};
 use pg_event::{Event, Moments, Outcome};
 use pg_explain::push_claim_line;
 use pg_outcomes::Allowed;
@@ -24,7 +24,7 @@ fn push_asked(text: &mut String, number: u32, event: &Event) -> Result<(), Alloc
 }
 
 /// Appends an outcome.
-fn push_result(text: &mut String, outcome: Outcome) -> Result<(), AllocError>
+pub(crate) fn push_result(text: &mut String, outcome: Outcome) -> Result<(), AllocError>
     ensures { OnOk result
         (string_bytes text.new ≡ string_bytes text.old ++ result_text outcome) }
 {
@@ -46,7 +46,7 @@ fn push_numbers(text: &mut String, numbers: &[u32]) -> Result<(), AllocError>
 }
 
 /// Appends the line of an outcome.
-fn push_allowed(text: &mut String, allowed: &Allowed) -> Result<(), AllocError>
+pub(crate) fn push_allowed(text: &mut String, allowed: &Allowed) -> Result<(), AllocError>
     ensures { OnOk result
         (string_bytes text.new ≡ string_bytes text.old ++ allowed_line allowed.now) }
 {
@@ -78,7 +78,7 @@ fn push_more(text: &mut String, count: usize, most: u32) -> Result<(), AllocErro
     Ok(())
 }
 
-fn push_outcomes(text: &mut String, outcomes: &Outcomes) -> Result<(), AllocError>
+fn push_outcomes(text: &mut String, outcomes: &AccessOutcomes) -> Result<(), AllocError>
     ensures { OnOk result
         (string_bytes text.new ≡ string_bytes text.old ++ outcomes_text outcomes.now) }
 {
@@ -104,17 +104,17 @@ fn push_may(text: &mut String, moments: Option<Moments>) -> Result<(), AllocErro
     }
 }
 
-fn push_coming(text: &mut String, coming: &Coming) -> Result<(), AllocError>
+fn push_assist(text: &mut String, assist: &AssistOutcome) -> Result<(), AllocError>
     ensures { OnOk result
-        (string_bytes text.new ≡ string_bytes text.old ++ coming_text coming.now) }
+        (string_bytes text.new ≡ string_bytes text.old ++ assist_text assist.now) }
 {
-    push_asked(text, coming.number, &coming.event)?;
-    push_may(text, coming.moments)
+    push_asked(text, assist.number, &assist.event)?;
+    push_may(text, assist.moments)
 }
 
-fn push_neither(text: &mut String, number: Option<u32>) -> Result<(), AllocError>
+fn push_no_access(text: &mut String, number: Option<u32>) -> Result<(), AllocError>
     ensures { OnOk result
-        (string_bytes text.new ≡ string_bytes text.old ++ neither_text number) }
+        (string_bytes text.new ≡ string_bytes text.old ++ no_access_text number) }
 {
     match number {
         Some(number) => write!(text, "no access: event {number}\n"),
@@ -123,14 +123,14 @@ fn push_neither(text: &mut String, number: Option<u32>) -> Result<(), AllocError
 }
 
 /// What may come of an event. Fails only when out of memory.
-pub(crate) fn prospect_text(alloc: Global, prospect: &Prospect) -> Result<String, AllocError>
-    ensures { IfOk result (λ t. string_bytes t ≡ prospect_text prospect.now) }
+pub fn event_outcomes_text(alloc: Global, outcomes: &EventOutcomes) -> Result<String, AllocError>
+    ensures { IfOk result (λ t. string_bytes t ≡ event_outcomes_text outcomes.now) }
 {
     let mut text = String::new(alloc);
-    match prospect {
-        Prospect::Access(outcomes) => push_outcomes(&mut text, outcomes)?,
-        Prospect::Assist(coming) => push_coming(&mut text, coming)?,
-        Prospect::Neither(number) => push_neither(&mut text, *number)?,
+    match outcomes {
+        EventOutcomes::Access(outcomes) => push_outcomes(&mut text, outcomes)?,
+        EventOutcomes::Assist(assist) => push_assist(&mut text, assist)?,
+        EventOutcomes::NoAccess(number) => push_no_access(&mut text, *number)?,
     }
     Ok(text)
 }

@@ -5,7 +5,7 @@ use Rattle.pg_json.proofs.Lists.{fused}
 use Rattle.pg_json.specs.Tree.{Json, data_of, members_of, count, list, elements}
 use Rattle.pg_outcomes.specs.declared.allowed.Allowed.{Allowed}
 use Rattle.pg_json_answers.specs.Answers.{allowed_json, asked_fields}
-use Rattle.pg_json_answers.proofs.prospects.outcomes_fields.Goals as goal
+use Rattle.pg_json_answers.proofs.outcomes.outcomes_fields.Goals as goal
 
 pub returns : goal.returns
 returns c =

@@ -1,5 +1,5 @@
 -- Words that events write, listed one event after another.
-use Rattle.std.proofs.Common.{◌≡◌, ℕ, ◌+◌, ◌<◌, ◌≤◌, ◌==◌, Bool, true, List, [], ◌∷◌, ◌++◌, length, min, Option, Some, None, refl, ap, sym, ◌∙◌, subst, arith, cond, inl, inr}
+use Rattle.std.proofs.Common.{◌≡◌, ℕ, ◌+◌, ◌<◌, ◌≤◌, true, List, [], ◌∷◌, ◌++◌, length, min, Option, Some, None, ap, sym, ◌∙◌, subst, arith, cond, inl, inr}
 use Rattle.std.specs.Prelude.{slice_get}
 use Rattle.std.specs.List.{Contains}
 use Rattle.std.proofs.lemmas.Bool.{eq-eqb, cases_lt, lt-ltb}
@@ -45,8 +45,8 @@ some_brief b c h = cc
 abbrev pub HaveBefore : List Event → ℕ → ℕ → List Written → Type 0
 HaveBefore events moment i xs = (j word : ℕ) (e : Event) → j < i → j < moment → slice_get events j ≡ Some e → word_of e ≡ Some word → Contains xs (written_from (j + 1) word)
 
-pub none_before : (events : List Event) (moment : ℕ) → HaveBefore events moment 0 []
-none_before events moment j word e lt low at is = absurd (omega (arith, lt))
+pub none_before : (events : List Event) (moment : ℕ) (xs : List Written) → HaveBefore events moment 0 xs
+none_before events moment xs j word e lt low at is = absurd (omega (arith, lt))
 
 pub one_before : (events : List Event) (moment i : ℕ) (e : Event) (xs : List Written) → slice_get events i ≡ Some e → HaveBefore events moment i xs → HaveBefore events moment (i + 1) (xs ++ listed_of moment i (word_of e))
 one_before events moment i e xs there h j word d lt low at is =
@@ -70,8 +70,8 @@ all_before events moment i end xs e le h j word d lt at is =
 abbrev pub HaveOfFirst : List Event → List Brief → ℕ → ℕ → List Written → Type 0
 HaveOfFirst events bs moment k xs = (r word : ℕ) (b : Brief) (e : Event) → r < k → slice_get bs r ≡ Some b → b.number < moment → slice_get events b.number ≡ Some e → word_of e ≡ Some word → Contains xs (written_from (b.number + 1) word)
 
-pub none_of_first : (events : List Event) (bs : List Brief) (moment : ℕ) → HaveOfFirst events bs moment 0 []
-none_of_first events bs moment r word b e lt at low there is = absurd (omega (arith, lt))
+pub none_of_first : (events : List Event) (bs : List Brief) (moment : ℕ) (xs : List Written) → HaveOfFirst events bs moment 0 xs
+none_of_first events bs moment xs r word b e lt at low there is = absurd (omega (arith, lt))
 
 pub one_of_first : (v : Keyed ℕ ℕ) (ps : List Pair) (bs : List Brief) (n moment k : ℕ) (b : Brief) (o : Option ℕ) (xs : List Written) → ArePlaced (length ps) 0 n bs → slice_get bs k ≡ Some b → ((left : ℕ) → o ≡ word_of (event_by left b (pair_at ps b.place))) →
     HaveOfFirst (events_from v ps bs 0 n) bs moment k xs → HaveOfFirst (events_from v ps bs 0 n) bs moment (k + 1) (xs ++ listed_of moment b.number o)

@@ -5,12 +5,14 @@ ghost use Rattle.serde_json.specs.View.{view, members_view};
 ghost use Rattle.pg_json.specs.Tree.{Fields as ToldFields, data_of, members_of, counts, field};
 ghost use Rattle.pg_json.specs.Tree.{no_fields, object, json_line};
 ghost use Rattle.pg_json_answers.specs.Answers.{with_result, allowed_json, asked_fields};
-ghost use Rattle.pg_json_answers.specs.Answers.{outcomes_fields, by_json, coming_fields};
-ghost use Rattle.pg_json_answers.specs.Answers.{number_json, neither_fields, prospect_fields};
+ghost use Rattle.pg_json_answers.specs.Answers.{with_allowed};
+ghost use Rattle.pg_json_answers.specs.Answers.{outcomes_fields, by_json, assist_fields};
+ghost use Rattle.pg_json_answers.specs.Answers.{no_access_fields, event_outcomes_fields};
 
-use pg_answers::{Coming, Outcomes, Prospect};
+use pg_answers::{AccessOutcomes, AssistOutcome, EventOutcomes, MOST_ALLOWED, first_allowed};
 use pg_event::{Event, Moments, Outcome};
 use pg_json::{Fields, claim_json, line_of, list_of, numbers_json, object_of, put_count, put_hex};
+use pg_json_causes::number_json;
 use pg_outcomes::Allowed;
 use serde_json::{Map, Value, put};
 use std::alloc::{AllocError, Global};
@@ -57,6 +59,25 @@ fn each(alloc: Global, found: &[Allowed]) -> Result<Vec<Value>, AllocError>
     Ok(values)
 }
 
+/// Puts what an access might have come to, behind the cause of its rejection.
+pub(crate) fn put_allowed(
+    fields: &mut Fields,
+    alloc: Global,
+    allowed: &Option<Vec<Allowed>>,
+) -> Result<(), AllocError>
+    ensures { (told : ToldFields) → members_view fields.old.entries ≡ members_of told → OnOk result
+        (members_view fields.new.entries ≡ members_of (with_allowed allowed.now told)) }
+{
+    match allowed {
+        None => Ok(()),
+        Some(found) => {
+            put_count(fields, alloc, "allowed_count", found.len() as u64)?;
+            let told = each(alloc, first_allowed(found, MOST_ALLOWED))?;
+            put(fields, alloc, "allowed", list_of(told))
+        }
+    }
+}
+
 /// The event, without its moments.
 fn asked_fields(alloc: Global, number: u32, event: &Event) -> Result<Fields, AllocError>
     ensures { IfOk result (λ m. members_view m.entries
@@ -68,7 +89,7 @@ fn asked_fields(alloc: Global, number: u32, event: &Event) -> Result<Fields, All
     Ok(fields)
 }
 
-fn outcomes_fields(alloc: Global, outcomes: &Outcomes) -> Result<Fields, AllocError>
+fn outcomes_fields(alloc: Global, outcomes: &AccessOutcomes) -> Result<Fields, AllocError>
     ensures { IfOk result (λ m. members_view m.entries
         ≡ members_of (outcomes_fields outcomes.now)) }
 {
@@ -89,49 +110,40 @@ fn by_json(alloc: Global, moments: Option<Moments>) -> Result<Value, AllocError>
     }
 }
 
-fn coming_fields(alloc: Global, coming: &Coming) -> Result<Fields, AllocError>
-    ensures { IfOk result (λ m. members_view m.entries ≡ members_of (coming_fields coming.now)) }
+fn assist_fields(alloc: Global, assist: &AssistOutcome) -> Result<Fields, AllocError>
+    ensures { IfOk result (λ m. members_view m.entries ≡ members_of (assist_fields assist.now)) }
 {
-    let mut fields = asked_fields(alloc, coming.number, &coming.event)?;
-    let by = by_json(alloc, coming.moments)?;
+    let mut fields = asked_fields(alloc, assist.number, &assist.event)?;
+    let by = by_json(alloc, assist.moments)?;
     put(&mut fields, alloc, "by", by)?;
     Ok(fields)
 }
 
-/// A number, or null.
-fn number_json(number: Option<u32>) -> Value
-    ensures { view result ≡ data_of (number_json number) }
-{
-    match number {
-        Some(number) => Value::from(number),
-        None => Value::Null,
-    }
-}
-
-fn neither_fields(alloc: Global, number: Option<u32>) -> Result<Fields, AllocError>
-    ensures { IfOk result (λ m. members_view m.entries ≡ members_of (neither_fields number)) }
+fn no_access_fields(alloc: Global, number: Option<u32>) -> Result<Fields, AllocError>
+    ensures { IfOk result (λ m. members_view m.entries ≡ members_of (no_access_fields number)) }
 {
     let mut fields = Map::new(alloc);
     put(&mut fields, alloc, "no_access", number_json(number))?;
     Ok(fields)
 }
 
-fn prospect_fields(alloc: Global, prospect: &Prospect) -> Result<Fields, AllocError>
+/// The fields of the outcomes of an event. Fails only when out of memory.
+pub fn event_outcomes_fields(alloc: Global, outcomes: &EventOutcomes) -> Result<Fields, AllocError>
     ensures { IfOk result (λ m. members_view m.entries
-        ≡ members_of (prospect_fields prospect.now)) }
+        ≡ members_of (event_outcomes_fields outcomes.now)) }
 {
-    match prospect {
-        Prospect::Access(outcomes) => outcomes_fields(alloc, outcomes),
-        Prospect::Assist(coming) => coming_fields(alloc, coming),
-        Prospect::Neither(number) => neither_fields(alloc, *number),
+    match outcomes {
+        EventOutcomes::Access(outcomes) => outcomes_fields(alloc, outcomes),
+        EventOutcomes::Assist(assist) => assist_fields(alloc, assist),
+        EventOutcomes::NoAccess(number) => no_access_fields(alloc, *number),
     }
 }
 
 /// The line of what may come of an event.
-pub(crate) fn prospect_line(alloc: Global, prospect: &Prospect) -> Result<String, AllocError>
+pub(crate) fn outcomes_line(alloc: Global, outcomes: &EventOutcomes) -> Result<String, AllocError>
     ensures { IfOk result (λ t. string_bytes t
-        ≡ json_line (object (prospect_fields prospect.now))) }
+        ≡ json_line (object (event_outcomes_fields outcomes.now))) }
 {
-    let fields = prospect_fields(alloc, prospect)?;
+    let fields = event_outcomes_fields(alloc, outcomes)?;
     line_of(alloc, fields)
 }

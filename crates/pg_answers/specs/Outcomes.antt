@@ -4,13 +4,16 @@ use Rattle.std.specs.Prelude.{None, slice_get, IfSome}
 use Rattle.pg_event.specs.declared.event.Event.{Event}
 use Rattle.pg_event.specs.Spelling.{Recorded}
 use Rattle.pg_search.specs.Law.{names_moments}
+use Rattle.std.specs.declared.alloc.Global.{Global}
+use Rattle.std.specs.declared.vec.Vec.{Vec}
+use Rattle.pg_outcomes.specs.declared.allowed.Allowed.{Allowed}
 use Rattle.pg_outcomes.specs.Placed.{is_access}
 use Rattle.pg_outcomes.specs.Allowing.{AreOutcomes}
 use Rattle.pg_outcomes.specs.Asked.{HasRunBefore, MayCome}
-use Rattle.pg_answers.specs.declared.answer.Coming.{Coming}
-use Rattle.pg_answers.specs.declared.answer.Outcomes.{Outcomes}
-use Rattle.pg_answers.specs.declared.answer.Prospect.{Prospect as Foreseen}
-use Rattle.pg_answers.specs.declared.answer.Prospect.TheVariants.{Access, Assist, Neither}
+use Rattle.pg_answers.specs.declared.answer.AssistOutcome.{AssistOutcome}
+use Rattle.pg_answers.specs.declared.answer.AccessOutcomes.{AccessOutcomes}
+use Rattle.pg_answers.specs.declared.answer.EventOutcomes.{EventOutcomes}
+use Rattle.pg_answers.specs.declared.answer.EventOutcomes.TheVariants.{Access, Assist, NoAccess}
 
 -- ---- the event that is asked about
 
@@ -34,10 +37,18 @@ IsAskedEvent events None found = IsLastAccess events (length events) found
 IsAskedEvent events (Some n) None = length events ≤ n
 IsAskedEvent events (Some n) (Some found) = (found ≡ n) × (n < length events)
 
--- ---- what may come of it
+-- ---- its outcomes
+
+-- of an access every outcome that it may have as event n, of another event nothing
+abbrev pub AreAllowed : Recorded → ℕ → Event → Option (Vec Allowed Global) → Type 0
+AreAllowed r n e None = is_access e ≡ false
+AreAllowed r n e (Some xs) = (is_access e ≡ true) × AreOutcomes r n e xs.items
+
+abbrev pub AreAllowedAt : Recorded → ℕ → Option (Vec Allowed Global) → Type 0
+AreAllowedAt r n allowed = (e : Event) × (slice_get r.events n ≡ Some e) × AreAllowed r n e allowed
 
 -- every outcome that access n may have, of which so many are told at most
-pub record IsOutcomesOf (r : Recorded) (n most : ℕ) (x : Outcomes) : Type 0 where
+pub record IsOutcomesOf (r : Recorded) (n most : ℕ) (x : AccessOutcomes) : Type 0 where
   pub number : x.number ≡ n
   pub event : slice_get r.events n ≡ Some x.event
   pub access : is_access x.event ≡ true
@@ -46,7 +57,7 @@ pub record IsOutcomesOf (r : Recorded) (n most : ℕ) (x : Outcomes) : Type 0 wh
   pub bound : x.most ≡ most
 
 -- whether assist n may come
-pub record IsComingOf (r : Recorded) (n : ℕ) (x : Coming) : Type 0 where
+pub record IsAssistOutcomeOf (r : Recorded) (n : ℕ) (x : AssistOutcome) : Type 0 where
   pub number : x.number ≡ n
   pub event : slice_get r.events n ≡ Some x.event
   pub assist : (is_access x.event ≡ false) × (names_moments x.event ≡ true)
@@ -54,11 +65,11 @@ pub record IsComingOf (r : Recorded) (n : ℕ) (x : Coming) : Type 0 where
   pub may : MayCome r n x.event x.moments
 
 -- event n is no access and no assist
-abbrev pub IsNeither : Recorded → ℕ → Option ℕ → Type 0
-IsNeither r n told = (told ≡ Some n)
+abbrev pub IsNoAccess : Recorded → ℕ → Option ℕ → Type 0
+IsNoAccess r n told = (told ≡ Some n)
     × ((e : Event) × (slice_get r.events n ≡ Some e) × (names_moments e ≡ false))
 
-abbrev pub IsProspectOf : Recorded → ℕ → ℕ → Foreseen → Type 0
-IsProspectOf r n most (Access x) = IsOutcomesOf r n most x
-IsProspectOf r n most (Assist x) = IsComingOf r n x
-IsProspectOf r n most (Neither told) = IsNeither r n told
+abbrev pub IsEventOutcomesOf : Recorded → ℕ → ℕ → EventOutcomes → Type 0
+IsEventOutcomesOf r n most (Access x) = IsOutcomesOf r n most x
+IsEventOutcomesOf r n most (Assist x) = IsAssistOutcomeOf r n x
+IsEventOutcomesOf r n most (NoAccess told) = IsNoAccess r n told

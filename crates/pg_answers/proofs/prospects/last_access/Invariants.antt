@@ -1,5 +1,0 @@
-use Rattle.pg_answers.specs.Prospects.{IsLastAccess}
-use Rattle.pg_answers.proofs.prospects.last_access.Given as goal
-
-abbrev pub invariant-loop-i : goal.invariant-loop-i
-invariant-loop-i l = IsLastAccess l.events l.i l.last
