@@ -9,7 +9,7 @@ ghost use Rattle.pg_explain.specs.Text.{explanation_text};
 
 use crate::allowed_text::push_allowed_lines;
 use crate::answer::{Answer, Rejection, Summary};
-use crate::event_outcomes_text::event_outcomes_text;
+use crate::outcomes_text::event_outcomes_text;
 use pg_event::Event;
 use pg_explain::{Explanation, Tally, denial_text_by, explanation_text, shown_text, tally_text};
 use pg_report::{reason_name, reason_number};

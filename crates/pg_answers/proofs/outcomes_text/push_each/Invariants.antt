@@ -1,6 +1,6 @@
 use Rattle.std.proofs.Common.{◌≡◌, ◌++◌, drop, string_bytes}
 use Rattle.pg_answers.specs.OutcomeTexts.{allowed_lines}
-use Rattle.pg_answers.proofs.event_outcomes_text.push_each.Given as goal
+use Rattle.pg_answers.proofs.outcomes_text.push_each.Given as goal
 
 abbrev pub invariant-loop-allowed : goal.invariant-loop-allowed
 invariant-loop-allowed l =

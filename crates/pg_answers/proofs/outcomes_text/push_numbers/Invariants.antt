@@ -1,6 +1,6 @@
 use Rattle.std.proofs.Common.{◌≡◌, ◌++◌, drop, string_bytes}
 use Rattle.pg_explain.specs.Line.{numbers_text}
-use Rattle.pg_answers.proofs.event_outcomes_text.push_numbers.Given as goal
+use Rattle.pg_answers.proofs.outcomes_text.push_numbers.Given as goal
 
 abbrev pub invariant-loop-number : goal.invariant-loop-number
 invariant-loop-number l =
