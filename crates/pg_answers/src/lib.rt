@@ -35,4 +35,5 @@ pub use replayer::run_of;
 pub use runs::run_text;
 pub use shown::Shown;
 pub use text::answer_text;
+pub use unnamed::is_unnamed;
 pub use upgrader::upgrade;

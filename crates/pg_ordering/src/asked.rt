@@ -10,4 +10,6 @@ pub enum Asked {
     Record,
     /// Of a yes the order: the number of each event, a line each.
     Order,
+    /// The trace of its events, with the event of a no to which no run comes.
+    Trace,
 }

@@ -15,5 +15,5 @@ pub use answers::{certify_spanned, status_of};
 pub use asked::Asked;
 pub use merging::merge;
 pub use reading::{Unread, read_run};
-pub use showing::show_spanned;
+pub use showing::{show_spanned, trace_spanned};
 pub use texts::segments_of;

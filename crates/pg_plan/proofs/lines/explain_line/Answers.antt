@@ -6,4 +6,5 @@ returns c =
     let most = c.with_made-line.ensures _ _ all c.most_option.ensures in
     let svg = c.with_option-line-2.ensures _ _ most c.switch-2.ensures in
     let json = c.with_option-line-3.ensures _ _ svg c.switch-3.ensures in
-    c.with_files.ensures _ json
+    let trace = c.with_option-line-4.ensures _ _ json c.switch-4.ensures in
+    c.with_files.ensures _ trace
