@@ -1,5 +1,6 @@
--- A record with spans as a trace: an event lasts from its beginning to its end.
-use Rattle.std.specs.Prelude.{ℕ, ◌+◌, ◌-◌, Bool, true, false, if◌then◌else◌, nat_lt}
+-- A record with spans as a trace: an event lasts from its beginning, or from the end of its
+-- processor's event before it where that is later, to its own end.
+use Rattle.std.specs.Prelude.{ℕ, ◌+◌, ◌-◌, ◌==◌, take, drop, if◌then◌else◌, nat_lt}
 use Rattle.std.specs.Prelude.{List, [], ◌∷◌, ◌++◌, length, Option, Some, None, slice_get}
 use Rattle.pg_event.specs.declared.event.Event.{Event}
 use Rattle.pg_event.specs.declared.selection.Selection.{Selection}
@@ -17,10 +18,30 @@ use Rattle.pg_trace.specs.Marks.{Marking, source_at}
 use Rattle.pg_trace.specs.Objects.{opening_text, slice_text, others_of, ending_text}
 use Rattle.pg_trace.specs.Texts.{is_chosen}
 
+-- behind the last of these events that is of a processor, where the first has this number; or where
+-- it starts
+abbrev pub start_behind : ℕ → ℕ → ℕ → List Event → ℕ
+start_behind p number start [] = start
+start_behind p number start (e ∷ events) =
+    start_behind p (number + 1) (if processor_of e == p then number + 1 else start) events
+
+-- the events with numbers from one up to, not with, another
+abbrev pub between : ℕ → ℕ → List Event → List Event
+between from to events = take (to - from) (drop from events)
+
+-- where an event that began so starts on its processor's track
+abbrev pub start_of : List Event → ℕ → ℕ → ℕ → ℕ
+start_of events p began number = start_behind p began began (between began number events)
+
+abbrev pub item_at : Option Marking → ℕ → ℕ → ℕ → Event → List ℕ
+item_at mark began start number e =
+    slice_text start (number + 1 - start) number e
+    (others_of mark number (began_fields began number e))
+
 abbrev pub spanned_item : Option Marking → Spanned → ℕ → Event → List ℕ
 spanned_item mark s number e =
-    slice_text (ended_before s number) (number - ended_before s number + 1) number e
-    (others_of mark number (began_fields (ended_before s number) number e))
+    item_at mark (ended_before s number)
+    (start_of s.events (processor_of e) (ended_before s number) number) number e
 
 abbrev pub chosen_item : Option Selection → Option Marking → Spanned → ℕ → Event → List ℕ
 chosen_item f mark s number e =

@@ -1,9 +1,10 @@
 //! A record with spans as a trace.
 
-ghost use Rattle.std.specs.Prelude.{◌≡◌, ◌++◌, ◌<◌, IfOk, OnOk, length, string_bytes, slice_get, Some, None};
+ghost use Rattle.std.specs.Prelude.{◌≡◌, ◌++◌, ◌<◌, ◌≤◌, IfOk, OnOk, length, string_bytes, slice_get, Some, None};
 ghost use Rattle.pg_trace.specs.Marks.{said};
 ghost use Rattle.pg_trace.specs.Spans.{spanned_item, chosen_item, document_text, writers_of};
 ghost use Rattle.pg_trace.specs.Spans.{spanned_mark, walk_sources, never_mark, writer_before};
+ghost use Rattle.pg_trace.specs.Spans.{start_of};
 ghost use Rattle.pg_spanned_text.specs.Parts.{walked_address};
 ghost use Rattle.pg_trace.specs.Texts.{marking};
 
@@ -16,7 +17,24 @@ use pg_spanned::SpannedRun;
 use pg_spanned_text::{Seen, cause_text, ended_before, event_of, walk_cause, walked_address};
 use std::alloc::{AllocError, Global};
 
-/// Appends an event: it lasts from its beginning to its end.
+/// Where an event that began so starts on its processor's track: behind the last event of the
+/// processor since, where there is one, so that no two slices of a track overlap.
+fn start_of(events: &[Event], p: u16, began: u32, number: u32) -> u32
+    requires { began ≤ number }
+    requires { number ≤ length events.now }
+    ensures value { result ≡ start_of events.now p began number }
+    ensures within { result ≤ number }
+{
+    let mut start = began;
+    for (i, event) in events[began as usize..number as usize].iter().enumerate() {
+        if processor_of(event) == p {
+            start = began + i as u32 + 1;
+        }
+    }
+    start
+}
+
+/// Appends an event.
 fn push_spanned(
     alloc: Global,
     text: &mut String,
@@ -32,9 +50,10 @@ fn push_spanned(
     let began = ended_before(run, number);
     let args = began_fields(alloc, began as u64, number as u64, event)?;
     let others = others_of(alloc, mark, number, args)?;
+    let start = start_of(run.events(), processor_of(event), began, number);
     let slot = Slot {
-        from: began as u64,
-        length: (number - began) as u64 + 1,
+        from: start as u64,
+        length: (number - start) as u64 + 1,
     };
     push_slice(alloc, text, slot, number, event, others)
 }

@@ -1,6 +1,7 @@
 //! A record with one order as a trace, written batch by batch.
 
-ghost use Rattle.std.specs.Prelude.{◌≡◌, ◌++◌, ◌+◌, ◌<◌, ◌≤◌, ◌^◌, length, IfOk, OnOk, string_bytes};
+ghost use Rattle.std.specs.Prelude.{◌≡◌, ◌++◌, ◌+◌, ◌<◌, ◌^◌, length, IfOk, OnOk, string_bytes};
+ghost use Rattle.pg_event.specs.Spelling.{IsHead};
 ghost use Rattle.pg_report.specs.Changes.{filled};
 ghost use Rattle.pg_trace.specs.Given.{WritesPart};
 ghost use Rattle.pg_trace.specs.Objects.{opening_text, ending_text};
@@ -10,7 +11,7 @@ use crate::mark::Mark;
 use crate::objects::{ending, opening, push_item};
 use pg_check::History;
 use pg_codec::Sink;
-use pg_event::{Event, Selection};
+use pg_event::{Event, Header, Selection};
 use pg_explain::fits;
 use pg_report::{AuditError, write_text};
 use std::alloc::{AllocError, Global};
@@ -109,17 +110,17 @@ pub(crate) fn write_events<O: Sink>(
     Ok(())
 }
 
-/// Writes what stands before the events of a record with so many processors.
+/// Writes what stands before the events of a record.
 pub(crate) fn write_opening<O: Sink>(
     alloc: Global,
-    processors: usize,
+    header: &Header,
     output: &mut O,
 ) -> Result<(), AuditError>
-    requires { processors ≤ 2 ^ 16 }
-    ensures { WritesPart (opening_text processors)
+    requires { IsHead header.now }
+    ensures { WritesPart (opening_text (length header.now.processors))
         (filled O.Sink output.old output.new) result }
 {
-    let text = opening(alloc, processors)?;
+    let text = opening(alloc, header.processors.len())?;
     write_text(output, text.as_str())
 }
 
@@ -146,7 +147,7 @@ pub(crate) fn write_history<O: Sink>(
     ensures { WritesPart (scene_text scene.now history.now)
         (filled O.Sink output.old output.new) result }
 {
-    match write_opening(alloc, history.header().processors.len(), output) {
+    match write_opening(alloc, history.header(), output) {
         Ok(()) => {}
         Err(error) => return Err(error),
     }
