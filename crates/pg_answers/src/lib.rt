@@ -43,4 +43,5 @@ pub use runs::run_text;
 pub use shown::Shown;
 pub use outcomes_text::event_outcomes_text;
 pub use text::answer_text;
+pub use unnamed::is_unnamed;
 pub use upgrader::upgrade;

@@ -1,0 +1,3 @@
+mod Parts
+mod Items
+mod Given
