@@ -276,11 +276,11 @@ none_at_most = refl
 
 asks_all : Asks (codes "explain" ∷ codes "--all" ∷ []) (quiet (Explain (record { telling = All 100; json = false; trace = false }))) None
 unfolding clap_on_literals has_conflict
-asks_all = (refl, ((refl, record { telling = (refl, refl, refl); json = refl; trace = refl }), refl, refl, refl), refl)
+asks_all = (refl, ((refl, record { telling = (refl, refl, refl, refl); json = refl; trace = refl }), refl, refl, refl), refl)
 
 asks_picture : Asks (codes "explain" ∷ codes "--svg" ∷ []) (quiet (Explain (record { telling = Picture; json = false; trace = false }))) None
 unfolding clap_on_literals has_conflict
-asks_picture = (refl, ((refl, record { telling = (refl, refl, refl); json = refl; trace = refl }), refl, refl, refl), refl)
+asks_picture = (refl, ((refl, record { telling = (refl, refl, refl, refl); json = refl; trace = refl }), refl, refl, refl), refl)
 
 picture_of_certify : Gives (codes "certify" ∷ codes "--svg" ∷ []) (UnknownArgument ∷ [])
 unfolding clap_on_literals
