@@ -132,7 +132,7 @@ module _ (r : Recorded) (n : ℕ) (e : Event) where
       let same = one_first x y xs ys rise rises into back in
       let first : x ≡ y = one_told x y same (told 0 x (omega arith)) (tells 0 y (omega arith)) in
       let rest = one_list xs ys (λ k d lt. told (suc k) d (omega (arith, lt))) (λ k d lt. tells (suc k) d (omega (arith, lt)))
-          (rest_rises x xs rise) (rest_rises y ys rises) (rest_among x y xs ys same rise into) (rest_among y x ys xs (sym same) rises back) in
+      (rest_rises x xs rise) (rest_rises y ys rises) (rest_among x y xs ys same rise into) (rest_among y x ys xs (sym same) rises back) in
       ap (λ z. z ∷ xs) first ∙ ap (λ zs. y ∷ zs) rest
 
   -- an outcome that is told is allowed
