@@ -135,7 +135,7 @@ module _ (a : Account) (r : Recorded) (n : ℕ) (e : Event) (h : IsDeniedAccount
   allowed_is law None l = l
   allowed_is law (Some xs) l =
       let kept : AreOutcomes (record { head = r.head; events = a.findings.kept.events }) n e xs.items =
-          subst (λ (x : Head). AreOutcomes (record { head = x; events = a.findings.kept.events }) n e xs.items) h.known.certifying.settings l.1 in
+      subst (λ (x : Head). AreOutcomes (record { head = x; events = a.findings.kept.events }) n e xs.items) h.known.certifying.settings l.1 in
       (l.0, law r.head a.findings.kept.events r.events n e xs.items h.known.certifying.kept reach kept)
 
   module _ (law : DenialsAmongKept) (taken : TakenByAChange) (drops : DroppedByAChange) (denial : Denial) (of : IsDenialFor a.findings.kept.head a.findings.kept.events n e denial) where

@@ -1,7 +1,6 @@
 -- What is answered of a record with one order, whatever the format is in which it is written.
 use Rattle.std.specs.Prelude.{◌≡◌, ◌<◌, ℕ, List, [], ◌∷◌, length, take, Option, Some, None}
 use Rattle.std.specs.Prelude.{Result, Ok, Err, slice_get, Bool, true, false, not, ◌&&◌, nat_le}
-use Rattle.pg_event.specs.declared.selection.Selection.{Selection}
 use Rattle.pg_event.specs.declared.event.Event.{Event}
 use Rattle.pg_event.specs.declared.event.Reason.{Reason}
 use Rattle.pg_event.specs.Heads.{Head}

@@ -1,10 +1,8 @@
 //! What an access might have come to, behind the cause of its rejection.
 
-ghost use Rattle.std.specs.Prelude.{◌≡◌, ◌++◌, IfOk, OnOk, string_bytes, take, length};
-ghost use Rattle.pg_outcomes.specs.declared.allowed.Allowed.{Allowed as Told};
-ghost use Rattle.pg_answers.specs.AllowedTexts.{most_allowed, most_noted, behind_word, some_lines};
-ghost use Rattle.pg_answers.specs.AllowedTexts.{rest_line, allowed_lines_of, noted_text};
-ghost use Rattle.pg_answers.specs.AllowedTexts.{rest_note, allowed_note};
+ghost use Rattle.std.specs.Prelude.{◌≡◌, ◌++◌, IfOk, OnOk, string_bytes, take};
+ghost use Rattle.pg_answers.specs.AllowedTexts.{some_lines, rest_line, allowed_lines_of};
+ghost use Rattle.pg_answers.specs.AllowedTexts.{noted_text, rest_note, allowed_note};
 
 use crate::outcomes_text::{push_allowed, push_result};
 use pg_outcomes::Allowed;
@@ -20,7 +18,11 @@ const MOST_NOTED: usize = 8;
 pub fn first_allowed(found: &[Allowed], most: usize) -> &[Allowed]
     ensures { result.now ≡ take most found.now }
 {
-    if most < found.len() { &found[..most] } else { found }
+    if most < found.len() {
+        &found[..most]
+    } else {
+        found
+    }
 }
 
 fn push_some(text: &mut String, found: &[Allowed]) -> Result<(), AllocError>
