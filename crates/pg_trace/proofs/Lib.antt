@@ -1,3 +1,4 @@
 mod Parts
 mod Items
 mod Given
+mod Reading

@@ -37,11 +37,20 @@ ReadsBehind head start events (Ok x) =
     IfSome start (λ bytes. ReadsRecord Two bytes (Ok (record { head = head; events = events })))
 ReadsBehind head start events (Err e) = IfSome start (λ bytes. ReadsRecord Two bytes (Err e))
 
+-- no thread is taken
+abbrev pub IsAlone : AuditError → Type 0
+IsAlone (Refused e) = Unit {0}
+IsAlone Device = Unit {0}
+IsAlone Memory = Unit {0}
+IsAlone Thread = ⊥
+IsAlone Checkers = ⊥
+
 -- this text was added as it was read, or a beginning of it where reading or writing failed
 pub record WritesRead {A : Type 0} (text : List ℕ) (input output : Change)
     (result : Result A AuditError) : Type 0 where
   pub bytes : Writes output.old.bytes output.new.bytes result text
   pub failures : TellsFailures input output result
+  pub alone : IfErr result IsAlone
 
 module _ {A : Type 0} (IsTraceOf : Recorded → A → List ℕ → Type 0) where
   -- nothing was added, or a beginning of the trace of a record
