@@ -111,11 +111,7 @@ pub(crate) fn push_source(
 }
 
 /// The events that wrote these entries.
-fn writers(
-    alloc: Global,
-    events: &[Event],
-    walk: &[WalkEntry],
-) -> Result<Vec<Source>, AllocError>
+fn writers(alloc: Global, events: &[Event], walk: &[WalkEntry]) -> Result<Vec<Source>, AllocError>
     ensures { IfOk result (λ found. found.items ≡ writers events.now walk.now) }
 {
     let mut sources = Vec::new(alloc);

@@ -20,8 +20,8 @@ use std::alloc::{AllocError, Global};
 /// Where an event that began so starts on its processor's track: behind the last event of the
 /// processor since, where there is one, so that no two slices of a track overlap.
 fn start_of(events: &[Event], p: u16, began: u32, number: u32) -> u32
-    requires { began ≤ number }
-    requires { number ≤ length events.now }
+    requires began { began ≤ number }
+    requires number { number ≤ length events.now }
     ensures value { result ≡ start_of events.now p began number }
     ensures within { result ≤ number }
 {
@@ -115,13 +115,7 @@ fn writer_before(number: u32, writer: Option<u32>) -> Option<u32>
 {
     match writer {
         None => None,
-        Some(writer) => {
-            if writer < number {
-                Some(writer)
-            } else {
-                None
-            }
-        }
+        Some(writer) => { if writer < number { Some(writer) } else { None } }
     }
 }
 
