@@ -3,7 +3,13 @@ use Rattle.std.proofs.Common.{◌≡◌, ℕ, ◌+◌, List, [], ◌∷◌, ◌+
 use Rattle.pg_event.specs.declared.event.Event.{Event}
 use Rattle.pg_event.specs.declared.selection.Selection.{Selection}
 use Rattle.pg_trace.specs.Marks.{Marking}
-use Rattle.pg_trace.specs.Texts.{chosen_text, items_from}
+use Rattle.std.specs.Prelude.{Result}
+use Rattle.pg_report.specs.declared.error.AuditError.{AuditError}
+use Rattle.pg_report.specs.Changes.{Change}
+use Rattle.pg_trace.specs.declared.writer.Scene.{Scene}
+use Rattle.pg_trace.specs.Given.{WritesPart}
+use Rattle.pg_trace.specs.Texts.{chosen_text, items_from, marking, scene_items}
+use Rattle.pg_trace.proofs.Parts.{part_is}
 
 from_here : (f : Option Selection) (mark : Option Marking) (n m : ℕ) (events : List Event) → n ≡ m → items_from f mark n events ≡ items_from f mark m events
 from_here f mark n m events is = ap (λ k. items_from f mark k events) is
@@ -16,3 +22,13 @@ items_append f mark n (x ∷ xs) ys =
     let rest : List ℕ = items_from f mark (n + 1) xs in
     ap (λ t. one ++ t) (items_append f mark (n + 1) xs ys ∙ ap (λ t. rest ++ t) (from_here f mark (n + 1 + length xs) (n + length (x ∷ xs)) ys (omega arith)))
     ∙ sym (append_assoc one rest (items_from f mark (n + length (x ∷ xs)) ys))
+
+-- the items of a scene
+pub scene_append : (scene : Scene) (xs ys : List Event) → scene_items scene 0 (xs ++ ys) ≡ scene_items scene 0 xs ++ scene_items scene (length xs) ys
+scene_append scene xs ys = items_append scene.selection (marking scene.mark) 0 xs ys
+
+-- those that were written as the next ones
+pub part_for : {A : Type 0} (scene : Scene) (xs ys zs : List Event) (n : ℕ) (output : Change) (result : Result A AuditError) → n ≡ length xs → zs ≡ ys → WritesPart (scene_items scene n zs) output result
+    → WritesPart (scene_items scene (length xs) ys) output result
+part_for scene xs ys zs n output result is same part =
+    part_is output _ _ result (ap (λ k. scene_items scene k zs) is ∙ ap (λ (es : List Event). scene_items scene (length xs) es) same) part

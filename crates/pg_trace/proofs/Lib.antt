@@ -1,4 +1,5 @@
 mod Parts
 mod Items
-mod Given
-mod Reading
+mod Bad
+pub mod Reading
+pub mod Given

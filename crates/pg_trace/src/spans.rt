@@ -1,6 +1,7 @@
 //! A record with spans as a trace.
 
-ghost use Rattle.std.specs.Prelude.{◌≡◌, ◌++◌, ◌<◌, ◌≤◌, IfOk, OnOk, length, string_bytes, slice_get, Some, None};
+ghost use Rattle.std.specs.Prelude.{◌≡◌, ◌++◌, ◌<◌, ◌≤◌, IfOk, OnOk, length, string_bytes};
+ghost use Rattle.std.specs.Prelude.{Some, None};
 ghost use Rattle.pg_trace.specs.Marks.{said};
 ghost use Rattle.pg_trace.specs.Spans.{spanned_item, chosen_item, document_text, writers_of};
 ghost use Rattle.pg_trace.specs.Spans.{spanned_mark, walk_sources, never_mark, writer_before};
