@@ -14,6 +14,10 @@ use Rattle.pg_report.proofs.Verdicts.{one, none}
 use Rattle.pg_trace.specs.Given.{IsTraceGiven, HasBegun, IsAlone, WritesPart, WritesTrace}
 use Rattle.pg_trace.proofs.Reading.{reader_stops}
 
+-- no thread was asked for
+abbrev pub IsLone : {B : Type 0} → Result B AuditError → Type 0
+IsLone result = (result ≢ Err errors.Thread) × (result ≢ Err errors.Checkers)
+
 pub spells : (start : Option (List ℕ)) (r : Recorded) → IfSome start (λ bytes. ReadsRecord Two bytes (Ok r)) → IfSome start (λ bytes. SpellsOne bytes r)
 spells None r h = tt
 spells (Some bytes) r h = one bytes r h.0
@@ -45,11 +49,11 @@ module _ {A : Type 0} (T : Recorded → A → List ℕ → Type 0) (checkers : �
   trace_stops errors.Checkers reads begun failures alone = absurd alone
 
   -- no record was read, and no thread was asked for
-  pub trace_unread : {B : Type 0} (e : AuditError) → IfSome input.old.bytes (λ bytes. ReadsRecord Two bytes (Err e)) → TellsDevice {A = B} input (Err e) → (Err {A = B} e ≢ Err errors.Thread) × (Err {A = B} e ≢ Err errors.Checkers) → AddsNothing output → Works output
+  pub trace_unread : (B : Type 0) (e : AuditError) → IfSome input.old.bytes (λ bytes. ReadsRecord Two bytes (Err e)) → TellsDevice {A = B} input (Err e) → IsLone {B = B} (Err e) → AddsNothing output → Works output
       → IsTraceGiven T checkers input output (Err e)
-  trace_unread e reads read alone kept worked = trace_stops e reads (inl kept) (reader_stops input output e read worked) (lone e alone)
+  trace_unread B e reads read alone kept worked = trace_stops e reads (inl kept) (reader_stops B A input output e read worked) (lone e alone)
     where
-      lone : {B : Type 0} (e : AuditError) → (Err {A = B} e ≢ Err errors.Thread) × (Err {A = B} e ≢ Err errors.Checkers) → IsAlone e
+      lone : (e : AuditError) → IsLone {B = B} (Err e) → IsAlone e
       lone (errors.Refused d) alone = tt
       lone errors.Device alone = tt
       lone errors.Memory alone = tt

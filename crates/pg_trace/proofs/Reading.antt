@@ -27,20 +27,20 @@ pub all_as_some : (old new : Option (List ℕ)) (text : List ℕ) → Appends ol
 all_as_some old new text added = (length text, subst (λ (t : List ℕ). Appends old new t) (sym (take_all (length text) text (omega arith))) added)
 
 -- the reader gave an error, and the writer had none
-pub reader_stops : {A B : Type 0} (input output : Change) (e : AuditError) → TellsDevice {A = A} input (Err e) → Works output → TellsFailures {A = B} input output (Err e)
-reader_stops input output (errors.Refused d) read worked = (read, worked)
-reader_stops input output errors.Device read worked = inl (read, worked)
-reader_stops input output errors.Memory read worked = (read, worked)
-reader_stops input output errors.Thread read worked = (read, worked)
-reader_stops input output errors.Checkers read worked = (read, worked)
+pub reader_stops : (A B : Type 0) (input output : Change) (e : AuditError) → TellsDevice {A = A} input (Err e) → Works output → TellsFailures {A = B} input output (Err e)
+reader_stops A B input output (errors.Refused d) read worked = (read, worked)
+reader_stops A B input output errors.Device read worked = inl (read, worked)
+reader_stops A B input output errors.Memory read worked = (read, worked)
+reader_stops A B input output errors.Thread read worked = (read, worked)
+reader_stops A B input output errors.Checkers read worked = (read, worked)
 
 -- the writer stopped, and the reader had no error
-pub writer_stops : {A B : Type 0} (input output : Change) (e : AuditError) → Works input → TellsDevice {A = A} output (Err e) → MayStop e → TellsFailures {A = B} input output (Err e)
-writer_stops input output (errors.Refused d) read wrote stop = absurd stop
-writer_stops input output errors.Device read wrote stop = inr (read, wrote)
-writer_stops input output errors.Memory read wrote stop = (read, wrote)
-writer_stops input output errors.Thread read wrote stop = absurd stop
-writer_stops input output errors.Checkers read wrote stop = absurd stop
+pub writer_stops : (A B : Type 0) (input output : Change) (e : AuditError) → Works input → TellsDevice {A = A} output (Err e) → MayStop e → TellsFailures {A = B} input output (Err e)
+writer_stops A B input output (errors.Refused d) read wrote stop = absurd stop
+writer_stops A B input output errors.Device read wrote stop = inr (read, wrote)
+writer_stops A B input output errors.Memory read wrote stop = (read, wrote)
+writer_stops A B input output errors.Thread read wrote stop = absurd stop
+writer_stops A B input output errors.Checkers read wrote stop = absurd stop
 
 -- such an error says nothing of the bytes
 pub stop_reads : (start : Option (List ℕ)) (e : AuditError) → MayStop e → IfSome start (λ bytes. ReadsRecord Two bytes (Err e))
@@ -82,13 +82,13 @@ module _ {R W : Type 0} (r : SourceGhosts R) (w : SinkGhosts W) (s0 s1 s2 : R) (
   writer_fails : WriterFails (drawn r s1 s2) (filled w o1 o2) → WriterFails (drawn r s0 s2) (filled w o0 o2)
   writer_fails h = (reads_on h.0, subst (λ (n : ℕ). w.failed o2 ≡ raised n) wrote h.1)
 
-  pub failures_on : {A : Type 0} (e : AuditError) → TellsFailures {A = A} (drawn r s1 s2) (filled w o1 o2) (Err e) → TellsFailures {A = A} (drawn r s0 s2) (filled w o0 o2) (Err e)
-  failures_on (errors.Refused d) h = (reads_on h.0, writes_on h.1)
-  failures_on errors.Device h =
+  pub failures_on : (A : Type 0) (e : AuditError) → TellsFailures {A = A} (drawn r s1 s2) (filled w o1 o2) (Err e) → TellsFailures {A = A} (drawn r s0 s2) (filled w o0 o2) (Err e)
+  failures_on A (errors.Refused d) h = (reads_on h.0, writes_on h.1)
+  failures_on A errors.Device h =
       elim h [
         | inl a ↦ inl (reader_fails a)
         | inr b ↦ inr (writer_fails b)
       ]
-  failures_on errors.Memory h = (reads_on h.0, writes_on h.1)
-  failures_on errors.Thread h = (reads_on h.0, writes_on h.1)
-  failures_on errors.Checkers h = (reads_on h.0, writes_on h.1)
+  failures_on A errors.Memory h = (reads_on h.0, writes_on h.1)
+  failures_on A errors.Thread h = (reads_on h.0, writes_on h.1)
+  failures_on A errors.Checkers h = (reads_on h.0, writes_on h.1)

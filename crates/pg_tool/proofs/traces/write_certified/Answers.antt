@@ -9,4 +9,4 @@ returns-in-Ok g c =
     trace_of IsCertifiedTrace c.args.checkers _ _ c.in-Ok.history c.in-Ok.ensures.reads c.in-Ok.ensures.device (IsCertifiedTrace c.in-Ok.history) (λ x text is. is) c.trace_certified.result c.trace_certified.ensures
 
 pub returns-in-Err : goal.returns-in-Err
-returns-in-Err g c = trace_unread IsCertifiedTrace c.args.checkers _ _ c.in-Err.error c.in-Err.ensures.reads c.in-Err.ensures.device c.in-Err.ensures.alone (Keeps-refl _) refl
+returns-in-Err g c = trace_unread IsCertifiedTrace c.args.checkers _ _ _ c.in-Err.error c.in-Err.ensures.reads c.in-Err.ensures.device c.in-Err.ensures.alone (Keeps-refl _) refl

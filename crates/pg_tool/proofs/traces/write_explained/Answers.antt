@@ -25,4 +25,4 @@ returns-else-is_unnamed g c =
     trace_of IsExplanationTrace 1 _ _ r c.in-Ok.ensures.reads c.in-Ok.ensures.device (IsExplainedTrace r) (λ x text told. by_test false r x text is told) c.trace_explained.result c.trace_explained.ensures
 
 pub returns-in-Err : goal.returns-in-Err
-returns-in-Err g c = trace_unread IsExplanationTrace 1 _ _ c.in-Err.error c.in-Err.ensures.reads c.in-Err.ensures.device c.in-Err.ensures.alone (Keeps-refl _) refl
+returns-in-Err g c = trace_unread IsExplanationTrace 1 _ _ _ c.in-Err.error c.in-Err.ensures.reads c.in-Err.ensures.device c.in-Err.ensures.alone (Keeps-refl _) refl

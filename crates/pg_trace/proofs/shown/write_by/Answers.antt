@@ -27,7 +27,7 @@ returns-in-Err g c =
     let pulls = pulled_at_start g.R.Source c.args.reader.now.stage _ _ _ (ap (λ (x : Reader). x.stage) c.requires) c.in-Err.ensures.pulls in
     let reads = fresh_header_fails g.R.Source Two c.args.reader.now _ _ c.requires c.in-Err.error x c.audit_error.ensures pulls in
     let counted = error_counts c.in-Err.error x _ _ c.audit_error.ensures pulls.device in
-    trace_stops (IsSceneTrace c.args.scene.now) 1 _ _ x reads (inl (Keeps-refl _)) (reader_stops _ _ x counted refl) (error_alone c.in-Err.error x c.audit_error.ensures)
+    trace_stops (IsSceneTrace c.args.scene.now) 1 _ _ x reads (inl (Keeps-refl _)) (reader_stops _ _ _ _ x counted refl) (error_alone c.in-Err.error x c.audit_error.ensures)
 
 pub write_rest-requires : goal.write_rest-requires
 write_rest-requires g c =
@@ -47,7 +47,7 @@ returns-in-Err-write_opening g c =
     let e = c.in-Err-write_opening.error in
     let part = c.in-Err-write_opening.ensures in
     let whole = part_stops {B = Unit {0}} g.O.Sink _ _ _ (scene_items scene 0 [] ++ ending_text (marking scene.mark)) e part in
-    trace_stops (IsSceneTrace scene) 1 _ _ e (stop_reads _ e part.stop) (inr (r, tt, scene_text scene r, refl, whole.bytes)) (writer_stops _ _ e going.failed part.device part.stop) (stop_alone e part.stop)
+    trace_stops (IsSceneTrace scene) 1 _ _ e (stop_reads _ e part.stop) (inr (r, tt, scene_text scene r, refl, whole.bytes)) (writer_stops _ _ _ _ e going.failed part.device part.stop) (stop_alone e part.stop)
 
 pub returns-in-Err-write_rest : goal.returns-in-Err-write_rest
 returns-in-Err-write_rest g c =
@@ -62,7 +62,7 @@ returns-in-Err-write_rest g c =
     let opened = c.in-Ok-write_opening.ensures in
     let some = appends_some_after _ _ _ _ (scene_items scene 0 rest.0) (ending_text (marking scene.mark)) opened.bytes rest.1.bytes in
     trace_stops (IsSceneTrace scene) 1 _ _ e (rest.2 c.in-Ok.header _ _ going) (inr (r, tt, scene_text scene r, refl, some))
-    (failures_on g.R.Source g.O.Sink _ _ _ _ _ _ going.failed opened.device e rest.1.failures) rest.1.alone
+    (failures_on g.R.Source g.O.Sink _ _ _ _ _ _ going.failed opened.device _ e rest.1.failures) rest.1.alone
 
 pub returns-in-Ok-write_rest : goal.returns-in-Ok-write_rest
 returns-in-Ok-write_rest g c =

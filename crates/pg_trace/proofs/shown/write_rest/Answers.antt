@@ -53,7 +53,7 @@ returns-in-Err g c =
       was.0,
       record {
         bytes = all_as_some _ _ _ was.2.bytes;
-        failures = reader_stops _ _ x (subst (λ (n : ℕ). _) (sym going.3.failed) counted) was.2.device;
+        failures = reader_stops _ _ _ _ x (subst (λ (n : ℕ). _) (sym going.3.failed) counted) was.2.device;
         alone = error_alone c.in-Err.error x c.audit_error.ensures;
       },
       λ head start f h. going_fails g.R.Source Two start f _ _ c.loop.reader.stage (record { head = head; events = was.0 }) c.loop.counter (was.3 head start f h) c.in-Err.error x c.audit_error.ensures pulls,
@@ -77,7 +77,7 @@ returns-in_err-write_events-in-Ok-Some g c =
       was.0 ++ items,
       record {
         bytes = whole.bytes;
-        failures = writer_stops _ _ e (on.failed ∙ sym going.3.failed) whole.device whole.stop;
+        failures = writer_stops _ _ _ _ e (on.failed ∙ sym going.3.failed) whole.device whole.stop;
         alone = stop_alone e whole.stop;
       },
       λ head start f h. stop_reads start e whole.stop,
