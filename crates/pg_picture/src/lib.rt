@@ -8,6 +8,5 @@ mod placer;
 mod rows;
 mod shapes;
 
-pub use named::{drawn, dropper, taker};
 pub use painter::picture_text;
 pub use placer::{Arrow, Deed, EntryBox, EventBox, Lane, Layout, Role, lay_out};

@@ -38,9 +38,8 @@ fn down_to_end(alloc: Global, walk: &[WalkEntry]) -> Result<Vec<WalkEntry>, Allo
     Ok(found)
 }
 
-/// The entries of a walk that are drawn: those down to the first that is no table. Fails only when
-/// out of memory.
-pub fn drawn(alloc: Global, walk: &[WalkEntry]) -> Result<Vec<WalkEntry>, AllocError>
+/// The entries of a walk that are drawn.
+pub(crate) fn drawn(alloc: Global, walk: &[WalkEntry]) -> Result<Vec<WalkEntry>, AllocError>
     ensures entries { IfOk result (λ found. found.items ≡ drawn walk.now) }
     ensures count { IfOk result (λ found. length found.items ≤ 4) }
 {
@@ -57,7 +56,7 @@ fn is_at(number: u32, at: Option<u32>) -> bool
 }
 
 /// The event by which an entry had to go.
-pub fn dropper(finding: Finding) -> Option<u32>
+fn dropper(finding: Finding) -> Option<u32>
     ensures { result ≡ dropper finding }
 {
     match finding {
@@ -109,7 +108,7 @@ pub(crate) fn dropper_of(here: Level, finding: Finding) -> Option<u32>
 }
 
 /// The event after which no moments prove the bad one.
-pub fn taker(other: Option<Moments>, last: Option<Last>) -> Option<u32>
+fn taker(other: Option<Moments>, last: Option<Last>) -> Option<u32>
     ensures { result ≡ taker other last }
 {
     match (other, last) {

@@ -1,3 +1,5 @@
 mod Parts
 mod Items
-mod Given
+mod Bad
+pub mod Reading
+pub mod Given

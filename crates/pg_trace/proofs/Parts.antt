@@ -7,7 +7,7 @@ use Rattle.pg_codec.proofs.Written.{appends_none, appends_some_after, writes_aft
 use Rattle.pg_report.specs.declared.error.AuditError.{AuditError}
 use Rattle.pg_report.specs.declared.error.AuditError.TheVariants as errors
 use Rattle.pg_report.specs.Audits.{WritesText}
-use Rattle.pg_report.specs.Changes.{filled}
+use Rattle.pg_report.specs.Changes.{Change, filled}
 use Rattle.pg_report.specs.Intake.{TellsDevice, is_device}
 use Rattle.pg_trace.specs.Given.{MayStop, WritesPart}
 
@@ -42,3 +42,14 @@ module _ {W : Type 0} (g : Ghosts W) where
     device = part.device;
     stop = part.stop;
   }
+
+-- a result of another type
+pub part_told : {A B : Type 0} (output : Change) (text : List ℕ) (x : A) (y : B) → WritesPart text output (Ok x) → WritesPart text output (Ok y)
+part_told output text x y part = record { bytes = part.bytes; device = part.device; stop = tt }
+
+pub part_failed : {A B : Type 0} (output : Change) (text : List ℕ) (e : AuditError) → WritesPart {A = A} text output (Err e) → WritesPart {A = B} text output (Err e)
+part_failed output text e part = record { bytes = part.bytes; device = part.device; stop = part.stop }
+
+-- the same text by another equation
+pub part_is : {A : Type 0} (output : Change) (text other : List ℕ) (result : Result A AuditError) → text ≡ other → WritesPart text output result → WritesPart other output result
+part_is output text other result is part = subst (λ (t : List ℕ). WritesPart t output result) is part

@@ -11,7 +11,7 @@ use Rattle.pg_report.specs.declared.error.AuditError.{AuditError}
 use Rattle.pg_report.specs.declared.error.AuditError.TheVariants.{Refused, Device, Memory}
 use Rattle.pg_report.specs.declared.error.AuditError.TheVariants.{Thread, Checkers}
 use Rattle.pg_report.specs.Audits.{SpellsOne, SpellsNone, TellsFailures}
-use Rattle.pg_report.specs.Changes.{Change, Adds, AddsSome, AddsNothing}
+use Rattle.pg_report.specs.Changes.{Change, Works, Adds, AddsSome, AddsNothing}
 use Rattle.pg_report.specs.Intake.{ReadsRecord, TellsDevice}
 
 -- only memory or the device stops a writing
@@ -37,11 +37,20 @@ ReadsBehind head start events (Ok x) =
     IfSome start (λ bytes. ReadsRecord Two bytes (Ok (record { head = head; events = events })))
 ReadsBehind head start events (Err e) = IfSome start (λ bytes. ReadsRecord Two bytes (Err e))
 
+-- no thread is taken
+abbrev pub IsAlone : AuditError → Type 0
+IsAlone (Refused e) = Unit {0}
+IsAlone Device = Unit {0}
+IsAlone Memory = Unit {0}
+IsAlone Thread = ⊥
+IsAlone Checkers = ⊥
+
 -- this text was added as it was read, or a beginning of it where reading or writing failed
 pub record WritesRead {A : Type 0} (text : List ℕ) (input output : Change)
     (result : Result A AuditError) : Type 0 where
   pub bytes : Writes output.old.bytes output.new.bytes result text
   pub failures : TellsFailures input output result
+  pub alone : IfErr result IsAlone
 
 module _ {A : Type 0} (IsTraceOf : Recorded → A → List ℕ → Type 0) where
   -- nothing was added, or a beginning of the trace of a record
@@ -70,8 +79,18 @@ module _ {A : Type 0} (IsTraceOf : Recorded → A → List ℕ → Type 0) where
     pub gives : GivesTrace checkers input output result
     pub failures : TellsFailures input output result
 
-  -- what is left of that once the record was read, whatever it was read from
-  abbrev pub GivesTraceOf : ℕ → Recorded → Change → Result A AuditError → Type 0
-  GivesTraceOf checkers r output result =
-      (input : Change) → IfSome input.old.bytes (λ bytes. ReadsRecord Two bytes (Ok r)) →
-      TellsDevice {A = Recorded} input (Ok r) → IsTraceGiven checkers input output result
+-- The trace of a record that was read, and judged by so many checkers: it was added, or a beginning
+-- of it; or memory or a thread was refused before anything was.
+abbrev pub WritesTrace : {A : Type 0} → (A → List ℕ → Type 0) → ℕ → Change →
+    Result A AuditError → Type 0
+WritesTrace IsTraceOf checkers output (Ok x) =
+    (text : List ℕ) × IsTraceOf x text × WritesPart text output (Ok x)
+WritesTrace {A} IsTraceOf checkers output (Err Memory) =
+    (AddsNothing output × Works output)
+    ⊎ ((x : A) × (text : List ℕ) × IsTraceOf x text × WritesPart {A = A} text output (Err Memory))
+WritesTrace {A} IsTraceOf checkers output (Err Device) =
+    (x : A) × (text : List ℕ) × IsTraceOf x text × WritesPart {A = A} text output (Err Device)
+WritesTrace IsTraceOf checkers output (Err Thread) =
+    (checkers ≢ 1) × AddsNothing output × Works output
+WritesTrace IsTraceOf checkers output (Err (Refused e)) = ⊥
+WritesTrace IsTraceOf checkers output (Err Checkers) = ⊥

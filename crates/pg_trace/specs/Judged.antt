@@ -26,12 +26,16 @@ IsDenialMark r (Some m) =
     (n : ℕ) × IsDenied r.head r.events n
     × (x : Denial) × IsDenialOf r.head r.events n x × (m ≡ denial_mark r.events x)
 
+-- this marks event n, which its moments do not witness, with why
+abbrev pub IsMarkOf : Recorded → ℕ → Marking → Type 0
+IsMarkOf r n m =
+    (x : Explanation) × IsExplained r.head r.events n x × (m ≡ explanation_mark r.events x)
+
 -- their own moments witness all events; or event n is the first that they do not
 abbrev pub IsBadMark : Recorded → Option Marking → Type 0
 IsBadMark r None = first_bad r.head r.events ≡ None
 IsBadMark r (Some m) =
-    (n : ℕ) × (reason : Reason) × (first_bad r.head r.events ≡ Some (n, reason))
-    × (x : Explanation) × IsExplained r.head r.events n x × (m ≡ explanation_mark r.events x)
+    (n : ℕ) × (reason : Reason) × (first_bad r.head r.events ≡ Some (n, reason)) × IsMarkOf r n m
 
 -- the trace of a record with such a mark
 abbrev pub IsMarkedTrace : (Recorded → Option Marking → Type 0) → Recorded → Traced → List ℕ →

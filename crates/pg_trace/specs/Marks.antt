@@ -1,18 +1,22 @@
 -- What is marked of a rejection: the rejected event, why it is, and the events that led to it:
 -- those that wrote the entries of its walk, down to the first that is no table; the one by which a
 -- cached entry had to go; and, where there is none, the one after which no moments witness it.
-use Rattle.std.specs.Prelude.{ℕ, List, [], ◌∷◌, ◌++◌, Option, Some, None, codes, slice_get}
+use Rattle.std.specs.Prelude.{ℕ, if◌then◌else◌, List, [], ◌∷◌, ◌++◌, Option, Some, None, codes}
+use Rattle.std.specs.Prelude.{slice_get}
 use Rattle.std.specs.Prelude.{string_bytes}
 use Rattle.pg_event.specs.declared.event.Event.{Event}
 use Rattle.pg_event.specs.Form.{processor_of}
+use Rattle.pg_event.specs.Wants.{is_table}
 use Rattle.pg_explain.specs.declared.denial.Denial.{Denial}
 use Rattle.pg_explain.specs.declared.entry.WalkEntry.{WalkEntry}
 use Rattle.pg_explain.specs.declared.explainer.Explanation.{Explanation}
+use Rattle.pg_explain.specs.declared.finding.Finding.{Finding}
+use Rattle.pg_explain.specs.declared.finding.Finding.TheVariants as findings
 use Rattle.pg_explain.specs.Denied.{denial_text}
 use Rattle.pg_explain.specs.Findings.{reason_of}
 use Rattle.pg_explain.specs.Text.{explanation_text}
-use Rattle.pg_picture.specs.Named.{drawn, dropper, taker}
 use Rattle.pg_report.specs.Text.{reason_name}
+use Rattle.pg_search.specs.declared.last.Last.{Last}
 use Rattle.pg_trace.specs.declared.mark.Cause.{Cause}
 use Rattle.pg_trace.specs.declared.mark.Cause.TheVariants.{Moments, NoMoments, NoOrder}
 use Rattle.pg_trace.specs.declared.mark.Mark.{Mark}
@@ -60,9 +64,37 @@ abbrev pub source_at : List Event → Role → Option ℕ → List Source
 source_at events role None = []
 source_at events role (Some number) = source_of role number (slice_get events number)
 
+-- those that wrote the entries down to the first that is no table
 abbrev pub writers : List Event → List WalkEntry → List Source
 writers events [] = []
-writers events (x ∷ xs) = source_at events Write x.writer ++ writers events xs
+writers events (x ∷ xs) =
+    source_at events Write x.writer ++ (if is_table x.kind then writers events xs else [])
+
+-- the event by which an entry had to go
+abbrev pub dropped_in : Finding → Option ℕ
+dropped_in (findings.Order level moment limit) = None
+dropped_in (findings.Entry level wish kind) = None
+dropped_in (findings.Context first other) = None
+dropped_in (findings.StructureDropped level at) = Some at
+dropped_in (findings.TranslationDropped level at) = Some at
+dropped_in (findings.ForeignPcid read current) = None
+dropped_in (findings.NotAtEvent moment address value kind) = None
+dropped_in (findings.Rights rights access allowed prevention) = None
+dropped_in (findings.Answer expected) = None
+dropped_in (findings.Code expected) = None
+dropped_in (findings.Accessed level address value) = None
+dropped_in (findings.Dirty address value) = None
+dropped_in (findings.Assist misfit) = None
+
+-- the event after which no moments witness
+abbrev pub last_in : Option Last → Option ℕ
+last_in None = None
+last_in (Some last) = Some last.number
+
+-- where there are none
+abbrev pub last_unless : Option (List ℕ) → Option Last → Option ℕ
+last_unless None last = last_in last
+last_unless (Some ws) last = None
 
 -- a number, unless there is another
 abbrev pub unless_at : Option ℕ → Option ℕ → Option ℕ
@@ -71,7 +103,7 @@ unless_at (Some other) number = None
 
 abbrev pub sources_of : List Event → List WalkEntry → Option ℕ → Option ℕ → List Source
 sources_of events walk dropped last =
-    writers events (drawn walk)
+    writers events walk
     ++ (source_at events Drop dropped ++ source_at events Last (unless_at dropped last))
 
 -- ---- marks
@@ -90,7 +122,8 @@ explanation_mark events x = record {
   p = processor_at events x.number;
   cause = Moments (reason_of x.finding);
   words = explanation_text events x;
-  sources = sources_of events x.walk.items (dropper x.finding) (taker x.other x.last);
+  sources = sources_of events x.walk.items (dropped_in x.finding)
+      (last_unless x.other x.last);
 }
 
 -- of an event that no moments witness
@@ -100,5 +133,5 @@ denial_mark events x = record {
   p = processor_at events x.number;
   cause = NoMoments;
   words = denial_text events x;
-  sources = sources_of events x.walk.items x.dropped (taker None x.last);
+  sources = sources_of events x.walk.items x.dropped (last_in x.last);
 }

@@ -30,24 +30,27 @@ next_text j = codes ",\n" ++ json_text j
 abbrev pub name_json : List ℕ → Json
 name_json name = object (field (codes "name") (text name) no_fields)
 
-abbrev pub named_json : List ℕ → ℕ → List ℕ → Json
-named_json kind p name = object (
+abbrev pub named_fields : List ℕ → ℕ → List ℕ → Fields
+named_fields kind p name =
     field (codes "ph") (text (codes "M")) (field (codes "name") (text kind)
-    (with_place p (field (codes "args") (name_json name) no_fields))))
+    (with_place p (field (codes "args") (name_json name) no_fields)))
+
+abbrev pub process_json : Json
+process_json = object (named_fields (codes "process_name") 0 (codes "record"))
 
 abbrev pub thread_json : ℕ → Json
-thread_json p = named_json (codes "thread_name") p (codes "cpu " ++ decimal p)
+thread_json p = object (named_fields (codes "thread_name") p (codes "cpu " ++ decimal p))
 
 -- those of so many processors, from this one on
 abbrev pub threads_text : ℕ → ℕ → List ℕ
 threads_text p zero = []
 threads_text p (suc n) = next_text (thread_json p) ++ threads_text (p + 1) n
 
+abbrev pub first_text : List ℕ
+first_text = codes "{\"traceEvents\":[\n" ++ json_text process_json
+
 abbrev pub opening_text : ℕ → List ℕ
-opening_text processors =
-    codes "{\"traceEvents\":[\n"
-    ++ (json_text (named_json (codes "process_name") 0 (codes "record"))
-    ++ threads_text 0 processors)
+opening_text processors = first_text ++ threads_text 0 processors
 
 -- ---- events
 
@@ -97,16 +100,14 @@ arrow_fields kind id name p at =
     (field (codes "cat") (text (codes "rejection")) (field (codes "id") (count id)
     (with_place p (field (codes "ts") (count at) no_fields)))))
 
-abbrev pub start_json : ℕ → Source → Json
-start_json id x = object (arrow_fields (codes "s") id (role_name x.role) x.p x.number)
-
-abbrev pub end_json : ℕ → Source → Marking → Json
-end_json id x m = object (
-    field (codes "bp") (text (codes "e"))
-    (arrow_fields (codes "f") id (role_name x.role) m.p m.number))
+abbrev pub end_fields : ℕ → List ℕ → Marking → Fields
+end_fields id name m =
+    field (codes "bp") (text (codes "e")) (arrow_fields (codes "f") id name m.p m.number)
 
 abbrev pub arrow_text : Marking → ℕ → Source → List ℕ
-arrow_text m id x = next_text (start_json id x) ++ next_text (end_json id x m)
+arrow_text m id x =
+    next_text (object (arrow_fields (codes "s") id (role_name x.role) x.p x.number))
+    ++ next_text (object (end_fields id (role_name x.role) m))
 
 -- from these events, where the first arrow has this id
 abbrev pub arrows_from : Marking → ℕ → List Source → List ℕ

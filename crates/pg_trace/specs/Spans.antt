@@ -35,7 +35,7 @@ start_of events p began number = start_behind p began began (between began numbe
 
 abbrev pub item_at : Option Marking → ℕ → ℕ → ℕ → Event → List ℕ
 item_at mark began start number e =
-    slice_text start (number + 1 - start) number e
+    slice_text start (number - start + 1) number e
     (others_of mark number (began_fields began number e))
 
 abbrev pub spanned_item : Option Marking → Spanned → ℕ → Event → List ℕ

@@ -1,11 +1,13 @@
 //! A record that was judged, as a trace.
 
-ghost use Rattle.std.specs.Prelude.{◌≡◌, ◌<◌, Some, None, IfOk, IfSome, IfNone};
+ghost use Rattle.std.specs.Prelude.{◌≡◌, ◌<◌, None, length, IfOk, IfSome, IfNone};
+ghost use Rattle.pg_event.specs.Witness.{Witnessed};
 ghost use Rattle.pg_report.specs.Changes.{filled};
 ghost use Rattle.pg_certify.specs.Certified.{CanBeCertified, IsDenied};
-ghost use Rattle.pg_trace.specs.Given.{GivesTraceOf, WritesPart};
+ghost use Rattle.pg_trace.specs.Given.{WritesPart, WritesTrace};
 ghost use Rattle.pg_trace.specs.Judged.{IsCertifiedTrace, IsExplainedTrace, IsDenialMark};
-ghost use Rattle.pg_trace.specs.Judged.{IsBadMark, traced_of};
+ghost use Rattle.pg_trace.specs.Judged.{IsBadMark, IsMarkOf, traced_of};
+ghost use Rattle.pg_trace.specs.Marks.{said};
 ghost use Rattle.pg_trace.specs.Texts.{marking, trace_text};
 
 use crate::mark::{Mark, denial_mark, explanation_mark};
@@ -26,6 +28,15 @@ pub enum Traced {
     Rejected,
 }
 
+fn traced_of(mark: &Option<Mark>) -> Traced
+    ensures { result ≡ traced_of (marking mark.now) }
+{
+    match mark {
+        None => Traced::Accepted,
+        Some(_) => Traced::Rejected,
+    }
+}
+
 /// Writes a record, with the mark of the rejected event where there is one.
 fn write_marked<O: Sink>(
     alloc: Global,
@@ -37,10 +48,7 @@ fn write_marked<O: Sink>(
         (filled O.Sink output.old output.new) result }
     ensures told { IfOk result (λ t. t ≡ traced_of (marking mark)) }
 {
-    let traced = match mark {
-        None => Traced::Accepted,
-        Some(_) => Traced::Rejected,
-    };
+    let traced = traced_of(&mark);
     let scene = Scene {
         selection: None,
         mark,
@@ -79,7 +87,7 @@ pub fn trace_certified<T: AllocGlobal + Threads + Wait + Sync, O: Sink>(
     output: &mut O,
 ) -> Result<Traced, AuditError>
     requires { 0 < checkers }
-    ensures { GivesTraceOf IsCertifiedTrace checkers history.now
+    ensures { WritesTrace (IsCertifiedTrace history.now) checkers
         (filled O.Sink output.old output.new) result }
 {
     let denied = match first_denied_by(rt, rt.alloc(), history, checkers) {
@@ -91,16 +99,25 @@ pub fn trace_certified<T: AllocGlobal + Threads + Wait + Sync, O: Sink>(
     write_marked(rt.alloc(), history, mark, output)
 }
 
+/// The mark of an event that its moments do not witness.
+fn mark_of(alloc: Global, history: &History, number: u64) -> Result<Mark, AllocError>
+    requires within { number < length history.now.events }
+    requires bad { ¬ Witnessed history.now.head history.now.events number }
+    ensures { IfOk result (λ m. IsMarkOf history.now number (said m)) }
+{
+    match explain(alloc, history, number)? {
+        Some(explanation) => explanation_mark(alloc, history, &explanation),
+        None => unreachable!(),
+    }
+}
+
 /// The mark of the first event that its moments do not witness, where there is one.
 fn bad_mark(alloc: Global, history: &History) -> Result<Option<Mark>, AllocError>
     ensures { IfOk result (λ m. IsBadMark history.now (marking m)) }
 {
     match report_of(history).verdict {
         Verdict::Yes => Ok(None),
-        Verdict::No { event, .. } => match explain(alloc, history, event)? {
-            Some(explanation) => Ok(Some(explanation_mark(alloc, history, &explanation)?)),
-            None => unreachable!(),
-        },
+        Verdict::No { event, .. } => Ok(Some(mark_of(alloc, history, event)?)),
     }
 }
 
@@ -110,7 +127,7 @@ pub fn trace_explained<O: Sink>(
     history: &History,
     output: &mut O,
 ) -> Result<Traced, AuditError>
-    ensures { GivesTraceOf IsExplainedTrace 1 history.now
+    ensures { WritesTrace (IsExplainedTrace history.now) 1
         (filled O.Sink output.old output.new) result }
 {
     let mark = bad_mark(alloc, history)?;

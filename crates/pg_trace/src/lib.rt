@@ -13,8 +13,3 @@ pub use judged::{Traced, trace_certified, trace_explained};
 pub use mark::{Cause, Mark, Role, Source};
 pub use shown::trace_shown;
 pub use spans::{spanned_trace, spanned_verdict_trace};
-
-#[test]
-fn nothing(rt: HostRuntime) {
-    assert!(rt; true);
-}

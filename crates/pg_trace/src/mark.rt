@@ -2,16 +2,18 @@
 
 ghost use Rattle.std.specs.Prelude.{◌≡◌, ◌++◌, IfOk, OnOk};
 ghost use Rattle.pg_trace.specs.Marks.{cause_name, role_name, said, source_at, writers};
-ghost use Rattle.pg_trace.specs.Marks.{unless_at, sources_of, processor_at};
+ghost use Rattle.pg_event.specs.Wants.{is_table};
+ghost use Rattle.pg_trace.specs.Marks.{dropped_in, last_in, last_unless, unless_at, sources_of, processor_at};
 ghost use Rattle.pg_trace.specs.Marks.{explanation_mark, denial_mark};
 
 use pg_check::History;
-use pg_event::{Event, Reason, processor_of};
+use pg_entry::Kind;
+use pg_event::{Event, Moments, Reason, processor_of};
 use pg_explain::{
-    Denial, Explanation, WalkEntry, denial_text_by, event_at, explanation_text, takers_in,
+    Denial, Explanation, Finding, WalkEntry, denial_text_by, event_at, explanation_text, takers_in,
 };
-use pg_picture::{drawn, dropper, taker};
 use pg_report::reason_name;
+use pg_search::Last;
 use std::alloc::{AllocError, Global};
 
 /// Why an event is rejected.
@@ -110,19 +112,67 @@ pub(crate) fn push_source(
     }
 }
 
-/// The events that wrote these entries.
-fn writers(
-    alloc: Global,
-    events: &[Event],
-    walk: &[WalkEntry],
-) -> Result<Vec<Source>, AllocError>
+fn is_table(kind: Kind) -> bool
+    ensures { result ≡ is_table kind }
+{
+    match kind {
+        Kind::Table { .. } => true,
+        Kind::Leaf { .. } | Kind::Absent | Kind::Reserved => false,
+    }
+}
+
+/// The events that wrote the entries of a walk, down to the first that is no table.
+fn writers(alloc: Global, events: &[Event], walk: &[WalkEntry]) -> Result<Vec<Source>, AllocError>
     ensures { IfOk result (λ found. found.items ≡ writers events.now walk.now) }
 {
     let mut sources = Vec::new(alloc);
     for entry in walk {
         push_source(&mut sources, events, Role::Write, entry.writer)?;
+        if !is_table(entry.kind) {
+            return Ok(sources);
+        }
     }
     Ok(sources)
+}
+
+/// The event by which an entry had to go.
+fn dropped_in(finding: Finding) -> Option<u32>
+    ensures { result ≡ dropped_in finding }
+{
+    match finding {
+        Finding::StructureDropped { at, .. } | Finding::TranslationDropped { at, .. } => Some(at),
+        Finding::Order { .. }
+        | Finding::Entry { .. }
+        | Finding::Context { .. }
+        | Finding::ForeignPcid { .. }
+        | Finding::NotAtEvent { .. }
+        | Finding::Rights { .. }
+        | Finding::Answer { .. }
+        | Finding::Code { .. }
+        | Finding::Accessed { .. }
+        | Finding::Dirty { .. }
+        | Finding::Assist(_) => None,
+    }
+}
+
+/// The event after which no moments witness.
+fn last_in(last: Option<Last>) -> Option<u32>
+    ensures { result ≡ last_in last }
+{
+    match last {
+        None => None,
+        Some(last) => Some(last.number),
+    }
+}
+
+/// The same, where no other moments do.
+fn last_unless(other: Option<Moments>, last: Option<Last>) -> Option<u32>
+    ensures { result ≡ last_unless other last }
+{
+    match other {
+        None => last_in(last),
+        Some(_) => None,
+    }
 }
 
 /// A number, unless there is another.
@@ -146,8 +196,7 @@ fn sources_of(
 ) -> Result<Vec<Source>, AllocError>
     ensures { IfOk result (λ found. found.items ≡ sources_of events.now walk.now dropped last) }
 {
-    let entries = drawn(alloc, walk)?;
-    let mut sources = writers(alloc, events, &entries)?;
+    let mut sources = writers(alloc, events, walk)?;
     push_source(&mut sources, events, Role::Drop, dropped)?;
     push_source(&mut sources, events, Role::Last, unless_at(dropped, last))?;
     Ok(sources)
@@ -188,8 +237,8 @@ pub(crate) fn explanation_mark(
             alloc,
             events,
             &explanation.walk,
-            dropper(finding),
-            taker(other, last),
+            dropped_in(finding),
+            last_unless(other, last),
         )?,
     })
 }
@@ -215,7 +264,7 @@ pub(crate) fn denial_mark(
             events,
             &denial.walk,
             denial.dropped,
-            taker(None, denial.last),
+            last_in(denial.last),
         )?,
     })
 }

@@ -3,9 +3,12 @@
 ghost use Rattle.std.specs.Prelude.{◌≡◌, ◌++◌, ◌≤◌, ◌^◌, IfOk, OnOk, string_bytes};
 ghost use Rattle.serde_json.specs.View.{view, members_view};
 ghost use Rattle.pg_json.specs.Tree.{data_of, members_of, json_text, object, no_fields};
-ghost use Rattle.pg_json.specs.Tree.{Fields as Told};
+ghost use Rattle.pg_json.specs.Tree.{Json, Fields as Told};
 ghost use Rattle.pg_trace.specs.Marks.{said};
-ghost use Rattle.pg_trace.specs.Objects.{with_place, named_json, thread_json, opening_text};
+ghost use Rattle.pg_explain.specs.Denied.{claim_line};
+ghost use Rattle.pg_trace.specs.Objects.{with_place, named_fields, name_json, thread_json};
+ghost use Rattle.pg_trace.specs.Objects.{next_text, first_text, opening_text, slice_fields};
+ghost use Rattle.pg_trace.specs.Objects.{end_fields};
 ghost use Rattle.pg_trace.specs.Objects.{slice_text, args_fields, marked_fields, others_of};
 ghost use Rattle.pg_trace.specs.Objects.{rejected_json, item_text, arrow_fields, arrow_text};
 ghost use Rattle.pg_trace.specs.Objects.{arrows_from, ending_text};
@@ -14,7 +17,7 @@ ghost use Rattle.pg_trace.specs.Texts.{marking};
 use crate::mark::{Mark, Source};
 use pg_event::{Event, processor_of};
 use pg_explain::push_claim_line;
-use pg_json::{Fields, event_fields, put_count, put_text};
+use pg_json::{Fields, event_fields, object_of, put_count, put_text};
 use serde_json::{Map, Value, put};
 use std::alloc::{AllocError, Global};
 
@@ -40,44 +43,78 @@ fn put_place(fields: &mut Fields, alloc: Global, p: u16) -> Result<(), AllocErro
     put_count(fields, alloc, "pid", 0)
 }
 
+/// The text of a value.
+fn value_text(alloc: Global, value: &Value) -> Result<String, AllocError>
+    ensures { (told : Json) → view value.now ≡ data_of told →
+        IfOk result (λ t. string_bytes t ≡ json_text told) }
+{
+    let text = value.to_string(alloc)?;
+    Ok(text)
+}
+
 /// Appends the text of an object.
 fn push_object(alloc: Global, text: &mut String, fields: Fields) -> Result<(), AllocError>
     ensures { (told : Told) → members_view fields.entries ≡ members_of told →
         OnOk result (string_bytes text.new
         ≡ string_bytes text.old ++ json_text (object told)) }
 {
-    let told = Value::Object(fields).to_string(alloc)?;
-    text.push_str(told.as_str())
+    let told = value_text(alloc, &object_of(fields))?;
+    text.push_str(told.as_str())?;
+    Ok(())
 }
 
-/// Appends the object that names a track, or all of them.
-fn push_named(
-    alloc: Global,
-    text: &mut String,
-    kind: &str,
-    p: u16,
-    name: &str,
-) -> Result<(), AllocError>
-    ensures { OnOk result (string_bytes text.new
-        ≡ string_bytes text.old ++ json_text (named_json kind.now p name.now)) }
+/// Appends an object behind another.
+fn push_next(alloc: Global, text: &mut String, fields: Fields) -> Result<(), AllocError>
+    ensures { (told : Told) → members_view fields.entries ≡ members_of told →
+        OnOk result (string_bytes text.new
+        ≡ string_bytes text.old ++ next_text (object told)) }
 {
-    let mut args = none(alloc);
-    put_text(&mut args, alloc, "name", name)?;
+    text.push_str(",\n")?;
+    push_object(alloc, text, fields)?;
+    Ok(())
+}
+
+/// The object of a name.
+fn name_json(alloc: Global, name: &str) -> Result<Value, AllocError>
+    ensures { IfOk result (λ v. view v ≡ data_of (name_json name.now)) }
+{
     let mut fields = none(alloc);
-    put(&mut fields, alloc, "args", Value::Object(args))?;
+    put_text(&mut fields, alloc, "name", name)?;
+    Ok(Value::Object(fields))
+}
+
+/// What names a track, or all of them.
+fn named_fields(alloc: Global, kind: &str, p: u16, name: &str) -> Result<Fields, AllocError>
+    ensures { IfOk result (λ m. members_view m.entries
+        ≡ members_of (named_fields kind.now p name.now)) }
+{
+    let args = name_json(alloc, name)?;
+    let mut fields = none(alloc);
+    put(&mut fields, alloc, "args", args)?;
     put_place(&mut fields, alloc, p)?;
     put_text(&mut fields, alloc, "name", kind)?;
     put_text(&mut fields, alloc, "ph", "M")?;
-    push_object(alloc, text, fields)
+    Ok(fields)
 }
 
 /// Appends the object that names the track of a processor.
 fn push_thread(alloc: Global, text: &mut String, p: u16) -> Result<(), AllocError>
     ensures { OnOk result (string_bytes text.new
-        ≡ string_bytes text.old ++ json_text (thread_json p)) }
+        ≡ string_bytes text.old ++ next_text (thread_json p)) }
 {
     let name = format!(in alloc; "cpu {p}")?;
-    push_named(alloc, text, "thread_name", p, name.as_str())
+    let fields = named_fields(alloc, "thread_name", p, name.as_str())?;
+    push_next(alloc, text, fields)
+}
+
+/// The beginning of a document, up to the name of all tracks.
+fn first_object(alloc: Global) -> Result<String, AllocError>
+    ensures { IfOk result (λ t. string_bytes t ≡ first_text) }
+{
+    let fields = named_fields(alloc, "process_name", 0, "record")?;
+    let mut text = String::from_str(alloc, OPENING)?;
+    push_object(alloc, &mut text, fields)?;
+    Ok(text)
 }
 
 /// The beginning of a document, up to the names of tracks, of so many processors.
@@ -85,10 +122,8 @@ pub(crate) fn opening(alloc: Global, processors: usize) -> Result<String, AllocE
     requires { processors ≤ 2 ^ 16 }
     ensures { IfOk result (λ t. string_bytes t ≡ opening_text processors) }
 {
-    let mut text = String::from_str(alloc, OPENING)?;
-    push_named(alloc, &mut text, "process_name", 0, "record")?;
+    let mut text = first_object(alloc)?;
     for p in 0..processors {
-        text.push_str(",\n")?;
         push_thread(alloc, &mut text, p as u16)?;
     }
     Ok(text)
@@ -99,6 +134,37 @@ pub(crate) fn opening(alloc: Global, processors: usize) -> Result<String, AllocE
 pub(crate) struct Slot {
     pub from: u64,
     pub length: u64,
+}
+
+/// The line of an event without its moments.
+fn line_of(alloc: Global, number: u32, event: &Event) -> Result<String, AllocError>
+    ensures { IfOk result (λ t. string_bytes t ≡ claim_line number event.now) }
+{
+    let mut line = String::new(alloc);
+    push_claim_line(&mut line, number, event)?;
+    Ok(line)
+}
+
+/// The fields of an event, with what else is said of it.
+fn slice_fields(
+    alloc: Global,
+    slot: Slot,
+    number: u32,
+    event: &Event,
+    others: Fields,
+) -> Result<Fields, AllocError>
+    ensures { (told : Told) → members_view others.entries ≡ members_of told →
+        IfOk result (λ m. members_view m.entries
+        ≡ members_of (slice_fields slot.from slot.length number event.now told)) }
+{
+    let line = line_of(alloc, number, event)?;
+    let mut fields = others;
+    put_count(&mut fields, alloc, "dur", slot.length)?;
+    put_count(&mut fields, alloc, "ts", slot.from)?;
+    put_place(&mut fields, alloc, processor_of(event))?;
+    put_text(&mut fields, alloc, "name", line.as_str())?;
+    put_text(&mut fields, alloc, "ph", "X")?;
+    Ok(fields)
 }
 
 /// Appends the object of an event, with what else is said of it.
@@ -114,16 +180,8 @@ pub(crate) fn push_slice(
         OnOk result (string_bytes text.new ≡ string_bytes text.old
         ++ slice_text slot.from slot.length number event.now told) }
 {
-    let mut name = String::new(alloc);
-    push_claim_line(&mut name, number, event)?;
-    let mut fields = others;
-    put_count(&mut fields, alloc, "dur", slot.length)?;
-    put_count(&mut fields, alloc, "ts", slot.from)?;
-    put_place(&mut fields, alloc, processor_of(event))?;
-    put_text(&mut fields, alloc, "name", name.as_str())?;
-    put_text(&mut fields, alloc, "ph", "X")?;
-    text.push_str(",\n")?;
-    push_object(alloc, text, fields)
+    let fields = slice_fields(alloc, slot, number, event, others)?;
+    push_next(alloc, text, fields)
 }
 
 /// What an object says of its event.
@@ -132,7 +190,7 @@ fn args_of(alloc: Global, args: Fields) -> Result<Fields, AllocError>
         IfOk result (λ m. members_view m.entries ≡ members_of (args_fields told)) }
 {
     let mut fields = none(alloc);
-    put(&mut fields, alloc, "args", Value::Object(args))?;
+    put(&mut fields, alloc, "args", object_of(args))?;
     Ok(fields)
 }
 
@@ -225,6 +283,16 @@ fn arrow_fields(
     Ok(fields)
 }
 
+/// The end of an arrow at the rejected event.
+fn end_fields(alloc: Global, mark: &Mark, id: u64, name: &str) -> Result<Fields, AllocError>
+    ensures { IfOk result (λ m. members_view m.entries
+        ≡ members_of (end_fields id name.now (said mark.now))) }
+{
+    let mut fields = arrow_fields(alloc, "f", id, name, mark.p, mark.number as u64)?;
+    put_text(&mut fields, alloc, "bp", "e")?;
+    Ok(fields)
+}
+
 /// Appends an arrow from an event that led to a rejection to the rejected one.
 fn push_arrow(
     alloc: Global,
@@ -238,12 +306,9 @@ fn push_arrow(
 {
     let name = source.role.name();
     let start = arrow_fields(alloc, "s", id, name, source.p, source.number as u64)?;
-    text.push_str(",\n")?;
-    push_object(alloc, text, start)?;
-    let mut end = arrow_fields(alloc, "f", id, name, mark.p, mark.number as u64)?;
-    put_text(&mut end, alloc, "bp", "e")?;
-    text.push_str(",\n")?;
-    push_object(alloc, text, end)
+    let end = end_fields(alloc, mark, id, name)?;
+    push_next(alloc, text, start)?;
+    push_next(alloc, text, end)
 }
 
 /// Appends the arrows to a rejected event.

@@ -1,6 +1,7 @@
 //! A record with spans as a trace.
 
-ghost use Rattle.std.specs.Prelude.{◌≡◌, ◌++◌, ◌<◌, ◌≤◌, IfOk, OnOk, length, string_bytes, slice_get, Some, None};
+ghost use Rattle.std.specs.Prelude.{◌≡◌, ◌++◌, ◌<◌, ◌≤◌, IfOk, OnOk, length, string_bytes};
+ghost use Rattle.std.specs.Prelude.{Some, None};
 ghost use Rattle.pg_trace.specs.Marks.{said};
 ghost use Rattle.pg_trace.specs.Spans.{spanned_item, chosen_item, document_text, writers_of};
 ghost use Rattle.pg_trace.specs.Spans.{spanned_mark, walk_sources, never_mark, writer_before};
@@ -20,8 +21,8 @@ use std::alloc::{AllocError, Global};
 /// Where an event that began so starts on its processor's track: behind the last event of the
 /// processor since, where there is one, so that no two slices of a track overlap.
 fn start_of(events: &[Event], p: u16, began: u32, number: u32) -> u32
-    requires { began ≤ number }
-    requires { number ≤ length events.now }
+    requires began { began ≤ number }
+    requires number { number ≤ length events.now }
     ensures value { result ≡ start_of events.now p began number }
     ensures within { result ≤ number }
 {
@@ -115,13 +116,7 @@ fn writer_before(number: u32, writer: Option<u32>) -> Option<u32>
 {
     match writer {
         None => None,
-        Some(writer) => {
-            if writer < number {
-                Some(writer)
-            } else {
-                None
-            }
-        }
+        Some(writer) => { if writer < number { Some(writer) } else { None } }
     }
 }
 
