@@ -58,7 +58,8 @@ const NO_NUMBER: &str =
 
 /// Of what `explain` is not asked.
 const NO_TELLING: &str =
-    "error: --most goes with --all alone, by digits alone, and --svg goes without --all\n\
+    "error: --most goes with --all alone, by digits alone, and --svg goes without --all;\n\
+    \x20 --event goes without --all, --most and --svg, by digits alone\n\
     \n\
     For more information, try '--help'.\n";
 
@@ -385,6 +386,22 @@ pub const FAULTS: [Told; 21] = [
     },
     Told {
         words: &["explain", "--all", "--svg"],
+        text: NO_TELLING,
+    },
+    Told {
+        words: &["explain", "--event", "3", "--all"],
+        text: NO_TELLING,
+    },
+    Told {
+        words: &["explain", "--all", "--most", "2", "--event", "3"],
+        text: NO_TELLING,
+    },
+    Told {
+        words: &["explain", "--svg", "--event", "3"],
+        text: NO_TELLING,
+    },
+    Told {
+        words: &["explain", "--event", "+3"],
         text: NO_TELLING,
     },
     Told {
