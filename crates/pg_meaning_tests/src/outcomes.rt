@@ -2,6 +2,7 @@ use crate::written::{ACCESSED, INVLPG, MAPPED, READ, WRITE, Written, add_all, ev
 use pg_check::History;
 use pg_event::{Event, Outcome, Version, well_formed};
 use pg_outcomes::{Allowed, is_access, outcomes_at};
+use pg_search::Seen;
 use std::alloc::{AllocGlobal, Global};
 use std::process::Abort;
 use std::test::Fail;
