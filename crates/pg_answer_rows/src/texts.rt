@@ -248,7 +248,7 @@ pub const TEXTS: [Told; 12] = [
 ];
 
 /// What is wrong goes to standard error, and the status is 64.
-pub const FAULTS: [Told; 21] = [
+pub const FAULTS: [Told; 25] = [
     Told {
         words: &["check", "--version"],
         text: "error: unexpected argument '--version' found\n\

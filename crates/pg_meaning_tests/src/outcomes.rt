@@ -251,12 +251,7 @@ fn outcomes_of(alloc: Global, history: &History, event: &Event) -> Result<Vec<Al
     if !is_access(event) || well_formed(history.header(), event).is_err() {
         return Err(Fail::from("no access"));
     }
-    Ok(outcomes_at(
-        alloc,
-        &Seen::of(history),
-        history.len() as u32,
-        event,
-    )?)
+    Ok(outcomes_at(alloc, &Seen::of(history), history.len() as u32, event)?)
 }
 
 /// Whether a history has the outcomes that a case says.

@@ -47,7 +47,13 @@ const CASES: [Case; 5] = [
     },
     Case {
         moment: 7,
-        words: &[(1, 0x1000), (2, 0x2000), (3, 0x3000), (4, 0x4028), (6, 0x4028)],
+        words: &[
+            (1, 0x1000),
+            (2, 0x2000),
+            (3, 0x3000),
+            (4, 0x4028),
+            (6, 0x4028),
+        ],
     },
     Case {
         moment: 8,
@@ -104,7 +110,11 @@ fn are_written(alloc: Global, seen: &Seen<'_>, case: &Case) -> Result<bool, Fail
 
 fn check_all(rt: &(impl AllocGlobal + Abort), seen: &Seen<'_>) -> Result<(), Fail> {
     for case in CASES.iter() {
-        assert!(rt; are_written(rt.alloc(), seen, case)?, "moment {}", case.moment);
+        assert!(rt;
+            are_written(rt.alloc(), seen, case)?,
+            "moment {}",
+            case.moment
+        );
     }
     Ok(())
 }
