@@ -19,14 +19,16 @@ ALIKE = 0.7
 MORE = "\n\nFor more information, try '--help'.\n"
 NO_NUMBER = ("error: a number is given by digits alone, an address by 0x and 1 to 16 hexadecimal digits,\n"
              "  and a page by an address that is canonical" + MORE)
-NO_TELLING = "error: --most goes with --all alone, by digits alone, and --svg goes without --all" + MORE
-CONFLICT = ("error: --json, --bytes, --order, --svg, --trace and --first exclude one another, and so do --first"
-            " and\n  each of --all and --checkers, --trace and each of --all and --loads, --single and --progress,"
-            " and --quiet\n  and each of --output, --bytes, --order, --svg and --trace; several files exclude"
-            " --json, --bytes, --svg\n  and --trace; --loads goes with --page" + MORE)
+NO_TELLING = ("error: --most goes with --all alone, by digits alone, and --svg goes without --all;\n"
+              "  --event goes without --all, --most and --svg, by digits alone" + MORE)
+CONFLICT = ("error: --json, --bytes, --order, --svg, --trace and --first exclude one another, and so do\n"
+            "  --first and each of --all and --checkers, --trace and each of --all, --event and --loads,\n"
+            "  --single and --progress, and --quiet and each of --output, --bytes, --order, --svg and\n"
+            "  --trace; several files exclude --json, --bytes, --svg and --trace; --loads goes with --page" + MORE)
 # Options of which one has no effect beside another.
 EXCLUSIVE = (*itertools.combinations(("json", "bytes", "order", "svg", "trace", "first"), 2), ("first", "all"),
-             ("first", "checkers"), ("trace", "all"), ("trace", "loads"), ("single", "progress"),
+             ("first", "checkers"), ("trace", "all"), ("trace", "event"), ("trace", "loads"),
+             ("single", "progress"),
              *(("quiet", name) for name in ("output", "bytes", "order", "svg", "trace")))
 # Options that write no text of lines, which could begin with a file's name.
 UNMIXED = {"json", "bytes", "svg", "trace"}
@@ -273,6 +275,12 @@ def is_canonical(address):
     return address >> 47 in (0, 0x1FFFF)
 
 
+def is_torn(given):
+    """Whether options ask `explain` to tell different things, or tell how many of what is not told."""
+    return ("most" in given and "all" not in given or {"svg", "all"} <= given or
+            "event" in given and bool(given & {"all", "most", "svg"}))
+
+
 def look_at_plan(name, given, files):
     """Refuses what the command line takes, and the program does not."""
     is_mixed = name != "merge" and len(files) > 1 and UNMIXED & {*given}
@@ -280,7 +288,7 @@ def look_at_plan(name, given, files):
     if is_mixed or is_alone or any(one in given and other in given for one, other in EXCLUSIVE):
         raise Answer(USAGE, errors=CONFLICT)
     is_signed = {option for option in NUMBERS if (given.get(option) or "").startswith("+")}
-    if name == "explain" and ("most" in given and "all" not in given or {"svg", "all"} <= {*given} or is_signed):
+    if name == "explain" and (is_signed or is_torn({*given})):
         raise Answer(USAGE, errors=NO_TELLING)
     if is_signed:
         raise Answer(USAGE, errors=NO_NUMBER)

@@ -50,11 +50,13 @@ $ check --all --json
 == explained
 $ explain --json
 < @stale_leaf
->+ {"cause":{"event":{"ac":false,"address":"0x5123","cpu":0,"event":6,"kind":"access","moments":[4,
+>+ {"allowed":[{"by":[6,6,6,6],"fault":"0x4"}],"allowed_count":1,"cause":{"event":{"ac":false,
+>+ "address":"0x5123","cpu":0,"event":6,"kind":"access","moments":[4,
 >+ 4,4,4],"operation":"read","outcome":{"page":"0x9123"},"user":true},"final":true,
 >+ "finding":{"by":{"address":"0x5000","cpu":0,"event":5,"kind":"invlpg"},"entry":"translation",
 >+ "finding":"dropped","level":1},"last":{"by":[4,4,4,4],"moment":5,"taken_by":{"address":"0x5000",
->+ "cpu":0,"event":5,"kind":"invlpg"},"under":null},"walk":[{"is":"table","level":4,"moment":4,"pcid":"0x1",
+>+ "cpu":0,"event":5,"kind":"invlpg"},"under":null},"walk":[{"is":"table","level":4,"moment":4,
+>+ "pcid":"0x1",
 >+ "value":"0x2007","word":"0x1000","written_by":0},{"is":"table","level":3,"moment":4,"pcid":"0x1",
 >+ "value":"0x3007","word":"0x2000","written_by":1},{"is":"table","level":2,"moment":4,"pcid":"0x1",
 >+ "value":"0x4007","word":"0x3000","written_by":2},{"is":"leaf","level":1,"moment":4,"pcid":"0x1",
@@ -96,7 +98,8 @@ $ certify --json
 == denied
 $ certify --json
 < @stale_leaf
->+ {"cause":{"dropped_by":{"address":"0x5000","cpu":0,"event":5,"kind":"invlpg"},
+>+ {"allowed":[{"by":[6,6,6,6],"fault":"0x4"}],"allowed_count":1,
+>+ "cause":{"dropped_by":{"address":"0x5000","cpu":0,"event":5,"kind":"invlpg"},
 >+ "event":{"ac":false,"address":"0x5123","cpu":0,"event":6,"kind":"access",
 >+ "operation":"read","outcome":{"page":"0x9123"},"user":true},"given":{"fault":"0x4","fetch":false,
 >+ "present":false,"reserved":false,"user":true,"write":false},"lacking":null,
@@ -121,14 +124,16 @@ $ certify --json
 < 10000028400000000000002790000000000000
 < 1100000523510000000000000023910000000000000100000000
 < 0205000000
->+ {"cause":{"dropped_by":null,"event":{"ac":false,"address":"0x5123","cpu":0,"event":4,
+>+ {"allowed":[],"allowed_count":0,"cause":{"dropped_by":null,"event":{"ac":false,
+>+ "address":"0x5123","cpu":0,"event":4,
 >+ "kind":"access",
 >+ "operation":"write","outcome":{"page":"0x9123"},"user":true},"given":{"page":"0x9123"},
 >+ "lacking":{"finding":"dirty","value":"0x9027","word":"0x4028"},"last":null,"now":[{"is":"table",
 >+ "level":4,"moment":4,"pcid":"0x1","value":"0x2027","word":"0x1000","written_by":0},{"is":"table",
 >+ "level":3,"moment":4,"pcid":"0x1","value":"0x3027","word":"0x2000","written_by":1},{"is":"table",
 >+ "level":2,"moment":4,"pcid":"0x1","value":"0x4027","word":"0x3000","written_by":2},
->+ {"is":"leaf","level":1,"moment":4,"pcid":"0x1","value":"0x9027","word":"0x4028","written_by":3}]},
+>+ {"is":"leaf","level":1,"moment":4,"pcid":"0x1","value":"0x9027","word":"0x4028",
+>+ "written_by":3}]},
 >+ "event":4,"events":5,"format":1,"reason":14,"reason_name":"no moments","segments":1,
 > "verdict":"no"}
 ? 1

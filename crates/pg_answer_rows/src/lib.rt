@@ -6,6 +6,8 @@
 #[cfg(test)]
 mod all_rejections;
 #[cfg(test)]
+mod allowed;
+#[cfg(test)]
 mod crews;
 #[cfg(test)]
 mod explanations;
@@ -29,6 +31,8 @@ mod mutated_scripts;
 mod outcomes;
 #[cfg(test)]
 mod pictures;
+#[cfg(test)]
+mod span_outcomes;
 #[cfg(test)]
 mod span_pictures;
 #[cfg(test)]

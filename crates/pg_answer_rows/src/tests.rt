@@ -1,6 +1,6 @@
 use crate::{
-    all_rejections, explanations, json, json_spans, lines, many_lines, outcomes, pictures,
-    span_pictures, spans, traces,
+    all_rejections, allowed, explanations, json, json_spans, lines, many_lines, outcomes, pictures,
+    span_outcomes, span_pictures, spans, traces,
 };
 use pg_cases::{Case, answers, bytes_of, first_unanswered};
 use std::alloc::AllocGlobal;
@@ -38,12 +38,25 @@ fn records_shown(rt: HostRuntime) -> Result<(), Fail> {
 
 #[test]
 fn outcomes_of_accesses(rt: HostRuntime) -> Result<(), Fail> {
-    expect_all(&rt, &[outcomes::RECORDS, outcomes::ROWS])
+    let texts = [
+        outcomes::RECORDS,
+        outcomes::ROWS,
+        allowed::RECORDS,
+        allowed::ROWS,
+    ];
+    expect_all(&rt, &texts)
 }
 
 #[test]
 fn records_with_spans(rt: HostRuntime) -> Result<(), Fail> {
-    expect_all(&rt, &[spans::RECORDS, spans::ROWS, json_spans::ROWS])
+    let texts = [
+        spans::RECORDS,
+        spans::ROWS,
+        json_spans::ROWS,
+        span_outcomes::RECORDS,
+        span_outcomes::ROWS,
+    ];
+    expect_all(&rt, &texts)
 }
 
 #[test]

@@ -58,18 +58,19 @@ const NO_NUMBER: &str =
 
 /// Of what `explain` is not asked.
 const NO_TELLING: &str =
-    "error: --most goes with --all alone, by digits alone, and --svg goes without --all\n\
+    "error: --most goes with --all alone, by digits alone, and --svg goes without --all;\n\
+    \x20 --event goes without --all, --most and --svg, by digits alone\n\
     \n\
     For more information, try '--help'.\n";
 
 /// Of two options of which one has no effect.
 const CONFLICT: &str = "error: --json, --bytes, --order, --svg, --trace and --first exclude one \
-    another, and so do --first and\n\
-    \x20 each of --all and --checkers, --trace and each of --all and --loads, --single and \
-    --progress, and --quiet\n\
-    \x20 and each of --output, --bytes, --order, --svg and --trace; several files exclude --json, \
-    --bytes, --svg\n\
-    \x20 and --trace; --loads goes with --page\n\
+    another, and so do\n\
+    \x20 --first and each of --all and --checkers, --trace and each of --all, --event and \
+    --loads,\n\
+    \x20 --single and --progress, and --quiet and each of --output, --bytes, --order, --svg and\n\
+    \x20 --trace; several files exclude --json, --bytes, --svg and --trace; --loads goes with \
+    --page\n\
     \n\
     For more information, try '--help'.\n";
 
@@ -252,7 +253,7 @@ pub const TEXTS: [Told; 12] = [
 ];
 
 /// What is wrong goes to standard error, and the status is 64.
-pub const FAULTS: [Told; 22] = [
+pub const FAULTS: [Told; 26] = [
     Told {
         words: &["check", "--version"],
         text: "error: unexpected argument '--version' found\n\
@@ -390,6 +391,22 @@ pub const FAULTS: [Told; 22] = [
     },
     Told {
         words: &["explain", "--all", "--svg"],
+        text: NO_TELLING,
+    },
+    Told {
+        words: &["explain", "--event", "3", "--all"],
+        text: NO_TELLING,
+    },
+    Told {
+        words: &["explain", "--all", "--most", "2", "--event", "3"],
+        text: NO_TELLING,
+    },
+    Told {
+        words: &["explain", "--svg", "--event", "3"],
+        text: NO_TELLING,
+    },
+    Told {
+        words: &["explain", "--event", "+3"],
         text: NO_TELLING,
     },
     Told {

@@ -30,3 +30,5 @@ mod summaries;
 mod windows;
 #[cfg(test)]
 mod written;
+#[cfg(test)]
+mod written_words;

@@ -1,7 +1,10 @@
 use crate::certificates::MAPPED;
 use crate::written::{INVLPG, READ, Written, event_of, header_of};
+use pg_check::History;
 use pg_event::{Outcome, Version, well_formed};
-use pg_order::{InOrder, Verdict, certify_in_order, find_ordered_run, moments_in_order};
+use pg_order::{
+    InOrder, Verdict, certify_in_order, find_ordered_run, history_in_order, moments_in_order,
+};
 use pg_spanned::{SpannedRun, is_order};
 use std::alloc::{AllocGlobal, Global};
 use std::test::Fail;
@@ -182,5 +185,46 @@ fn orders_are_found(rt: HostRuntime) -> Result<(), Fail> {
     for case in CASES.iter() {
         assert!(rt; is_so(rt.alloc(), case)?, "{}", case.name);
     }
+    Ok(())
+}
+
+/// Whether these events end a history.
+fn ends_with(history: &History, written: &[Written]) -> Result<bool, Fail> {
+    let events = history.events();
+    if events.len() < written.len() {
+        return Err(Fail::from("few events"));
+    }
+    let last = &events[events.len() - written.len()..];
+    for (event, wanted) in last.iter().zip(written) {
+        if *event != event_of(wanted).ok_or("moments")? {
+            return Ok(false);
+        }
+    }
+    Ok(true)
+}
+
+/// Whether the events of a run in the order that is found are so many, of which these are the last.
+fn ends_in_order_with(
+    alloc: Global,
+    run: &SpannedRun,
+    count: u64,
+    written: &[Written],
+) -> Result<bool, Fail> {
+    match find_ordered_run(alloc, run)? {
+        Verdict::Yes(order) => {
+            let history = history_in_order(alloc, run, &order)?;
+            Ok(history.len() == count && ends_with(&history, written)?)
+        }
+        Verdict::Never(..) | Verdict::NoneOfAll(_) | Verdict::Undecided(_) => Ok(false),
+    }
+}
+
+/// The invalidation has to come before the write that it overlaps, or the read has no old entry.
+#[test]
+fn events_in_an_order_are_a_history(rt: HostRuntime) -> Result<(), Fail> {
+    let events = [(REMAP, 0), (OWN_INVLPG, 1), (OLD_READ, 0)];
+    let run = run_of(rt.alloc(), &events)?;
+    let last = [OWN_INVLPG, REMAP, OLD_READ];
+    assert!(rt; ends_in_order_with(rt.alloc(), &run, 8, &last)?);
     Ok(())
 }

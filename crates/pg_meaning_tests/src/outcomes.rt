@@ -2,6 +2,7 @@ use crate::written::{ACCESSED, INVLPG, MAPPED, READ, WRITE, Written, add_all, ev
 use pg_check::History;
 use pg_event::{Event, Outcome, Version, well_formed};
 use pg_outcomes::{Allowed, is_access, outcomes_at};
+use pg_search::Seen;
 use std::alloc::{AllocGlobal, Global};
 use std::process::Abort;
 use std::test::Fail;
@@ -250,7 +251,7 @@ fn outcomes_of(alloc: Global, history: &History, event: &Event) -> Result<Vec<Al
     if !is_access(event) || well_formed(history.header(), event).is_err() {
         return Err(Fail::from("no access"));
     }
-    Ok(outcomes_at(alloc, history, history.len() as u32, event)?)
+    Ok(outcomes_at(alloc, &Seen::of(history), history.len() as u32, event)?)
 }
 
 /// Whether a history has the outcomes that a case says.

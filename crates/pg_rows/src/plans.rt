@@ -268,7 +268,7 @@ fn plans_of_show(rt: HostRuntime) {
 }
 
 /// Command lines of `explain`: what they ask to be told, and whether for progress.
-const EXPLAINED: [(&[&str], Telling, bool); 4] = [
+const EXPLAINED: [(&[&str], Telling, bool); 6] = [
     (&["explain"], Telling::First, false),
     (
         &["explain", "--most=01000000", "--all"],
@@ -281,6 +281,12 @@ const EXPLAINED: [(&[&str], Telling, bool); 4] = [
         false,
     ),
     (&["explain", "--svg", "--progress"], Telling::Picture, true),
+    (&["explain", "--event", "07"], Telling::At(7), false),
+    (
+        &["explain", "--event=4294967295", "--progress"],
+        Telling::At(4_294_967_295),
+        true,
+    ),
 ];
 
 #[test]
@@ -301,7 +307,7 @@ fn plans_of_explain(rt: HostRuntime) {
 }
 
 /// Command lines of `outcomes`: the event that they ask about, and how many outcomes are written.
-const FORESEEN: [(&[&str], Option<u32>, u32); 3] = [
+const ASKED_OUTCOMES: [(&[&str], Option<u32>, u32); 3] = [
     (&["outcomes"], None, 100),
     (&["outcomes", "--event", "0"], Some(0), 100),
     (
@@ -313,7 +319,7 @@ const FORESEEN: [(&[&str], Option<u32>, u32); 3] = [
 
 #[test]
 fn plans_of_outcomes(rt: HostRuntime) {
-    for &(words, event, most) in &FORESEEN {
+    for &(words, event, most) in &ASKED_OUTCOMES {
         let asked = OutcomesOptions {
             event,
             most,
@@ -469,7 +475,7 @@ fn names_of_logs(rt: HostRuntime) -> Result<(), Fail> {
 }
 
 /// Command lines that are refused.
-const FAULTS: [&[&str]; 83] = [
+const FAULTS: [&[&str]; 92] = [
     &["merge"],
     &["merge", "--error", "3"],
     &["merge", "--error", "-3", "a.log"],
@@ -530,6 +536,15 @@ const FAULTS: [&[&str]; 83] = [
     &["explain", "--svg", "--most", "3"],
     &["explain", "--svg", "--all"],
     &["explain", "--svg", "--svg"],
+    &["explain", "--event", "3", "--all"],
+    &["explain", "--event", "3", "--most", "3"],
+    &["explain", "--event", "3", "--all", "--most", "3"],
+    &["explain", "--event", "3", "--svg"],
+    &["explain", "--event", "3", "--event", "3"],
+    &["explain", "--event", "4294967296"],
+    &["explain", "--event", "0x3"],
+    &["explain", "--event", "+3"],
+    &["explain", "--event"],
     &["certify", "--svg"],
     &["check", "--svg"],
     &["show", "--progress"],
