@@ -35,13 +35,13 @@ same_front : (n : ℕ) (xs ys : List Event) → AreSameButMoments xs ys → AreS
 same_front n xs ys same = sym (take-map without_moments n xs) ∙ ap (take n) same ∙ take-map without_moments n ys
 
 -- a run of all events begins with those up to any
-begins : (head : Head) (events : List Event) (n : ℕ) → HasRunButMoments head events → RunBeginsWith head events n
+pub begins : (head : Head) (events : List Event) (n : ℕ) → HasRunButMoments head events → RunBeginsWith head events n
 begins head events n run = (run.0, run.1, same_front (n + 1) events (visible run.0) run.2)
 
 not_below : (head : Head) (events : List Event) (n m : ℕ) → IsDenied head events n → IsDenied head events m → n < m → ⊥
 not_below head events n m h k lt = h.denied (k.before n lt)
 
-one_event : (head : Head) (events : List Event) (n m : ℕ) → IsDenied head events n → IsDenied head events m → n ≡ m
+pub one_event : (head : Head) (events : List Event) (n m : ℕ) → IsDenied head events n → IsDenied head events m → n ≡ m
 one_event head events n m h k =
     elim (cases_lt n m) as (λ _. n ≡ m) [
       | inl lt ↦ absurd (not_below head events n m h k lt)
