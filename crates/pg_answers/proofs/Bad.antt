@@ -17,7 +17,7 @@ pub record IsBadAt (head : Head) (all : List Event) (first : ℕ) (es : List Eve
   pub is : slice_get es at ≡ Some event
   pub bad : failing_event head all i event ≡ Some reason
 
-parts : (p q : ℕ × Reason) → Some p ≡ Some q → (p.0 ≡ q.0) × (p.1 ≡ q.1)
+pub parts : (p q : ℕ × Reason) → Some p ≡ Some q → (p.0 ≡ q.0) × (p.1 ≡ q.1)
 parts p q e = (ap (λ o. option_map_or (λ r. r.0) o p.0) e, ap (λ o. option_map_or (λ r. r.1) o p.1) e)
 
 -- an event that is bad, or what is bad after it

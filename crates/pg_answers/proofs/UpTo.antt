@@ -1,5 +1,5 @@
 -- Events up to one that is bad, or that is denied.
-use Rattle.std.proofs.Common.{◌≡◌, ℕ, ◌^◌, ◌<◌, ◌≤◌, List, ◌++◌, length, map, take, drop, Option, Some, None, refl, ap, sym, ◌∙◌, subst, inl, inr, arith}
+use Rattle.std.proofs.Common.{◌≡◌, ℕ, ◌^◌, ◌<◌, ◌≤◌, List, ◌++◌, length, map, take, drop, Option, Some, None, refl, ap, sym, ◌∙◌, arith}
 use Rattle.std.specs.Option.{option_or}
 use Rattle.std.proofs.lemmas.List.{length-take, take-append-drop}
 use Rattle.pg_event.specs.declared.event.Event.{Event}
@@ -13,13 +13,10 @@ use Rattle.pg_check.proofs.Windows.{well_between}
 use Rattle.pg_run_of.specs.Law.{AcceptedEventsRun}
 use Rattle.pg_run_of.specs.Converse.{without_moments}
 use Rattle.pg_certify.specs.Certified.{CanBeCertified, CertifiedEventsRun, DeniedEventsHaveNoRun, IsDenied, HasRunButMoments}
-use Rattle.pg_answers.proofs.Bad.{bad_is_within}
+use Rattle.pg_answers.proofs.Bad.{bad_is_within, parts}
 use Rattle.pg_answers.proofs.OneCertificate.{begins, one_event}
 
 -- ---- bad events
-
-same_first : (n m : ℕ) (r s : Reason) → Some (n, r) ≡ Some (m, s) → n ≡ m
-same_first n m r s h = cc
 
 -- none before the first bad event is bad
 front_good : (head : Head) (events : List Event) (n : ℕ) (reason : Reason) (o : Option (ℕ × Reason)) → first_bad head (take n events) ≡ o → first_bad head events ≡ Some (n, reason) → o ≡ None
@@ -29,7 +26,7 @@ front_good head events n reason (Some found) front bad =
     let first : first_bad head (take n events ++ drop n events) ≡ Some found =
     first_bad-more head (take n events) (drop n events)
     ∙ ap (λ o. option_or o (first_bad_from head (take n events ++ drop n events) (length (take n events)) (drop n events))) front in
-    let same : n ≡ found.0 = same_first n found.0 reason found.1 (sym whole ∙ first) in
+    let same : n ≡ found.0 = (parts (n, reason) found (sym whole ∙ first)).0 in
     let within : found.0 < length (take n events) = bad_is_within head (take n events) found.0 found.1 front in
     absurd (omega (arith, same, within, length-take n events))
 

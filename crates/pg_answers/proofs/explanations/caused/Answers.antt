@@ -39,6 +39,13 @@ pub returns-in_ok-allowed-in-No : goal.returns-in_ok-allowed-in-No
 returns-in_ok-allowed-in-No c =
     let head = c.args.history.head in
     let events = c.args.history.events in
-    let is : verdict_of (first_bad head events) ≡ No c.in-No.event c.in-No.reason = ap (λ (x : Report). x.verdict) (sym c.report_of-report.ensures) ∙ c.in-No.is in
-    (c.report_of-report.ensures, refl, c.in-No.event, c.in-No.reason, told_bad (first_bad head events) c.in-No.event c.in-No.reason is, c.in_ok-cause-in-No.ensures, c.in_ok-allowed-in-No.ensures,
-    run_before c.accepted_events_run.ensures head events c.in-No.event c.in-No.reason c.events-events.ensures.well (told_bad (first_bad head events) c.in-No.event c.in-No.reason is))
+    let is : verdict_of (first_bad head events) ≡ No c.in-No.event c.in-No.reason = ap (λ (x : Report). x.verdict) (sym c.report_of-report.ensures) ∙ c.in-No.is in (
+      c.report_of-report.ensures,
+      refl,
+      c.in-No.event,
+      c.in-No.reason,
+      told_bad (first_bad head events) c.in-No.event c.in-No.reason is,
+      c.in_ok-cause-in-No.ensures,
+      c.in_ok-allowed-in-No.ensures,
+      run_before c.accepted_events_run.ensures head events c.in-No.event c.in-No.reason c.events-events.ensures.well (told_bad (first_bad head events) c.in-No.event c.in-No.reason is),
+    )
