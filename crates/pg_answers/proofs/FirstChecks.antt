@@ -1,6 +1,5 @@
 -- A record that is judged up to its first bad event.
-use Rattle.std.proofs.Common.{◌≡◌, ◌++◌, [], append-nil, ℕ, List, true, Option, Some, None, Ok, Err, IfSome, is_some, refl, sym, ap, subst, ◌∙◌}
-use Rattle.std.specs.Prelude.{Result}
+use Rattle.std.proofs.Common.{◌≡◌, ◌++◌, [], append-nil, ℕ, List, true, Option, Some, None, Ok, IfSome, is_some, refl, sym, ap, subst, ◌∙◌}
 use Rattle.pg_event.specs.declared.event.Event.{Event}
 use Rattle.pg_event.specs.declared.event.Reason.{Reason}
 use Rattle.pg_event.specs.declared.version.Version.TheVariants.{Two}

@@ -1,4 +1,3 @@
-use Rattle.std.proofs.Common.{◌∙◌}
 use Rattle.pg_answers.specs.declared.question.Question.TheVariants.{Certify}
 use Rattle.pg_answers.specs.Answers.{IsAnswer}
 use Rattle.pg_answers.proofs.Finding.{by_any}

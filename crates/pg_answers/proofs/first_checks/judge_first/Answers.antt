@@ -2,7 +2,7 @@ use Rattle.std.proofs.Common.{[], ap, refl}
 use Rattle.pg_event.specs.declared.version.Version.TheVariants.{Two}
 use Rattle.pg_event.specs.Spelling.{Recorded}
 use Rattle.pg_codec.specs.Readers.{Reader}
-use Rattle.pg_report.proofs.Continuing.{fresh_header_fails, going_from_fresh, memory_reads}
+use Rattle.pg_report.proofs.Continuing.{fresh_header_fails, going_from_fresh}
 use Rattle.pg_report.proofs.Windows.{judging_at_start}
 use Rattle.pg_answers.proofs.Accounted.{pulled_at_start}
 use Rattle.pg_answers.proofs.FirstChecks.{reported}

@@ -1,9 +1,7 @@
-use Rattle.std.proofs.Common.{◌≡◌, ◌+◌, [], ◌++◌, ◌∙◌, append-nil, List, ℕ, Option, true, inl, is_some, refl, sym, subst}
+use Rattle.std.proofs.Common.{◌+◌, [], ◌++◌, ◌∙◌, append-nil, List, ℕ, Option, inl, refl, sym}
 use Rattle.std.proofs.lemmas.Result.{err_from_is_err_and}
-use Rattle.pg_event.specs.declared.event.Event.{Event}
 use Rattle.pg_event.specs.declared.version.Version.TheVariants.{Two}
 use Rattle.pg_event.specs.Spelling.{Recorded}
-use Rattle.pg_check.specs.Judging.{IsJudged}
 use Rattle.pg_report.specs.Going.{IsJudging}
 use Rattle.pg_report.proofs.Continuing.{going_ends, going_fails, end_counts, failure_counts, memory_reads}
 use Rattle.pg_report.proofs.Windows.{may_follow, longer, moved_on}
