@@ -21,15 +21,17 @@ NO_NUMBER = ("error: a number is given by digits alone, an address by 0x and 1 t
              "  and a page by an address that is canonical" + MORE)
 NO_TELLING = ("error: --most goes with --all alone, by digits alone, and --svg goes without --all;\n"
               "  --event goes without --all, --most and --svg, by digits alone" + MORE)
-CONFLICT = ("error: --json, --bytes, --order, --svg and --first exclude one another, and so do --first and\n"
-            "  each of --all and --checkers, --single and --progress, and --quiet and each of --output, --bytes,"
-            " --order and --svg;\n"
-            "  several files exclude --json, --bytes and --svg; --loads goes with --page" + MORE)
+CONFLICT = ("error: --json, --bytes, --order, --svg, --trace and --first exclude one another, and so do\n"
+            "  --first and each of --all and --checkers, --trace and each of --all, --event and --loads,\n"
+            "  --single and --progress, and --quiet and each of --output, --bytes, --order, --svg and\n"
+            "  --trace; several files exclude --json, --bytes, --svg and --trace; --loads goes with --page" + MORE)
 # Options of which one has no effect beside another.
-EXCLUSIVE = (*itertools.combinations(("json", "bytes", "order", "svg", "first"), 2), ("first", "all"), ("first", "checkers"),
-             ("single", "progress"), *(("quiet", name) for name in ("output", "bytes", "order", "svg")))
+EXCLUSIVE = (*itertools.combinations(("json", "bytes", "order", "svg", "trace", "first"), 2), ("first", "all"),
+             ("first", "checkers"), ("trace", "all"), ("trace", "event"), ("trace", "loads"),
+             ("single", "progress"),
+             *(("quiet", name) for name in ("output", "bytes", "order", "svg", "trace")))
 # Options that write no text of lines, which could begin with a file's name.
-UNMIXED = {"json", "bytes", "svg"}
+UNMIXED = {"json", "bytes", "svg", "trace"}
 # Commands that write bytes which are no text, with --bytes or always.
 BINARY = ("merge", "upgrade")
 TERMINAL = "error: a record is no text for a terminal: use --output FILE, or redirect the output\n"

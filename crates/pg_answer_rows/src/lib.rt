@@ -44,4 +44,6 @@ mod tests;
 #[cfg(test)]
 mod texts;
 #[cfg(test)]
+mod traces;
+#[cfg(test)]
 mod words;

@@ -1,6 +1,6 @@
 use crate::{
     all_rejections, allowed, explanations, json, json_spans, lines, many_lines, outcomes, pictures,
-    span_outcomes, span_pictures, spans,
+    span_outcomes, span_pictures, spans, traces,
 };
 use pg_cases::{Case, answers, bytes_of, first_unanswered};
 use std::alloc::AllocGlobal;
@@ -62,6 +62,11 @@ fn records_with_spans(rt: HostRuntime) -> Result<(), Fail> {
 #[test]
 fn records_as_json_and_drawn(rt: HostRuntime) -> Result<(), Fail> {
     expect_all(&rt, &[json::RECORDS, json::ROWS, pictures::ROWS])
+}
+
+#[test]
+fn records_as_traces(rt: HostRuntime) -> Result<(), Fail> {
+    expect_all(&rt, &[json::RECORDS, traces::ROWS])
 }
 
 #[test]

@@ -64,11 +64,13 @@ const NO_TELLING: &str =
     For more information, try '--help'.\n";
 
 /// Of two options of which one has no effect.
-const CONFLICT: &str = "error: --json, --bytes, --order, --svg and --first exclude one another, \
-    and so do --first and\n\
-    \x20 each of --all and --checkers, --single and --progress, and --quiet and each of --output, \
-    --bytes, --order and --svg;\n\
-    \x20 several files exclude --json, --bytes and --svg; --loads goes with --page\n\
+const CONFLICT: &str = "error: --json, --bytes, --order, --svg, --trace and --first exclude one \
+    another, and so do\n\
+    \x20 --first and each of --all and --checkers, --trace and each of --all, --event and \
+    --loads,\n\
+    \x20 --single and --progress, and --quiet and each of --output, --bytes, --order, --svg and\n\
+    \x20 --trace; several files exclude --json, --bytes, --svg and --trace; --loads goes with \
+    --page\n\
     \n\
     For more information, try '--help'.\n";
 
@@ -108,6 +110,7 @@ pub const TEXTS: [Told; 12] = [
         \x20     --first          Answer at the first event that is rejected, and read no \
         further\n\
         \x20     --json           Write JSON instead of text\n\
+        \x20     --trace          Write a trace for Perfetto instead of text\n\
         \x20     --progress       Report each second how many events were read, on standard \
         error\n\
         \x20     --output <FILE>  Write to this file instead of standard output, which - stands \
@@ -189,6 +192,7 @@ pub const TEXTS: [Told; 12] = [
         (default 100) [alias: --limit]\n\
         \x20     --svg            Draw the first bad event as an SVG, instead of writing text\n\
         \x20     --json           Write JSON instead of text\n\
+        \x20     --trace          Write a trace for Perfetto instead of text\n\
         \x20     --progress       Report each second how many events were read, on standard \
         error\n\
         \x20     --output <FILE>  Write to this file instead of standard output, which - stands \
@@ -217,6 +221,7 @@ pub const TEXTS: [Told; 12] = [
         \x20     --from <A>       Number of the first event to write (default 0)\n\
         \x20     --to <B>         Number of the last event to write (default: the last event)\n\
         \x20     --json           Write JSON instead of text, an object a line\n\
+        \x20     --trace          Write a trace for Perfetto instead of text\n\
         \x20     --output <FILE>  Write to this file instead of standard output, which - stands \
         for\n\
         \x20 -q, --quiet          Write nothing to standard output: the exit status is the \
@@ -248,7 +253,7 @@ pub const TEXTS: [Told; 12] = [
 ];
 
 /// What is wrong goes to standard error, and the status is 64.
-pub const FAULTS: [Told; 25] = [
+pub const FAULTS: [Told; 26] = [
     Told {
         words: &["check", "--version"],
         text: "error: unexpected argument '--version' found\n\
@@ -410,6 +415,10 @@ pub const FAULTS: [Told; 25] = [
     },
     Told {
         words: &["run", "--progress", "--single"],
+        text: CONFLICT,
+    },
+    Told {
+        words: &["show", "--trace", "--json"],
         text: CONFLICT,
     },
 ];

@@ -13,3 +13,4 @@ pub mod OneDenial
 pub mod OneCertificate
 pub mod GivenFirsts
 mod FirstChecks
+mod UpTo

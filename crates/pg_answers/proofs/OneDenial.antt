@@ -7,6 +7,7 @@ use Rattle.std.proofs.lemmas.List.{reverse-reverse}
 use Rattle.pg_entry.specs.declared.Kind.{Kind}
 use Rattle.pg_entry.specs.declared.Kind.TheVariants as kinds
 use Rattle.pg_entry.specs.Kinds.{kind_of}
+use Rattle.pg_outcomes.proofs.One.{fresh_antisym}
 use Rattle.pg_event.specs.declared.event.Event.{Event}
 use Rattle.pg_event.specs.declared.event.Event.TheVariants.{Write, Access, Assist, MovCr3, Invlpg, Invpcid, MovCr4Pge}
 use Rattle.pg_event.specs.declared.event.Outcome.{Outcome}
@@ -15,7 +16,6 @@ use Rattle.pg_event.specs.Values.{control_at}
 use Rattle.pg_event.specs.Walk.{Reading}
 use Rattle.pg_run_of.proofs.Standing.{none_from}
 use Rattle.pg_search.specs.declared.last.Last.{Last}
-use Rattle.pg_search.specs.Freshness.{is_as_fresh, is_as_fresh_back}
 use Rattle.pg_search.specs.Last.{NoneWitness, NoneOwn, HasOwn, pcid_by, IsLastUnder, IsLast, IsLastOf, HasNoLast}
 use Rattle.pg_search.specs.Lasts.{IsEndedBy}
 use Rattle.pg_search.specs.ReachableTables.{first_or}
@@ -35,14 +35,6 @@ use Rattle.pg_explain.specs.Walk.{IsTold, IsWalk, reading_at}
 
 some_same : {X : Type 0} (x y : X) → Some x ≡ Some y → x ≡ y
 some_same x y h = cc
-
-or_parts : (a b : Bool) → (a || b) ≡ true → (a ≡ true) ⊎ (b ≡ true)
-or_parts true b h = inl refl
-or_parts false b h = inr h
-
-and_both : (a b : Bool) → (a && b) ≡ true → (a ≡ true) × (b ≡ true)
-and_both true b h = (refl, h)
-and_both false b h = absurd (cc)
 
 -- ---- who wrote an entry
 
@@ -120,34 +112,6 @@ one_walk_now head events i (Invpcid p kind pcid la) xs ys h k = h ∙ sym k
 one_walk_now head events i (MovCr4Pge p on) xs ys h k = h ∙ sym k
 
 -- ---- when it would last have been witnessed
-
-back_antisym : (ws us : List ℕ) → is_as_fresh_back ws us ≡ true → is_as_fresh_back us ws ≡ true → ws ≡ us
-back_antisym [] [] h k = refl
-back_antisym [] (u ∷ us) h k = absurd cc
-back_antisym (w ∷ ws) [] h k = absurd cc
-back_antisym (w ∷ ws) (u ∷ us) h k =
-    elim (cases_Bool (nat_lt u w)) as (λ _. w ∷ ws ≡ u ∷ us) [
-      | inl t ↦ elim (or_parts (nat_lt w u) (u == w && is_as_fresh_back us ws) k) as (λ _. w ∷ ws ≡ u ∷ us) [
-        | inl s ↦ let below = ltb-true u w t in let above = ltb-true w u s in absurd (omega (arith, below, above))
-        | inr s ↦ let both = and_both (u == w) (is_as_fresh_back us ws) s in let below = ltb-true u w t in let same = eqb-true u w both.0 in absurd (omega (arith, below, same))
-      ]
-      | inr f ↦ elim (or_parts (nat_lt u w) (w == u && is_as_fresh_back ws us) h) as (λ _. w ∷ ws ≡ u ∷ us) [
-        | inl t ↦ let both : true ≡ false = sym t ∙ f in absurd cc
-        | inr s ↦
-            let both = and_both (w == u) (is_as_fresh_back ws us) s in
-            let same = eqb-true w u both.0 in
-            elim (or_parts (nat_lt w u) (u == w && is_as_fresh_back us ws) k) as (λ _. w ∷ ws ≡ u ∷ us) [
-              | inl r ↦ let above = ltb-true w u r in absurd (omega (arith, above, same))
-              | inr r ↦
-                  let other = and_both (u == w) (is_as_fresh_back us ws) r in
-                  let rest = back_antisym ws us both.1 other.1 in
-                  ap (λ n. n ∷ ws) same ∙ ap (λ ns. u ∷ ns) rest
-            ]
-      ]
-    ]
-
-fresh_antisym : (ws us : List ℕ) → is_as_fresh ws us ≡ true → is_as_fresh us ws ≡ true → ws ≡ us
-fresh_antisym ws us h k = sym (reverse-reverse ws) ∙ ap reverse (back_antisym (reverse ws) (reverse us) h k) ∙ reverse-reverse us
 
 abbrev last_by : ℕ → List ℕ → Option ℕ → Last
 last_by number moments other = record { number = number; moments = moments; other = other }

@@ -1,13 +1,13 @@
--- What an access might have come to, behind the cause of its rejection:
+-- The allowed outcomes of an access, behind the cause of its rejection:
 --
 --     allowed: OUTCOME by MOMENT ..     a line for each outcome, sixteen at most
 --     allowed: COUNT more               where there are more
 --     allowed: none                     where there is none
 --
--- and the same as a note in a picture, for eight at most
+-- and as a note in a picture, for six at most
 --
 --     allowed: OUTCOME; OUTCOME; .. COUNT more
-use Rattle.std.specs.Prelude.{ℕ, zero, suc, ◌-◌, List, [], ◌∷◌, ◌++◌, take, length, codes, decimal}
+use Rattle.std.specs.Prelude.{ℕ, ◌-◌, List, [], ◌∷◌, ◌++◌, take, length, codes, decimal}
 use Rattle.std.specs.Prelude.{Option, Some, None, nat_lt, ◌==◌, if◌then◌else◌}
 use Rattle.std.specs.declared.alloc.Global.{Global}
 use Rattle.std.specs.declared.vec.Vec.{Vec}
@@ -18,7 +18,7 @@ abbrev pub most_allowed : ℕ
 most_allowed = 16
 
 abbrev pub most_noted : ℕ
-most_noted = 8
+most_noted = 6
 
 abbrev pub some_lines : List Allowed → List ℕ
 some_lines [] = []

@@ -1,7 +1,6 @@
 -- What is answered of a record with one order, whatever the format is in which it is written.
 use Rattle.std.specs.Prelude.{◌≡◌, ◌<◌, ℕ, List, [], ◌∷◌, length, take, Option, Some, None}
-use Rattle.std.specs.Prelude.{Result, Ok, Err, slice_get, Bool, true, false, not, ◌&&◌, nat_le}
-use Rattle.pg_event.specs.declared.selection.Selection.{Selection}
+use Rattle.std.specs.Prelude.{Result, Ok, Err, slice_get, Bool, true, false, nat_le, ◌≤◌, ◌⊎◌}
 use Rattle.pg_event.specs.declared.event.Event.{Event}
 use Rattle.pg_event.specs.declared.event.Reason.{Reason}
 use Rattle.pg_event.specs.Heads.{Head}
@@ -15,6 +14,7 @@ use Rattle.pg_explain.specs.Bads.{bads}
 use Rattle.pg_explain.specs.Denied.{IsDenialOf, takers_in}
 use Rattle.pg_explain.specs.Explained.{IsExplained}
 use Rattle.pg_explain.specs.Tallies.{AreTallies}
+use Rattle.pg_outcomes.specs.Asked.{HasRunBefore}
 use Rattle.pg_report.specs.declared.error.AuditError.{AuditError}
 use Rattle.pg_report.specs.declared.report.Report.{Report as Reported}
 use Rattle.pg_report.specs.declared.report.Verdict.TheVariants.{Yes}
@@ -29,7 +29,8 @@ use Rattle.pg_answers.specs.declared.answer.Rejection.{Rejection as Rejected}
 use Rattle.pg_answers.specs.declared.answer.Summary.{Summary as Summed}
 use Rattle.pg_answers.specs.declared.question.Question.{Question}
 use Rattle.pg_answers.specs.declared.question.Question.TheVariants.{Check, CheckAll, Certify}
-use Rattle.pg_answers.specs.declared.question.Question.TheVariants.{Explain, ExplainAt, ExplainAll, Show}
+use Rattle.pg_answers.specs.declared.question.Question.TheVariants.{Explain, ExplainAt}
+use Rattle.pg_answers.specs.declared.question.Question.TheVariants.{ExplainAll, Show}
 use Rattle.pg_answers.specs.declared.question.Question.TheVariants as questions
 use Rattle.pg_answers.specs.Outcomes.{AreAllowed, AreAllowedAt, IsAskedEvent}
 use Rattle.pg_answers.specs.Outcomes.{IsEventOutcomesOf}
@@ -98,7 +99,8 @@ IsCertificate r (Rejection x) = IsRejection r x
 IsCertificate r (Events q selection) = ⊥
 IsCertificate r (Outcomes x) = ⊥
 
--- the report, and of a no the cause of the first bad event, and what that might have come to
+-- the report, and of a no the cause of the first bad event, and the outcomes that are allowed in
+-- the place of its own: some run of the machine has the events before it
 abbrev pub IsCause : Recorded → Answer → Type 0
 IsCause r (Report report) =
     (report ≡ report_of r) × (first_bad r.head r.events ≡ None)
@@ -106,7 +108,7 @@ IsCause r (Summary report s) = ⊥
 IsCause r (Cause report q x allowed) =
     (report ≡ report_of r) × (q ≡ r) × (n : ℕ) × (reason : Reason)
     × (first_bad r.head r.events ≡ Some (n, reason)) × IsExplained r.head r.events n x
-    × AreAllowedAt r n allowed
+    × AreAllowedAt r n allowed × HasRunBefore r n
 IsCause r (Causes report q xs s) = ⊥
 IsCause r (Rejection x) = ⊥
 IsCause r (Events q selection) = ⊥
@@ -157,24 +159,35 @@ IsOutcomesAnswerOf asked most r x (Some n) = IsOutcomesAnswerAt r n most x
 IsOutcomesAnswerOf asked most r x None = x ≡ Outcomes (NoAccess asked)
 
 abbrev pub IsOutcomesAnswer : Option ℕ → ℕ → Recorded → Answer → Type 0
-IsOutcomesAnswer asked most r x =
-    (found : Option ℕ) × IsAskedEvent r.events asked found × IsOutcomesAnswerOf asked most r x found
+IsOutcomesAnswer asked most r x = (found : Option ℕ)
+    × IsAskedEvent r.events asked found × IsOutcomesAnswerOf asked most r x found
 
--- `explain --event n`: the cause of a rejection, where event n or one before it is bad by the moments that are named;
--- else what `outcomes` answers of event n
+-- ---- `explain --event n`
+
+-- event n, or one before it, is denied, and why; or none is, and these are the outcomes of event n
+abbrev pub IsDeniedUpTo : ℕ → Recorded → Answer → Type 0
+IsDeniedUpTo n r x =
+    ((y : Rejected) × IsRejection r y × (y.denial.number ≤ n) × (x ≡ Rejection y))
+    ⊎ (((d : ℕ) → d ≤ n → IsDenied r.head r.events d → ⊥)
+    × IsOutcomesAnswer (Some n) most_allowed r x)
+
+-- whether event n, or one before it, is bad by its moments
 abbrev pub is_bad_up_to : ℕ → Option (ℕ × Reason) → Bool
 is_bad_up_to n None = false
 is_bad_up_to n (Some found) = nat_le found.0 n
 
-abbrev pub has_cause_up_to : ℕ → Recorded → Bool
-has_cause_up_to n r = not (is_unnamed r.events) && is_bad_up_to n (first_bad r.head r.events)
+-- it is, and why; or none is, and these are the outcomes of event n
+abbrev pub IsBadUpTo : Bool → ℕ → Recorded → Answer → Type 0
+IsBadUpTo true n r x = IsCause r x
+IsBadUpTo false n r x = IsOutcomesAnswer (Some n) most_allowed r x
 
+-- of a record that names no moments, and of one that names some
 abbrev pub IsExplanationAtOf : Bool → ℕ → Recorded → Answer → Type 0
-IsExplanationAtOf true n r x = IsCause r x
-IsExplanationAtOf false n r x = IsOutcomesAnswer (Some n) most_allowed r x
+IsExplanationAtOf true n r x = IsDeniedUpTo n r x
+IsExplanationAtOf false n r x = IsBadUpTo (is_bad_up_to n (first_bad r.head r.events)) n r x
 
 abbrev pub IsExplanationAt : ℕ → Recorded → Answer → Type 0
-IsExplanationAt n r x = IsExplanationAtOf (has_cause_up_to n r) n r x
+IsExplanationAt n r x = IsExplanationAtOf (is_unnamed r.events) n r x
 
 -- the answer of a question of a record
 abbrev pub IsAnswer : Question → Recorded → Answer → Type 0

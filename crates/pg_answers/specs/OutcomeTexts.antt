@@ -68,7 +68,7 @@ abbrev pub no_access_text : Option ℕ → List ℕ
 no_access_text None = codes "no access\n"
 no_access_text (Some n) = codes "no access: event " ++ (decimal n ++ codes "\n")
 
-abbrev pub event_outcomes_text : AccessOutcomes → List ℕ
+abbrev pub event_outcomes_text : EventOutcomes → List ℕ
 event_outcomes_text (Access x) = outcomes_text x
 event_outcomes_text (Assist x) = assist_text x
 event_outcomes_text (NoAccess told) = no_access_text told

@@ -1,4 +1,4 @@
-//! What an access might have come to.
+//! The allowed outcomes of an access.
 
 ghost use Rattle.std.specs.Prelude.{◌≡◌, ◌≤◌, None, length, IfOk};
 ghost use Rattle.pg_event.specs.Form.{broken_rule};

@@ -1,10 +1,8 @@
-//! What an access might have come to, behind the cause of its rejection.
+//! The allowed outcomes of an access, behind the cause of its rejection.
 
-ghost use Rattle.std.specs.Prelude.{◌≡◌, ◌++◌, IfOk, OnOk, string_bytes, take, length};
-ghost use Rattle.pg_outcomes.specs.declared.allowed.Allowed.{Allowed as Told};
-ghost use Rattle.pg_answers.specs.AllowedTexts.{most_allowed, most_noted, behind_word, some_lines};
-ghost use Rattle.pg_answers.specs.AllowedTexts.{rest_line, allowed_lines_of, noted_text};
-ghost use Rattle.pg_answers.specs.AllowedTexts.{rest_note, allowed_note};
+ghost use Rattle.std.specs.Prelude.{◌≡◌, ◌++◌, IfOk, OnOk, string_bytes, take};
+ghost use Rattle.pg_answers.specs.AllowedTexts.{some_lines, rest_line, allowed_lines_of};
+ghost use Rattle.pg_answers.specs.AllowedTexts.{noted_text, rest_note, allowed_note};
 
 use crate::outcomes_text::{push_allowed, push_result};
 use pg_outcomes::Allowed;
@@ -14,13 +12,17 @@ use std::alloc::{AllocError, Global};
 pub const MOST_ALLOWED: usize = 16;
 
 /// How many of them a picture has room for.
-const MOST_NOTED: usize = 8;
+const MOST_NOTED: usize = 6;
 
 /// The first of some outcomes, so many at most.
 pub fn first_allowed(found: &[Allowed], most: usize) -> &[Allowed]
     ensures { result.now ≡ take most found.now }
 {
-    if most < found.len() { &found[..most] } else { found }
+    if most < found.len() {
+        &found[..most]
+    } else {
+        found
+    }
 }
 
 fn push_some(text: &mut String, found: &[Allowed]) -> Result<(), AllocError>
@@ -48,8 +50,8 @@ fn push_rest(text: &mut String, count: usize) -> Result<(), AllocError>
     }
 }
 
-/// Appends a line for each outcome that the event might have had, where it is an access: sixteen at
-/// most, and then how many more.
+/// Appends a line for each allowed outcome, where the event is an access: sixteen at most, and then
+/// how many more.
 pub(crate) fn push_allowed_lines(
     text: &mut String,
     allowed: &Option<Vec<Allowed>>,
@@ -91,8 +93,8 @@ fn push_rest_noted(text: &mut String, count: usize) -> Result<(), AllocError>
     }
 }
 
-/// The same as a note in one line, without moments: eight outcomes at most. Empty of an event that
-/// is no access.
+/// The allowed outcomes in one line, without moments: six at most, and then how many more. It is
+/// empty of an event that is no access.
 pub fn allowed_note(alloc: Global, allowed: &Option<Vec<Allowed>>) -> Result<String, AllocError>
     ensures { IfOk result (λ t. string_bytes t ≡ allowed_note allowed.now) }
 {

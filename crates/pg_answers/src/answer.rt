@@ -93,8 +93,8 @@ pub enum Answer {
     Report(Report),
     /// The report, and a summary of the bad events.
     Summary(Report, Summary),
-    /// The report of a no, the record, the cause of its first bad event, and every outcome that this
-    /// event may have, where it is an access.
+    /// The report of a no, the record, the cause of its first bad event, and every outcome that it
+    /// may have in the place of its own, where it is an access.
     Cause(Report, History, Explanation, Option<Vec<Allowed>>),
     /// The report, the record, the causes of its first bad events, and a summary of all of them.
     Causes(Report, History, Vec<Explanation>, Summary),

@@ -1,8 +1,9 @@
 //! A record's report, and the cause of a rejection.
 
 ghost use Rattle.std.specs.Prelude.{◌≡◌, ◌<◌, IfErr, IfOk, length};
+ghost use Rattle.pg_event.specs.Witness.{first_bad};
 ghost use Rattle.pg_answers.specs.Answers.{IsCause, IsExplanation, IsExplanationAt};
-ghost use Rattle.pg_answers.specs.Answers.{has_cause_up_to};
+ghost use Rattle.pg_answers.specs.Answers.{IsDeniedUpTo, is_bad_up_to};
 ghost use Rattle.pg_answers.specs.Outcomes.{AreAllowedAt};
 ghost use Rattle.pg_answers.specs.Found.{MayFail};
 
@@ -10,13 +11,16 @@ use crate::allowed::allowed_at;
 use crate::allowed_text::MOST_ALLOWED;
 use crate::answer::Answer;
 use crate::certificates::certify_whole;
+use crate::denials::denial_in;
 use crate::outcomes::outcomes_asked;
 use crate::summaries::cause_of;
 use crate::unnamed::is_unnamed;
+use pg_certify::{certified_events_run, denied_events_have_no_run, first_denied};
 use pg_check::History;
 use pg_outcomes::Allowed;
 use pg_plan::Checkers;
 use pg_report::{AuditError, Verdict, report_of};
+use pg_run_of::accepted_events_run;
 use pg_search::Seen;
 use std::alloc::{AllocError, AllocGlobal, Global};
 use std::sync::Wait;
@@ -36,10 +40,14 @@ fn allowed_in(
 }
 
 /// The report of a history, and the cause if it is rejected: the first bad event, what its moments
-/// read, what the reason found, whether other moments would do, and what it might have come to.
+/// read, what the reason found, whether other moments would do, and which outcomes are allowed in the
+/// place of its own.
 fn caused(alloc: Global, history: History) -> Result<Answer, AllocError>
     ensures { IfOk result (IsCause history) }
 {
+    // Events that are witnessed have a run.
+    accepted_events_run();
+    let _events = history.events();
     let report = report_of(&history);
     match report.verdict {
         Verdict::Yes => Ok(Answer::Report(report)),
@@ -51,21 +59,37 @@ fn caused(alloc: Global, history: History) -> Result<Answer, AllocError>
     }
 }
 
-/// Whether it names moments by which this event, or one before it, is bad.
-fn has_cause_up_to(history: &History, number: u32) -> bool
-    ensures { result ≡ has_cause_up_to number history.now }
+/// Whether the event with this number, or one before it, is bad by its moments.
+fn is_bad_up_to(history: &History, number: u32) -> bool
+    ensures { result ≡ is_bad_up_to number (first_bad history.now.head history.now.events) }
 {
-    if is_unnamed(history.events()) {
-        return false;
-    }
     match report_of(history).verdict {
         Verdict::Yes => false,
         Verdict::No { event, .. } => event <= number as u64,
     }
 }
 
-/// The cause of a rejection of a history at this event or before it; else what the event may come
-/// to.
+/// Why the event with this number, or one before it, is denied, of a history that names no moments;
+/// or else the outcomes of the event.
+fn denied_up_to(alloc: Global, history: &History, number: u32) -> Result<Answer, AllocError>
+    ensures { IfOk result (IsDeniedUpTo number history.now) }
+{
+    // What a yes and a no say of runs.
+    certified_events_run();
+    denied_events_have_no_run();
+    let _events = history.events();
+    match first_denied(alloc, history)? {
+        Some(denied) => if denied <= number as u64 {
+            Ok(Answer::Rejection(denial_in(alloc, history, denied)?))
+        } else {
+            outcomes_asked(alloc, history, Some(number), MOST_ALLOWED as u32)
+        }
+        None => outcomes_asked(alloc, history, Some(number), MOST_ALLOWED as u32),
+    }
+}
+
+/// The cause of a rejection of a history at the event with this number or before it; or else the
+/// outcomes of the event.
 pub(crate) fn explained_at(
     alloc: Global,
     history: History,
@@ -73,7 +97,9 @@ pub(crate) fn explained_at(
 ) -> Result<Answer, AllocError>
     ensures { IfOk result (IsExplanationAt number history) }
 {
-    if has_cause_up_to(&history, number) {
+    if is_unnamed(history.events()) {
+        denied_up_to(alloc, &history, number)
+    } else if is_bad_up_to(&history, number) {
         caused(alloc, history)
     } else {
         outcomes_asked(alloc, &history, Some(number), MOST_ALLOWED as u32)

@@ -45,7 +45,7 @@ fn all_may_be_unnamed(events: &[Event]) -> bool
 /// Whether some event is an access or an assist, and each of them has the placeholder that a
 /// recorder writes which keeps no moments.
 #[tactic(auto, unfolding(crate::specs::Unnamed::is_unnamed))]
-pub(crate) fn is_unnamed(events: &[Event]) -> bool
+pub fn is_unnamed(events: &[Event]) -> bool
     ensures { result ≡ is_unnamed events.now }
 {
     any_names_moments(events) && all_may_be_unnamed(events)

@@ -142,7 +142,7 @@ fn history_of(alloc: Global, run: &SpannedRun, order: &[u32]) -> Result<History,
     Ok(history)
 }
 
-/// The events of a run in an order in which `certify_in_order` says that some moments witness them.
+/// The events of a run in an order in which some run of the machine has them.
 ///
 /// It fails only where memory is refused.
 pub fn history_in_order(
@@ -159,7 +159,8 @@ pub fn history_in_order(
     history_of(alloc, run, order)
 }
 
-/// These events, each with moments that witness it.
+/// The events of a run in an order in which `certify_in_order` says that some moments witness them,
+/// each with such moments.
 ///
 /// It fails only where memory is refused.
 pub fn moments_in_order(

@@ -2,3 +2,4 @@ pub mod Spelled
 pub mod Taking
 pub mod Telling
 pub mod Found
+mod Placed

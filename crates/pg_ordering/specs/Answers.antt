@@ -1,5 +1,5 @@
 -- What `certify` answers of a record with no one order (versions 3 and 4).
-use Rattle.std.specs.Prelude.{◌≡◌, ◌⊎◌, ℕ, List, Option, Result, Ok, Err}
+use Rattle.std.specs.Prelude.{◌≡◌, ◌⊎◌, ℕ, List, Option, Result, Ok, Err, None}
 use Rattle.pg_event.specs.declared.event.Event.{Event}
 use Rattle.pg_event.specs.Spelling.{Recorded, record_bytes}
 use Rattle.pg_run_of.specs.Law.{HasRun}
@@ -18,13 +18,14 @@ use Rattle.pg_ordering.specs.declared.reading.Unread.{Unread}
 use Rattle.pg_ordering.specs.declared.reading.Unread.TheVariants.{Refused, Device, Memory}
 use Rattle.pg_ordering.specs.declared.asked.Asked.{Asked}
 use Rattle.pg_ordering.specs.declared.asked.Asked.TheVariants.{Report, Picture, Record, Order}
-use Rattle.pg_ordering.specs.declared.asked.Asked.TheVariants.{Outcomes}
+use Rattle.pg_ordering.specs.declared.asked.Asked.TheVariants.{Outcomes, Trace}
 use Rattle.pg_ordering.specs.declared.outcomes.OrderedOutcomes.{OrderedOutcomes}
 use Rattle.pg_ordering.specs.Outcomes.{AreInOrder, ordered_outcomes_text}
 use Rattle.pg_answers.specs.Answers.{event_outcomes_status}
 use Rattle.pg_ordering.specs.Readings.{ReadsRun, DeviceTold}
 use Rattle.pg_ordering.specs.Refusals.{spans_line}
-use Rattle.pg_ordering.specs.Texts.{report_text, drawn_text, order_text}
+use Rattle.pg_ordering.specs.Texts.{report_text, drawn_text, order_text, never_in}
+use Rattle.pg_trace.specs.Spans.{document_text, never_mark}
 
 abbrev pub status_of : Verdict → ℕ
 status_of (Yes order) = 0
@@ -61,6 +62,13 @@ GivesReport s verdict output errors status =
 abbrev pub GivesPicture : Spanned → Verdict → Change → Change → ℕ → Type 0
 GivesPicture s verdict output errors status =
     GivesOut (drawn_text s verdict) (status_of verdict) output errors status
+    ⊎ WantsMemory output errors status
+
+-- the trace of the record, with the event of a no to which no run comes
+abbrev pub GivesTrace : Spanned → Verdict → Change → Change → ℕ → Type 0
+GivesTrace s verdict output errors status =
+    GivesOut (document_text None (never_mark s (never_in verdict)) s) (status_of verdict)
+    output errors status
     ⊎ WantsMemory output errors status
 
 abbrev pub GivesReportAside : Spanned → Verdict → Change → Change → ℕ → Type 0
@@ -138,8 +146,8 @@ GivesOutcomes event most s (NoneOfAll n) output errors status =
 GivesOutcomes event most s (Undecided n) output errors status =
     GivesReport s (Undecided n) output errors status
 
--- what is asked for of a verdict: its report, its picture, a record, an order, or the outcomes of
--- an event
+-- what is asked for of a verdict: its report, its picture, a record, an order, a trace, or the
+-- outcomes of an event
 abbrev pub Gives : Asked → Spanned → Verdict → Change → Change → ℕ → Type 0
 Gives Report s verdict output errors status = GivesReport s verdict output errors status
 Gives Picture s verdict output errors status = GivesPicture s verdict output errors status
@@ -147,6 +155,7 @@ Gives Record s verdict output errors status = GivesNamed s verdict output errors
 Gives Order s verdict output errors status = GivesOrdered s verdict output errors status
 Gives (Outcomes event most) s verdict output errors status =
     GivesOutcomes event most s verdict output errors status
+Gives Trace s verdict output errors status = GivesTrace s verdict output errors status
 
 -- a verdict on a run that is so is given, or memory ran out
 abbrev pub AnswersRun : Asked → Spanned → Change → Change → ℕ → Type 0

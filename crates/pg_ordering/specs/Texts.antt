@@ -1,5 +1,5 @@
 -- What is written of a record with no one order.
-use Rattle.std.specs.Prelude.{ℕ, List, [], ◌++◌, length, codes, decimal}
+use Rattle.std.specs.Prelude.{ℕ, List, [], ◌++◌, length, Option, Some, None, codes, decimal}
 use Rattle.std.specs.List.{flat_map}
 use Rattle.std.specs.Int.{div_ceil}
 use Rattle.pg_report.specs.Text.{counts_text}
@@ -55,6 +55,13 @@ drawn_text s (Yes order) = report_text s (Yes order)
 drawn_text s (Never n edges) = picture_text s n
 drawn_text s (NoneOfAll n) = report_text s (NoneOfAll n)
 drawn_text s (Undecided n) = report_text s (Undecided n)
+
+-- the event to which no run comes, where that is known of one
+abbrev pub never_in : Verdict → Option ℕ
+never_in (Yes order) = None
+never_in (Never n edges) = Some n
+never_in (NoneOfAll n) = None
+never_in (Undecided n) = None
 
 -- the number of each event of an order, a line each
 abbrev pub order_text : List ℕ → List ℕ

@@ -13,12 +13,13 @@ ghost use Rattle.pg_ordering.specs.Answers.{Gives, GivesNamed, GivesOrdered, Giv
 ghost use Rattle.pg_ordering.specs.Answers.{GivesReportAside, GivesPicture, GivesRecord};
 ghost use Rattle.pg_ordering.specs.Answers.{GivesOutcomes, GivesOutcomesIn, GivesTold};
 ghost use Rattle.pg_ordering.specs.Answers.{GivesOrder, TellsUnread, WantsMemory, status_of};
+ghost use Rattle.pg_ordering.specs.Answers.{GivesTrace};
 
 use crate::asked::Asked;
 use crate::outcomes::{OrderedOutcomes, ordered_outcomes_text, outcomes_in_order};
 use crate::reading::{Unread, read_run};
 use crate::refusals::tell_refusal;
-use crate::texts::{drawn_text, order_text, report_text};
+use crate::texts::{drawn_text, never_in, order_text, report_text};
 use pg_answers::event_outcomes_status;
 use pg_auditing::{MEMORY, NO, REFUSED, YES, tell};
 use pg_codec::{Sink, Source, put_all, write_record};
@@ -26,6 +27,7 @@ use pg_event::{Event, Header};
 use pg_order::{Verdict, find_ordered_run, moments_in_order};
 use pg_report::AuditError;
 use pg_spanned::SpannedRun;
+use pg_trace::spanned_verdict_trace;
 use std::alloc::Global;
 
 /// Of what is undecided.
@@ -109,6 +111,23 @@ fn give_picture<O: Sink, E: Sink>(
         (filled O.Sink output.old output.new) (filled E.Sink errors.old errors.new) result }
 {
     match drawn_text(alloc, run, verdict) {
+        Ok(text) => give_out(output, errors, text.as_bytes(), status_of(verdict)),
+        Err(_) => tell_memory(output, errors),
+    }
+}
+
+/// Writes the trace of a run, with the event of a no.
+fn give_trace<O: Sink, E: Sink>(
+    alloc: Global,
+    run: &SpannedRun,
+    verdict: &Verdict,
+    output: &mut O,
+    errors: &mut E,
+) -> u8
+    ensures { GivesTrace run.now verdict.now
+        (filled O.Sink output.old output.new) (filled E.Sink errors.old errors.new) result }
+{
+    match spanned_verdict_trace(alloc, run, never_in(verdict)) {
         Ok(text) => give_out(output, errors, text.as_bytes(), status_of(verdict)),
         Err(_) => tell_memory(output, errors),
     }
@@ -305,6 +324,7 @@ fn give_verdict<O: Sink, E: Sink>(
         Asked::Outcomes(event, most) => give_outcomes_if(
             alloc, event, most, run, verdict, output, errors,
         ),
+        Asked::Trace => give_trace(alloc, run, verdict, output, errors),
     }
 }
 
@@ -346,8 +366,9 @@ pub(crate) fn tell_unread<O: Sink, E: Sink>(output: &mut O, errors: &mut E, why:
 /// Reads the record of version 3 or 4 that `input` has left, and writes whether its events have an
 /// order in which some run of the machine has them (Intel SDM, vol. 3, 4.10): the report, or where
 /// the answer is yes the record or the order that is asked for in its place; then the report of
-/// another answer goes to `errors`; or the outcomes of an event in that order. Where a picture is asked for, that of a no's cause is written
-/// in the place of its report. Nothing is written before it is ready. It gives the exit status: 0
+/// another answer goes to `errors`; or the outcomes of an event in that order. Where a picture is
+/// asked for, that of a no's cause is written in the place of its report, and where a trace is, that
+/// of the record. Nothing is written before it is ready. It gives the exit status: 0
 /// yes, 1 no, 2 refused, 3 memory, 4 undecided.
 ///
 /// The record is held in memory whole.

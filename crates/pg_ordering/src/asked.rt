@@ -14,4 +14,6 @@ pub enum Asked {
     /// order that was found, or the last access where no number is given; so many of them are told
     /// at most.
     Outcomes(Option<u32>, u32),
+    /// The trace of its events, with the event of a no to which no run comes.
+    Trace,
 }

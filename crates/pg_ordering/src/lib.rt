@@ -17,5 +17,5 @@ pub use asked::Asked;
 pub use merging::merge;
 pub use outcomes::{OrderedOutcomes, outcomes_in_order};
 pub use reading::{Unread, read_run};
-pub use showing::show_spanned;
+pub use showing::{show_spanned, trace_spanned};
 pub use texts::segments_of;

@@ -2,7 +2,7 @@
 
 ghost use Rattle.pg_report.specs.Changes.{filled};
 ghost use Rattle.pg_auditing.specs.Streams.{streams};
-ghost use Rattle.pg_ordering.specs.Shown.{GivesLines, ShowsSpans};
+ghost use Rattle.pg_ordering.specs.Shown.{GivesLines, GivesEvents, ShowsSpans, TracesSpans};
 
 use crate::answers::{give_out, tell_memory, tell_unread};
 use crate::reading::read_run;
@@ -11,6 +11,7 @@ use pg_codec::{Sink, Source};
 use pg_event::Selection;
 use pg_spanned::SpannedRun;
 use pg_spanned_text::spanned_lines;
+use pg_trace::spanned_trace;
 use std::alloc::Global;
 
 /// Writes the lines of a run's events that a selection asks for.
@@ -45,6 +46,40 @@ pub fn show_spanned<R: Source, O: Sink, E: Sink>(
 {
     match read_run(alloc, input) {
         Ok(run) => give_lines(alloc, selection, &run, output, errors),
+        Err(why) => tell_unread(output, errors, why),
+    }
+}
+
+/// Writes the trace of a run's events that a selection asks for.
+fn give_events<O: Sink, E: Sink>(
+    alloc: Global,
+    selection: Selection,
+    run: &SpannedRun,
+    output: &mut O,
+    errors: &mut E,
+) -> u8
+    ensures { GivesEvents selection run.now
+        (filled O.Sink output.old output.new) (filled E.Sink errors.old errors.new) result }
+{
+    match spanned_trace(alloc, selection, run) {
+        Ok(text) => give_out(output, errors, text.as_bytes(), YES),
+        Err(_) => tell_memory(output, errors),
+    }
+}
+
+/// Writes these events as a trace, where an event lasts from its beginning to its end.
+pub fn trace_spanned<R: Source, O: Sink, E: Sink>(
+    alloc: Global,
+    selection: Selection,
+    input: &mut R,
+    output: &mut O,
+    errors: &mut E,
+) -> u8
+    ensures { TracesSpans selection (streams R.Source O.Sink E.Sink
+        (input.old, output.old, errors.old) (input.new, output.new, errors.new)) result }
+{
+    match read_run(alloc, input) {
+        Ok(run) => give_events(alloc, selection, &run, output, errors),
         Err(why) => tell_unread(output, errors, why),
     }
 }

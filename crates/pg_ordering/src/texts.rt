@@ -4,6 +4,7 @@ ghost use Rattle.std.specs.Prelude.{◌≡◌, ◌++◌, IfOk, OnOk, codes, deci
 ghost use Rattle.std.specs.List.{flat_map};
 ghost use Rattle.pg_ordering.specs.Texts.{report_text, order_text, segments_of, counts_of};
 ghost use Rattle.pg_ordering.specs.Texts.{head_text, cause_of, none_of_all, drawn_text, edge_line};
+ghost use Rattle.pg_ordering.specs.Texts.{never_in};
 
 use pg_order::Verdict;
 use pg_relaxed::Edge;
@@ -115,6 +116,16 @@ pub(crate) fn drawn_text(
         Verdict::Yes(_) | Verdict::NoneOfAll(_) | Verdict::Undecided(_) => report_text(
             alloc, run, verdict,
         ),
+    }
+}
+
+/// The event to which no run comes, where that is known of one.
+pub(crate) fn never_in(verdict: &Verdict) -> Option<u64>
+    ensures { result ≡ never_in verdict.now }
+{
+    match verdict {
+        Verdict::Never(event, _) => Some(*event),
+        Verdict::Yes(_) | Verdict::NoneOfAll(_) | Verdict::Undecided(_) => None,
     }
 }
 

@@ -2,5 +2,5 @@ mod Words
 mod Walks
 mod Whole
 mod Steps
-mod Meaning
+pub mod Meaning
 pub mod One

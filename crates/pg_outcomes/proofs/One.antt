@@ -1,7 +1,7 @@
 -- There is one list of the outcomes of an access.
 use Rattle.std.proofs.Common.{◌≡◌, ℕ, zero, suc, ◌<◌, ◌&&◌, ◌==◌, nat_lt, Bool, true, false, List, [], ◌∷◌, length, get_or, reverse, refl, ap, sym, ◌∙◌, subst, inl, inr, ◌⊎◌, arith}
 use Rattle.std.specs.List.{All, Any, AllPairs}
-use Rattle.std.proofs.lemmas.Bool.{cases_Bool, or_parts, and_both, eqb-true, ltb-true}
+use Rattle.std.proofs.lemmas.Bool.{cases_Bool, or_cases, and_parts, eqb-true, ltb-true}
 use Rattle.std.proofs.lemmas.List.{reverse-reverse}
 use Rattle.pg_event.specs.declared.event.Event.{Event}
 use Rattle.pg_event.specs.declared.event.Outcome.{Outcome}
@@ -23,19 +23,19 @@ back_antisym [] (u ∷ us) h k = absurd cc
 back_antisym (w ∷ ws) [] h k = absurd cc
 back_antisym (w ∷ ws) (u ∷ us) h k =
     elim (cases_Bool (nat_lt u w)) as (λ _. w ∷ ws ≡ u ∷ us) [
-      | inl t ↦ elim (or_parts (nat_lt w u) (u == w && is_as_fresh_back us ws) k) as (λ _. w ∷ ws ≡ u ∷ us) [
+      | inl t ↦ elim (or_cases (nat_lt w u) (u == w && is_as_fresh_back us ws) k) as (λ _. w ∷ ws ≡ u ∷ us) [
         | inl s ↦ let below = ltb-true u w t in let above = ltb-true w u s in absurd (omega (arith, below, above))
-        | inr s ↦ let both = and_both (u == w) (is_as_fresh_back us ws) s in let below = ltb-true u w t in let same = eqb-true u w both.0 in absurd (omega (arith, below, same))
+        | inr s ↦ let both = and_parts (u == w) (is_as_fresh_back us ws) s in let below = ltb-true u w t in let same = eqb-true u w both.0 in absurd (omega (arith, below, same))
       ]
-      | inr f ↦ elim (or_parts (nat_lt u w) (w == u && is_as_fresh_back ws us) h) as (λ _. w ∷ ws ≡ u ∷ us) [
+      | inr f ↦ elim (or_cases (nat_lt u w) (w == u && is_as_fresh_back ws us) h) as (λ _. w ∷ ws ≡ u ∷ us) [
         | inl t ↦ let both : true ≡ false = sym t ∙ f in absurd cc
         | inr s ↦
-            let both = and_both (w == u) (is_as_fresh_back ws us) s in
+            let both = and_parts (w == u) (is_as_fresh_back ws us) s in
             let same = eqb-true w u both.0 in
-            elim (or_parts (nat_lt w u) (u == w && is_as_fresh_back us ws) k) as (λ _. w ∷ ws ≡ u ∷ us) [
+            elim (or_cases (nat_lt w u) (u == w && is_as_fresh_back us ws) k) as (λ _. w ∷ ws ≡ u ∷ us) [
               | inl r ↦ let above = ltb-true w u r in absurd (omega (arith, above, same))
               | inr r ↦
-                  let other = and_both (u == w) (is_as_fresh_back us ws) r in
+                  let other = and_parts (u == w) (is_as_fresh_back us ws) r in
                   let rest = back_antisym ws us both.1 other.1 in
                   ap (λ n. n ∷ ws) same ∙ ap (λ ns. u ∷ ns) rest
             ]
@@ -132,7 +132,7 @@ module _ (r : Recorded) (n : ℕ) (e : Event) where
       let same = one_first x y xs ys rise rises into back in
       let first : x ≡ y = one_told x y same (told 0 x (omega arith)) (tells 0 y (omega arith)) in
       let rest = one_list xs ys (λ k d lt. told (suc k) d (omega (arith, lt))) (λ k d lt. tells (suc k) d (omega (arith, lt)))
-          (rest_rises x xs rise) (rest_rises y ys rises) (rest_among x y xs ys same rise into) (rest_among y x ys xs (sym same) rises back) in
+      (rest_rises x xs rise) (rest_rises y ys rises) (rest_among x y xs ys same rise into) (rest_among y x ys xs (sym same) rises back) in
       ap (λ z. z ∷ xs) first ∙ ap (λ zs. y ∷ zs) rest
 
   -- an outcome that is told is allowed

@@ -107,35 +107,34 @@ event_there (x ∷ xs) zero lt = (x, refl)
 event_there (x ∷ xs) (suc n) lt = event_there xs n (omega (arith, lt))
 
 -- what a word has at a moment it had at none, or an event before it left it
-last_left : (events : List Event) (w word : ℕ) → w ≤ length events → (mem_at events w word ≡ 0)
+abbrev IsLeft : List Event → ℕ → ℕ → Type 0
+IsLeft events w word = (mem_at events w word ≡ 0)
     ⊎ ((i : ℕ) × (e : Event) × (i < w) × (slice_get events i ≡ Some e) × (word_of e ≡ Some word) × (mem_at events (i + 1) word ≡ mem_at events w word))
+
+left_on : (events : List Event) (w word : ℕ) → mem_at events w word ≡ mem_at events (suc w) word → IsLeft events w word → IsLeft events (suc w) word
+left_on events w word same (inl none) = inl (sym same ∙ none)
+left_on events w word same (inr h) = inr (h.0, h.1, omega (arith, h.2), h.3, h.4, h.5 ∙ same)
+
+-- by what the event before the moment writes
+left_by : (events : List Event) (w word : ℕ) (e : Event) (o : Option ℕ) → slice_get events w ≡ Some e → word_of e ≡ o → IsLeft events w word → IsLeft events (suc w) word
+left_by events w word e None at is before =
+    let next : w + 1 ≡ suc w = omega arith in
+    let apart : word_of e ≢ Some word = λ same. let no : None ≡ Some word = sym is ∙ same in absurd (cc) in
+    left_on events w word (sym (same_value events w word e at apart) ∙ ap (λ k. mem_at events k word) next) before
+left_by events w word e (Some x) at is before =
+    let next : w + 1 ≡ suc w = omega arith in
+    elim (cases_eq x word) as (λ _. IsLeft events (suc w) word) [
+      | inl same ↦ inr (w, e, omega arith, at, is ∙ ap Some same, ap (λ k. mem_at events k word) next)
+      | inr other ↦
+          let apart : word_of e ≢ Some word = λ same. let both : Some x ≡ Some word = sym is ∙ same in let one : x ≡ word = cc in other one in
+          left_on events w word (sym (same_value events w word e at apart) ∙ ap (λ k. mem_at events k word) next) before
+    ]
+
+last_left : (events : List Event) (w word : ℕ) → w ≤ length events → IsLeft events w word
 last_left events zero word le = inl (nothing_yet events word)
 last_left events (suc w) word le =
     let there = event_there events w (omega (arith, le)) in
-    by_event there.0 there.1 (word_of there.0) refl
-  where
-    next : w + 1 ≡ suc w
-    next = omega arith
-
-    kept : (e : Event) → slice_get events w ≡ Some e → word_of e ≢ Some word → mem_at events w word ≡ mem_at events (suc w) word
-    kept e at apart = sym (same_value events w word e at apart) ∙ ap (λ k. mem_at events k word) next
-
-    before : (e : Event) → slice_get events w ≡ Some e → word_of e ≢ Some word → (mem_at events (suc w) word ≡ 0)
-        ⊎ ((i : ℕ) × (e : Event) × (i < suc w) × (slice_get events i ≡ Some e) × (word_of e ≡ Some word) × (mem_at events (i + 1) word ≡ mem_at events (suc w) word))
-    before e at apart =
-        elim (last_left events w word (omega (arith, le))) [
-          | inl none ↦ inl (sym (kept e at apart) ∙ none)
-          | inr h ↦ inr (h.0, h.1, omega (arith, h.2), h.3, h.4, h.5 ∙ kept e at apart)
-        ]
-
-    by_event : (e : Event) → slice_get events w ≡ Some e → (o : Option ℕ) → word_of e ≡ o → (mem_at events (suc w) word ≡ 0)
-        ⊎ ((i : ℕ) × (e : Event) × (i < suc w) × (slice_get events i ≡ Some e) × (word_of e ≡ Some word) × (mem_at events (i + 1) word ≡ mem_at events (suc w) word))
-    by_event e at None is = before e at (λ (same : word_of e ≡ Some word). let no : None ≡ Some word = sym is ∙ same in absurd (cc))
-    by_event e at (Some x) is =
-        elim (cases_eq x word) [
-          | inl same ↦ inr (w, e, omega arith, at, is ∙ ap Some same, ap (λ k. mem_at events k word) next)
-          | inr apart ↦ before e at (λ (same : word_of e ≡ Some word). let both : Some x ≡ Some word = sym is ∙ same in let one : x ≡ word = cc in apart one)
-        ]
+    left_by events w word there.0 (word_of there.0) there.1 refl (last_left events w word (omega (arith, le)))
 
 -- ---- words that were written, one after another
 
@@ -143,8 +142,8 @@ last_left events (suc w) word le =
 abbrev pub HaveFirst : Recorded → ℕ → List Written → ℕ → List ℕ → Type 0
 HaveFirst r la ws k pages = (j page : ℕ) (x : Written) (level : Level) → j < k → slice_get ws j ≡ Some x → page_at r x.since x.word level la ≡ Some page → Contains pages page
 
-pub first_none : (r : Recorded) (la : ℕ) (ws : List Written) → HaveFirst r la ws 0 []
-first_none r la ws j page x level lt at h = absurd (omega (arith, lt))
+pub first_none : (r : Recorded) (la : ℕ) (ws : List Written) (pages : List ℕ) → HaveFirst r la ws 0 pages
+first_none r la ws pages j page x level lt at h = absurd (omega (arith, lt))
 
 some_written : (x y : Written) → Some x ≡ Some y → x ≡ y
 some_written x y h = cc

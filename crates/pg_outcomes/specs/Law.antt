@@ -24,7 +24,7 @@ AllowedExactlyWhereARunExists =
     IsAllowed head events n e o
     ↔ HasRunButMoments head (take n events ++ with_outcome o e ∷ [])
 
--- the outcomes by what is kept of the events of a run are those by all of them
+-- what are the outcomes by what is kept of the events of a run are the outcomes by all of them
 abbrev pub OutcomesAmongKept : Type 0
 OutcomesAmongKept =
     (head : Head) (kept events : List Event) (n : ℕ) (e : Event) (xs : List Allowed) →
@@ -32,7 +32,7 @@ OutcomesAmongKept =
     AreOutcomes (record { head = head; events = kept }) n e xs →
     AreOutcomes (record { head = head; events = events }) n e xs
 
--- the outcomes of an access, and moments for them, are told in one way
+-- there is one list of the outcomes of an access, with moments for each
 abbrev pub OutcomesAreOne : Type 0
 OutcomesAreOne = (r : Recorded) (n : ℕ) (e : Event) (xs ys : List Allowed) →
     AreOutcomes r n e xs → AreOutcomes r n e ys → xs ≡ ys

@@ -40,7 +40,7 @@ abbrev pub HavePages : Recorded → ℕ → ℕ → List ℕ → Type 0
 HavePages r moment la pages = (w word page : ℕ) (level : Level) → w ≤ moment →
     page_at r w word level la ≡ Some page → Contains pages page
 
--- the second are the numbers of the first, ascending, each once
+-- the second ascend, each once, and the numbers of the first are among them
 pub record AreAscending (xs ys : List ℕ) : Type 0 where
   pub rise : IsStrictlyIncreasing ys
   pub all : (x : ℕ) → Contains xs x → Contains ys x

@@ -15,7 +15,7 @@ pub fn allowed_exactly_where_a_run_exists()
     certified_exactly_where_a_run_exists();
 }
 
-/// The outcomes of an access by what is kept of a run are those by all of its events.
+/// What are the outcomes of an access by what is kept of a run are its outcomes by all events.
 pub fn outcomes_among_kept()
     ensures { OutcomesAmongKept }
 {

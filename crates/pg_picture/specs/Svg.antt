@@ -88,12 +88,15 @@ taken_text None None = codes "last: never"
 taken_text None (Some last) = seen_text last
 taken_text (Some ws) last = []
 
--- the lines above the lanes, the last of which is a note
-abbrev pub lines_text : List Event → Explanation → List ℕ → List ℕ
-lines_text events x note =
+-- the lines above the lanes: the cause, and a note
+abbrev pub cause_lines : List Event → Explanation → List ℕ
+cause_lines events x =
     finding_line (finding_text events x.finding)
     ++ (placed_text 10 44 (last_text (deed_name (slice_get events x.number)) x.other)
-    ++ (placed_text 10 62 (taken_text x.other x.last) ++ placed_text 10 80 note))
+    ++ placed_text 10 62 (taken_text x.other x.last))
+
+abbrev pub lines_text : List Event → Explanation → List ℕ → List ℕ
+lines_text events x note = cause_lines events x ++ placed_text 10 80 note
 
 -- ---- lanes
 

@@ -2,7 +2,8 @@
 
 ghost use Rattle.std.specs.Prelude.{◌≡◌, ◌++◌, IfOk, OnOk, string_bytes};
 ghost use Rattle.pg_picture.specs.Svg.{open_text, markers_text, paper_text, title_text};
-ghost use Rattle.pg_picture.specs.Svg.{finding_line, seen_text, taken_text, lines_text, lanes_text};
+ghost use Rattle.pg_picture.specs.Svg.{finding_line, seen_text, taken_text, cause_lines};
+ghost use Rattle.pg_picture.specs.Svg.{lines_text, lanes_text};
 ghost use Rattle.pg_picture.specs.Svg.{event_box_text, event_boxes_text, entry_box_text};
 ghost use Rattle.pg_picture.specs.Svg.{entry_boxes_text, arrows_text, head_text, lanes_of};
 ghost use Rattle.pg_picture.specs.Svg.{things_text, svg_text, IsPicture};
@@ -91,6 +92,28 @@ fn push_taken(
     }
 }
 
+/// Appends the lines of the cause.
+fn push_cause_lines(
+    alloc: Global,
+    text: &mut String,
+    events: &[Event],
+    explanation: &Explanation,
+) -> Result<(), AllocError>
+    ensures { OnOk result (string_bytes text.new
+        ≡ string_bytes text.old ++ cause_lines events.now explanation.now) }
+{
+    let mut finding = String::new(alloc);
+    push_finding(&mut finding, events, explanation.finding)?;
+    push_finding_line(text, finding.as_str())?;
+    let mut other = String::new(alloc);
+    let deed = deed_name(events, explanation.number);
+    push_last(&mut other, deed, explanation.other)?;
+    push_placed(text, 10, 44, other.as_str())?;
+    let mut taken = String::new(alloc);
+    push_taken(&mut taken, explanation.other, explanation.last)?;
+    push_placed(text, 10, 62, taken.as_str())
+}
+
 /// Appends the lines above the lanes.
 fn push_lines(
     alloc: Global,
@@ -102,16 +125,7 @@ fn push_lines(
     ensures { OnOk result (string_bytes text.new
         ≡ string_bytes text.old ++ lines_text events.now explanation.now note.now) }
 {
-    let mut finding = String::new(alloc);
-    push_finding(&mut finding, events, explanation.finding)?;
-    push_finding_line(text, finding.as_str())?;
-    let mut other = String::new(alloc);
-    let deed = deed_name(events, explanation.number);
-    push_last(&mut other, deed, explanation.other)?;
-    push_placed(text, 10, 44, other.as_str())?;
-    let mut taken = String::new(alloc);
-    push_taken(&mut taken, explanation.other, explanation.last)?;
-    push_placed(text, 10, 62, taken.as_str())?;
+    push_cause_lines(alloc, text, events, explanation)?;
     push_placed(text, 10, 80, note)
 }
 

@@ -58,9 +58,9 @@ check_short : Gives (codes "check" ∷ codes "-j" ∷ codes "65" ∷ []) (ValueV
 unfolding clap_on_literals
 check_short = refl
 
-asks_certify : Asks (codes "certify" ∷ codes "--bytes" ∷ []) (quiet (Certify (record { checkers = 1; bytes = true; order = false; first = false; json = false }))) None
+asks_certify : Asks (codes "certify" ∷ codes "--bytes" ∷ []) (quiet (Certify (record { checkers = 1; bytes = true; order = false; first = false; json = false; trace = false }))) None
 unfolding clap_on_literals has_conflict
-asks_certify = (refl, ((refl, record { checkers = refl; bytes = refl; order = refl; first = refl; json = refl }), refl, refl, refl), refl)
+asks_certify = (refl, ((refl, record { checkers = refl; bytes = refl; order = refl; first = refl; json = refl; trace = refl }), refl, refl, refl), refl)
 
 certify_single : Gives (codes "certify" ∷ codes "--single" ∷ []) (UnknownArgument ∷ [])
 unfolding clap_on_literals
@@ -221,9 +221,9 @@ seven : first_of (codes "to") show_options ≡ Some (codes "7")
 unfolding clap_on_literals
 seven = refl
 
-asks_show : Asks show_words (quiet (Show (record { selection = record every { from = 5; to = 7 }; json = false }))) None
+asks_show : Asks show_words (quiet (Show (record { selection = record every { from = 5; to = 7 }; json = false; trace = false }))) None
 unfolding clap_on_literals has_conflict
-asks_show = (refl, ((refl, record { selection = record { from = subst (λ o. IsAsked 0 o 5) (sym five) ((omega arith, (omega arith, tt)), refl, omega arith); to = subst (λ o. IsAsked 4294967295 o 7) (sym seven) ((omega arith, (omega arith, tt)), refl, omega arith); cpu = tt; page = tt; loads = refl; word = tt }; json = refl }), refl, refl, refl), refl)
+asks_show = (refl, ((refl, record { selection = record { from = subst (λ o. IsAsked 0 o 5) (sym five) ((omega arith, (omega arith, tt)), refl, omega arith); to = subst (λ o. IsAsked 4294967295 o 7) (sym seven) ((omega arith, (omega arith, tt)), refl, omega arith); cpu = tt; page = tt; loads = refl; word = tt }; json = refl; trace = refl }), refl, refl, refl), refl)
 
 -- ---- what is asked of the events themselves
 
@@ -260,9 +260,9 @@ is_3 = (((omega arith, (omega arith, tt)), refl, omega arith), omega arith)
 is_5f0 : IsPageIn (codes "0x5F0") 1520
 is_5f0 = ((codes "5F0", refl, (omega arith, (omega arith, (omega arith, (omega arith, (omega arith, tt)))), refl, omega arith)), refl)
 
-asks_filter : Asks filter_words (quiet (Show (record { selection = record every { cpu = Some 3; page = Some 1520 }; json = false }))) None
+asks_filter : Asks filter_words (quiet (Show (record { selection = record every { cpu = Some 3; page = Some 1520 }; json = false; trace = false }))) None
 unfolding clap_on_literals has_conflict
-asks_filter = (refl, ((refl, record { selection = record { from = refl; to = refl; cpu = subst (λ o. IsOptional IsCpuIn o (Some 3)) (sym third) is_3; page = subst (λ o. IsOptional IsPageIn o (Some 1520)) (sym paged) is_5f0; loads = refl; word = tt }; json = refl }), refl, refl, refl), refl)
+asks_filter = (refl, ((refl, record { selection = record { from = refl; to = refl; cpu = subst (λ o. IsOptional IsCpuIn o (Some 3)) (sym third) is_3; page = subst (λ o. IsOptional IsPageIn o (Some 1520)) (sym paged) is_5f0; loads = refl; word = tt }; json = refl; trace = refl }), refl, refl, refl), refl)
 
 -- ---- what is told of bad events
 
@@ -274,13 +274,13 @@ none_at_most : Gives (codes "explain" ∷ codes "--all" ∷ codes "--most" ∷ c
 unfolding clap_on_literals
 none_at_most = refl
 
-asks_all : Asks (codes "explain" ∷ codes "--all" ∷ []) (quiet (Explain (record { telling = All 100; json = false }))) None
+asks_all : Asks (codes "explain" ∷ codes "--all" ∷ []) (quiet (Explain (record { telling = All 100; json = false; trace = false }))) None
 unfolding clap_on_literals has_conflict
-asks_all = (refl, ((refl, record { telling = (refl, refl, refl); json = refl }), refl, refl, refl), refl)
+asks_all = (refl, ((refl, record { telling = (refl, refl, refl, refl); json = refl; trace = refl }), refl, refl, refl), refl)
 
-asks_picture : Asks (codes "explain" ∷ codes "--svg" ∷ []) (quiet (Explain (record { telling = Picture; json = false }))) None
+asks_picture : Asks (codes "explain" ∷ codes "--svg" ∷ []) (quiet (Explain (record { telling = Picture; json = false; trace = false }))) None
 unfolding clap_on_literals has_conflict
-asks_picture = (refl, ((refl, record { telling = (refl, refl, refl); json = refl }), refl, refl, refl), refl)
+asks_picture = (refl, ((refl, record { telling = (refl, refl, refl, refl); json = refl; trace = refl }), refl, refl, refl), refl)
 
 picture_of_certify : Gives (codes "certify" ∷ codes "--svg" ∷ []) (UnknownArgument ∷ [])
 unfolding clap_on_literals
@@ -327,6 +327,22 @@ json_and_bytes = refl
 json_and_picture : conflicts (codes "explain" ∷ codes "--json" ∷ codes "--svg" ∷ []) ≡ true
 unfolding clap_on_literals has_conflict
 json_and_picture = refl
+
+json_and_trace : conflicts (codes "show" ∷ codes "--trace" ∷ codes "--json" ∷ []) ≡ true
+unfolding clap_on_literals has_conflict
+json_and_trace = refl
+
+trace_of_all : conflicts (codes "explain" ∷ codes "--trace" ∷ codes "--all" ∷ []) ≡ true
+unfolding clap_on_literals has_conflict
+trace_of_all = refl
+
+trace_by_two_checkers : conflicts (codes "certify" ∷ codes "--trace" ∷ codes "-j2" ∷ []) ≡ false
+unfolding clap_on_literals has_conflict
+trace_by_two_checkers = refl
+
+trace_of_check : Gives (codes "check" ∷ codes "--trace" ∷ []) (UnknownArgument ∷ [])
+unfolding clap_on_literals
+trace_of_check = refl
 
 first_and_bytes : conflicts (codes "certify" ∷ codes "--first" ∷ codes "--bytes" ∷ []) ≡ true
 unfolding clap_on_literals has_conflict
@@ -382,9 +398,9 @@ asks_progress_of_run : Asks (codes "run" ∷ codes "--progress" ∷ []) (telling
 unfolding clap_on_literals has_conflict
 asks_progress_of_run = (refl, ((refl, record { checkers = refl; single = refl; bytes = refl }), refl, refl, refl), refl)
 
-asks_json : Asks (codes "show" ∷ codes "--json" ∷ []) (quiet (Show (record { selection = every; json = true }))) None
+asks_json : Asks (codes "show" ∷ codes "--json" ∷ []) (quiet (Show (record { selection = every; json = true; trace = false }))) None
 unfolding clap_on_literals has_conflict
-asks_json = (refl, ((refl, record { selection = record { from = refl; to = refl; cpu = tt; page = tt; loads = refl; word = tt }; json = refl }), refl, refl, refl), refl)
+asks_json = (refl, ((refl, record { selection = record { from = refl; to = refl; cpu = tt; page = tt; loads = refl; word = tt }; json = refl; trace = refl }), refl, refl, refl), refl)
 
 asks_outcomes : Asks (codes "outcomes" ∷ []) (quiet (Outcomes (record { event = None; most = 100; json = false }))) None
 unfolding clap_on_literals has_conflict

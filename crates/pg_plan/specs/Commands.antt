@@ -79,6 +79,10 @@ switch_rule name = record (new_rule name) { long = Some name; action = Some SetT
 abbrev pub with_json : App → App
 with_json line = with_rule line (switch_rule (codes "json"))
 
+-- `--json` and `--trace`
+abbrev pub with_forms : App → App
+with_forms line = with_rule (with_json line) (switch_rule (codes "trace"))
+
 -- `--quiet`, or `-q`
 abbrev pub quiet_rule : Rule
 quiet_rule = record (switch_rule (codes "quiet")) { short = Some 113 }
@@ -116,7 +120,7 @@ certify_line =
     let bytes = with_rule line (switch_rule (codes "bytes")) in
     let order = with_rule bytes (switch_rule (codes "order")) in
     let first = with_rule order (switch_rule (codes "first")) in
-    with_files (with_json first)
+    with_files (with_forms first)
 
 abbrev pub run_line : App
 run_line =
@@ -148,7 +152,7 @@ abbrev pub show_line : App
 show_line =
     let line = with_rule filter_line (number_rule (codes "from")) in
     let to = with_rule line (number_rule (codes "to")) in
-    with_file (with_outputs (with_json to))
+    with_file (with_outputs (with_forms to))
 
 -- an option has a second name
 abbrev pub also_named : Rule → Text → Rule
@@ -170,7 +174,7 @@ explain_line =
     let most = with_rule all most_rule in
     let svg = with_rule most (switch_rule (codes "svg")) in
     let event = with_rule svg (number_rule (codes "event")) in
-    with_files (with_json event)
+    with_files (with_forms event)
 
 -- a number from 1 to 1,000,000 after `--limit`
 abbrev pub limit_rule : Rule
@@ -256,6 +260,15 @@ says_twice rows =
     || (bytes && (order || first))
     || (order && first)
 
+-- a trace is asked for, and another form, or what is no part of a trace: all bad events, a record
+-- up to the first of them, one event, or loads of a page's processors
+abbrev pub mixes_trace : List Row → Bool
+mixes_trace rows =
+    has (codes "trace") rows
+    && (has (codes "json") rows || has (codes "bytes") rows || has (codes "order") rows
+    || has (codes "svg") rows || has (codes "first") rows || has (codes "all") rows
+    || has (codes "loads") rows || is_some (first_of (codes "event") rows))
+
 -- several files are named
 abbrev pub has_several : List Row → Bool
 has_several rows = nat_lt 1 (length (unwrap_or (all_of (codes "file") rows) []))
@@ -265,25 +278,27 @@ abbrev pub is_unheard : List Row → Bool
 is_unheard rows =
     has (codes "quiet") rows
     && (is_some (first_of (codes "output") rows) || has (codes "bytes") rows
-    || has (codes "order") rows || has (codes "svg") rows)
+    || has (codes "order") rows || has (codes "svg") rows || has (codes "trace") rows)
 
 -- several files are named, and what is written is no text of lines that could begin with a name
 abbrev pub mixes_files : List Row → Bool
 mixes_files rows =
     has_several rows
-    && (has (codes "json") rows || has (codes "bytes") rows || has (codes "svg") rows)
+    && (has (codes "json") rows || has (codes "bytes") rows || has (codes "svg") rows
+    || has (codes "trace") rows)
 
 -- loads are asked for, and no page with which they would be shown
 abbrev pub loads_alone : List Row → Bool
 loads_alone rows = has (codes "loads") rows && not (is_some (first_of (codes "page") rows))
 
--- Of two options one has no effect beside the other: two say what is written; or a record is read
+-- Of two options one has no effect beside the other: two say what is written, or a trace is asked
+-- for and what is no part of one; or a record is read
 -- up to the first event that is rejected, which one checker does, and which is not all of it; or
 -- one thread runs a script, and tells of no progress; or nothing is written, and it is said where
 -- or what; or files are mixed; or one has no effect without another: loads without a page.
 unfoldable pub has_conflict : List Row → Bool
 has_conflict rows =
-    says_twice rows
+    says_twice rows || mixes_trace rows
     || (has (codes "first") rows
     && (has (codes "all") rows || is_some (first_of (codes "checkers") rows)))
     || (has (codes "single") rows && has (codes "progress") rows)
@@ -321,6 +336,7 @@ pub record IsAskedOfCertify (rows : List Row) (asked : CertifyOptions) : Type 0 
   pub order : asked.order ≡ has (codes "order") rows
   pub first : asked.first ≡ has (codes "first") rows
   pub json : asked.json ≡ has (codes "json") rows
+  pub trace : asked.trace ≡ has (codes "trace") rows
 
 pub record IsAskedOfRun (rows : List Row) (asked : RunOptions) : Type 0 where
   pub checkers : AreCheckersOf rows asked.checkers
@@ -330,10 +346,12 @@ pub record IsAskedOfRun (rows : List Row) (asked : RunOptions) : Type 0 where
 pub record IsAskedOfExplain (rows : List Row) (asked : ExplainOptions) : Type 0 where
   pub telling : IsTellingOf rows asked.telling
   pub json : asked.json ≡ has (codes "json") rows
+  pub trace : asked.trace ≡ has (codes "trace") rows
 
 pub record IsAskedOfShow (rows : List Row) (asked : ShowOptions) : Type 0 where
   pub selection : IsSelectionOf rows asked.selection
   pub json : asked.json ≡ has (codes "json") rows
+  pub trace : asked.trace ≡ has (codes "trace") rows
 
 pub record IsAskedOfOutcomes (rows : List Row) (asked : OutcomesOptions) : Type 0 where
   pub event : IsOptional IsNumberIn (first_of (codes "event") rows) asked.event

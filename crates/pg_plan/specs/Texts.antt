@@ -30,11 +30,11 @@ telling_text =
 -- of two options one has no effect beside the other
 abbrev pub conflict_text : Text
 conflict_text =
-    codes "error: --json, --bytes, --order, --svg and --first exclude one another, and so do"
-    ++ (codes " --first and\n  each of --all and --checkers, --single and --progress, and --quiet"
-    ++ (codes " and each of --output,"
-    ++ (codes " --bytes, --order and --svg;\n  several files exclude --json, --bytes and --svg;"
-    ++ (codes " --loads goes with --page" ++ more_text))))
+    codes "error: --json, --bytes, --order, --svg, --trace and --first exclude one another,"
+    ++ (codes " and so do\n  --first and each of --all and --checkers, --trace and each of --all,"
+    ++ (codes " --event and --loads,\n  --single and --progress, and --quiet and each of"
+    ++ (codes " --output, --bytes, --order, --svg and\n  --trace; several files exclude --json,"
+    ++ (codes " --bytes, --svg and --trace; --loads goes with --page" ++ more_text))))
 
 -- The text is what is wrong with a command's options, where `clap` takes the words: of two of them
 -- one has no effect, or else what they ask to be told of bad events, or else a number.

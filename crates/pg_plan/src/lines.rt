@@ -154,6 +154,10 @@ const JSON_ABOUT: &str = "Write JSON instead of text";
 
 const JSON_LINES_ABOUT: &str = "Write JSON instead of text, an object a line";
 
+pub(crate) const TRACE: &str = "trace";
+
+const TRACE_ABOUT: &str = "Write a trace for Perfetto instead of text";
+
 pub(crate) const FROM: &str = "from";
 
 const FROM_ABOUT: &str = "Number of the first event to write (default 0)";
@@ -435,6 +439,7 @@ fn certify_line<'a>(alloc: Global) -> Result<CommandLine<'a>, AllocError>
     let line = with_option(line, switch(alloc, ORDER, ORDER_ABOUT));
     let line = with_option(line, switch(alloc, FIRST, FIRST_ABOUT));
     let line = with_option(line, switch(alloc, JSON, JSON_ABOUT));
+    let line = with_option(line, switch(alloc, TRACE, TRACE_ABOUT));
     with_files(alloc, line)
 }
 
@@ -466,6 +471,7 @@ fn show_line<'a>(alloc: Global) -> Result<CommandLine<'a>, AllocError>
     let line = with_option(line, number_option(alloc, FROM, "A", FROM_ABOUT));
     let line = with_option(line, number_option(alloc, TO, "B", TO_ABOUT));
     let line = with_option(line, switch(alloc, JSON, JSON_LINES_ABOUT));
+    let line = with_option(line, switch(alloc, TRACE, TRACE_ABOUT));
     let line = with_outputs(alloc, line);
     with_option(line, file_option(alloc))
 }
@@ -479,6 +485,7 @@ fn explain_line<'a>(alloc: Global) -> Result<CommandLine<'a>, AllocError>
     let line = with_option(line, switch(alloc, SVG, SVG_ABOUT));
     let line = with_option(line, number_option(alloc, EVENT, "N", TOLD_EVENT_ABOUT));
     let line = with_option(line, switch(alloc, JSON, JSON_ABOUT));
+    let line = with_option(line, switch(alloc, TRACE, TRACE_ABOUT));
     with_files(alloc, line)
 }
 

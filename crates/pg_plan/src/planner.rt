@@ -8,6 +8,7 @@ ghost use Rattle.clap.specs.Walk.{all_of, first_of};
 ghost use Rattle.pg_plan.specs.Commands.{texts, command_line, file_in, named_file, output_in};
 ghost use Rattle.pg_plan.specs.Commands.{all_in, files_in, logs_in, names_in, options_of, is_on};
 ghost use Rattle.pg_plan.specs.Commands.{has, has_several, says_twice, is_unheard, mixes_files};
+ghost use Rattle.pg_plan.specs.Commands.{mixes_trace};
 ghost use Rattle.pg_plan.specs.Commands.{loads_alone, has_conflict, Reads};
 ghost use Rattle.pg_plan.specs.Commands.{IsSelectionOf, IsTellingOf, IsAskedOfCheck};
 ghost use Rattle.pg_plan.specs.Commands.{IsAskedOfCertify, IsAskedOfRun, IsAskedOfExplain};
@@ -23,7 +24,7 @@ use crate::checkers::Checkers;
 use crate::lines::{
     ALL, BYTES, CERTIFY, CHECK, CHECKERS, CPU, ERROR, EVENT, EXPLAIN, FILE, FIRST, FROM, JSON,
     LIMIT, LOADS, LOG, MERGE, MOST, ORDER, OUTCOMES, OUTPUT, PAGE, PROGRESS, QUIET, RUN, RUN_OF,
-    SHOW, SINGLE, SVG, TO, UPGRADE, WORD, command_line,
+    SHOW, SINGLE, SVG, TO, TRACE, UPGRADE, WORD, command_line,
 };
 use crate::request::{
     CertifyOptions, CheckOptions, Command, ExplainOptions, Invocation, OutcomesOptions, Plan,
@@ -51,10 +52,11 @@ const NO_TELLING: &str = "error: --most goes with --all alone, by digits alone, 
     without --all;\n  --event goes without --all, --most and --svg, by digits alone\n\n\
     For more information, try '--help'.\n";
 
-const CONFLICT: &str = "error: --json, --bytes, --order, --svg and --first exclude one another, \
-    and so do --first and\n  each of --all and --checkers, --single and --progress, and --quiet \
-    and each of --output, --bytes, --order and --svg;\n  several files exclude --json, --bytes \
-    and --svg; --loads goes with --page\n\n\
+const CONFLICT: &str = "error: --json, --bytes, --order, --svg, --trace and --first exclude one \
+    another, and so do\n  --first and each of --all and --checkers, --trace and each of --all, \
+    --event and --loads,\n  --single and --progress, and --quiet and each of --output, --bytes, \
+    --order, --svg and\n  --trace; several files exclude --json, --bytes, --svg and --trace; \
+    --loads goes with --page\n\n\
     For more information, try '--help'.\n";
 
 /// The version, which is given by a text of this program's own.
@@ -125,6 +127,21 @@ fn says_twice(own: &ArgMatches<'_>) -> bool
     json && (bytes || order || svg || first) || bytes && (order || first) || order && first
 }
 
+/// Whether a trace is asked for, and something that is no part of one, or another form.
+fn mixes_trace(own: &ArgMatches<'_>) -> bool
+    ensures { result ≡ mixes_trace (options_of own.now) }
+{
+    let json = has(own, JSON);
+    let bytes = has(own, BYTES);
+    let order = has(own, ORDER);
+    let svg = has(own, SVG);
+    let first = has(own, FIRST);
+    let all = has(own, ALL);
+    let loads = has(own, LOADS);
+    let event = text_of(own, EVENT).is_some();
+    has(own, TRACE) && (json || bytes || order || svg || first || all || loads || event)
+}
+
 /// All texts that an option was given, where it was given.
 fn all_of<'m, 'a>(own: &'m ArgMatches<'a>, option: &str) -> Option<&'m [&'a str]>
     ensures { option_map (λ s. map (λ v. v.now) s.now) result
@@ -151,7 +168,8 @@ fn is_unheard(own: &ArgMatches<'_>) -> bool
     let bytes = has(own, BYTES);
     let order = has(own, ORDER);
     let svg = has(own, SVG);
-    has(own, QUIET) && (output || bytes || order || svg)
+    let trace = has(own, TRACE);
+    has(own, QUIET) && (output || bytes || order || svg || trace)
 }
 
 /// Whether several files are named, and what is written is no text of lines.
@@ -161,7 +179,8 @@ fn mixes_files(own: &ArgMatches<'_>) -> bool
     let json = has(own, JSON);
     let bytes = has(own, BYTES);
     let svg = has(own, SVG);
-    has_several(own) && (json || bytes || svg)
+    let trace = has(own, TRACE);
+    has_several(own) && (json || bytes || svg || trace)
 }
 
 /// Whether loads are asked for, and no page with which they would be shown.
@@ -183,6 +202,7 @@ fn has_conflict(own: &ArgMatches<'_>) -> bool
     let progress = has(own, PROGRESS);
     let is_told_of_one = first && (all || counted);
     says_twice(own)
+        || mixes_trace(own)
         || is_told_of_one
         || single && progress
         || is_unheard(own)
@@ -248,6 +268,7 @@ fn asked_of_certify(own: &ArgMatches<'_>) -> Option<CertifyOptions>
         order: has(own, ORDER),
         first: has(own, FIRST),
         json: has(own, JSON),
+        trace: has(own, TRACE),
     })
 }
 
@@ -267,6 +288,7 @@ fn asked_of_explain(own: &ArgMatches<'_>) -> Option<ExplainOptions>
     Some(ExplainOptions {
         telling: telling_in(own)?,
         json: has(own, JSON),
+        trace: has(own, TRACE),
     })
 }
 
@@ -276,6 +298,7 @@ fn asked_of_show(own: &ArgMatches<'_>) -> Option<ShowOptions>
     Some(ShowOptions {
         selection: selection_of(own)?,
         json: has(own, JSON),
+        trace: has(own, TRACE),
     })
 }
 

@@ -44,6 +44,9 @@ pub struct CertifyOptions {
     pub first: bool,
     /// Whether the report is written as JSON.
     pub json: bool,
+    /// Whether a trace is written in the place of the report. A plan does not ask for it beside
+    /// another of these forms, or `first`.
+    pub trace: bool,
 }
 
 /// What is asked of `run`.
@@ -62,6 +65,9 @@ pub struct ExplainOptions {
     pub telling: Telling,
     /// Whether JSON is written in the place of text. A plan does not ask for it and for a picture.
     pub json: bool,
+    /// Whether a trace is written in the place of text. A plan that asks for it asks for the first
+    /// bad event, and not for JSON.
+    pub trace: bool,
 }
 
 /// What is asked of `show`.
@@ -70,6 +76,9 @@ pub struct ShowOptions {
     pub selection: Selection,
     /// Whether JSON is written in the place of text, an object a line.
     pub json: bool,
+    /// Whether a trace is written in the place of text. A plan does not ask for it beside JSON, or
+    /// loads of a page's processors.
+    pub trace: bool,
 }
 
 /// What is asked of `outcomes`.

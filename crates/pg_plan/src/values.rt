@@ -52,7 +52,10 @@ fn told_at(all: bool, svg: bool, most: Option<&str>, event: &str) -> Option<Tell
     if all || svg || most.is_some() {
         return None;
     }
-    Some(Telling::At(number_in(event)?))
+    match number_in(event) {
+        Some(number) => Some(Telling::At(number)),
+        None => None,
+    }
 }
 
 /// What is told of bad events, where `--all` and `--svg` are given or not, and `--most` and

@@ -98,33 +98,55 @@ fn plan_of_a_check_up_to_the_first_bad_event(rt: HostRuntime) {
 }
 
 /// Command lines of `certify`: how many checkers they ask for, whether for the record, for the
-/// order, for JSON, and for an answer at the first rejection.
-const CERTIFIED: [(&[&str], u32, [bool; 4]); 7] = [
-    (&["certify"], 1, [false, false, false, false]),
+/// order, for JSON, for an answer at the first rejection, and for a trace.
+const CERTIFIED: [(&[&str], u32, [bool; 5]); 8] = [
+    (&["certify"], 1, [false, false, false, false, false]),
     (
         &["certify", "--checkers", "2"],
         2,
-        [false, false, false, false],
+        [false, false, false, false, false],
     ),
-    (&["certify", "--bytes"], 1, [true, false, false, false]),
-    (&["certify", "--order"], 1, [false, true, false, false]),
-    (&["certify", "--json"], 1, [false, false, true, false]),
+    (
+        &["certify", "--bytes"],
+        1,
+        [true, false, false, false, false],
+    ),
+    (
+        &["certify", "--order"],
+        1,
+        [false, true, false, false, false],
+    ),
+    (
+        &["certify", "--json"],
+        1,
+        [false, false, true, false, false],
+    ),
     (
         &["certify", "--json", "-j", "2"],
         2,
-        [false, false, true, false],
+        [false, false, true, false, false],
     ),
-    (&["certify", "--first"], 1, [false, false, false, true]),
+    (
+        &["certify", "--first"],
+        1,
+        [false, false, false, true, false],
+    ),
+    (
+        &["certify", "--trace", "-j", "2"],
+        2,
+        [false, false, false, false, true],
+    ),
 ];
 
-fn certified(number: u32, options: [bool; 4]) -> Option<Plan> {
-    let [bytes, order, json, first] = options;
+fn certified(number: u32, options: [bool; 5]) -> Option<Plan> {
+    let [bytes, order, json, first, trace] = options;
     let asked = CertifyOptions {
         checkers: Checkers::new(number)?,
         bytes,
         order,
         first,
         json,
+        trace,
     };
     Some(quiet(Command::Certify(asked)))
 }
@@ -238,6 +260,7 @@ fn plans_of_show(rt: HostRuntime) {
         let asked = ShowOptions {
             selection,
             json: false,
+            trace: false,
         };
         let wanted = Some(quiet(Command::Show(asked)));
         assert!(rt; asks_for(rt.alloc(), words, wanted), "{words:?}");
@@ -272,6 +295,7 @@ fn plans_of_explain(rt: HostRuntime) {
         let asked = ExplainOptions {
             telling,
             json: false,
+            trace: false,
         };
         let wanted = Some(Plan {
             command: Command::Explain(asked),

@@ -1,6 +1,7 @@
 pub mod Names
 pub mod Guests
 pub mod Rendered
+pub mod Traces
 pub mod Records
 pub mod Outputs
 pub mod Remarks

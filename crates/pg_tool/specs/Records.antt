@@ -10,6 +10,8 @@ use Rattle.pg_plan.specs.declared.request.Command.TheVariants.{Merge}
 use Rattle.pg_plan.specs.declared.request.CertifyOptions.{CertifyOptions}
 use Rattle.pg_plan.specs.declared.request.CheckOptions.{CheckOptions}
 use Rattle.pg_plan.specs.declared.request.ExplainOptions.{ExplainOptions}
+use Rattle.pg_plan.specs.declared.request.ShowOptions.{ShowOptions}
+use Rattle.pg_event.specs.declared.selection.Selection.{Selection}
 use Rattle.pg_plan.specs.declared.request.Telling.{Telling}
 use Rattle.pg_plan.specs.declared.request.Telling.TheVariants.{First, At, All, Picture}
 use Rattle.pg_report.specs.declared.error.AuditError.TheVariants.{Device}
@@ -26,13 +28,14 @@ use Rattle.pg_answers.specs.declared.question.Question.TheVariants as questions
 use Rattle.pg_json_answers.specs.Refusals.{error_json}
 use Rattle.pg_json_spans.specs.Answers.{AnswersSpans}
 use Rattle.pg_ordering.specs.Answers.{OrdersRecord}
-use Rattle.pg_ordering.specs.Shown.{ShowsSpans}
+use Rattle.pg_ordering.specs.Shown.{ShowsSpans, TracesSpans}
 use Rattle.pg_ordering.specs.declared.asked.Asked.{Asked}
 use Rattle.pg_ordering.specs.declared.asked.Asked.TheVariants as asking
 use Rattle.pg_span_codec.specs.Versions.{says_spans}
 use Rattle.pg_tool.specs.declared.format.Format.{Format}
 use Rattle.pg_tool.specs.declared.format.Format.TheVariants as formats
 use Rattle.pg_tool.specs.Rendered.{AnswersRecord}
+use Rattle.pg_tool.specs.Traces.{TracesShown, TracesCertified, TracesExplained}
 
 -- ---- what is asked, and in which form the answer is written
 
@@ -61,11 +64,12 @@ telling_format asked = telling_form asked.json asked.telling
 -- ---- a record with one order
 
 -- whether some run has its events; or whether any has those up to the first rejection; or the
--- record with moments for them
-abbrev pub CertifiesBy : CertifyOptions → Bool → Bool → Streams → ℕ → Type 0
-CertifiesBy asked true first = NamesRecord
-CertifiesBy asked false true = CertifiesFirst
-CertifiesBy asked false false =
+-- record with moments for them; or the record's trace
+abbrev pub CertifiesBy : CertifyOptions → Bool → Bool → Bool → Streams → ℕ → Type 0
+CertifiesBy asked true first trace = NamesRecord
+CertifiesBy asked false true trace = CertifiesFirst
+CertifiesBy asked false false true = TracesCertified asked.checkers
+CertifiesBy asked false false false =
     AnswersRecord questions.Certify (format_of asked.json) asked.checkers
 
 -- its report, or that of what was read up to the first bad event
@@ -74,16 +78,25 @@ ChecksBy asked true = ChecksFirst
 ChecksBy asked false =
     AnswersRecord (check_question asked.all) (format_of asked.json) asked.checkers
 
+-- the cause of a rejection, or the record's trace
+abbrev pub ExplainsBy : ExplainOptions → Bool → Streams → ℕ → Type 0
+ExplainsBy asked true = TracesExplained
+ExplainsBy asked false =
+    AnswersRecord (telling_question asked.telling) (telling_format asked) 1
+
+-- its events, or their trace
+abbrev pub ShowsBy : ShowOptions → Bool → Streams → ℕ → Type 0
+ShowsBy asked true = TracesShown asked.selection
+ShowsBy asked false = AnswersRecord (questions.Show asked.selection) (format_of asked.json) 1
+
 -- what a command does: the form of the answer changes nothing else
 abbrev pub DoesPlain : Command → Streams → ℕ → Type 0
 DoesPlain (Check asked) s status = ChecksBy asked asked.first s status
-DoesPlain (Certify asked) s status = CertifiesBy asked asked.bytes asked.first s status
+DoesPlain (Certify asked) s status = CertifiesBy asked asked.bytes asked.first asked.trace s status
 DoesPlain (Run asked) s status = ⊥
 DoesPlain RunOf s status = ShowsRun s status
-DoesPlain (Explain asked) s status =
-    AnswersRecord (telling_question asked.telling) (telling_format asked) 1 s status
-DoesPlain (Show asked) s status =
-    AnswersRecord (questions.Show asked.selection) (format_of asked.json) 1 s status
+DoesPlain (Explain asked) s status = ExplainsBy asked asked.trace s status
+DoesPlain (Show asked) s status = ShowsBy asked asked.trace s status
 DoesPlain (Outcomes asked) s status =
     AnswersRecord (questions.Outcomes asked.event asked.most) (format_of asked.json) 1 s status
 DoesPlain Upgrade s status = Upgrades s status
@@ -112,10 +125,12 @@ question_of (Merge error) = None
 
 -- ---- a record with spans
 
--- what `certify` writes of a yes: an order, or the record in that order, where it is asked for
+-- what `certify` writes: of a yes an order, or the record in that order, or else the trace, where
+-- it is asked for
 abbrev pub asked_of : CertifyOptions → Asked
 asked_of asked =
-    if asked.order then asking.Order else if asked.bytes then asking.Record else asking.Report
+    if asked.order then asking.Order else if asked.bytes then asking.Record else
+    if asked.trace then asking.Trace else asking.Report
 
 -- what `explain` writes of a no: its report, whose cause is that of one event; or the picture of
 -- that cause
@@ -124,6 +139,14 @@ told_of First = asking.Report
 told_of (At n) = asking.Report
 told_of (All most) = asking.Report
 told_of Picture = asking.Picture
+
+-- or the trace
+abbrev pub explained_of : ExplainOptions → Asked
+explained_of asked = if asked.trace then asking.Trace else told_of asked.telling
+
+abbrev pub ShowsSpansBy : Selection → Bool → Streams → ℕ → Type 0
+ShowsSpansBy selection true = TracesSpans selection
+ShowsSpansBy selection false = ShowsSpans selection
 
 -- its version is refused, and it is told which command judges such records
 abbrev pub RefusesSpans : Change → Change → ℕ → Type 0
@@ -136,8 +159,8 @@ DoesSpanned (Check asked) s status = RefusesSpans s.output s.errors status
 DoesSpanned (Certify asked) s status = OrdersRecord (asked_of asked) s status
 DoesSpanned (Run asked) s status = ⊥
 DoesSpanned RunOf s status = RefusesSpans s.output s.errors status
-DoesSpanned (Explain asked) s status = OrdersRecord (told_of asked.telling) s status
-DoesSpanned (Show asked) s status = ShowsSpans asked.selection s status
+DoesSpanned (Explain asked) s status = OrdersRecord (explained_of asked) s status
+DoesSpanned (Show asked) s status = ShowsSpansBy asked.selection asked.trace s status
 DoesSpanned (Outcomes asked) s status =
     OrdersRecord (asking.Outcomes asked.event asked.most) s status
 DoesSpanned Upgrade s status = RefusesSpans s.output s.errors status

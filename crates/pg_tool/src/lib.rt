@@ -22,6 +22,7 @@ mod records;
 mod remarks;
 mod signals;
 mod teller;
+mod traces;
 mod words;
 
 pub use brief::Brief;

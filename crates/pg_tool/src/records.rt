@@ -4,7 +4,8 @@ ghost use Rattle.std.specs.Prelude.{◌≡◌, true};
 ghost use Rattle.pg_report.specs.Changes.{filled};
 ghost use Rattle.pg_auditing.specs.Streams.{streams};
 ghost use Rattle.pg_ordering.specs.Answers.{OrdersRecord};
-ghost use Rattle.pg_tool.specs.Records.{CertifiesBy, ChecksBy, DoesPlain};
+ghost use Rattle.pg_tool.specs.Records.{CertifiesBy, ChecksBy, ExplainsBy, ShowsBy, DoesPlain};
+ghost use Rattle.pg_tool.specs.Records.{explained_of, ShowsSpansBy};
 ghost use Rattle.pg_tool.specs.Records.{asked_of, told_of, RefusesSpans, DoesSpanned};
 ghost use Rattle.pg_tool.specs.Records.{DoesOfRecord, reads_record};
 ghost use Rattle.pg_tool.specs.Records.{check_question, telling_question, question_of};
@@ -14,14 +15,16 @@ ghost use Rattle.pg_auditing.specs.Refusals.{Tells};
 
 use crate::answers::answer;
 use crate::format::Format;
+use crate::traces::{certify_trace, explain_trace, show_trace};
 use pg_answers::{Question, certify_first, check_first, name_moments, run_of, upgrade};
 use pg_auditing::{REFUSED, tell, tell_spans};
 use pg_codec::{Sink, Source};
 use pg_json_answers::tell_json;
 use pg_json_spans::answer_spans_json;
-use pg_ordering::{Asked, certify_spanned, show_spanned};
+use pg_ordering::{Asked, certify_spanned, show_spanned, trace_spanned};
 use pg_plan::{
-    CertifyOptions, CheckOptions, Checkers, Command, ExplainOptions, OutcomesOptions, Telling,
+    CertifyOptions, CheckOptions, Checkers, Command, ExplainOptions, OutcomesOptions, ShowOptions,
+    Telling,
 };
 use pg_report::AuditError;
 use pg_span_codec::Peeked;
@@ -30,7 +33,7 @@ use std::sync::Wait;
 use std::thread::Threads;
 
 /// Certifies the record with one order on `input`, and writes its report, that of what was read up
-/// to the first rejection, or the record with moments.
+/// to the first rejection, the record with moments, or its trace.
 fn certify_by<T: AllocGlobal + Threads + Wait + Sync, R: Source, O: Sink, E: Sink>(
     rt: &T,
     asked: &CertifyOptions,
@@ -38,7 +41,7 @@ fn certify_by<T: AllocGlobal + Threads + Wait + Sync, R: Source, O: Sink, E: Sin
     output: &mut O,
     errors: &mut E,
 ) -> u8
-    ensures { CertifiesBy asked.now asked.now.bytes asked.now.first
+    ensures { CertifiesBy asked.now asked.now.bytes asked.now.first asked.now.trace
         (streams R.Source O.Sink E.Sink
         (input.old, output.old, errors.old) (input.new, output.new, errors.new)) result }
 {
@@ -46,6 +49,8 @@ fn certify_by<T: AllocGlobal + Threads + Wait + Sync, R: Source, O: Sink, E: Sin
         name_moments(rt.alloc(), input, output, errors)
     } else if asked.first {
         certify_first(rt.alloc(), input, output, errors)
+    } else if asked.trace {
+        certify_trace(rt, asked.checkers, input, output, errors)
     } else {
         let format = format_of(asked.json);
         answer(
@@ -119,6 +124,62 @@ fn telling_format(asked: &ExplainOptions) -> Format
     }
 }
 
+/// Explains the record with one order on `input`, or writes its trace.
+fn explain_by<T: AllocGlobal + Threads + Wait + Sync, R: Source, O: Sink, E: Sink>(
+    rt: &T,
+    asked: &ExplainOptions,
+    input: &mut R,
+    output: &mut O,
+    errors: &mut E,
+) -> u8
+    ensures { ExplainsBy asked.now asked.now.trace (streams R.Source O.Sink E.Sink
+        (input.old, output.old, errors.old) (input.new, output.new, errors.new)) result }
+{
+    if asked.trace {
+        explain_trace(rt, input, output, errors)
+    } else {
+        let question = telling_question(asked.telling);
+        let format = telling_format(asked);
+        answer(
+            rt,
+            Checkers::default(),
+            question,
+            format,
+            input,
+            output,
+            errors,
+        )
+    }
+}
+
+/// Writes the events of the record with one order on `input`, or their trace.
+fn show_by<T: AllocGlobal + Threads + Wait + Sync, R: Source, O: Sink, E: Sink>(
+    rt: &T,
+    asked: &ShowOptions,
+    input: &mut R,
+    output: &mut O,
+    errors: &mut E,
+) -> u8
+    ensures { ShowsBy asked.now asked.now.trace (streams R.Source O.Sink E.Sink
+        (input.old, output.old, errors.old) (input.new, output.new, errors.new)) result }
+{
+    if asked.trace {
+        show_trace(rt.alloc(), asked.selection, input, output, errors)
+    } else {
+        let question = Question::Show(asked.selection);
+        let format = format_of(asked.json);
+        answer(
+            rt,
+            Checkers::default(),
+            question,
+            format,
+            input,
+            output,
+            errors,
+        )
+    }
+}
+
 /// Does what a command says of the record with one order on `input`.
 fn do_of_plain<T: AllocGlobal + Threads + Wait + Sync, R: Source, O: Sink, E: Sink>(
     rt: &T,
@@ -136,32 +197,8 @@ fn do_of_plain<T: AllocGlobal + Threads + Wait + Sync, R: Source, O: Sink, E: Si
         Command::Check(asked) => check_by(rt, asked, input, output, errors),
         Command::Certify(asked) => certify_by(rt, asked, input, output, errors),
         Command::RunOf => run_of(alloc, input, output, errors),
-        Command::Explain(asked) => {
-            let question = telling_question(asked.telling);
-            let format = telling_format(asked);
-            answer(
-                rt,
-                Checkers::default(),
-                question,
-                format,
-                input,
-                output,
-                errors,
-            )
-        }
-        Command::Show(asked) => {
-            let question = Question::Show(asked.selection);
-            let format = format_of(asked.json);
-            answer(
-                rt,
-                Checkers::default(),
-                question,
-                format,
-                input,
-                output,
-                errors,
-            )
-        }
+        Command::Explain(asked) => explain_by(rt, asked, input, output, errors),
+        Command::Show(asked) => show_by(rt, asked, input, output, errors),
         Command::Outcomes(asked) => {
             let question = Question::Outcomes(asked.event, asked.most);
             let format = format_of(asked.json);
@@ -210,7 +247,7 @@ fn question_of(command: &Command) -> Option<Question>
     }
 }
 
-/// What `certify` writes of a record with spans whose answer is yes.
+/// What `certify` writes of a record with spans.
 fn asked_of(asked: &CertifyOptions) -> Asked
     ensures { result ≡ asked_of asked.now }
 {
@@ -218,6 +255,8 @@ fn asked_of(asked: &CertifyOptions) -> Asked
         Asked::Order
     } else if asked.bytes {
         Asked::Record
+    } else if asked.trace {
+        Asked::Trace
     } else {
         Asked::Report
     }
@@ -247,19 +286,48 @@ fn told_of(telling: Telling) -> Asked
     }
 }
 
-/// Explains the record with spans on `input`: why no order of its events has a run, as text or as
-/// a picture.
+/// The same, or the trace.
+fn explained_of(asked: &ExplainOptions) -> Asked
+    ensures { result ≡ explained_of asked.now }
+{
+    if asked.trace {
+        Asked::Trace
+    } else {
+        told_of(asked.telling)
+    }
+}
+
+/// Explains the record with spans on `input`: why no order of its events has a run, as text, as a
+/// picture or as a trace.
 fn explain_order<R: Source, O: Sink, E: Sink>(
     alloc: Global,
-    telling: Telling,
+    asked: &ExplainOptions,
     input: &mut R,
     output: &mut O,
     errors: &mut E,
 ) -> u8
-    ensures { OrdersRecord (told_of telling) (streams R.Source O.Sink E.Sink
+    ensures { OrdersRecord (explained_of asked.now) (streams R.Source O.Sink E.Sink
         (input.old, output.old, errors.old) (input.new, output.new, errors.new)) result }
 {
-    certify_spanned(alloc, told_of(telling), input, output, errors)
+    certify_spanned(alloc, explained_of(asked), input, output, errors)
+}
+
+/// Writes the events of the record with spans on `input`, or their trace.
+fn show_order<R: Source, O: Sink, E: Sink>(
+    alloc: Global,
+    asked: &ShowOptions,
+    input: &mut R,
+    output: &mut O,
+    errors: &mut E,
+) -> u8
+    ensures { ShowsSpansBy asked.now.selection asked.now.trace (streams R.Source O.Sink E.Sink
+        (input.old, output.old, errors.old) (input.new, output.new, errors.new)) result }
+{
+    if asked.trace {
+        trace_spanned(alloc, asked.selection, input, output, errors)
+    } else {
+        show_spanned(alloc, asked.selection, input, output, errors)
+    }
 }
 
 /// Writes the outcomes of an event of the record with spans on `input`, in the order that is found.
@@ -301,8 +369,8 @@ fn do_of_spanned<R: Source, O: Sink, E: Sink>(
 {
     match command {
         Command::Certify(asked) => order_by(alloc, asked, input, output, errors),
-        Command::Explain(asked) => explain_order(alloc, asked.telling, input, output, errors),
-        Command::Show(asked) => { show_spanned(alloc, asked.selection, input, output, errors) }
+        Command::Explain(asked) => explain_order(alloc, asked, input, output, errors),
+        Command::Show(asked) => show_order(alloc, asked, input, output, errors),
         Command::Outcomes(asked) => outcomes_by(alloc, asked, input, output, errors),
         Command::Check(_) | Command::RunOf | Command::Upgrade => refuse_spans(output, errors),
         Command::Run(_) | Command::Merge { .. } => unreachable!(),

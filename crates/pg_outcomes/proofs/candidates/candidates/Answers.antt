@@ -16,6 +16,6 @@ returns c =
     let is =
     c.in_ok-add_faults.ensures
     ∙ ap (λ (os : List Outcome). os ++ faults_of c.behind-seen.inside.cfg c.access_kind.result) outcomes
-    ∙ ap (λ (h : Head). map Page pages ++ faults_of h.cfg c.access_kind.result) (c.behind-history.view_is ∙ c.header.ensures.header)
+    ∙ ap (λ (h : Head). map Page pages ++ faults_of h.cfg c.access_kind.result) (c.behind-seen.view_is ∙ c.header.ensures.header)
     ∙ ap (λ (k : AccessKind). map Page pages ++ faults_of head.cfg k) c.access_kind.ensures in
     rw at.is (are_candidates c.args.seen.now c.args.number at.p at.flags at.la at.outcome at.moments pages _ c.in_ok-pages.ensures.pages c.in_ok-pages.ensures.rise is)

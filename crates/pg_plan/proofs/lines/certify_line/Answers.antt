@@ -7,4 +7,5 @@ returns c =
     let order = c.with_option-line-3.ensures _ _ bytes c.switch-2.ensures in
     let first = c.with_option-line-4.ensures _ _ order c.switch-3.ensures in
     let json = c.with_option-line-5.ensures _ _ first c.switch-4.ensures in
-    c.with_files.ensures _ json
+    let trace = c.with_option-line-6.ensures _ _ json c.switch-5.ensures in
+    c.with_files.ensures _ trace

@@ -7,4 +7,5 @@ returns c =
     let svg = c.with_option-line-2.ensures _ _ most c.switch-2.ensures in
     let event = c.with_option-line-3.ensures _ _ svg c.number_option.ensures in
     let json = c.with_option-line-4.ensures _ _ event c.switch-3.ensures in
-    c.with_files.ensures _ json
+    let trace = c.with_option-line-5.ensures _ _ json c.switch-4.ensures in
+    c.with_files.ensures _ trace

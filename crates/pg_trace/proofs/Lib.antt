@@ -1,0 +1,5 @@
+mod Parts
+mod Items
+mod Bad
+pub mod Reading
+pub mod Given

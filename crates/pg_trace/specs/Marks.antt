@@ -1,0 +1,137 @@
+-- What is marked of a rejection: the rejected event, why it is, and the events that led to it:
+-- those that wrote the entries of its walk, down to the first that is no table; the one by which a
+-- cached entry had to go; and, where there is none, the one after which no moments witness it.
+use Rattle.std.specs.Prelude.{ℕ, if◌then◌else◌, List, [], ◌∷◌, ◌++◌, Option, Some, None, codes}
+use Rattle.std.specs.Prelude.{slice_get}
+use Rattle.std.specs.Prelude.{string_bytes}
+use Rattle.pg_event.specs.declared.event.Event.{Event}
+use Rattle.pg_event.specs.Form.{processor_of}
+use Rattle.pg_event.specs.Wants.{is_table}
+use Rattle.pg_explain.specs.declared.denial.Denial.{Denial}
+use Rattle.pg_explain.specs.declared.entry.WalkEntry.{WalkEntry}
+use Rattle.pg_explain.specs.declared.explainer.Explanation.{Explanation}
+use Rattle.pg_explain.specs.declared.finding.Finding.{Finding}
+use Rattle.pg_explain.specs.declared.finding.Finding.TheVariants as findings
+use Rattle.pg_explain.specs.Denied.{denial_text}
+use Rattle.pg_explain.specs.Findings.{reason_of}
+use Rattle.pg_explain.specs.Text.{explanation_text}
+use Rattle.pg_report.specs.Text.{reason_name}
+use Rattle.pg_search.specs.declared.last.Last.{Last}
+use Rattle.pg_trace.specs.declared.mark.Cause.{Cause}
+use Rattle.pg_trace.specs.declared.mark.Cause.TheVariants.{Moments, NoMoments, NoOrder}
+use Rattle.pg_trace.specs.declared.mark.Mark.{Mark}
+use Rattle.pg_trace.specs.declared.mark.Role.{Role}
+use Rattle.pg_trace.specs.declared.mark.Role.TheVariants.{Write, Drop, Last}
+use Rattle.pg_trace.specs.declared.mark.Source.{Source}
+
+abbrev pub cause_name : Cause → List ℕ
+cause_name (Moments reason) = reason_name reason
+cause_name NoMoments = codes "no moments"
+cause_name NoOrder = codes "no order"
+
+-- the name of an arrow
+abbrev pub role_name : Role → List ℕ
+role_name Write = codes "read by the walk"
+role_name Drop = codes "dropped the entry"
+role_name Last = codes "last event before it"
+
+-- a rejected event
+pub record Marking : Type 0 where
+  pub number : ℕ
+  pub p : ℕ
+  pub cause : Cause
+  pub words : List ℕ
+  pub sources : List Source
+
+abbrev pub said : Mark → Marking
+said m = record {
+  number = m.number;
+  p = m.p;
+  cause = m.cause;
+  words = string_bytes m.words;
+  sources = m.sources.items;
+}
+
+-- ---- the events that led to it
+
+abbrev pub source_of : Role → ℕ → Option Event → List Source
+source_of role number None = []
+source_of role number (Some e) =
+    record { number = number; p = processor_of e; role = role } ∷ []
+
+-- the event with a number, where there is one
+abbrev pub source_at : List Event → Role → Option ℕ → List Source
+source_at events role None = []
+source_at events role (Some number) = source_of role number (slice_get events number)
+
+-- those that wrote the entries down to the first that is no table
+abbrev pub writers : List Event → List WalkEntry → List Source
+writers events [] = []
+writers events (x ∷ xs) =
+    source_at events Write x.writer ++ (if is_table x.kind then writers events xs else [])
+
+-- the event by which an entry had to go
+abbrev pub dropped_in : Finding → Option ℕ
+dropped_in (findings.Order level moment limit) = None
+dropped_in (findings.Entry level wish kind) = None
+dropped_in (findings.Context first other) = None
+dropped_in (findings.StructureDropped level at) = Some at
+dropped_in (findings.TranslationDropped level at) = Some at
+dropped_in (findings.ForeignPcid read current) = None
+dropped_in (findings.NotAtEvent moment address value kind) = None
+dropped_in (findings.Rights rights access allowed prevention) = None
+dropped_in (findings.Answer expected) = None
+dropped_in (findings.Code expected) = None
+dropped_in (findings.Accessed level address value) = None
+dropped_in (findings.Dirty address value) = None
+dropped_in (findings.Assist misfit) = None
+
+-- the event after which no moments witness
+abbrev pub last_in : Option Last → Option ℕ
+last_in None = None
+last_in (Some last) = Some last.number
+
+-- where there are none
+abbrev pub last_unless : Option (List ℕ) → Option Last → Option ℕ
+last_unless None last = last_in last
+last_unless (Some ws) last = None
+
+-- a number, unless there is another
+abbrev pub unless_at : Option ℕ → Option ℕ → Option ℕ
+unless_at None number = number
+unless_at (Some other) number = None
+
+abbrev pub sources_of : List Event → List WalkEntry → Option ℕ → Option ℕ → List Source
+sources_of events walk dropped last =
+    writers events walk
+    ++ (source_at events Drop dropped ++ source_at events Last (unless_at dropped last))
+
+-- ---- marks
+
+abbrev pub processor_some : Option Event → ℕ
+processor_some None = 0
+processor_some (Some e) = processor_of e
+
+abbrev pub processor_at : List Event → ℕ → ℕ
+processor_at events number = processor_some (slice_get events number)
+
+-- of an event that its moments do not witness
+abbrev pub explanation_mark : List Event → Explanation → Marking
+explanation_mark events x = record {
+  number = x.number;
+  p = processor_at events x.number;
+  cause = Moments (reason_of x.finding);
+  words = explanation_text events x;
+  sources = sources_of events x.walk.items (dropped_in x.finding)
+      (last_unless x.other x.last);
+}
+
+-- of an event that no moments witness
+abbrev pub denial_mark : List Event → Denial → Marking
+denial_mark events x = record {
+  number = x.number;
+  p = processor_at events x.number;
+  cause = NoMoments;
+  words = denial_text events x;
+  sources = sources_of events x.walk.items x.dropped (last_in x.last);
+}
