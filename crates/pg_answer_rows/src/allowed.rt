@@ -300,4 +300,30 @@ $ explain --event 8
 > last: moment 6 by 5 5 5 5; taken by 6 cpu 0 invlpg 0x5000
 > allowed: fault 0x4 by 7 7 7 7
 ? 1
+
+== event_of_a_no_by_certify_explained
+$ explain --event 7
+< @read_again_unnamed
+> verdict: no
+> event: 7
+> reason: 14 no moments
+> events: 9
+> segments: 1
+> event: 7 cpu 0 user read 0x5123 -> 0x9123
+> now: level 4 [0x1000] = 0x2007 table, written by event 0
+> now: level 3 [0x2000] = 0x3007 table, written by event 1
+> now: level 2 [0x3000] = 0x4007 table, written by event 2
+> now: level 1 [0x4028] = 0x0 absent, written by event 5
+> now: would give fault 0x4 (user)
+> last: moment 6 by 5 5 5 5; taken by 6 cpu 0 invlpg 0x5000
+> allowed: fault 0x4 by 7 7 7 7
+? 1
+
+== event_before_a_no_by_certify_explained
+$ explain --event 4
+< @read_again_unnamed
+> event: 4 cpu 0 user read 0x5123 -> 0x9123
+> 0x9123 by 4 4 4 4
+> outcomes: 1
+? 0
 "#;

@@ -220,11 +220,13 @@ fn ends_in_order_with(
 }
 
 /// The invalidation has to come before the write that it overlaps, or the read has no old entry.
+const OVERLAPPING: [Spanned; 3] = [(REMAP, 0), (OWN_INVLPG, 1), (OLD_READ, 0)];
+
+const OVERLAPPING_IN_ORDER: [Written; 3] = [OWN_INVLPG, REMAP, OLD_READ];
+
 #[test]
 fn events_in_an_order_are_a_history(rt: HostRuntime) -> Result<(), Fail> {
-    let events = [(REMAP, 0), (OWN_INVLPG, 1), (OLD_READ, 0)];
-    let run = run_of(rt.alloc(), &events)?;
-    let last = [OWN_INVLPG, REMAP, OLD_READ];
-    assert!(rt; ends_in_order_with(rt.alloc(), &run, 8, &last)?);
+    let run = run_of(rt.alloc(), &OVERLAPPING)?;
+    assert!(rt; ends_in_order_with(rt.alloc(), &run, 8, &OVERLAPPING_IN_ORDER)?);
     Ok(())
 }
