@@ -48,9 +48,9 @@ items_take scene first events from to le within =
     let some : length (take from events) ≡ from = length-take-le from events (omega (arith, le, within)) in
     let batch : List Event = take (to - from) (drop from events) in
     sym (
-      ap (λ (es : List Event). scene_items scene first es) (take_parts from to events le)
-      ∙ items_append scene.selection (marking scene.mark) first (take from events) batch
-      ∙ ap (λ k. scene_items scene first (take from events) ++ scene_items scene (first + k) batch) some
+    ap (λ (es : List Event). scene_items scene first es) (take_parts from to events le)
+    ∙ items_append scene.selection (marking scene.mark) first (take from events) batch
+    ∙ ap (λ k. scene_items scene first (take from events) ++ scene_items scene (first + k) batch) some
     )
 
 -- and all of them
@@ -59,7 +59,7 @@ pub items_rest : (scene : Scene) (first : ℕ) (events : List Event) (to : ℕ) 
 items_rest scene first events to within =
     let some : length (take to events) ≡ to = length-take-le to events within in
     sym (
-      ap (λ (es : List Event). scene_items scene first es) (sym (take-append-drop to events))
-      ∙ items_append scene.selection (marking scene.mark) first (take to events) (drop to events)
-      ∙ ap (λ k. scene_items scene first (take to events) ++ scene_items scene (first + k) (drop to events)) some
+    ap (λ (es : List Event). scene_items scene first es) (sym (take-append-drop to events))
+    ∙ items_append scene.selection (marking scene.mark) first (take to events) (drop to events)
+    ∙ ap (λ k. scene_items scene first (take to events) ++ scene_items scene (first + k) (drop to events)) some
     )

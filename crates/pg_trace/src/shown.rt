@@ -1,6 +1,6 @@
 //! A record's events as a trace, written as they are read.
 
-ghost use Rattle.std.specs.Prelude.{◌≡◌, ◌×◌, [], ℕ, List, Option};
+ghost use Rattle.std.specs.Prelude.{◌≡◌, [], ℕ, List, Option};
 ghost use Rattle.pg_event.specs.declared.event.Event.{Event as Deed};
 ghost use Rattle.pg_event.specs.declared.version.Version.TheVariants.{Two};
 ghost use Rattle.pg_event.specs.Heads.{Head};
@@ -78,8 +78,8 @@ fn write_by<R: Source, O: Sink>(
 }
 
 /// Writes the events that a selection asks for of the record that `input` has left, as they are
-/// read: a segment is held in memory. Loads are shown of no page's processors, since these are known
-/// only at the end. Where the record is refused, or a failure comes, a beginning was written.
+/// read: a segment is held in memory. Loads are shown of no page's processors, since these are
+/// known only at the end. Where the record is refused, or a failure comes, a beginning was written.
 pub fn trace_shown<R: Source, O: Sink>(
     alloc: Global,
     selection: Selection,

@@ -110,7 +110,7 @@ pub(crate) fn write_events<O: Sink>(
     Ok(())
 }
 
-/// Writes what stands before the events of a record.
+/// Writes the beginning of a record's document, up to its first event.
 pub(crate) fn write_opening<O: Sink>(
     alloc: Global,
     header: &Header,
@@ -124,7 +124,7 @@ pub(crate) fn write_opening<O: Sink>(
     write_text(output, text.as_str())
 }
 
-/// Writes what stands behind the events.
+/// Writes the end of a document.
 pub(crate) fn write_ending<O: Sink>(
     alloc: Global,
     scene: &Scene,

@@ -20,7 +20,7 @@ write_events-requires g c =
     let items : List Event = c.in-Ok-Some.events.items in
     let r : Recorded = record { head = going.0; events = was.0 } in
     let on = going_on g.R.Source Two going.1 going.2 _ _ c.loop.reader.stage r c.loop.counter (was.3 going.0 going.1 going.2 going.3) items _
-        (rw c.in-Ok-Some.field-0-is at read.pulls) (rw c.in-Ok-Some.field-0-is at read.next) (rw c.in-Ok-Some.field-0-is at read.stage) in
+    (rw c.in-Ok-Some.field-0-is at read.pulls) (rw c.in-Ok-Some.field-0-is at read.next) (rw c.in-Ok-Some.field-0-is at read.stage) in
     rw c.deref.ensures.value (omega (arith, length-append was.0 items, on.few, was.1))
 
 pub returns-in-Ok-None : goal.returns-in-Ok-None
@@ -29,8 +29,7 @@ returns-in-Ok-None g c =
     let going = c.requires.going in
     let pulls = rw c.in-Ok-None.field-0-is at c.in-Ok-None.ensures.pulls in
     let first = was.3 going.0 going.1 going.2 going.3 in
-    let r : Recorded = record { head = going.0; events = was.0 } in
-    (
+    let r : Recorded = record { head = going.0; events = was.0 } in (
       was.0,
       record {
         bytes = was.2.bytes;
@@ -48,8 +47,7 @@ returns-in-Err g c =
     let x = c.audit_error.result in
     let first = was.3 going.0 going.1 going.2 going.3 in
     let r : Recorded = record { head = going.0; events = was.0 } in
-    let counted = failure_counts g.R.Source Two going.1 going.2 _ _ c.loop.reader.stage r c.loop.counter first c.in-Err.error x c.audit_error.ensures pulls in
-    (
+    let counted = failure_counts g.R.Source Two going.1 going.2 _ _ c.loop.reader.stage r c.loop.counter first c.in-Err.error x c.audit_error.ensures pulls in (
       was.0,
       record {
         bytes = all_as_some _ _ _ was.2.bytes;
@@ -68,7 +66,7 @@ returns-in_err-write_events-in-Ok-Some g c =
     let first = was.3 going.0 going.1 going.2 going.3 in
     let r : Recorded = record { head = going.0; events = was.0 } in
     let on = going_on g.R.Source Two going.1 going.2 _ _ c.loop.reader.stage r c.loop.counter first items _
-        (rw c.in-Ok-Some.field-0-is at read.pulls) (rw c.in-Ok-Some.field-0-is at read.next) (rw c.in-Ok-Some.field-0-is at read.stage) in
+    (rw c.in-Ok-Some.field-0-is at read.pulls) (rw c.in-Ok-Some.field-0-is at read.next) (rw c.in-Ok-Some.field-0-is at read.stage) in
     let p = err_from_is_err_and c.from_residual.result c.from_residual.ensures.1 in
     let e = c.in_err-write_events-in-Ok-Some.error in
     let next = part_for c.args.scene.now was.0 items _ c.loop.number _ (Err e) was.1 c.deref.ensures.value c.in_err-write_events-in-Ok-Some.ensures in
@@ -89,8 +87,7 @@ loop-preserved g c =
     let read = c.in-Ok-Some.ensures in
     let items : List Event = c.in-Ok-Some.events.items in
     let next = part_for c.args.scene.now was.0 items _ c.loop.number _ (Ok tt) was.1 c.deref.ensures.value c.in_ok-write_events-in-Ok-Some.ensures in
-    let whole = part_is _ _ _ (Ok tt) (sym (scene_append c.args.scene.now was.0 items)) (part_then g.O.Sink _ _ _ _ _ tt (Ok tt) was.2 next) in
-    (
+    let whole = part_is _ _ _ (Ok tt) (sym (scene_append c.args.scene.now was.0 items)) (part_then g.O.Sink _ _ _ _ _ tt (Ok tt) was.2 next) in (
       was.0 ++ items,
       omega (arith, length-append was.0 items, was.1),
       whole,
