@@ -26,7 +26,9 @@ items_append f mark n (x ∷ xs) ys =
 
 -- the items of a scene
 pub scene_append : (scene : Scene) (xs ys : List Event) → scene_items scene 0 (xs ++ ys) ≡ scene_items scene 0 xs ++ scene_items scene (length xs) ys
-scene_append scene xs ys = items_append scene.selection (marking scene.mark) 0 xs ys
+scene_append scene xs ys =
+    items_append scene.selection (marking scene.mark) 0 xs ys
+    ∙ ap (λ k. scene_items scene 0 xs ++ scene_items scene k ys) (omega arith)
 
 -- those that were written as the next ones
 pub part_for : {A : Type 0} (scene : Scene) (xs ys zs : List Event) (n : ℕ) (output : Change) (result : Result A AuditError) → n ≡ length xs → zs ≡ ys → WritesPart (scene_items scene n zs) output result

@@ -308,7 +308,8 @@ fn push_arrow(
     let start = arrow_fields(alloc, "s", id, name, source.p, source.number as u64)?;
     let end = end_fields(alloc, mark, id, name)?;
     push_next(alloc, text, start)?;
-    push_next(alloc, text, end)
+    push_next(alloc, text, end)?;
+    Ok(())
 }
 
 /// Appends the arrows to a rejected event.

@@ -11,7 +11,7 @@ ghost use Rattle.pg_trace.specs.Texts.{marking};
 
 use crate::mark::{Cause, Mark, Role, Source, push_source};
 use crate::objects::{Slot, ending, opening, others_of, push_slice};
-use crate::writer::is_chosen;
+use crate::writer::{is_chosen, processor_count};
 use pg_event::{Event, Selection, processor_of};
 use pg_json::began_fields;
 use pg_spanned::SpannedRun;
@@ -101,8 +101,9 @@ fn document(
     ensures { IfOk result (λ t. string_bytes t
         ≡ document_text selection (marking mark.now) run.now) }
 {
-    let mut text = opening(alloc, run.header().processors.len())?;
-    for (i, event) in run.events().iter().enumerate() {
+    let events = run.events();
+    let mut text = opening(alloc, processor_count(run.header()))?;
+    for (i, event) in events.iter().enumerate() {
         push_chosen(alloc, &mut text, mark, selection, run, i as u32, event)?;
     }
     let end = ending(alloc, mark)?;
