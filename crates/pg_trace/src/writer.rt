@@ -118,7 +118,10 @@ pub(crate) fn write_events<O: Sink>(
     let mut from = 0;
     while from < events.len() {
         let to = events.len().min(from + BATCH);
-        write_batch(alloc, scene, first + from as u32, &events[from..to], output)?;
+        match write_batch(alloc, scene, first + from as u32, &events[from..to], output) {
+            Ok(()) => {}
+            Err(error) => return Err(error),
+        }
         from = to;
     }
     Ok(())
