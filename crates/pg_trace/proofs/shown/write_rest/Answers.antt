@@ -1,4 +1,4 @@
-use Rattle.std.proofs.Common.{◌≡◌, ◌+◌, ◌<◌, ◌^◌, ◌++◌, ℕ, List, [], Option, Ok, Err, length, length-append, cond, refl, sym, ap, subst, ◌∙◌, arith}
+use Rattle.std.proofs.Common.{◌≡◌, ◌+◌, ◌++◌, ℕ, List, Option, Ok, Err, length, length-append, cond, sym, ap, subst, ◌∙◌, arith}
 use Rattle.pg_event.specs.declared.event.Event.{Event}
 use Rattle.pg_event.specs.declared.version.Version.TheVariants.{Two}
 use Rattle.pg_event.specs.Heads.{Head}
@@ -8,7 +8,6 @@ use Rattle.pg_report.specs.Changes.{drawn, filled}
 use Rattle.pg_report.specs.Going.{IsGoing}
 use Rattle.pg_report.specs.Intake.{is_device}
 use Rattle.pg_report.proofs.Continuing.{going_on, going_ends, going_fails, end_counts, failure_counts}
-use Rattle.pg_trace.specs.Texts.{marking, scene_items}
 use Rattle.pg_trace.proofs.Items.{part_for, scene_append}
 use Rattle.pg_trace.proofs.Parts.{part_then, part_is}
 use Rattle.pg_trace.proofs.Reading.{all_as_some, reader_stops, writer_stops, stop_reads, stop_alone, error_alone}

@@ -1,4 +1,4 @@
-use Rattle.std.proofs.Common.{◌≡◌, ◌≤◌, ◌-◌, ◌+◌, Ok, Err, List, take, drop, length, ap, sym, ◌∙◌, arith}
+use Rattle.std.proofs.Common.{◌≤◌, ◌+◌, Ok, Err, List, drop, length, ap, arith}
 use Rattle.std.proofs.lemmas.List.{take_all}
 use Rattle.pg_event.specs.declared.event.Event.{Event}
 use Rattle.pg_trace.specs.Texts.{scene_items}
