@@ -1,5 +1,5 @@
 -- What `certify` answers of a record with no one order (versions 3 and 4).
-use Rattle.std.specs.Prelude.{◌≡◌, ◌⊎◌, ℕ, List, Option, Result, Ok, Err, None}
+use Rattle.std.specs.Prelude.{◌≡◌, ◌⊎◌, ℕ, List, Option, Result, Ok, Err}
 use Rattle.pg_event.specs.declared.event.Event.{Event}
 use Rattle.pg_event.specs.Spelling.{Recorded, record_bytes}
 use Rattle.pg_run_of.specs.Law.{HasRun}
@@ -24,8 +24,7 @@ use Rattle.pg_ordering.specs.Outcomes.{AreInOrder, ordered_outcomes_text}
 use Rattle.pg_answers.specs.Answers.{event_outcomes_status}
 use Rattle.pg_ordering.specs.Readings.{ReadsRun, DeviceTold}
 use Rattle.pg_ordering.specs.Refusals.{spans_line}
-use Rattle.pg_ordering.specs.Texts.{report_text, drawn_text, order_text, never_in}
-use Rattle.pg_trace.specs.Spans.{document_text, never_mark}
+use Rattle.pg_ordering.specs.Texts.{report_text, drawn_text, order_text, trace_text}
 
 abbrev pub status_of : Verdict → ℕ
 status_of (Yes order) = 0
@@ -67,8 +66,7 @@ GivesPicture s verdict output errors status =
 -- the trace of the record, with the event of a no to which no run comes
 abbrev pub GivesTrace : Spanned → Verdict → Change → Change → ℕ → Type 0
 GivesTrace s verdict output errors status =
-    GivesOut (document_text None (never_mark s (never_in verdict)) s) (status_of verdict)
-    output errors status
+    GivesOut (trace_text s verdict) (status_of verdict) output errors status
     ⊎ WantsMemory output errors status
 
 abbrev pub GivesReportAside : Spanned → Verdict → Change → Change → ℕ → Type 0

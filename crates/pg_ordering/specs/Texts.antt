@@ -9,6 +9,7 @@ use Rattle.pg_relaxed.specs.declared.edge.Edge.{Edge}
 use Rattle.pg_spanned.specs.Orders.{Spanned}
 use Rattle.pg_spanned_text.specs.Cause.{cause_text}
 use Rattle.pg_spanned_text.specs.Picture.{picture_text}
+use Rattle.pg_trace.specs.Spans.{document_text, never_mark}
 
 -- how many segments hold all events
 abbrev pub segments_of : Spanned → ℕ
@@ -62,6 +63,10 @@ never_in (Yes order) = None
 never_in (Never n edges) = Some n
 never_in (NoneOfAll n) = None
 never_in (Undecided n) = None
+
+-- the trace, with that event
+abbrev pub trace_text : Spanned → Verdict → List ℕ
+trace_text s verdict = document_text None (never_mark s (never_in verdict)) s
 
 -- the number of each event of an order, a line each
 abbrev pub order_text : List ℕ → List ℕ

@@ -19,7 +19,7 @@ use crate::asked::Asked;
 use crate::outcomes::{OrderedOutcomes, ordered_outcomes_text, outcomes_in_order};
 use crate::reading::{Unread, read_run};
 use crate::refusals::tell_refusal;
-use crate::texts::{drawn_text, never_in, order_text, report_text};
+use crate::texts::{drawn_text, order_text, report_text, trace_text};
 use pg_answers::event_outcomes_status;
 use pg_auditing::{MEMORY, NO, REFUSED, YES, tell};
 use pg_codec::{Sink, Source, put_all, write_record};
@@ -27,7 +27,6 @@ use pg_event::{Event, Header};
 use pg_order::{Verdict, find_ordered_run, moments_in_order};
 use pg_report::AuditError;
 use pg_spanned::SpannedRun;
-use pg_trace::spanned_verdict_trace;
 use std::alloc::Global;
 
 /// Of what is undecided.
@@ -127,7 +126,7 @@ fn give_trace<O: Sink, E: Sink>(
     ensures { GivesTrace run.now verdict.now
         (filled O.Sink output.old output.new) (filled E.Sink errors.old errors.new) result }
 {
-    match spanned_verdict_trace(alloc, run, never_in(verdict)) {
+    match trace_text(alloc, run, verdict) {
         Ok(text) => give_out(output, errors, text.as_bytes(), status_of(verdict)),
         Err(_) => tell_memory(output, errors),
     }

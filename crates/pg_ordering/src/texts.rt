@@ -4,12 +4,13 @@ ghost use Rattle.std.specs.Prelude.{◌≡◌, ◌++◌, IfOk, OnOk, codes, deci
 ghost use Rattle.std.specs.List.{flat_map};
 ghost use Rattle.pg_ordering.specs.Texts.{report_text, order_text, segments_of, counts_of};
 ghost use Rattle.pg_ordering.specs.Texts.{head_text, cause_of, none_of_all, drawn_text, edge_line};
-ghost use Rattle.pg_ordering.specs.Texts.{never_in};
+ghost use Rattle.pg_ordering.specs.Texts.{never_in, trace_text};
 
 use pg_order::Verdict;
 use pg_relaxed::Edge;
 use pg_spanned::SpannedRun;
 use pg_spanned_text::{cause_picture, cause_text};
+use pg_trace::spanned_verdict_trace;
 use std::alloc::{AllocError, Global};
 
 /// The cause of a rejection where all orders were tried.
@@ -120,13 +121,25 @@ pub(crate) fn drawn_text(
 }
 
 /// The event to which no run comes, where that is known of one.
-pub(crate) fn never_in(verdict: &Verdict) -> Option<u64>
+fn never_in(verdict: &Verdict) -> Option<u64>
     ensures { result ≡ never_in verdict.now }
 {
     match verdict {
         Verdict::Never(event, _) => Some(*event),
         Verdict::Yes(_) | Verdict::NoneOfAll(_) | Verdict::Undecided(_) => None,
     }
+}
+
+/// The trace of a run, with the event of a no to which no run comes.
+pub(crate) fn trace_text(
+    alloc: Global,
+    run: &SpannedRun,
+    verdict: &Verdict,
+) -> Result<String, AllocError>
+    ensures { IfOk result (λ t. string_bytes t ≡ trace_text run.now verdict.now) }
+{
+    let never = never_in(verdict);
+    spanned_verdict_trace(alloc, run, never)
 }
 
 /// The line of a number.

@@ -1,6 +1,6 @@
 -- What is left of a trace where it, or the reading of its record, ends.
 use Rattle.std.proofs.Common.{◌≡◌, ◌≢◌, ℕ, List, Option, Some, None, Ok, Err, inl, inr, refl, sym, subst}
-use Rattle.std.specs.Prelude.{Result, IfErr, IfOk, IfSome}
+use Rattle.std.specs.Prelude.{Result, IfOk, IfSome}
 use Rattle.pg_event.specs.declared.refusal.Refusal.{Refusal}
 use Rattle.pg_event.specs.declared.version.Version.TheVariants.{Two}
 use Rattle.pg_event.specs.Reading.{refusal}

@@ -1,5 +1,5 @@
 -- The events of a trace, in several parts.
-use Rattle.std.proofs.Common.{◌≡◌, ℕ, ◌+◌, ◌-◌, ◌≤◌, List, [], ◌∷◌, ◌++◌, length, take, drop, Option, refl, ap, sym, ◌∙◌, append_assoc, arith}
+use Rattle.std.proofs.Common.{◌≡◌, ℕ, ◌+◌, ◌-◌, ◌≤◌, List, [], ◌∷◌, ◌++◌, length, take, drop, Option, ap, sym, ◌∙◌, append_assoc, arith}
 use Rattle.std.proofs.lemmas.List.{drop-take, length-take-le, take-append-drop, take-take}
 use Rattle.pg_event.specs.declared.event.Event.{Event}
 use Rattle.pg_event.specs.declared.selection.Selection.{Selection}
@@ -26,7 +26,9 @@ items_append f mark n (x ∷ xs) ys =
 
 -- the items of a scene
 pub scene_append : (scene : Scene) (xs ys : List Event) → scene_items scene 0 (xs ++ ys) ≡ scene_items scene 0 xs ++ scene_items scene (length xs) ys
-scene_append scene xs ys = items_append scene.selection (marking scene.mark) 0 xs ys
+scene_append scene xs ys =
+    items_append scene.selection (marking scene.mark) 0 xs ys
+    ∙ ap (λ k. scene_items scene 0 xs ++ scene_items scene k ys) (omega arith)
 
 -- those that were written as the next ones
 pub part_for : {A : Type 0} (scene : Scene) (xs ys zs : List Event) (n : ℕ) (output : Change) (result : Result A AuditError) → n ≡ length xs → zs ≡ ys → WritesPart (scene_items scene n zs) output result
@@ -48,9 +50,9 @@ items_take scene first events from to le within =
     let some : length (take from events) ≡ from = length-take-le from events (omega (arith, le, within)) in
     let batch : List Event = take (to - from) (drop from events) in
     sym (
-      ap (λ (es : List Event). scene_items scene first es) (take_parts from to events le)
-      ∙ items_append scene.selection (marking scene.mark) first (take from events) batch
-      ∙ ap (λ k. scene_items scene first (take from events) ++ scene_items scene (first + k) batch) some
+    ap (λ (es : List Event). scene_items scene first es) (take_parts from to events le)
+    ∙ items_append scene.selection (marking scene.mark) first (take from events) batch
+    ∙ ap (λ k. scene_items scene first (take from events) ++ scene_items scene (first + k) batch) some
     )
 
 -- and all of them
@@ -59,7 +61,7 @@ pub items_rest : (scene : Scene) (first : ℕ) (events : List Event) (to : ℕ) 
 items_rest scene first events to within =
     let some : length (take to events) ≡ to = length-take-le to events within in
     sym (
-      ap (λ (es : List Event). scene_items scene first es) (sym (take-append-drop to events))
-      ∙ items_append scene.selection (marking scene.mark) first (take to events) (drop to events)
-      ∙ ap (λ k. scene_items scene first (take to events) ++ scene_items scene (first + k) (drop to events)) some
+    ap (λ (es : List Event). scene_items scene first es) (sym (take-append-drop to events))
+    ∙ items_append scene.selection (marking scene.mark) first (take to events) (drop to events)
+    ∙ ap (λ k. scene_items scene first (take to events) ++ scene_items scene (first + k) (drop to events)) some
     )

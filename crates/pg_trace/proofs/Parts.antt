@@ -1,15 +1,15 @@
 -- Parts of a text that are written one after another.
-use Rattle.std.proofs.Common.{◌≡◌, ℕ, List, [], ◌++◌, Option, Ok, Err, refl, subst}
+use Rattle.std.proofs.Common.{◌≡◌, ℕ, List, [], ◌++◌, Ok, Err, refl, subst}
 use Rattle.std.specs.Prelude.{Result, IfErr}
 use Rattle.pg_codec.specs.declared.stream.Sink.{Ghosts}
-use Rattle.pg_codec.specs.Streams.{AppendsSome, FailsWithDevice, Writes}
+use Rattle.pg_codec.specs.Streams.{FailsWithDevice}
 use Rattle.pg_codec.proofs.Written.{appends_none, appends_some_after, writes_after}
 use Rattle.pg_report.specs.declared.error.AuditError.{AuditError}
 use Rattle.pg_report.specs.declared.error.AuditError.TheVariants as errors
 use Rattle.pg_report.specs.Audits.{WritesText}
 use Rattle.pg_report.specs.Changes.{Change, filled}
 use Rattle.pg_report.specs.Intake.{TellsDevice, is_device}
-use Rattle.pg_trace.specs.Given.{MayStop, WritesPart}
+use Rattle.pg_trace.specs.Given.{WritesPart}
 
 module _ {W : Type 0} (g : Ghosts W) where
   -- a text that was made before it was written

@@ -1,6 +1,6 @@
 -- What stops a record that is written as it is read.
-use Rattle.std.proofs.Common.{◌≡◌, ℕ, List, [], ◌++◌, Option, Some, None, Ok, Err, length, inl, inr, refl, sym, subst, ◌∙◌, arith}
-use Rattle.std.specs.Prelude.{Result, IfErr, IfSome}
+use Rattle.std.proofs.Common.{◌≡◌, ℕ, List, Option, Some, None, Err, length, inl, inr, sym, subst, ◌∙◌, arith}
+use Rattle.std.specs.Prelude.{Result, IfSome}
 use Rattle.std.specs.Io.KnownBytes.{Appends}
 use Rattle.std.proofs.lemmas.List.{take_all}
 use Rattle.pg_event.specs.declared.version.Version.TheVariants.{Two}

@@ -21,7 +21,7 @@ use Rattle.pg_trace.specs.declared.mark.Cause.{Cause}
 use Rattle.pg_trace.specs.declared.mark.Cause.TheVariants.{Moments, NoMoments, NoOrder}
 use Rattle.pg_trace.specs.declared.mark.Mark.{Mark}
 use Rattle.pg_trace.specs.declared.mark.Role.{Role}
-use Rattle.pg_trace.specs.declared.mark.Role.TheVariants.{Write, Drop, Last}
+use Rattle.pg_trace.specs.declared.mark.Role.TheVariants as roles
 use Rattle.pg_trace.specs.declared.mark.Source.{Source}
 
 abbrev pub cause_name : Cause → List ℕ
@@ -31,9 +31,9 @@ cause_name NoOrder = codes "no order"
 
 -- the name of an arrow
 abbrev pub role_name : Role → List ℕ
-role_name Write = codes "read by the walk"
-role_name Drop = codes "dropped the entry"
-role_name Last = codes "last event before it"
+role_name roles.Write = codes "read by the walk"
+role_name roles.Drop = codes "dropped the entry"
+role_name roles.Last = codes "last event before it"
 
 -- a rejected event
 pub record Marking : Type 0 where
@@ -68,7 +68,7 @@ source_at events role (Some number) = source_of role number (slice_get events nu
 abbrev pub writers : List Event → List WalkEntry → List Source
 writers events [] = []
 writers events (x ∷ xs) =
-    source_at events Write x.writer ++ (if is_table x.kind then writers events xs else [])
+    source_at events roles.Write x.writer ++ (if is_table x.kind then writers events xs else [])
 
 -- the event by which an entry had to go
 abbrev pub dropped_in : Finding → Option ℕ
@@ -104,7 +104,7 @@ unless_at (Some other) number = None
 abbrev pub sources_of : List Event → List WalkEntry → Option ℕ → Option ℕ → List Source
 sources_of events walk dropped last =
     writers events walk
-    ++ (source_at events Drop dropped ++ source_at events Last (unless_at dropped last))
+    ++ (source_at events roles.Drop dropped ++ source_at events roles.Last (unless_at dropped last))
 
 -- ---- marks
 

@@ -12,18 +12,21 @@ use Rattle.pg_spanned_text.specs.Cause.{cause_text}
 use Rattle.pg_spanned_text.specs.Parts.{parts_of, walked_address}
 use Rattle.pg_spanned_text.specs.Spans.{span_of}
 use Rattle.pg_trace.specs.declared.mark.Cause.TheVariants.{NoOrder}
-use Rattle.pg_trace.specs.declared.mark.Role.TheVariants.{Write}
+use Rattle.pg_trace.specs.declared.mark.Role.TheVariants as roles
 use Rattle.pg_trace.specs.declared.mark.Source.{Source}
 use Rattle.pg_trace.specs.Marks.{Marking, source_at}
 use Rattle.pg_trace.specs.Objects.{opening_text, slice_text, others_of, ending_text}
 use Rattle.pg_trace.specs.Texts.{is_chosen}
 
--- behind the last of these events that is of a processor, where the first has this number; or where
--- it starts
+-- behind an event with this number, if it is of a processor, and else where it was
+abbrev pub start_after : ℕ → ℕ → ℕ → Event → ℕ
+start_after p number start e = if processor_of e == p then number + 1 else start
+
+-- behind the last of these events that is of it, where the first has this number
 abbrev pub start_behind : ℕ → ℕ → ℕ → List Event → ℕ
 start_behind p number start [] = start
 start_behind p number start (e ∷ events) =
-    start_behind p (number + 1) (if processor_of e == p then number + 1 else start) events
+    start_behind p (number + 1) (start_after p number start e) events
 
 -- the events with numbers from one up to, not with, another
 abbrev pub between : ℕ → ℕ → List Event → List Event
@@ -67,7 +70,7 @@ writer_before number (Some writer) = if nat_lt writer number then Some writer el
 abbrev pub writers_of : Spanned → ℕ → List Seen → List Source
 writers_of s number [] = []
 writers_of s number (x ∷ xs) =
-    source_at s.events Write (writer_before number x.writer) ++ writers_of s number xs
+    source_at s.events roles.Write (writer_before number x.writer) ++ writers_of s number xs
 
 abbrev pub walk_sources : Spanned → ℕ → Event → Option ℕ → List Source
 walk_sources s number e None = []

@@ -106,7 +106,10 @@ fn mark_of(alloc: Global, history: &History, number: u64) -> Result<Mark, AllocE
     ensures { IfOk result (λ m. IsMarkOf history.now number (said m)) }
 {
     match explain(alloc, history, number)? {
-        Some(explanation) => explanation_mark(alloc, history, &explanation),
+        Some(explanation) => {
+            let mark = explanation_mark(alloc, history, &explanation)?;
+            Ok(mark)
+        }
         None => unreachable!(),
     }
 }

@@ -3,7 +3,8 @@
 ghost use Rattle.std.specs.Prelude.{◌≡◌, ◌++◌, IfOk, OnOk};
 ghost use Rattle.pg_trace.specs.Marks.{cause_name, role_name, said, source_at, writers};
 ghost use Rattle.pg_event.specs.Wants.{is_table};
-ghost use Rattle.pg_trace.specs.Marks.{dropped_in, last_in, last_unless, unless_at, sources_of, processor_at};
+ghost use Rattle.pg_trace.specs.Marks.{dropped_in, last_in, last_unless, unless_at};
+ghost use Rattle.pg_trace.specs.Marks.{sources_of, processor_at};
 ghost use Rattle.pg_trace.specs.Marks.{explanation_mark, denial_mark};
 
 use pg_check::History;

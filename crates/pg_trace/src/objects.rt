@@ -21,10 +21,10 @@ use pg_json::{Fields, event_fields, object_of, put_count, put_text};
 use serde_json::{Map, Value, put};
 use std::alloc::{AllocError, Global};
 
-/// What stands before the first object.
+/// What begins a document.
 const OPENING: &str = "{\"traceEvents\":[\n";
 
-/// What stands behind the last.
+/// What ends a document.
 pub(crate) const CLOSING: &str = "\n]}\n";
 
 /// No fields.
@@ -308,7 +308,8 @@ fn push_arrow(
     let start = arrow_fields(alloc, "s", id, name, source.p, source.number as u64)?;
     let end = end_fields(alloc, mark, id, name)?;
     push_next(alloc, text, start)?;
-    push_next(alloc, text, end)
+    push_next(alloc, text, end)?;
+    Ok(())
 }
 
 /// Appends the arrows to a rejected event.

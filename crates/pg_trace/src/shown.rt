@@ -1,6 +1,6 @@
 //! A record's events as a trace, written as they are read.
 
-ghost use Rattle.std.specs.Prelude.{◌≡◌, ◌×◌, [], ℕ, List, Option};
+ghost use Rattle.std.specs.Prelude.{◌≡◌, ◌+◌, ◌<◌, ◌^◌, [], ℕ, List, Option, length};
 ghost use Rattle.pg_event.specs.declared.event.Event.{Event as Deed};
 ghost use Rattle.pg_event.specs.declared.version.Version.TheVariants.{Two};
 ghost use Rattle.pg_event.specs.Heads.{Head};
@@ -13,9 +13,17 @@ ghost use Rattle.pg_trace.specs.Texts.{scene_items};
 
 use crate::writer::{Scene, write_ending, write_events, write_opening};
 use pg_codec::{RecordReader, Sink, Source};
-use pg_event::Selection;
+use pg_event::{Event, Selection};
 use pg_report::{AuditError, MOST_CHUNKS, audit_error};
 use std::alloc::Global;
+
+/// The number behind events, of which the first has this one.
+fn number_after(first: u32, events: &[Event]) -> u32
+    requires { first + length events.now < 2 ^ 32 }
+    ensures { result ≡ first + length events.now }
+{
+    first + events.len() as u32
+}
 
 /// Reads what is left of a record behind its header, and writes its events as they are read.
 fn write_rest<R: Source, O: Sink>(
@@ -40,8 +48,12 @@ fn write_rest<R: Source, O: Sink>(
     for _ in 0..MOST_CHUNKS {
         match reader.read_segment_in(room, source) {
             Ok(Some(events)) => {
-                write_events(alloc, scene, number, &events, output)?;
-                number += events.len() as u32;
+                let next = number_after(number, &events);
+                match write_events(alloc, scene, number, &events, output) {
+                    Ok(()) => {}
+                    Err(error) => return Err(error),
+                }
+                number = next;
                 room = events;
             }
             Ok(None) => return Ok(()),
@@ -78,8 +90,8 @@ fn write_by<R: Source, O: Sink>(
 }
 
 /// Writes the events that a selection asks for of the record that `input` has left, as they are
-/// read: a segment is held in memory. Loads are shown of no page's processors, since these are known
-/// only at the end. Where the record is refused, or a failure comes, a beginning was written.
+/// read: a segment is held in memory. Loads are shown of no page's processors, since these are
+/// known only at the end. Where the record is refused, or a failure comes, a beginning was written.
 pub fn trace_shown<R: Source, O: Sink>(
     alloc: Global,
     selection: Selection,

@@ -1,22 +1,36 @@
 //! A record with spans as a trace.
 
-ghost use Rattle.std.specs.Prelude.{◌≡◌, ◌++◌, ◌<◌, ◌≤◌, IfOk, OnOk, length, string_bytes};
-ghost use Rattle.std.specs.Prelude.{Some, None};
+ghost use Rattle.std.specs.Prelude.{◌≡◌, ◌+◌, ◌++◌, ◌<◌, ◌≤◌, ◌^◌, length, Some, None};
+ghost use Rattle.std.specs.Prelude.{IfOk, OnOk, string_bytes};
 ghost use Rattle.pg_trace.specs.Marks.{said};
 ghost use Rattle.pg_trace.specs.Spans.{spanned_item, chosen_item, document_text, writers_of};
 ghost use Rattle.pg_trace.specs.Spans.{spanned_mark, walk_sources, never_mark, writer_before};
-ghost use Rattle.pg_trace.specs.Spans.{start_of};
+ghost use Rattle.pg_trace.specs.Spans.{start_after, start_of};
 ghost use Rattle.pg_spanned_text.specs.Parts.{walked_address};
 ghost use Rattle.pg_trace.specs.Texts.{marking};
 
 use crate::mark::{Cause, Mark, Role, Source, push_source};
 use crate::objects::{Slot, ending, opening, others_of, push_slice};
-use crate::writer::is_chosen;
+use crate::writer::{is_chosen, processor_count};
 use pg_event::{Event, Selection, processor_of};
 use pg_json::began_fields;
 use pg_spanned::SpannedRun;
 use pg_spanned_text::{Seen, cause_text, ended_before, event_of, walk_cause, walked_address};
 use std::alloc::{AllocError, Global};
+
+/// Behind an event with this number, if it is of a processor, and else where it was.
+fn start_after(p: u16, number: u32, start: u32, event: &Event) -> u32
+    requires number { number + 1 < 2 ^ 32 }
+    requires start { start ≤ number }
+    ensures value { result ≡ start_after p number start event.now }
+    ensures within { result ≤ number + 1 }
+{
+    if processor_of(event) == p {
+        number + 1
+    } else {
+        start
+    }
+}
 
 /// Where an event that began so starts on its processor's track: behind the last event of the
 /// processor since, where there is one, so that no two slices of a track overlap.
@@ -28,9 +42,7 @@ fn start_of(events: &[Event], p: u16, began: u32, number: u32) -> u32
 {
     let mut start = began;
     for (i, event) in events[began as usize..number as usize].iter().enumerate() {
-        if processor_of(event) == p {
-            start = began + i as u32 + 1;
-        }
+        start = start_after(p, began + i as u32, start, event);
     }
     start
 }
@@ -89,8 +101,9 @@ fn document(
     ensures { IfOk result (λ t. string_bytes t
         ≡ document_text selection (marking mark.now) run.now) }
 {
-    let mut text = opening(alloc, run.header().processors.len())?;
-    for (i, event) in run.events().iter().enumerate() {
+    let events = run.events();
+    let mut text = opening(alloc, processor_count(run.header()))?;
+    for (i, event) in events.iter().enumerate() {
         push_chosen(alloc, &mut text, mark, selection, run, i as u32, event)?;
     }
     let end = ending(alloc, mark)?;

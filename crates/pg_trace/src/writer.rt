@@ -73,6 +73,20 @@ fn batch_text(
     Ok(text)
 }
 
+/// Writes a text that was made.
+fn write_part<O: Sink>(text: &str, output: &mut O) -> Result<(), AuditError>
+    ensures { WritesPart text.now (filled O.Sink output.old output.new) result }
+{
+    write_text(output, text)
+}
+
+/// How many processors a record has.
+pub(crate) fn processor_count(header: &Header) -> usize
+    ensures { result ≡ length header.now.processors }
+{
+    header.processors.len()
+}
+
 /// Writes some events.
 fn write_batch<O: Sink>(
     alloc: Global,
@@ -86,7 +100,7 @@ fn write_batch<O: Sink>(
         (filled O.Sink output.old output.new) result }
 {
     let text = batch_text(alloc, scene, first, events)?;
-    write_text(output, text.as_str())
+    write_part(text.as_str(), output)
 }
 
 /// Writes events, of which the first has this number.
@@ -104,13 +118,16 @@ pub(crate) fn write_events<O: Sink>(
     let mut from = 0;
     while from < events.len() {
         let to = events.len().min(from + BATCH);
-        write_batch(alloc, scene, first + from as u32, &events[from..to], output)?;
+        match write_batch(alloc, scene, first + from as u32, &events[from..to], output) {
+            Ok(()) => {}
+            Err(error) => return Err(error),
+        }
         from = to;
     }
     Ok(())
 }
 
-/// Writes what stands before the events of a record.
+/// Writes the beginning of a record's document, up to its first event.
 pub(crate) fn write_opening<O: Sink>(
     alloc: Global,
     header: &Header,
@@ -120,11 +137,11 @@ pub(crate) fn write_opening<O: Sink>(
     ensures { WritesPart (opening_text (length header.now.processors))
         (filled O.Sink output.old output.new) result }
 {
-    let text = opening(alloc, header.processors.len())?;
-    write_text(output, text.as_str())
+    let text = opening(alloc, processor_count(header))?;
+    write_part(text.as_str(), output)
 }
 
-/// Writes what stands behind the events.
+/// Writes the end of a document.
 pub(crate) fn write_ending<O: Sink>(
     alloc: Global,
     scene: &Scene,
@@ -134,7 +151,7 @@ pub(crate) fn write_ending<O: Sink>(
         (filled O.Sink output.old output.new) result }
 {
     let text = ending(alloc, &scene.mark)?;
-    write_text(output, text.as_str())
+    write_part(text.as_str(), output)
 }
 
 /// Writes a whole record.

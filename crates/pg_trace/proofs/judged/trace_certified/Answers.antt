@@ -1,6 +1,4 @@
-use Rattle.std.proofs.Common.{inl, refl}
-use Rattle.std.proofs.KnownBytes.{Keeps-refl}
-use Rattle.std.proofs.lemmas.Result.{err_from_is_err_and}
+use Rattle.std.proofs.Common.{refl}
 use Rattle.pg_trace.specs.Judged.{IsCertifiedTrace, traced_of}
 use Rattle.pg_trace.specs.Texts.{marking}
 use Rattle.pg_trace.proofs.Given.{trace_written}

@@ -1,4 +1,4 @@
-use Rattle.std.proofs.Common.{◌≡◌, ◌<◌, ◌+◌, ◌-◌, ◌++◌, ℕ, zero, suc, List, [], ap, sym, ◌∙◌, append_assoc, append-nil, arith, string_bytes}
+use Rattle.std.proofs.Common.{◌≡◌, ◌<◌, ◌+◌, ◌-◌, ◌++◌, ℕ, zero, suc, List, ap, sym, ◌∙◌, append_assoc, append-nil, arith, string_bytes}
 use Rattle.pg_trace.specs.Objects.{next_text, thread_json, threads_text}
 use Rattle.pg_trace.proofs.objects.opening.Goals as goal
 

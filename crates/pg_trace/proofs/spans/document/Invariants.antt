@@ -6,5 +6,5 @@ use Rattle.pg_trace.proofs.spans.document.Given as goal
 
 abbrev pub invariant-loop-i : goal.invariant-loop-i
 invariant-loop-i l =
-    string_bytes l.text ++ spanned_items l.selection (marking l.mark) l.run l.i (drop l.i l.run.events)
-    ≡ opening_text (length l.run.head.processors) ++ spanned_items l.selection (marking l.mark) l.run 0 l.run.events
+    string_bytes l.text ++ spanned_items l.selection (marking l.mark) l.run l.i (drop l.i l.events)
+    ≡ opening_text (length l.run.head.processors) ++ spanned_items l.selection (marking l.mark) l.run 0 l.events
