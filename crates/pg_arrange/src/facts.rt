@@ -79,6 +79,7 @@ impl<'a> Facts<'a> {
             let count = at(counts.as_slice(), number(p));
             facts.own.push(Vec::with_capacity(alloc, count as usize)?)?;
             facts.stays.push(loaded(header.cfg.m, *cr3, *pge))?;
+            facts.drops.push_processor()?;
         }
         for number in 0..number(run.len()) {
             if let Some(event) = run.event_at(number) {
@@ -86,8 +87,8 @@ impl<'a> Facts<'a> {
             }
         }
         facts.stays.list_all()?;
-        facts.drops.fit();
-        facts.writes.fit();
+        facts.drops.settle()?;
+        facts.writes.settle()?;
         Ok(facts)
     }
 
