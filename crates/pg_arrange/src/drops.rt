@@ -4,7 +4,7 @@
 ghost use Rattle.std.specs.Prelude.{◌≤◌};
 
 use crate::lists::Lists;
-use crate::numbers::{NEVER, after_last, first_from};
+use crate::numbers::{NEVER, after_last, first_from, number};
 use pg_entry::Level;
 use pg_event::{Control, Event, Outcome, bits_from, changes_pge, level_shift};
 use std::alloc::{AllocError, Global};
@@ -32,9 +32,13 @@ enum Scope {
 /// the processor.
 #[derive(Drop)]
 pub(crate) struct Drops {
-    alloc: Global,
     lists: Vec<Lists>,
 }
+
+/// So many scopes of all processors are found quickly, and so many of each.
+const SLOTS: u32 = 16_384;
+
+const LEAST_SLOTS: u32 = 64;
 
 const PAGES: [Level; 3] = [Level::One, Level::Two, Level::Three];
 
@@ -68,17 +72,14 @@ fn key(scope: Scope, la: u64) -> u64 {
 }
 
 impl Drops {
-    pub(crate) fn new(alloc: Global) -> Drops {
-        Drops {
-            alloc,
-            lists: Vec::new(alloc),
+    /// Of so many processors.
+    pub(crate) fn new(alloc: Global, processors: usize) -> Result<Drops, AllocError> {
+        let mut lists = Vec::with_capacity(alloc, processors)?;
+        let share = SLOTS.checked_div(number(processors)).unwrap_or(0);
+        for _ in 0..processors {
+            lists.push(Lists::new(alloc, share.max(LEAST_SLOTS)))?;
         }
-    }
-
-    /// One more processor.
-    pub(crate) fn push_processor(&mut self) -> Result<(), AllocError> {
-        self.lists.push(Lists::new(self.alloc))?;
-        Ok(())
+        Ok(Drops { lists })
     }
 
     /// Makes the lists, once all is noted.

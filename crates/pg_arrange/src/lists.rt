@@ -17,6 +17,8 @@ struct Recent {
 pub(crate) struct Lists {
     alloc: Global,
     ids: HashMap<u64, u32>,
+    /// How many slots there are for keys.
+    slots: u32,
     /// Keys to which numbers were added last, each in its slot: most come again soon.
     recent: Vec<Recent>,
     /// For each list how many numbers it has, and once they have their place where it ends.
@@ -28,18 +30,13 @@ pub(crate) struct Lists {
     items: Vec<u32>,
 }
 
-/// How many bits tell the slot of a key. There are such lists for each processor.
-const SLOT_BITS: u32 = 8;
-
-fn slot_of(key: u64) -> usize {
-    (key.wrapping_mul(0x9e37_79b9_7f4a_7c15) >> (64 - SLOT_BITS)) as usize
-}
-
 impl Lists {
-    pub(crate) fn new(alloc: Global) -> Lists {
+    /// No list yet. So many keys are found quickly.
+    pub(crate) fn new(alloc: Global, slots: u32) -> Lists {
         Lists {
             alloc,
             ids: HashMap::new(alloc),
+            slots,
             recent: Vec::new(alloc),
             ends: Vec::new(alloc),
             added: Vec::new(alloc),
@@ -78,9 +75,15 @@ impl Lists {
         }
     }
 
+    /// The slot of a key.
+    fn slot_of(&self, key: u64) -> usize {
+        let mixed = key.wrapping_mul(0x9e37_79b9_7f4a_7c15) >> 32;
+        (mixed.wrapping_mul(self.slots as u64) >> 32) as usize
+    }
+
     /// The number of a key's list, if it is known by the key's slot.
     fn recent_id(&self, key: u64) -> Option<u32> {
-        match self.recent.get(slot_of(key)) {
+        match self.recent.get(self.slot_of(key)) {
             Some(recent) if recent.key == key && recent.id != NEVER => Some(recent.id),
             _ => None,
         }
@@ -90,9 +93,10 @@ impl Lists {
     fn note(&mut self, key: u64, id: u32) -> Result<(), AllocError> {
         if self.recent.is_empty() {
             let none = Recent { key: 0, id: NEVER };
-            self.recent = vec![in self.alloc; none; 1 << SLOT_BITS]?;
+            self.recent = vec![in self.alloc; none; self.slots as usize]?;
         }
-        if let Some(recent) = self.recent.get_mut(slot_of(key)) {
+        let slot = self.slot_of(key);
+        if let Some(recent) = self.recent.get_mut(slot) {
             *recent = Recent { key, id };
         }
         Ok(())

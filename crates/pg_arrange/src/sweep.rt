@@ -26,7 +26,7 @@ pub(crate) struct View<'v> {
 impl<'v> View<'v> {
     pub(crate) fn slot(&self, p: u16, time: u32) -> u32 {
         if self.is_made {
-            self.made.slot(p, time)
+            self.made.slot(self.facts, p, time)
         } else {
             time
         }
@@ -34,7 +34,7 @@ impl<'v> View<'v> {
 
     pub(crate) fn start(&self, p: u16, slot: u32) -> u32 {
         if self.is_made {
-            self.made.start(p, slot)
+            self.made.start(self.facts, p, slot)
         } else {
             slot
         }
@@ -42,7 +42,7 @@ impl<'v> View<'v> {
 
     pub(crate) fn end(&self, p: u16, slot: u32) -> u32 {
         if self.is_made {
-            self.made.end(p, slot)
+            self.made.end(self.facts, p, slot)
         } else {
             slot
         }

@@ -190,6 +190,6 @@ fn known_by(facts: &Facts<'_>, made: &Made, asked: &Asked, hit: &Hit) -> Known {
         pcid: hit.pcid,
         until: facts
             .drops
-            .translation_to(p, page, la, made.slot(p, last)),
+            .translation_to(p, page, la, made.slot(facts, p, last)),
     }
 }
