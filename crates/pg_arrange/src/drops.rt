@@ -4,7 +4,7 @@
 ghost use Rattle.std.specs.Prelude.{◌≤◌};
 
 use crate::lists::Lists;
-use crate::numbers::{after_last, first_from};
+use crate::numbers::{NEVER, after_last, first_from, number};
 use pg_entry::Level;
 use pg_event::{Control, Event, Outcome, bits_from, changes_pge, level_shift};
 use std::alloc::{AllocError, Global};
@@ -19,9 +19,10 @@ enum Scope {
     Structures(u16),
     /// Translations of a PCID that are not global.
     Space(u16),
-    /// Structure entries of a PCID for an address.
-    Prefix(u16, Level),
-    /// Translations of a PCID for an address.
+    /// Structure entries of level 4 of a PCID for an address.
+    Top(u16),
+    /// Translations of a PCID for an address, and structure entries of this level for it. What
+    /// drops the translations alone drops all structure entries of the PCID.
     Page(u16, Level),
     /// Translations for an address that are global.
     GlobalPage(Level),
@@ -31,10 +32,13 @@ enum Scope {
 /// the processor.
 #[derive(Drop)]
 pub(crate) struct Drops {
-    lists: Lists,
+    lists: Vec<Lists>,
 }
 
-const TABLES: [Level; 3] = [Level::Four, Level::Three, Level::Two];
+/// So many scopes of all processors are found quickly, and so many of each.
+const SLOTS: u32 = 16_384;
+
+const LEAST_SLOTS: u32 = 64;
 
 const PAGES: [Level; 3] = [Level::One, Level::Two, Level::Three];
 
@@ -50,13 +54,13 @@ pub(crate) fn rank_of(level: Level) -> u64
     }
 }
 
-fn key(p: u16, scope: Scope, la: u64) -> u64 {
+fn key(scope: Scope, la: u64) -> u64 {
     let (kind, pcid, level) = match scope {
         Scope::All => (0, 0, None),
         Scope::Most => (1, 0, None),
         Scope::Structures(pcid) => (2, pcid, None),
         Scope::Space(pcid) => (3, pcid, None),
-        Scope::Prefix(pcid, level) => (3 + rank_of(level), pcid, Some(level)),
+        Scope::Top(pcid) => (4, pcid, Some(Level::Four)),
         Scope::Page(pcid, level) => (7 + rank_of(level), pcid, Some(level)),
         Scope::GlobalPage(level) => (10 + rank_of(level), 0, Some(level)),
     };
@@ -64,23 +68,33 @@ fn key(p: u16, scope: Scope, la: u64) -> u64 {
         Some(level) => bits_from(level_shift(level), la),
         None => 0,
     };
-    kind << 58 ^ (p as u64) << 48 ^ (pcid as u64) << 36 ^ bits
+    kind << 58 ^ (pcid as u64) << 36 ^ bits
 }
 
 impl Drops {
-    pub(crate) fn new(alloc: Global) -> Drops {
-        Drops {
-            lists: Lists::new(alloc),
+    /// Of so many processors.
+    pub(crate) fn new(alloc: Global, processors: usize) -> Result<Drops, AllocError> {
+        let mut lists = Vec::with_capacity(alloc, processors)?;
+        let share = SLOTS.checked_div(number(processors)).unwrap_or(0);
+        for _ in 0..processors {
+            lists.push(Lists::new(alloc, share.max(LEAST_SLOTS)))?;
         }
+        Ok(Drops { lists })
     }
 
-    /// Gives back the memory that is not used, once all is noted.
-    pub(crate) fn fit(&mut self) {
-        self.lists.fit();
+    /// Makes the lists, once all is noted.
+    pub(crate) fn settle(&mut self) -> Result<(), AllocError> {
+        for lists in self.lists.iter_mut() {
+            lists.settle()?;
+        }
+        Ok(())
     }
 
     fn push(&mut self, p: u16, scope: Scope, la: u64, place: u32) -> Result<(), AllocError> {
-        self.lists.push(key(p, scope, la), place)
+        match self.lists.get_mut(p as usize) {
+            Some(lists) => lists.push(key(scope, la), place),
+            None => Ok(()),
+        }
     }
 
     fn push_space(&mut self, p: u16, pcid: u16, place: u32) -> Result<(), AllocError> {
@@ -91,13 +105,6 @@ impl Drops {
     fn push_all(&mut self, p: u16, place: u32) -> Result<(), AllocError> {
         self.push(p, Scope::All, 0, place)?;
         self.push(p, Scope::Most, 0, place)
-    }
-
-    fn push_prefixes(&mut self, p: u16, pcid: u16, la: u64, place: u32) -> Result<(), AllocError> {
-        for level in TABLES {
-            self.push(p, Scope::Prefix(pcid, level), la, place)?;
-        }
-        Ok(())
     }
 
     fn push_pages(
@@ -127,7 +134,7 @@ impl Drops {
     ) -> Result<(), AllocError> {
         match kind {
             0 => {
-                self.push_prefixes(p, pcid, la, place)?;
+                self.push(p, Scope::Top(pcid), la, place)?;
                 self.push_pages(p, pcid, la, false, place)
             }
             1 => self.push_space(p, pcid, place),
@@ -136,7 +143,8 @@ impl Drops {
         }
     }
 
-    /// Notes what an event drops, which stands at this place among those of its processor.
+    /// Notes what an event drops, which stands at this place among those of its processor. Without
+    /// PGE there are no global translations, and a change of PGE drops all.
     pub(crate) fn note(
         &mut self,
         event: &Event,
@@ -151,8 +159,8 @@ impl Drops {
                 outcome: Outcome::Fault(_),
                 ..
             } => {
-                self.push_prefixes(p, pcid, la, place)?;
-                self.push_pages(p, pcid, la, true, place)
+                self.push(p, Scope::Top(pcid), la, place)?;
+                self.push_pages(p, pcid, la, control.pge, place)
             }
             Event::MovCr3 { p, operand } => {
                 if operand >> 63 > 0 {
@@ -162,7 +170,7 @@ impl Drops {
             }
             Event::Invlpg { p, la } => {
                 self.push(p, Scope::Structures(pcid), 0, place)?;
-                self.push_pages(p, pcid, la, true, place)
+                self.push_pages(p, pcid, la, control.pge, place)
             }
             Event::Invpcid { p, kind, pcid, la } => self.note_invpcid(p, kind, pcid, la, place),
             Event::MovCr4Pge { p, on } => {
@@ -181,7 +189,10 @@ impl Drops {
     }
 
     fn of(&self, p: u16, scope: Scope, la: u64) -> &[u32] {
-        self.lists.of(key(p, scope, la))
+        match self.lists.get(p as usize) {
+            Some(lists) => lists.of(key(scope, la)),
+            None => &[],
+        }
     }
 
     /// When structure entries of a PCID for an address are dropped.
@@ -189,15 +200,15 @@ impl Drops {
         StructureDrops {
             most: self.of(p, Scope::Most, 0),
             space: self.of(p, Scope::Structures(pcid), 0),
-            four: self.of(p, Scope::Prefix(pcid, Level::Four), la),
-            three: self.of(p, Scope::Prefix(pcid, Level::Three), la),
-            two: self.of(p, Scope::Prefix(pcid, Level::Two), la),
+            four: self.of(p, Scope::Top(pcid), la),
+            three: self.of(p, Scope::Page(pcid, Level::Three), la),
+            two: self.of(p, Scope::Page(pcid, Level::Two), la),
         }
     }
 
-    /// The first slot from which on a translation lasts up to a slot; of global ones the PCID is of
-    /// no account.
-    pub(crate) fn translation_from(
+    /// The last slot up to which a translation of a slot lasts; of global ones the PCID is of no
+    /// account.
+    pub(crate) fn translation_to(
         &self,
         p: u16,
         page: (u16, Level, bool),
@@ -206,37 +217,45 @@ impl Drops {
     ) -> u32 {
         let (pcid, level, is_global) = page;
         if is_global {
-            let all = after_last(self.of(p, Scope::All, 0), slot);
-            return all.max(after_last(self.of(p, Scope::GlobalPage(level), la), slot));
+            let all = first_from(self.of(p, Scope::All, 0), slot);
+            return all.min(first_from(self.of(p, Scope::GlobalPage(level), la), slot));
         }
-        let most = after_last(self.of(p, Scope::Most, 0), slot);
-        let space = after_last(self.of(p, Scope::Space(pcid), 0), slot);
-        let page = after_last(self.of(p, Scope::Page(pcid, level), la), slot);
-        most.max(space).max(page)
+        let most = first_from(self.of(p, Scope::Most, 0), slot);
+        let space = first_from(self.of(p, Scope::Space(pcid), 0), slot);
+        let page = first_from(self.of(p, Scope::Page(pcid, level), la), slot);
+        most.min(space).min(page)
     }
 
     /// The first slot from which on a translation lasts, for each size of page, of translations of
-    /// the PCID and of global ones.
+    /// the PCID and of global ones, where there are such.
     pub(crate) fn translations_from(
         &self,
         p: u16,
-        pcid: u16,
+        control: Control,
         la: u64,
         slot: u32,
     ) -> [(u32, u32); 3] {
-        let all = after_last(self.of(p, Scope::All, 0), slot);
+        let pcid = control.pcid;
         let most = after_last(self.of(p, Scope::Most, 0), slot);
         let space = after_last(self.of(p, Scope::Space(pcid), 0), slot);
         let own = most.max(space);
-        let mut lows = [(own, all); 3];
+        let mut lows = [(own, NEVER); 3];
         for (i, level) in PAGES.iter().enumerate() {
             let page = after_last(self.of(p, Scope::Page(pcid, *level), la), slot);
-            let global = after_last(self.of(p, Scope::GlobalPage(*level), la), slot);
             if let Some(low) = lows.get_mut(i) {
-                *low = (own.max(page), all.max(global));
+                low.0 = own.max(page);
+                if control.pge {
+                    low.1 = self.global_from(p, *level, la, slot);
+                }
             }
         }
         lows
+    }
+
+    /// The first slot from which on a global translation lasts.
+    fn global_from(&self, p: u16, level: Level, la: u64, slot: u32) -> u32 {
+        let all = after_last(self.of(p, Scope::All, 0), slot);
+        all.max(after_last(self.of(p, Scope::GlobalPage(level), la), slot))
     }
 }
 
@@ -269,11 +288,12 @@ impl<'d> StructureDrops<'d> {
         most.max(space).max(prefix)
     }
 
-    /// The last slot up to which an entry of a slot lasts.
+    /// The last slot up to which an entry of a slot lasts, as far as those of level 2 do.
     pub(crate) fn to(&self, level: Level, slot: u32) -> u32 {
-        let most = first_from(self.most, slot);
-        let space = first_from(self.space, slot);
-        let prefix = first_from(self.prefix(level), slot);
-        most.min(space).min(prefix)
+        match level {
+            Level::Four => first_from(self.four, slot),
+            Level::Three => first_from(self.three, slot),
+            Level::Two | Level::One => NEVER,
+        }
     }
 }

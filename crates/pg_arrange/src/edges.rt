@@ -149,7 +149,7 @@ impl<'v> Edges<'v> {
         };
         let values = made.values(reading.word);
         let last = match values.get(values.partition_point(|value| value.place < begin)) {
-            Some(next) => made.slot(self.asked.p, next.place),
+            Some(next) => made.slot(self.view.facts, self.asked.p, next.place),
             None => NEVER,
         };
         let slot = if self.is_turned {
@@ -157,7 +157,7 @@ impl<'v> Edges<'v> {
         } else {
             high.min(last).max(low)
         };
-        let first = made.slot(self.asked.p, begin);
+        let first = made.slot(self.view.facts, self.asked.p, begin);
         if first > slot { first.min(high) } else { slot }
     }
 

@@ -23,6 +23,10 @@ pub(crate) struct Facts<'a> {
     places: Vec<u32>,
     /// For each processor its events.
     own: Vec<Vec<u32>>,
+    /// How many of them there are before each event whose number is a multiple of `step`, one
+    /// processor after another.
+    own_before: Vec<u32>,
+    step: u32,
     pub drops: Drops,
     pub stays: Stays,
     /// For each word the events that write it.
@@ -32,6 +36,12 @@ pub(crate) struct Facts<'a> {
     /// What is known beyond the spans.
     pub sure: Sure,
 }
+
+/// A step is so many events for each processor.
+const STEP: u32 = 8;
+
+/// So many words are found quickly.
+const WORD_SLOTS: u32 = 16_384;
 
 /// The word that an event writes, if it writes one.
 pub(crate) fn word_of(event: &Event) -> Option<u64> {
@@ -69,9 +79,11 @@ impl<'a> Facts<'a> {
             sinces: Vec::with_capacity(alloc, run.len())?,
             places: Vec::with_capacity(alloc, run.len())?,
             own: Vec::with_capacity(alloc, processors)?,
-            drops: Drops::new(alloc),
+            own_before: Vec::new(alloc),
+            step: number(processors).saturating_mul(STEP),
+            drops: Drops::new(alloc, processors)?,
             stays: Stays::new(alloc),
-            writes: Lists::new(alloc),
+            writes: Lists::new(alloc, WORD_SLOTS),
             reach: 0,
             sure: Sure::none(alloc),
         };
@@ -86,13 +98,18 @@ impl<'a> Facts<'a> {
             }
         }
         facts.stays.list_all()?;
-        facts.drops.fit();
-        facts.writes.fit();
+        facts.drops.settle()?;
+        facts.writes.settle()?;
         Ok(facts)
     }
 
     /// Takes the next event.
     fn push(&mut self, event: &Event, number: u32) -> Result<(), AllocError> {
+        if number.checked_rem(self.step) == Some(0) {
+            for own in self.own.iter() {
+                self.own_before.push(crate::numbers::number(own.len()))?;
+            }
+        }
         let p = processor_of(event);
         let place = self.count(p);
         let back = at(self.run.backs(), number).min(number);
@@ -139,6 +156,14 @@ impl<'a> Facts<'a> {
     /// The event at a place among those of a processor.
     pub(crate) fn own(&self, p: u16, place: u32) -> Option<u32> {
         self.own.get(p as usize)?.get(place as usize).copied()
+    }
+
+    /// The first events of a processor, so many of them.
+    pub(crate) fn first_own(&self, p: u16, count: u32) -> &[u32] {
+        match self.own.get(p as usize) {
+            Some(own) => own.get(..count as usize).unwrap_or(&[]),
+            None => &[],
+        }
     }
 
     pub(crate) fn since(&self, event: u32) -> u32 {
@@ -189,10 +214,34 @@ impl<'a> Facts<'a> {
         };
         // All that ended before the event began come before it, and all that ended too far after
         // it to overlap it come after it.
-        let first = count_below(own, self.since(event)) as usize;
-        let last = count_below(own, event.saturating_add(self.reach).saturating_add(1)) as usize;
-        let near = own.get(first..last).unwrap_or(&[]);
+        let first = self.own_below(p, self.since(event)) as usize;
+        let bound = event.saturating_add(self.reach).saturating_add(1);
+        let near = own
+            .get(first..self.own_below(p, bound) as usize)
+            .unwrap_or(&[]);
         number(first.saturating_add(near.partition_point(|i| !self.must_precede(event, *i))))
+    }
+
+    /// How many events of a processor there are before some steps, and how many in all where there
+    /// are not so many steps.
+    fn own_before(&self, p: u16, steps: u32) -> usize {
+        let row = (steps as usize).saturating_mul(self.own.len());
+        match self.own_before.get(row.saturating_add(p as usize)) {
+            Some(count) => *count as usize,
+            None => self.count(p) as usize,
+        }
+    }
+
+    /// How many events of a processor are below a bound.
+    fn own_below(&self, p: u16, bound: u32) -> u32 {
+        let steps = bound.checked_div(self.step).unwrap_or(0);
+        let first = self.own_before(p, steps);
+        let last = self.own_before(p, steps.saturating_add(1));
+        let Some(own) = self.own.get(p as usize) else {
+            return 0;
+        };
+        let near = own.get(first..last).unwrap_or(&[]);
+        number(first.saturating_add(near.partition_point(|event| *event < bound)))
     }
 
     /// The first slot of a processor that may come after an event.
@@ -203,10 +252,7 @@ impl<'a> Facts<'a> {
         if let Some(count) = self.sure.count(event, p) {
             return count;
         }
-        match self.own.get(p as usize) {
-            Some(own) => count_below(own, self.since(event)),
-            None => 0,
-        }
+        self.own_below(p, self.since(event))
     }
 
     /// The flags that an assist sets; of other events none.

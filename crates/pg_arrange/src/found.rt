@@ -10,7 +10,7 @@ use std::mem::swap;
 /// So many are kept at least. Twice as many are at most: those before are forgotten.
 const KEPT: usize = 131_072;
 
-/// A translation of a page by a walk that ended in a slot.
+/// A translation of a page.
 #[derive(Clone, Copy)]
 pub(crate) struct Known {
     pub value: u64,
@@ -18,14 +18,15 @@ pub(crate) struct Known {
     pub level: Level,
     pub is_global: bool,
     pub pcid: u16,
-    pub slot: u32,
+    /// It lasts up to this slot of its processor.
+    pub until: u32,
 }
 
 /// A translation with where it belongs, in 32 bytes.
 #[derive(Clone, Copy)]
 struct Noted {
     value: u64,
-    slot: u32,
+    until: u32,
     /// The number of its address.
     id: u32,
     /// The one before it for the same address.
@@ -62,7 +63,7 @@ impl Noted {
             level: self.level,
             is_global: self.is_global,
             pcid: self.pcid,
-            slot: self.slot,
+            until: self.until,
         }
     }
 }
@@ -158,7 +159,7 @@ impl Found {
         self.set_last(id, place);
         self.noted.push(Noted {
             value: known.value,
-            slot: known.slot,
+            until: known.until,
             id,
             before,
             moment,

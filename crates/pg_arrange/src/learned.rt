@@ -31,6 +31,11 @@ impl Learned {
         }
     }
 
+    /// Whether it was learned of an event that it comes after another.
+    pub(crate) fn knows(&self, event: u32) -> bool {
+        !self.sources.is_empty() && self.sources.contains_key(&event)
+    }
+
     /// Whether an event is to wait for one that has no place.
     pub(crate) fn holds(&self, made: &Made, event: u32) -> bool {
         match self.sources.get(&event) {

@@ -1,6 +1,6 @@
 //! Rising lists of numbers, by keys.
 
-use crate::numbers::NEVER;
+use crate::numbers::{NEVER, at, number};
 use std::alloc::{AllocError, Global};
 use std::collections::HashMap;
 
@@ -11,68 +11,79 @@ struct Recent {
     id: u32,
 }
 
-/// A list of numbers for each key.
+/// A list of numbers for each key. The numbers that are added wait in one list for all keys, until
+/// each has its place: then all lists lie in one piece of memory, without room between them.
 #[derive(Drop)]
 pub(crate) struct Lists {
     alloc: Global,
     ids: HashMap<u64, u32>,
-    lists: Vec<Vec<u32>>,
+    /// How many slots there are for keys.
+    slots: u32,
     /// Keys to which numbers were added last, each in its slot: most come again soon.
     recent: Vec<Recent>,
-}
-
-/// How many bits tell the slot of a key.
-const SLOT_BITS: u32 = 10;
-
-fn slot_of(key: u64) -> usize {
-    (key.wrapping_mul(0x9e37_79b9_7f4a_7c15) >> (64 - SLOT_BITS)) as usize
+    /// For each list how many numbers it has, and once they have their place where it ends.
+    ends: Vec<u32>,
+    /// For each number that was added twice that of its list, and one more where it is the next of
+    /// `waiting`, and not the same once more.
+    added: Vec<u32>,
+    waiting: Vec<u32>,
+    items: Vec<u32>,
 }
 
 impl Lists {
-    pub(crate) fn new(alloc: Global) -> Lists {
+    /// No list yet. So many keys are found quickly.
+    pub(crate) fn new(alloc: Global, slots: u32) -> Lists {
         Lists {
             alloc,
             ids: HashMap::new(alloc),
-            lists: Vec::new(alloc),
+            slots,
             recent: Vec::new(alloc),
+            ends: Vec::new(alloc),
+            added: Vec::new(alloc),
+            waiting: Vec::new(alloc),
+            items: Vec::new(alloc),
         }
     }
 
     /// How many keys there are.
     pub(crate) fn len(&self) -> usize {
-        self.lists.len()
+        self.ends.len()
     }
 
     /// The number of a key's list.
     pub(crate) fn id(&self, key: u64) -> Option<u32> {
-        self.ids.get(&key).copied()
+        match self.recent_id(key) {
+            Some(id) => Some(id),
+            None => self.ids.get(&key).copied(),
+        }
     }
 
     /// The list with this number.
     pub(crate) fn list(&self, id: u32) -> &[u32] {
-        match self.lists.get(id as usize) {
-            Some(list) => list.as_slice(),
-            None => &[],
-        }
+        let start = match id {
+            0 => 0,
+            _ => at(&self.ends, id - 1) as usize,
+        };
+        let end = at(&self.ends, id) as usize;
+        self.items.get(start..end).unwrap_or(&[])
     }
 
     pub(crate) fn of(&self, key: u64) -> &[u32] {
-        match self.ids.get(&key) {
-            Some(id) => self.list(*id),
+        match self.id(key) {
+            Some(id) => self.list(id),
             None => &[],
         }
     }
 
-    /// Gives back the memory that the lists do not use.
-    pub(crate) fn fit(&mut self) {
-        for list in self.lists.iter_mut() {
-            list.shrink_to_fit();
-        }
+    /// The slot of a key.
+    fn slot_of(&self, key: u64) -> usize {
+        let mixed = key.wrapping_mul(0x9e37_79b9_7f4a_7c15) >> 32;
+        (mixed.wrapping_mul(self.slots as u64) >> 32) as usize
     }
 
     /// The number of a key's list, if it is known by the key's slot.
     fn recent_id(&self, key: u64) -> Option<u32> {
-        match self.recent.get(slot_of(key)) {
+        match self.recent.get(self.slot_of(key)) {
             Some(recent) if recent.key == key && recent.id != NEVER => Some(recent.id),
             _ => None,
         }
@@ -82,9 +93,10 @@ impl Lists {
     fn note(&mut self, key: u64, id: u32) -> Result<(), AllocError> {
         if self.recent.is_empty() {
             let none = Recent { key: 0, id: NEVER };
-            self.recent = vec![in self.alloc; none; 1 << SLOT_BITS]?;
+            self.recent = vec![in self.alloc; none; self.slots as usize]?;
         }
-        if let Some(recent) = self.recent.get_mut(slot_of(key)) {
+        let slot = self.slot_of(key);
+        if let Some(recent) = self.recent.get_mut(slot) {
             *recent = Recent { key, id };
         }
         Ok(())
@@ -98,8 +110,8 @@ impl Lists {
         let id = match self.ids.get(&key) {
             Some(id) => *id,
             None => {
-                let id = crate::numbers::number(self.lists.len());
-                self.lists.push(Vec::new(self.alloc))?;
+                let id = number(self.ends.len());
+                self.ends.push(0)?;
                 self.ids.insert(key, id)?;
                 id
             }
@@ -108,12 +120,53 @@ impl Lists {
         Ok(id)
     }
 
-    /// Adds a number to a key's list.
+    /// Adds a number to a key's list, which has it once `settle` is called.
     pub(crate) fn push(&mut self, key: u64, number: u32) -> Result<(), AllocError> {
         let id = self.id_for(key)?;
-        if let Some(list) = self.lists.get_mut(id as usize) {
-            list.push(number)?;
+        let is_next = match self.waiting.last() {
+            Some(last) => *last != number,
+            None => true,
+        };
+        if is_next {
+            self.waiting.push(number)?;
         }
+        self.added.push(id << 1 | is_next as u32)?;
+        if let Some(count) = self.ends.get_mut(id as usize) {
+            *count = count.saturating_add(1);
+        }
+        Ok(())
+    }
+
+    /// Gives each list its place: `ends` tells then where it begins.
+    fn place_lists(&mut self) {
+        let mut start: u32 = 0;
+        for end in self.ends.iter_mut() {
+            let count = *end;
+            *end = start;
+            start = start.saturating_add(count);
+        }
+    }
+
+    /// Gives each number its place, once all are added.
+    pub(crate) fn settle(&mut self) -> Result<(), AllocError> {
+        self.place_lists();
+        self.items = vec![in self.alloc; 0u32; self.added.len()]?;
+        let mut next: u32 = 0;
+        let mut number = 0;
+        for added in self.added.iter() {
+            if *added % 2 == 1 {
+                number = at(&self.waiting, next);
+                next = next.saturating_add(1);
+            }
+            if let Some(end) = self.ends.get_mut((*added >> 1) as usize) {
+                if let Some(item) = self.items.get_mut(*end as usize) {
+                    *item = number;
+                }
+                *end = end.saturating_add(1);
+            }
+        }
+        self.added = Vec::new(self.alloc);
+        self.waiting = Vec::new(self.alloc);
         Ok(())
     }
 }

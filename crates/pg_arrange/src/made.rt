@@ -1,7 +1,7 @@
 //! The order that is being made, so far. A moment of it is the number of events before it.
 
 use crate::facts::{Facts, word_of};
-use crate::numbers::{NEVER, at, count_below_near_end, number};
+use crate::numbers::{NEAR_END, NEVER, at, number};
 use pg_event::{Event, processor_of};
 use std::alloc::{AllocError, Global};
 
@@ -17,10 +17,12 @@ pub(crate) struct Made {
     order: Vec<u32>,
     /// For each event its place in the order, or `NEVER`.
     places: Vec<u32>,
-    /// For each processor the places of its events.
-    own: Vec<Vec<u32>>,
+    /// For each processor how many of its events have a place: its first ones.
+    counts: Vec<u32>,
     /// For each word its values.
     values: Vec<Vec<Value>>,
+    /// For each word the last of them, or 0.
+    latest: Vec<u64>,
     /// The least event that has no place.
     low: u32,
     pub undone: u64,
@@ -29,20 +31,17 @@ pub(crate) struct Made {
 impl Made {
     pub(crate) fn new(alloc: Global, facts: &Facts<'_>) -> Result<Made, AllocError> {
         let count = facts.run.len();
-        let processors = facts.processors();
+        let processors = facts.processors() as usize;
         let mut made = Made {
             order: Vec::with_capacity(alloc, count)?,
             places: vec![in alloc; NEVER; count]?,
-            own: Vec::with_capacity(alloc, processors as usize)?,
+            counts: vec![in alloc; 0u32; processors]?,
             values: Vec::with_capacity(alloc, facts.writes.len())?,
+            latest: vec![in alloc; 0u64; facts.writes.len()]?,
             low: 0,
             undone: 0,
         };
         // A list that grew by and by would leave holes in memory.
-        for p in 0..processors {
-            made.own
-                .push(Vec::with_capacity(alloc, facts.count(p) as usize)?)?;
-        }
         for word in 0..number(facts.writes.len()) {
             let count = facts.writes.list(word).len();
             made.values.push(Vec::with_capacity(alloc, count)?)?;
@@ -82,40 +81,63 @@ impl Made {
 
     /// What a word has now.
     pub(crate) fn value(&self, word: u32) -> u64 {
-        match self.values(word).last() {
-            Some(value) => value.value,
+        match self.latest.get(word as usize) {
+            Some(value) => *value,
             None => 0,
         }
     }
 
-    fn own(&self, p: u16) -> &[u32] {
-        match self.own.get(p as usize) {
-            Some(own) => own.as_slice(),
-            None => &[],
+    /// Notes what a word has now, by its values.
+    fn note_latest(&mut self, word: u32) {
+        let value = match self.values(word).last() {
+            Some(value) => value.value,
+            None => 0,
+        };
+        if let Some(latest) = self.latest.get_mut(word as usize) {
+            *latest = value;
         }
     }
 
     /// How many events of a processor have a place.
     pub(crate) fn count(&self, p: u16) -> u32 {
-        number(self.own(p).len())
+        match self.counts.get(p as usize) {
+            Some(count) => *count,
+            None => 0,
+        }
+    }
+
+    /// The place in the order of the event at a place among those of a processor.
+    fn own_place(&self, facts: &Facts<'_>, p: u16, place: u32) -> u32 {
+        match facts.own(p, place) {
+            Some(event) => self.place(event),
+            None => NEVER,
+        }
     }
 
     /// The slot of a processor that a moment lies in.
-    pub(crate) fn slot(&self, p: u16, moment: u32) -> u32 {
-        count_below_near_end(self.own(p), moment)
+    pub(crate) fn slot(&self, facts: &Facts<'_>, p: u16, moment: u32) -> u32 {
+        let own = facts.first_own(p, self.count(p));
+        let near = own.len().saturating_sub(NEAR_END);
+        let (before, part) = match own.get(near) {
+            Some(first) if self.place(*first) < moment => (near, own.get(near..)),
+            _ => (0, own.get(..near)),
+        };
+        let part = part.unwrap_or(&[]);
+        let count = part.partition_point(|event| self.place(*event) < moment);
+        number(before.saturating_add(count))
     }
 
     /// The first moment of a slot.
-    pub(crate) fn start(&self, p: u16, slot: u32) -> u32 {
+    pub(crate) fn start(&self, facts: &Facts<'_>, p: u16, slot: u32) -> u32 {
         if slot == 0 {
             return 0;
         }
-        at(self.own(p), slot - 1).saturating_add(1)
+        self.own_place(facts, p, slot - 1).saturating_add(1)
     }
 
     /// The last moment of a slot.
-    pub(crate) fn end(&self, p: u16, slot: u32) -> u32 {
-        at(self.own(p), slot).min(self.now())
+    pub(crate) fn end(&self, facts: &Facts<'_>, p: u16, slot: u32) -> u32 {
+        self.own_place(facts, p, slot).min(self.now())
     }
 
     fn write(&mut self, word: u32, value: u64) -> Result<(), AllocError> {
@@ -123,6 +145,7 @@ impl Made {
         if let Some(values) = self.values.get_mut(word as usize) {
             values.push(Value { place, value })?;
         }
+        self.note_latest(word);
         Ok(())
     }
 
@@ -143,8 +166,8 @@ impl Made {
         if let Some(at) = self.places.get_mut(event as usize) {
             *at = place;
         }
-        if let Some(own) = self.own.get_mut(processor_of(it) as usize) {
-            own.push(place)?;
+        if let Some(count) = self.counts.get_mut(processor_of(it) as usize) {
+            *count = count.saturating_add(1);
         }
         for _ in 0..self.places.len() {
             if self.low >= number(self.places.len()) || self.place(self.low) == NEVER {
@@ -167,12 +190,13 @@ impl Made {
             if let Some(values) = self.values.get_mut(word as usize) {
                 values.pop();
             }
+            self.note_latest(word);
         }
         if let Some(at) = self.places.get_mut(event as usize) {
             *at = NEVER;
         }
-        if let Some(own) = self.own.get_mut(processor_of(it) as usize) {
-            own.pop();
+        if let Some(count) = self.counts.get_mut(processor_of(it) as usize) {
+            *count = count.saturating_sub(1);
         }
         self.low = self.low.min(event);
         self.undone = self.undone.saturating_add(1);

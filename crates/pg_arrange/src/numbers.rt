@@ -24,17 +24,6 @@ pub(crate) fn count_below(list: &[u32], bound: u32) -> u32 {
 /// So many at the end of a list are looked at first.
 pub(crate) const NEAR_END: usize = 64;
 
-/// How many of a rising list are below a bound, where mostly all but the last few are.
-pub(crate) fn count_below_near_end(list: &[u32], bound: u32) -> u32 {
-    let near = list.len().saturating_sub(NEAR_END);
-    match list.get(near) {
-        Some(first) if *first < bound => {
-            number(near).saturating_add(count_below(&list[near..], bound))
-        }
-        _ => count_below(&list[..near], bound),
-    }
-}
-
 /// One more than the greatest of a rising list that is below a bound, or 0.
 pub(crate) fn after_last(list: &[u32], bound: u32) -> u32 {
     match list.get((count_below(list, bound) as usize).wrapping_sub(1)) {

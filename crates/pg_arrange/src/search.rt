@@ -1,7 +1,7 @@
 //! A search for an order in which each event is witnessed. Nothing is claimed of it: the order is
 //! checked once it is whole, and the events are certified in it.
 
-use crate::asked::{Asked, asked_of};
+use crate::asked::{Asked, asked_under};
 use crate::facts::{Facts, word_of};
 use crate::found::Found;
 use crate::learned::Learned;
@@ -9,8 +9,9 @@ use crate::looked::Looked;
 use crate::made::Made;
 use crate::numbers::{Chance, NEVER, number};
 use crate::repair::Tries;
+use crate::sweep::Scratch;
 use crate::witness::Witness;
-use pg_event::{Event, Outcome};
+use pg_event::{Control, Event, Outcome};
 use pg_spanned::SpannedRun;
 use std::alloc::{AllocError, Global};
 
@@ -27,6 +28,7 @@ pub enum Sought {
 /// An event that was asked whether it can come next.
 #[derive(Clone, Copy)]
 struct Wait {
+    /// Its number, or `NEVER` where none was asked.
     event: u32,
     /// Whether it can, as it was asked last.
     can_come: bool,
@@ -35,6 +37,37 @@ struct Wait {
     looked: Looked,
     /// Whether all windows were looked at.
     is_whole: bool,
+}
+
+impl Wait {
+    fn none() -> Wait {
+        Wait {
+            event: NEVER,
+            can_come: false,
+            is_stale: false,
+            looked: Looked::new(),
+            is_whole: false,
+        }
+    }
+
+    /// Whether it waits in vain and looked at a word.
+    fn may_wake(&self, word: u64) -> bool {
+        self.event != NEVER && !self.can_come && self.looked.may_have(word)
+    }
+}
+
+/// The next event of a processor, and what of it stays the same while it is the next.
+#[derive(Clone, Copy)]
+struct Front {
+    /// Its number, or `NEVER` where there is none.
+    event: u32,
+    /// So many events come before it, whatever the order.
+    since: u32,
+    rank: u64,
+    /// Whether it was learned that it comes after others.
+    is_learned: bool,
+    /// The control registers of the processor before it.
+    control: Control,
 }
 
 /// So many windows between drops are looked at before another event is tried.
@@ -49,11 +82,14 @@ pub(crate) struct Maker<'a> {
     pub facts: Facts<'a>,
     pub made: Made,
     found: Found,
+    scratch: Scratch,
     pub learned: Learned,
     pub tries: Tries,
     pub chance: Chance,
     /// For each processor what it waits with.
-    waits: Vec<Option<Wait>>,
+    waits: Vec<Wait>,
+    /// For each processor its next event.
+    fronts: Vec<Front>,
     /// How much of what was raised in `facts.sure` is sure, and not supposed.
     pub surely: usize,
 }
@@ -96,30 +132,64 @@ fn better(best: Option<Choice>, other: Choice) -> Choice {
     }
 }
 
-/// Whether what waits in vain looked at a word.
-fn may_wake(wait: &Option<Wait>, word: u64) -> bool {
-    match wait {
-        Some(wait) => !wait.can_come && wait.looked.may_have(word),
-        None => false,
-    }
-}
-
 impl<'a> Maker<'a> {
     fn new(alloc: Global, run: &'a SpannedRun) -> Result<Maker<'a>, AllocError> {
         let facts = Facts::of(alloc, run)?;
         let made = Made::new(alloc, &facts)?;
         let processors = facts.processors() as usize;
-        Ok(Maker {
+        let none = Front {
+            event: NEVER,
+            since: 0,
+            rank: 0,
+            is_learned: false,
+            control: Control::default(),
+        };
+        let mut maker = Maker {
             alloc,
             facts,
             made,
             found: Found::new(alloc),
+            scratch: Scratch::new(alloc),
             learned: Learned::new(alloc),
             tries: Tries::new(alloc),
             chance: Chance::new(1),
-            waits: vec![in alloc; None; processors]?,
+            waits: vec![in alloc; Wait::none(); processors]?,
+            fronts: vec![in alloc; none; processors]?,
             surely: 0,
-        })
+        };
+        maker.find_fronts();
+        Ok(maker)
+    }
+
+    /// Finds the next event of a processor, whose control registers are these.
+    fn find_front(&mut self, p: u16, control: Control) {
+        let event = self.facts.own(p, self.made.count(p)).unwrap_or(NEVER);
+        let found = Front {
+            event,
+            since: self.facts.since(event),
+            rank: self.facts.run.event_at(event).map_or(WRITES, rank_of),
+            is_learned: self.learned.knows(event),
+            control,
+        };
+        if let Some(front) = self.fronts.get_mut(p as usize) {
+            *front = found;
+        }
+    }
+
+    /// Finds the next events of all processors.
+    fn find_fronts(&mut self) {
+        for p in 0..self.facts.processors() {
+            let control = self.facts.control(p, self.made.count(p));
+            self.find_front(p, control);
+        }
+    }
+
+    /// The control registers of a processor before its next event.
+    fn front_control(&self, p: u16) -> Control {
+        match self.fronts.get(p as usize) {
+            Some(front) => front.control,
+            None => Control::default(),
+        }
     }
 
     /// The next event of a processor, where all that had ended before it began have a place.
@@ -145,78 +215,82 @@ impl<'a> Maker<'a> {
 
     /// Whether an event is witnessed if it comes next, by a search of so many windows; what it
     /// looked at, and whether these were all windows.
-    fn look(&mut self, asked: &Asked, windows: u32) -> Result<Wait, AllocError> {
+    fn look(&mut self, asked: &Asked, windows: u32) -> Result<(bool, Looked, bool), AllocError> {
         let mut witness = Witness {
             alloc: self.alloc,
             facts: &self.facts,
             made: &self.made,
             found: &mut self.found,
+            scratch: &mut self.scratch,
             looked: Looked::new(),
             is_whole: true,
         };
         let can_come = witness.is_witnessed(asked, windows)?;
-        Ok(Wait {
-            event: asked.event,
-            can_come,
-            is_stale: false,
-            looked: witness.looked,
-            is_whole: witness.is_whole,
-        })
+        Ok((can_come, witness.looked, witness.is_whole))
     }
 
     /// Whether an event is witnessed if it comes next, by all windows.
     pub(crate) fn is_witnessed(&mut self, asked: &Asked) -> Result<bool, AllocError> {
-        Ok(self.look(asked, ALL_WINDOWS)?.can_come)
-    }
-
-    /// How an event of a processor waits.
-    fn wait(&self, p: u16, event: u32) -> Option<&Wait> {
-        match self.waits.get(p as usize) {
-            Some(Some(wait)) if wait.event == event => Some(wait),
-            _ => None,
-        }
+        Ok(self.look(asked, ALL_WINDOWS)?.0)
     }
 
     /// Whether an event waits that was not looked for in all windows.
     pub(crate) fn may_be_far(&self, p: u16, event: u32) -> bool {
-        match self.wait(p, event) {
-            Some(wait) => !wait.is_whole,
-            None => true,
-        }
-    }
-
-    fn set_wait(&mut self, p: u16, wait: Option<Wait>) {
-        if let Some(place) = self.waits.get_mut(p as usize) {
-            *place = wait;
+        match self.waits.get(p as usize) {
+            Some(wait) if wait.event == event => !wait.is_whole,
+            _ => true,
         }
     }
 
     /// Whether the next event of a processor can come next.
     fn may_come(&mut self, p: u16, event: u32) -> Result<bool, AllocError> {
-        let (windows, was_whole) = match self.wait(p, event) {
-            Some(wait) if !wait.is_stale => return Ok(wait.can_come),
-            // What stood before the last drop is as it was.
-            Some(wait) if !wait.can_come => (1, Some(wait.is_whole)),
+        let (windows, was_whole) = match self.waits.get(p as usize) {
+            Some(wait) if wait.event == event => {
+                if !wait.is_stale {
+                    return Ok(wait.can_come);
+                }
+                if wait.can_come {
+                    (FEW_WINDOWS, None)
+                } else {
+                    // What stood before the last drop is as it was.
+                    (1, Some(wait.is_whole))
+                }
+            }
             _ => (FEW_WINDOWS, None),
         };
-        let Some(asked) = asked_of(&self.facts, event) else {
+        let control = self.front_control(p);
+        let Some(asked) = asked_under(&self.facts, event, control) else {
             return Ok(true);
         };
-        let mut wait = self.look(&asked, windows)?;
-        wait.is_whole = was_whole.unwrap_or(wait.is_whole);
-        self.set_wait(p, Some(wait));
-        Ok(wait.can_come)
+        let (can_come, looked, is_whole) = self.look(&asked, windows)?;
+        if let Some(wait) = self.waits.get_mut(p as usize) {
+            *wait = Wait {
+                event,
+                can_come,
+                is_stale: false,
+                looked,
+                is_whole: was_whole.unwrap_or(is_whole),
+            };
+        }
+        Ok(can_come)
     }
 
     /// The next event of a processor, if it can come next but for what it asks.
     fn free(&self, p: u16) -> Option<(u32, u64)> {
-        let event = self.front(p)?;
-        let rank = rank_of(self.facts.run.event_at(event)?);
-        if self.learned.holds(&self.made, event) {
-            None
-        } else {
-            Some((event, rank))
+        let Front {
+            event,
+            since,
+            rank,
+            is_learned,
+            ..
+        } = *self.fronts.get(p as usize)?;
+        if event == NEVER || since > self.made.low() || self.is_early(event) {
+            return None;
         }
+        if is_learned && self.learned.holds(&self.made, event) {
+            return None;
+        }
+        Some((event, rank))
     }
 
     /// The event that is best put next, of those that can come next.
@@ -266,7 +340,7 @@ impl<'a> Maker<'a> {
     /// Whether an event waits for a write.
     fn is_awaited(&self, event: u32) -> bool {
         match self.word(event) {
-            Some(word) => self.waits.iter().any(|wait| may_wake(wait, word)),
+            Some(word) => self.waits.iter().any(|wait| wait.may_wake(word)),
             None => false,
         }
     }
@@ -275,18 +349,32 @@ impl<'a> Maker<'a> {
     pub(crate) fn put(&mut self, event: u32) -> Result<(), AllocError> {
         if let Some(word) = self.word(event) {
             for wait in self.waits.iter_mut() {
-                if let Some(wait) = wait {
-                    if wait.looked.may_have(word) {
-                        wait.is_stale = true;
-                    }
+                if wait.looked.may_have(word) {
+                    wait.is_stale = true;
                 }
             }
         }
         self.made.put(&self.facts, event)?;
         if let Some(p) = self.facts.processor(event) {
-            self.set_wait(p, None);
+            if let Some(wait) = self.waits.get_mut(p as usize) {
+                wait.event = NEVER;
+            }
+            let control = if self.changes_control(event) {
+                self.facts.control(p, self.made.count(p))
+            } else {
+                self.front_control(p)
+            };
+            self.find_front(p, control);
         }
         Ok(())
+    }
+
+    /// Whether an event may change the control registers of its processor.
+    fn changes_control(&self, event: u32) -> bool {
+        match self.facts.run.event_at(event) {
+            Some(it) => matches!(it, Event::MovCr3 { .. } | Event::MovCr4Pge { .. }),
+            None => false,
+        }
     }
 
     /// Takes back all that came from a moment on.
@@ -294,7 +382,7 @@ impl<'a> Maker<'a> {
         self.made.take_back_to(&self.facts, moment);
         self.found.take_back_to(moment);
         for wait in self.waits.iter_mut() {
-            *wait = None;
+            wait.event = NEVER;
         }
         Ok(())
     }
@@ -312,7 +400,12 @@ impl<'a> Maker<'a> {
                 self.put(event)?;
                 Ok(None)
             }
-            None => self.repair(),
+            None => {
+                let waiting = self.repair()?;
+                // (others are the next, or other things are learned of them)
+                self.find_fronts();
+                Ok(waiting)
+            }
         }
     }
 }

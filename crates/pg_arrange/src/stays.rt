@@ -72,6 +72,12 @@ impl Stays {
         let Some(list) = self.controls.get(p as usize) else {
             return Control::default();
         };
+        // While the slots are noted one after another, it is the last.
+        if let Some(since) = list.last() {
+            if since.first <= slot {
+                return since.control;
+            }
+        }
         let count = list.partition_point(|since| since.first <= slot);
         match list.get(count.wrapping_sub(1)) {
             Some(since) => since.control,
@@ -160,22 +166,25 @@ impl Stays {
         }
     }
 
-    /// The first slot of a PCID that is at least this.
-    pub(crate) fn next(&self, p: u16, pcid: u16, slot: u32) -> u32 {
-        let stays = self.of(p, pcid);
-        match stays.get(stays.partition_point(|stay| stay.last < slot)) {
-            Some(stay) => stay.first.max(slot),
-            None => NEVER,
-        }
-    }
-
     /// The last slot of a PCID that is at most this.
     pub(crate) fn last(&self, p: u16, pcid: u16, slot: u32) -> Option<u32> {
-        let stays = self.of(p, pcid);
-        let count = stays.partition_point(|stay| stay.first <= slot);
-        match stays.get(count.wrapping_sub(1)) {
-            Some(stay) => Some(stay.last.min(slot)),
-            None => None,
-        }
+        last_in(self.of(p, pcid), slot)
+    }
+}
+
+/// The first slot of these stays that is at least this.
+pub(crate) fn next_in(stays: &[Stay], slot: u32) -> u32 {
+    match stays.get(stays.partition_point(|stay| stay.last < slot)) {
+        Some(stay) => stay.first.max(slot),
+        None => NEVER,
+    }
+}
+
+/// The last slot of these stays that is at most this.
+pub(crate) fn last_in(stays: &[Stay], slot: u32) -> Option<u32> {
+    let count = stays.partition_point(|stay| stay.first <= slot);
+    match stays.get(count.wrapping_sub(1)) {
+        Some(stay) => Some(stay.last.min(slot)),
+        None => None,
     }
 }

@@ -7,6 +7,7 @@ use crate::facts::Facts;
 use crate::looked::Looked;
 use crate::made::Made;
 use crate::numbers::NEVER;
+use crate::stays::{Stay, last_in, next_in};
 use crate::versions::{Version, made_versions, possible_versions};
 use pg_entry::{Entry, Kind, Level, Rights, combine};
 use pg_event::{level_shift, may_cache};
@@ -25,7 +26,7 @@ pub(crate) struct View<'v> {
 impl<'v> View<'v> {
     pub(crate) fn slot(&self, p: u16, time: u32) -> u32 {
         if self.is_made {
-            self.made.slot(p, time)
+            self.made.slot(self.facts, p, time)
         } else {
             time
         }
@@ -33,7 +34,7 @@ impl<'v> View<'v> {
 
     pub(crate) fn start(&self, p: u16, slot: u32) -> u32 {
         if self.is_made {
-            self.made.start(p, slot)
+            self.made.start(self.facts, p, slot)
         } else {
             slot
         }
@@ -41,7 +42,7 @@ impl<'v> View<'v> {
 
     pub(crate) fn end(&self, p: u16, slot: u32) -> u32 {
         if self.is_made {
-            self.made.end(p, slot)
+            self.made.end(self.facts, p, slot)
         } else {
             slot
         }
@@ -92,6 +93,24 @@ pub(crate) struct Hit {
     pub pcid: u16,
 }
 
+/// Lists that one search of walks after another uses, so that each need not take memory anew.
+#[derive(Drop)]
+pub(crate) struct Scratch {
+    over: Vec<Spell>,
+    under: Vec<Spell>,
+    versions: Vec<Version>,
+}
+
+impl Scratch {
+    pub(crate) fn new(alloc: Global) -> Scratch {
+        Scratch {
+            over: Vec::new(alloc),
+            under: Vec::new(alloc),
+            versions: Vec::new(alloc),
+        }
+    }
+}
+
 /// How much is looked at.
 #[derive(Clone, Copy)]
 pub(crate) struct Limits {
@@ -122,6 +141,10 @@ pub(crate) struct Sweep<'v> {
     is_newest: bool,
     /// When structure entries of the PCID are dropped.
     drops: StructureDrops<'v>,
+    /// The stays under the PCID in the window that is looked at, of which no part lies outside but
+    /// of the first and the last.
+    stays: &'v [Stay],
+    /// The end of the window.
     end: u32,
     over: Vec<Spell>,
     under: Vec<Spell>,
@@ -158,6 +181,7 @@ impl<'v> Sweep<'v> {
                 .facts
                 .drops
                 .structures(asked.p, asked.control.pcid, asked.la),
+            stays: &[],
             end: 0,
             over: Vec::new(alloc),
             under: Vec::new(alloc),
@@ -166,6 +190,13 @@ impl<'v> Sweep<'v> {
             looked,
             is_whole: true,
         }
+    }
+
+    /// Changes its lists for those of a search before, and after it back.
+    pub(crate) fn swap_lists(&mut self, scratch: &mut Scratch) {
+        mem::swap(&mut self.over, &mut scratch.over);
+        mem::swap(&mut self.under, &mut scratch.under);
+        mem::swap(&mut self.versions, &mut scratch.versions);
     }
 
     fn is_done(&self) -> bool {
@@ -239,12 +270,7 @@ impl<'v> Sweep<'v> {
             ..
         } = *self.asked;
         let drops = &self.view.facts.drops;
-        let mut lows = drops.translations_from(p, control.pcid, la, slot);
-        if !control.pge {
-            for low in lows.iter_mut() {
-                low.1 = NEVER;
-            }
-        }
+        let lows = drops.translations_from(p, control, la, slot);
         self.lows = Some(lows);
         lows
     }
@@ -286,7 +312,7 @@ impl<'v> Sweep<'v> {
         Ok(())
     }
 
-    /// The walks between two slots.
+    /// The walks between two slots, between which no structure entries of level 2 are dropped.
     fn window(&mut self, first: u32, last: u32) -> Result<(), AllocError> {
         let view = self.view;
         let p = self.asked.p;
@@ -294,10 +320,10 @@ impl<'v> Sweep<'v> {
         self.over.clear();
         let stays = view.facts.stays.of(p, self.pcid);
         let skipped = stays.partition_point(|stay| stay.last < first);
-        for stay in &stays[skipped.min(stays.len())..] {
-            if stay.first > last {
-                break;
-            }
+        let stays = stays.get(skipped..).unwrap_or(&[]);
+        let count = stays.iter().take_while(|stay| stay.first <= last).count();
+        self.stays = stays.get(..count).unwrap_or(&[]);
+        for stay in self.stays {
             self.over.push(Spell {
                 table: stay.root,
                 rights: Rights::ALL,
@@ -467,7 +493,7 @@ impl<'v> Sweep<'v> {
             return Ok(());
         };
         let slot = view.slot(asked.p, reading.to);
-        let Some(last) = view.facts.stays.last(asked.p, self.pcid, slot) else {
+        let Some(last) = last_in(self.stays, slot) else {
             return Ok(());
         };
         let to = if last == slot {
@@ -535,14 +561,15 @@ impl<'v> Sweep<'v> {
         let view = self.view;
         let p = self.asked.p;
         let slot = view.slot(p, time);
-        match view.facts.stays.next(p, self.pcid, slot) {
+        match next_in(self.stays, slot) {
             stay if stay == NEVER => None,
             stay if stay == slot => Some((time, stay)),
             stay => Some((view.start(p, stay), stay)),
         }
     }
 
-    /// Until when a structure entry of a slot lasts.
+    /// Until when a structure entry of a slot lasts: those of level 2, and all that is dropped with
+    /// them, up to the end of the window.
     fn lasts_to(&self, level: Level, slot: u32) -> u32 {
         match self.drops.to(level, slot) {
             drop if drop == NEVER => self.end,

@@ -5,7 +5,7 @@ use crate::facts::Facts;
 use crate::found::{Found, Known};
 use crate::looked::Looked;
 use crate::made::Made;
-use crate::sweep::{Hit, Limits, Sweep, View};
+use crate::sweep::{Hit, Limits, Scratch, Sweep, View};
 use pg_entry::{Entry, Kind, Level, Rights, combine};
 use pg_event::{level_shift, may_cache};
 use std::alloc::{AllocError, Global};
@@ -22,6 +22,7 @@ pub(crate) struct Witness<'w> {
     pub facts: &'w Facts<'w>,
     pub made: &'w Made,
     pub found: &'w mut Found,
+    pub scratch: &'w mut Scratch,
     /// The words that were looked at.
     pub looked: Looked,
     /// Whether all windows were looked at.
@@ -48,16 +49,12 @@ impl<'w> Witness<'w> {
                 level,
                 is_global,
                 pcid,
-                slot,
+                until,
             } = known;
             let kind = self.facts.kind(level, value);
             if (is_global || pcid == asked.control.pcid)
+                && asked.slot <= until
                 && asked.suits(self.facts, value, kind, rights)
-                && self
-                    .facts
-                    .drops
-                    .translation_from(asked.p, (pcid, level, is_global), asked.la, asked.slot)
-                    <= slot
             {
                 return true;
             }
@@ -81,7 +78,7 @@ impl<'w> Witness<'w> {
             rights = combine(rights, Entry(value));
             if asked.is_page() {
                 if asked.suits(self.facts, value, kind, rights) {
-                    return Now::Page(known_of(asked, value, rights, level, kind));
+                    return Now::Page(known_of(self.facts, asked, value, rights, level, kind));
                 }
             } else if asked.suits_now(self.facts, address, kind, rights) {
                 return Now::Witnessed;
@@ -104,7 +101,6 @@ impl<'w> Witness<'w> {
         if asked.is_page() && self.is_known(asked) {
             return Ok(true);
         }
-        self.looked = Looked::new();
         match self.walk(asked) {
             Now::Witnessed => return Ok(true),
             Now::Page(known) => {
@@ -128,21 +124,31 @@ impl<'w> Witness<'w> {
             is_each: false,
         };
         let mut sweep = Sweep::new(self.alloc, view, asked, limits, self.looked);
+        sweep.swap_lists(self.scratch);
         sweep.run()?;
+        sweep.swap_lists(self.scratch);
         self.looked = sweep.looked;
         self.is_whole = sweep.is_whole;
         let Some(hit) = sweep.hits.first().copied() else {
             return Ok(false);
         };
         if asked.is_page() {
-            let known = known_by(self.made, asked, &hit);
+            let known = known_by(self.facts, self.made, asked, &hit);
             self.found.note(asked.p, asked.la, known, self.made.now())?;
         }
         Ok(true)
     }
 }
 
-fn known_of(asked: &Asked, value: u64, rights: Rights, level: Level, kind: Kind) -> Known {
+/// A translation that the walk of now finds.
+fn known_of(
+    facts: &Facts<'_>,
+    asked: &Asked,
+    value: u64,
+    rights: Rights,
+    level: Level,
+    kind: Kind,
+) -> Known {
     let is_global = matches!(
         kind,
         Kind::Leaf {
@@ -150,27 +156,40 @@ fn known_of(asked: &Asked, value: u64, rights: Rights, level: Level, kind: Kind)
             ..
         }
     ) && asked.control.pge;
+    let Asked {
+        p,
+        slot,
+        la,
+        control,
+        ..
+    } = *asked;
+    let page = (control.pcid, level, is_global);
     Known {
         value,
         rights,
         level,
         is_global,
-        pcid: asked.control.pcid,
-        slot: asked.slot,
+        pcid: control.pcid,
+        until: facts.drops.translation_to(p, page, la, slot),
     }
 }
 
-fn known_by(made: &Made, asked: &Asked, hit: &Hit) -> Known {
+/// A translation that a walk found.
+fn known_by(facts: &Facts<'_>, made: &Made, asked: &Asked, hit: &Hit) -> Known {
     let last = match hit.readings.get(hit.count.wrapping_sub(1)) {
         Some(reading) => reading.to,
         None => 0,
     };
+    let Asked { p, la, .. } = *asked;
+    let page = (hit.pcid, hit.level, hit.is_global);
     Known {
         value: hit.value,
         rights: hit.rights,
         level: hit.level,
         is_global: hit.is_global,
         pcid: hit.pcid,
-        slot: made.slot(asked.p, last),
+        until: facts
+            .drops
+            .translation_to(p, page, la, made.slot(facts, p, last)),
     }
 }
