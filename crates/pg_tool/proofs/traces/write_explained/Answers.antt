@@ -18,11 +18,11 @@ returns-then-is_unnamed g c =
     let is : is_unnamed r.events ≡ true = rw (← c.events.ensures.events) (sym c.is_unnamed.ensures ∙ c.if-is_unnamed.true) in
     trace_of IsExplanationTrace 1 _ _ r c.in-Ok.ensures.reads c.in-Ok.ensures.device (IsCertifiedTrace r) (λ x text told. by_test true r x text is told) c.trace_certified.result c.trace_certified.ensures
 
-pub returns-else-is_unnamed : goal.returns-else-is_unnamed
-returns-else-is_unnamed g c =
+pub returns-in-Ok : goal.returns-in-Ok
+returns-in-Ok g c =
     let r : Recorded = c.in-Ok.history in
     let is : is_unnamed r.events ≡ false = rw (← c.events.ensures.events) (sym c.is_unnamed.ensures ∙ c.if-is_unnamed.false) in
     trace_of IsExplanationTrace 1 _ _ r c.in-Ok.ensures.reads c.in-Ok.ensures.device (IsExplainedTrace r) (λ x text told. by_test false r x text is told) c.trace_explained.result c.trace_explained.ensures
 
-pub returns-in-Err : goal.returns-in-Err
-returns-in-Err g c = trace_unread IsExplanationTrace 1 _ _ _ c.in-Err.error c.in-Err.ensures.reads c.in-Err.ensures.device c.in-Err.ensures.alone (Keeps-refl _) refl
+pub returns : goal.returns
+returns g c = trace_unread IsExplanationTrace 1 _ _ _ c.in-Err.error c.in-Err.ensures.reads c.in-Err.ensures.device c.in-Err.ensures.alone (Keeps-refl _) refl
