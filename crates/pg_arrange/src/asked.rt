@@ -104,6 +104,12 @@ fn wish_of(
 
 /// What an event asks, if it names moments.
 pub(crate) fn asked_of(facts: &Facts<'_>, event: u32) -> Option<Asked> {
+    let p = facts.processor(event)?;
+    asked_under(facts, event, facts.control(p, facts.place(event)))
+}
+
+/// What an event asks, if it names moments, where its processor has these control registers.
+pub(crate) fn asked_under(facts: &Facts<'_>, event: u32, control: Control) -> Option<Asked> {
     let (p, flags, la, outcome, word) = match facts.run.event_at(event)? {
         Event::Access {
             p,
@@ -128,7 +134,7 @@ pub(crate) fn asked_of(facts: &Facts<'_>, event: u32) -> Option<Asked> {
         event,
         p,
         slot,
-        control: facts.control(p, slot),
+        control,
         la,
         access,
         want,

@@ -33,7 +33,7 @@ impl Learned {
 
     /// Whether it was learned of an event that it comes after another.
     pub(crate) fn knows(&self, event: u32) -> bool {
-        self.sources.contains_key(&event)
+        !self.sources.is_empty() && self.sources.contains_key(&event)
     }
 
     /// Whether an event is to wait for one that has no place.

@@ -151,11 +151,12 @@ impl Lists {
     pub(crate) fn settle(&mut self) -> Result<(), AllocError> {
         self.place_lists();
         self.items = vec![in self.alloc; 0u32; self.added.len()]?;
-        let mut waiting = self.waiting.iter();
+        let mut next: u32 = 0;
         let mut number = 0;
         for added in self.added.iter() {
             if *added % 2 == 1 {
-                number = waiting.next().copied().unwrap_or(0);
+                number = at(&self.waiting, next);
+                next = next.saturating_add(1);
             }
             if let Some(end) = self.ends.get_mut((*added >> 1) as usize) {
                 if let Some(item) = self.items.get_mut(*end as usize) {

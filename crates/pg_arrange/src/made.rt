@@ -21,6 +21,8 @@ pub(crate) struct Made {
     counts: Vec<u32>,
     /// For each word its values.
     values: Vec<Vec<Value>>,
+    /// For each word the last of them, or 0.
+    latest: Vec<u64>,
     /// The least event that has no place.
     low: u32,
     pub undone: u64,
@@ -35,6 +37,7 @@ impl Made {
             places: vec![in alloc; NEVER; count]?,
             counts: vec![in alloc; 0u32; processors]?,
             values: Vec::with_capacity(alloc, facts.writes.len())?,
+            latest: vec![in alloc; 0u64; facts.writes.len()]?,
             low: 0,
             undone: 0,
         };
@@ -78,9 +81,20 @@ impl Made {
 
     /// What a word has now.
     pub(crate) fn value(&self, word: u32) -> u64 {
-        match self.values(word).last() {
+        match self.latest.get(word as usize) {
+            Some(value) => *value,
+            None => 0,
+        }
+    }
+
+    /// Notes what a word has now, by its values.
+    fn note_latest(&mut self, word: u32) {
+        let value = match self.values(word).last() {
             Some(value) => value.value,
             None => 0,
+        };
+        if let Some(latest) = self.latest.get_mut(word as usize) {
+            *latest = value;
         }
     }
 
@@ -131,6 +145,7 @@ impl Made {
         if let Some(values) = self.values.get_mut(word as usize) {
             values.push(Value { place, value })?;
         }
+        self.note_latest(word);
         Ok(())
     }
 
@@ -175,6 +190,7 @@ impl Made {
             if let Some(values) = self.values.get_mut(word as usize) {
                 values.pop();
             }
+            self.note_latest(word);
         }
         if let Some(at) = self.places.get_mut(event as usize) {
             *at = NEVER;

@@ -1,7 +1,7 @@
 //! A search for an order in which each event is witnessed. Nothing is claimed of it: the order is
 //! checked once it is whole, and the events are certified in it.
 
-use crate::asked::{Asked, asked_of};
+use crate::asked::{Asked, asked_under};
 use crate::facts::{Facts, word_of};
 use crate::found::Found;
 use crate::learned::Learned;
@@ -11,7 +11,7 @@ use crate::numbers::{Chance, NEVER, number};
 use crate::repair::Tries;
 use crate::sweep::Scratch;
 use crate::witness::Witness;
-use pg_event::{Event, Outcome};
+use pg_event::{Control, Event, Outcome};
 use pg_spanned::SpannedRun;
 use std::alloc::{AllocError, Global};
 
@@ -66,6 +66,8 @@ struct Front {
     rank: u64,
     /// Whether it was learned that it comes after others.
     is_learned: bool,
+    /// The control registers of the processor before it.
+    control: Control,
 }
 
 /// So many windows between drops are looked at before another event is tried.
@@ -140,6 +142,7 @@ impl<'a> Maker<'a> {
             since: 0,
             rank: 0,
             is_learned: false,
+            control: Control::default(),
         };
         let mut maker = Maker {
             alloc,
@@ -158,19 +161,15 @@ impl<'a> Maker<'a> {
         Ok(maker)
     }
 
-    /// Finds the next event of a processor.
-    fn find_front(&mut self, p: u16) {
-        let Some(event) = self.facts.own(p, self.made.count(p)) else {
-            if let Some(front) = self.fronts.get_mut(p as usize) {
-                front.event = NEVER;
-            }
-            return;
-        };
+    /// Finds the next event of a processor, whose control registers are these.
+    fn find_front(&mut self, p: u16, control: Control) {
+        let event = self.facts.own(p, self.made.count(p)).unwrap_or(NEVER);
         let found = Front {
             event,
             since: self.facts.since(event),
             rank: self.facts.run.event_at(event).map_or(WRITES, rank_of),
             is_learned: self.learned.knows(event),
+            control,
         };
         if let Some(front) = self.fronts.get_mut(p as usize) {
             *front = found;
@@ -180,7 +179,16 @@ impl<'a> Maker<'a> {
     /// Finds the next events of all processors.
     fn find_fronts(&mut self) {
         for p in 0..self.facts.processors() {
-            self.find_front(p);
+            let control = self.facts.control(p, self.made.count(p));
+            self.find_front(p, control);
+        }
+    }
+
+    /// The control registers of a processor before its next event.
+    fn front_control(&self, p: u16) -> Control {
+        match self.fronts.get(p as usize) {
+            Some(front) => front.control,
+            None => Control::default(),
         }
     }
 
@@ -250,7 +258,8 @@ impl<'a> Maker<'a> {
             }
             _ => (FEW_WINDOWS, None),
         };
-        let Some(asked) = asked_of(&self.facts, event) else {
+        let control = self.front_control(p);
+        let Some(asked) = asked_under(&self.facts, event, control) else {
             return Ok(true);
         };
         let (can_come, looked, is_whole) = self.look(&asked, windows)?;
@@ -273,6 +282,7 @@ impl<'a> Maker<'a> {
             since,
             rank,
             is_learned,
+            ..
         } = *self.fronts.get(p as usize)?;
         if event == NEVER || since > self.made.low() || self.is_early(event) {
             return None;
@@ -349,9 +359,22 @@ impl<'a> Maker<'a> {
             if let Some(wait) = self.waits.get_mut(p as usize) {
                 wait.event = NEVER;
             }
-            self.find_front(p);
+            let control = if self.changes_control(event) {
+                self.facts.control(p, self.made.count(p))
+            } else {
+                self.front_control(p)
+            };
+            self.find_front(p, control);
         }
         Ok(())
+    }
+
+    /// Whether an event may change the control registers of its processor.
+    fn changes_control(&self, event: u32) -> bool {
+        match self.facts.run.event_at(event) {
+            Some(it) => matches!(it, Event::MovCr3 { .. } | Event::MovCr4Pge { .. }),
+            None => false,
+        }
     }
 
     /// Takes back all that came from a moment on.
