@@ -14,6 +14,7 @@ pub length_in_order : (events : List Event) (order : List ℕ) → ((k i : ℕ) 
 length_in_order events [] h = refl
 length_in_order events (i ∷ is) h =
     let there = event_there events i (h 0 i refl) in
+    let one : 1 + length is ≡ suc (length is) = omega arith in
     length-append (option_to_list (slice_get events i)) (ordered events is)
     ∙ (ap (λ o. length (option_to_list o) + length (ordered events is)) there.1
-    ∙ ap (λ n. 1 + n) (length_in_order events is (λ k j at. h (suc k) j at)))
+    ∙ (ap (λ n. 1 + n) (length_in_order events is (λ k j at. h (suc k) j at)) ∙ one))

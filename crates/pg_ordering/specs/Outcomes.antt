@@ -1,5 +1,5 @@
 -- The outcomes of an event of a record with no one order, in an order that has a run.
-use Rattle.std.specs.Prelude.{◌≡◌, ◌≢◌, ℕ, ◌<◌, true, false, List, [], ◌++◌, length, codes, decimal}
+use Rattle.std.specs.Prelude.{◌≡◌, ◌≢◌, ℕ, true, false, List, [], ◌++◌, codes, decimal}
 use Rattle.std.specs.Prelude.{Option, Some, None, slice_get}
 use Rattle.pg_event.specs.declared.event.Event.{Event}
 use Rattle.pg_event.specs.Spelling.{Recorded}
@@ -31,7 +31,8 @@ IsAtPlace r number place most (Access x) =
     × AreOutcomes r place x.event x.found.items × (x.most ≡ most)
 IsAtPlace r number place most (Assist x) =
     (x.number ≡ number) × (slice_get r.events place ≡ Some x.event)
-    × (names_moments x.event ≡ true) × MayCome r place x.event x.moments
+    × (is_access x.event ≡ false) × (names_moments x.event ≡ true)
+    × MayCome r place x.event x.moments
 IsAtPlace r number place most (NoAccess told) =
     (told ≡ Some number)
     × ((e : Event) × (slice_get r.events place ≡ Some e) × (names_moments e ≡ false))

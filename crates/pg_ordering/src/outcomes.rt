@@ -6,9 +6,7 @@ ghost use Rattle.pg_spanned.specs.Spanned.{IsSpanned};
 ghost use Rattle.pg_ordering.specs.Outcomes.{IsPlaceOf, IsAtPlace, IsOfEvent, AreInOrder};
 ghost use Rattle.pg_ordering.specs.Outcomes.{place_line, ordered_outcomes_text};
 
-use pg_answers::{
-    AccessOutcomes, AssistOutcome, EventOutcomes, asked_event, event_outcomes_text,
-};
+use pg_answers::{AccessOutcomes, AssistOutcome, EventOutcomes, asked_event, event_outcomes_text};
 use pg_check::History;
 use pg_event::Event;
 use pg_order::history_in_order;

@@ -2,9 +2,9 @@ use Rattle.std.proofs.Common.{◌≡◌, ◌∙◌, ℕ, List, ap, map, sym, cod
 use Rattle.serde_json.specs.Data.{Data, Members, put}
 use Rattle.serde_json.specs.View.{members_view}
 use Rattle.pg_json.proofs.Lists.{fused}
-use Rattle.pg_json.specs.Tree.{Json, data_of, members_of, count, list, elements}
+use Rattle.pg_json.specs.Tree.{Json, data_of, count, list, elements}
 use Rattle.pg_outcomes.specs.declared.allowed.Allowed.{Allowed}
-use Rattle.pg_json_answers.specs.Answers.{allowed_json, asked_fields}
+use Rattle.pg_json_answers.specs.Answers.{allowed_json}
 use Rattle.pg_json_answers.proofs.outcomes.outcomes_fields.Goals as goal
 
 pub returns : goal.returns
