@@ -6,9 +6,9 @@
 #[cfg(test)]
 mod all_rejections;
 #[cfg(test)]
-mod allowed;
-#[cfg(test)]
 mod crews;
+#[cfg(test)]
+mod explained_events;
 #[cfg(test)]
 mod explanations;
 #[cfg(test)]
