@@ -2,6 +2,7 @@
 use Rattle.std.specs.Prelude.{ℕ, ◌≤◌, ◌<◌, Bool, nat_lt, if◌then◌else◌, List, ◌++◌, Option, Ok, Err}
 use Rattle.std.specs.Prelude.{true, false}
 use Rattle.std.specs.Int.{w32}
+use Rattle.pg_entry.specs.Rules.{all_rules}
 use Rattle.pg_event.specs.declared.refusal.Refusal.TheVariants as refusals
 use Rattle.pg_event.specs.declared.event.Event.{Event}
 use Rattle.pg_event.specs.declared.version.Version.{Version}
@@ -30,7 +31,7 @@ settings_at bytes = do
   Ok (
     record {
       version = version.0;
-      cfg = record { flags = record { 0 = flags.0 }; m = m.0 };
+      cfg = record { flags = record { 0 = flags.0 }; m = m.0; rules = all_rules };
       count = count.0;
       segment = size.0;
     },

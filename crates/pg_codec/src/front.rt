@@ -7,7 +7,7 @@ ghost use Rattle.pg_codec.specs.Parts.{settings_at, AreSettings, version_said, i
 
 use crate::fields::{byte_of, processor_number, u16_of, u32_of, u64_of};
 use crate::settings::Settings;
-use pg_entry::{Cfg, CfgFlags};
+use pg_entry::{Cfg, CfgFlags, Rules};
 use pg_event::{
     LEAST_MAXPHYADDR, MOST_MAXPHYADDR, MOST_SEGMENT, Refusal, Version, most_processors,
 };
@@ -76,6 +76,7 @@ pub(crate) fn settings_of(bytes: &[u8]) -> Result<(Settings, &[u8]), Refusal>
     let cfg = Cfg {
         flags,
         m: maxphyaddr,
+        rules: Rules::ALL,
     };
     Ok((
         Settings {

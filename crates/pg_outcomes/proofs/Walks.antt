@@ -21,11 +21,11 @@ use Rattle.pg_event.specs.declared.event.Outcome.{Outcome}
 use Rattle.pg_event.specs.declared.event.Outcome.TheVariants.{Page, Fault}
 use Rattle.pg_event.specs.declared.walk.Parent.{Parent}
 use Rattle.pg_event.specs.Heads.{Head}
-use Rattle.pg_event.specs.Invalidation.{level_shift, translation_key, must_drop_translation}
+use Rattle.pg_event.specs.Invalidation.{level_shift, translation_key}
 use Rattle.pg_event.specs.Spelling.{Recorded}
 use Rattle.pg_event.specs.Values.{mem_at, control_at}
 use Rattle.pg_event.specs.Walk.{Reading, readings, below, entry_address}
-use Rattle.pg_event.specs.Witness.{last_or, survives, is_in_order, failing_leaf, failing_fault, failing_end, failing_access}
+use Rattle.pg_event.specs.Witness.{last_or, is_in_order, failing_leaf, failing_fault, failing_end, failing_access, translation_survives}
 use Rattle.pg_run_of.specs.Plan.{root_at}
 use Rattle.pg_run_of.proofs.Standing.{seen, given}
 use Rattle.pg_run_of.proofs.Accesses.{guard_none, bar_none, last_none, claim_holds}
@@ -106,7 +106,7 @@ leaf_end : (head : Head) (events : List Event) (c : Claim) (pcid : ℕ) (q : Rea
     failing_leaf head.cfg c.kind q.rights (frame + c.la % 2 ^ shift) c.outcome ≡ None
 leaf_end head events c pcid q frame shift g h =
     let global : Bool = g && (control_at head events c.p q.moment).pge in
-    let kept = guard_none (survives head events c.p (λ d e. must_drop_translation d e (translation_key pcid shift global c.la)) q.moment c.number) _ _ h in
+    let kept = guard_none (translation_survives head events c.p (translation_key pcid shift global c.la) q.moment c.number) _ _ h in
     (bar_none (not ((control_at head events c.p c.number).pcid == pcid) && not global) _ _ kept.1).1
 
 -- the page of a claim is the one that the entry gives which is read last

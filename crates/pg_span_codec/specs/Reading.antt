@@ -4,6 +4,7 @@ use Rattle.std.specs.Prelude.{ℕ, zero, suc, ◌+◌, ◌^◌, Bool, true, ◌&
 use Rattle.std.specs.Prelude.{nat_le, if◌then◌else◌, List, [], ◌∷◌, ◌++◌, length}
 use Rattle.std.specs.Prelude.{Option, Some, None, Result, Ok, Err}
 use Rattle.std.specs.Int.{w16, w32, w64}
+use Rattle.pg_entry.specs.Rules.{all_rules}
 use Rattle.pg_event.specs.declared.event.Event.{Event}
 use Rattle.pg_event.specs.declared.event.Event.TheVariants as events
 use Rattle.pg_event.specs.declared.event.Malformed.{Malformed}
@@ -54,7 +55,7 @@ settings_behind version bytes = do
   Ok (
     record {
       version = version;
-      cfg = record { flags = record { 0 = flags.0 }; m = m.0 };
+      cfg = record { flags = record { 0 = flags.0 }; m = m.0; rules = all_rules };
       segment = size.0;
       processors = starts.0;
     },

@@ -7,7 +7,7 @@ use Rattle.pg_event.specs.declared.event.Event.{Event}
 use Rattle.pg_event.specs.declared.event.Event.TheVariants.{Write, Access, Assist, MovCr3, Invlpg}
 use Rattle.pg_event.specs.declared.event.Event.TheVariants.{Invpcid, MovCr4Pge}
 use Rattle.pg_event.specs.declared.version.Version.{Version}
-use Rattle.pg_event.specs.Heads.{Head}
+use Rattle.pg_event.specs.Heads.{Head, HoldsToAll}
 use Rattle.pg_event.specs.Form.{processor_of}
 use Rattle.pg_event.specs.Spelling.{version_number, processor_bytes, outcome_bytes, tag_of}
 use Rattle.pg_event.specs.Spelling.{field_bytes, start_bytes, end_bytes, FitsEvent}
@@ -93,5 +93,6 @@ pub record IsSpelled (s : Spanned) : Type 0 where
   pub fits : AllByRecursion FitsEvent s.events
   pub bare : AllByRecursion IsBare s.events
 
+-- no byte says which rules hold: what bytes spell is held to all of them
 abbrev pub SpellsSpanned : List ℕ → Spanned → Type 0
-SpellsSpanned bytes s = IsSpelled s × (bytes ≡ spanned_bytes s)
+SpellsSpanned bytes s = IsSpelled s × (bytes ≡ spanned_bytes s) × HoldsToAll s.head
