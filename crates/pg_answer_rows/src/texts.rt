@@ -191,6 +191,8 @@ pub const TEXTS: [Told; 12] = [
         \x20     --most <N>       With --all, explain at most this many bad events, 1 to 1000000 \
         (default 100) [alias: --limit]\n\
         \x20     --svg            Draw the first bad event as an SVG, instead of writing text\n\
+        \x20     --event <N>      Explain up to the event with this number; if none is bad, write \
+        the outcomes it may have\n\
         \x20     --json           Write JSON instead of text\n\
         \x20     --trace          Write a trace for Perfetto instead of text\n\
         \x20     --progress       Report each second how many events were read, on standard \
