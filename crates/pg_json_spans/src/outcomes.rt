@@ -90,8 +90,8 @@ fn give_outcomes_if<O: Sink, E: Sink>(
     }
 }
 
-/// Looks for an order of a run's events, and writes the outcomes of an event in it, or that there is
-/// none.
+/// Looks for an order of a run's events, and writes the outcomes of an event in it, or the verdict
+/// where there is none.
 pub(crate) fn answer_outcomes<O: Sink, E: Sink>(
     alloc: Global,
     event: Option<u32>,

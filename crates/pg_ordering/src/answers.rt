@@ -366,9 +366,10 @@ pub(crate) fn tell_unread<O: Sink, E: Sink>(output: &mut O, errors: &mut E, why:
 /// order in which some run of the machine has them (Intel SDM, vol. 3, 4.10): the report, or where
 /// the answer is yes the record or the order that is asked for in its place; then the report of
 /// another answer goes to `errors`; or the outcomes of an event in that order. Where a picture is
-/// asked for, that of a no's cause is written in the place of its report, and where a trace is, that
-/// of the record. Nothing is written before it is ready. It gives the exit status: 0
-/// yes, 1 no, 2 refused, 3 memory, 4 undecided.
+/// asked for, the picture of a no's cause is written in the place of its report. Where a trace is
+/// asked for, the trace of the record is written. Nothing is written before it is ready. It gives
+/// the exit status: 0 yes, 1 no, 2 refused, or an event that is no access and no assist, 3 memory,
+/// 4 undecided.
 ///
 /// The record is held in memory whole.
 pub fn certify_spanned<R: Source, O: Sink, E: Sink>(

@@ -67,7 +67,10 @@ fn give_events<O: Sink, E: Sink>(
     }
 }
 
-/// Writes these events as a trace, where an event lasts from its beginning to its end.
+/// Writes the events of the record of version 3 or 4 on `input` that a selection asks for as a
+/// trace. An event lasts from its beginning, or from the end of its processor's event before it
+/// where that is later, to its end. Nothing is judged. It gives the exit status: 0 shown,
+/// 2 refused, 3 memory.
 pub fn trace_spanned<R: Source, O: Sink, E: Sink>(
     alloc: Global,
     selection: Selection,

@@ -292,10 +292,10 @@ abbrev pub loads_alone : List Row → Bool
 loads_alone rows = has (codes "loads") rows && not (is_some (first_of (codes "page") rows))
 
 -- Of two options one has no effect beside the other: two say what is written, or a trace is asked
--- for and what is no part of one; or a record is read
--- up to the first event that is rejected, which one checker does, and which is not all of it; or
--- one thread runs a script, and tells of no progress; or nothing is written, and it is said where
--- or what; or files are mixed; or one has no effect without another: loads without a page.
+-- for and what is no part of one; or a record is read up to the first event that is rejected, which
+-- one checker does, and which is not all of it; or one thread runs a script, and tells of no
+-- progress; or nothing is written, and it is said where or what; or files are mixed; or one has no
+-- effect without another: loads without a page.
 unfoldable pub has_conflict : List Row → Bool
 has_conflict rows =
     says_twice rows || mixes_trace rows

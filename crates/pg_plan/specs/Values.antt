@@ -63,9 +63,9 @@ abbrev pub IsNumberGiven : Option Text → ℕ → Type 0
 IsNumberGiven None n = ⊥
 IsNumberGiven (Some text) n = IsNumberIn text n
 
--- What is told of bad events, where `--all` and `--svg` are given or not, and `--most` and `--event`
--- with these texts or not: so many at most have to do with all alone, all are not drawn, and one
--- event is neither all nor drawn.
+-- What is told of bad events, where `--all` and `--svg` are given or not, and `--most` and
+-- `--event` with these texts or not: so many at most have to do with all alone, all are not drawn,
+-- and one event is neither all nor drawn.
 abbrev pub IsTelling : Bool → Bool → Option Text → Option Text → Telling → Type 0
 IsTelling all svg most event First =
     (all ≡ false) × (svg ≡ false) × (most ≡ None) × (event ≡ None)

@@ -126,8 +126,8 @@ impl<'a> Seen<'a> {
         }
     }
 
-    /// The words that the events below a moment write, for each of these events. It takes one pass
-    /// over the events that are kept.
+    /// The words that events below a moment write: each event that writes a word is listed with it.
+    /// It takes one pass over the events that are kept.
     pub fn written(&self, alloc: Global, moment: u32) -> Result<Vec<Written>, AllocError>
         ensures { IfOk result (λ found. HaveWritten self.now.events moment found.items) }
     {

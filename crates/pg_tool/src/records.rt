@@ -286,7 +286,7 @@ fn told_of(telling: Telling) -> Asked
     }
 }
 
-/// The same, or the trace.
+/// What `explain` writes of a record with spans: its report, its picture or its trace.
 fn explained_of(asked: &ExplainOptions) -> Asked
     ensures { result ≡ explained_of asked.now }
 {

@@ -29,8 +29,8 @@ pub record WritesPart {A : Type 0} (text : List ℕ) (output : Change)
   pub device : TellsDevice output result
   pub stop : IfErr result MayStop
 
--- these are the events behind a header, of what was left at the start; or they were read before
--- this error
+-- these are the events behind a header, of what was left at the start; or reading that ends with
+-- this error, and then nothing is said of the events
 abbrev pub ReadsBehind : {A : Type 0} → Head → Option (List ℕ) → List Event →
     Result A AuditError → Type 0
 ReadsBehind head start events (Ok x) =
