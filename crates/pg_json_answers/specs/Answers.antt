@@ -22,9 +22,9 @@ use Rattle.pg_json.specs.Tree.{json_line}
 use Rattle.pg_json.specs.Tree.{Fields, no_fields, field}
 use Rattle.pg_json.specs.Events.{event_json, claim_json}
 use Rattle.pg_json.specs.Reports.{with_counts, with_no, with_report}
-use Rattle.pg_json_causes.specs.Causes.{explanation_json, denial_json}
-use Rattle.pg_json_causes.specs.Entries.{number_json}
-use Rattle.pg_json_causes.specs.Tallies.{tallies_json}
+use Rattle.pg_json.specs.Causes.{explanation_json, denial_json}
+use Rattle.pg_json.specs.Entries.{number_json}
+use Rattle.pg_json.specs.Tallies.{tallies_json}
 
 -- ---- objects
 

@@ -5,7 +5,7 @@ ghost use Rattle.serde_json.specs.View.{view, members_view};
 ghost use Rattle.pg_json.specs.Tree.{Json, Fields as ToldFields, data_of, members_of};
 ghost use Rattle.pg_json.specs.Tree.{json_line, no_fields, object};
 ghost use Rattle.pg_json.specs.Reports.{with_report};
-ghost use Rattle.pg_json_causes.specs.Causes.{explanation_json};
+ghost use Rattle.pg_json.specs.Causes.{explanation_json};
 ghost use Rattle.pg_json_answers.specs.Answers.{answer_json, cause_fields, causes_fields};
 ghost use Rattle.pg_json_answers.specs.Answers.{rejection_json, summary_fields};
 
@@ -14,8 +14,10 @@ use crate::outcomes::outcomes_line;
 use pg_answers::{Answer, Rejection, Summary};
 use pg_event::Event;
 use pg_explain::Explanation;
-use pg_json::{Fields, line_of, list_of, put_count, put_counts, put_no, put_report};
-use pg_json_causes::{denial_json, explanation_json, tallies_json};
+use pg_json::{
+    Fields, denial_json, explanation_json, line_of, list_of, put_count, put_counts, put_no,
+    put_report, tallies_json,
+};
 use pg_report::Report;
 use serde_json::{Map, Value, put};
 use std::alloc::{AllocError, Global};

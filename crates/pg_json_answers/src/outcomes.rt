@@ -10,8 +10,9 @@ ghost use Rattle.pg_json_answers.specs.Answers.{no_access_fields, event_outcomes
 
 use pg_answers::{AccessOutcomes, AssistOutcome, EventOutcomes};
 use pg_event::{Event, Moments, Outcome};
-use pg_json::{Fields, claim_json, line_of, list_of, numbers_json, object_of, put_count, put_hex};
-use pg_json_causes::number_json;
+use pg_json::{
+    Fields, claim_json, line_of, list_of, number_json, numbers_json, object_of, put_count, put_hex,
+};
 use pg_outcomes::Allowed;
 use serde_json::{Map, Value, put};
 use std::alloc::{AllocError, Global};

@@ -33,7 +33,7 @@ use Rattle.pg_spanned_text.specs.Parts.{walked_address, Parts, parts_of}
 use Rattle.pg_spanned_text.specs.Spans.{span_of}
 use Rattle.pg_json.specs.Tree.{Json, nothing, flag, count, list, object, elements, hex}
 use Rattle.pg_json.specs.Tree.{Fields, no_fields, field}
-use Rattle.pg_json_causes.specs.Entries.{number_json, with_held}
+use Rattle.pg_json.specs.Entries.{number_json, with_held}
 use Rattle.pg_json_spans.specs.Lines.{event_json}
 
 -- ---- behind which event

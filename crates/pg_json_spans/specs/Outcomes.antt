@@ -9,7 +9,7 @@ use Rattle.pg_answers.specs.Answers.{event_outcomes_status}
 use Rattle.pg_ordering.specs.declared.outcomes.OrderedOutcomes.{OrderedOutcomes}
 use Rattle.pg_ordering.specs.Outcomes.{AreInOrder}
 use Rattle.pg_json.specs.Tree.{Json, field, object, json_line}
-use Rattle.pg_json_causes.specs.Entries.{number_json}
+use Rattle.pg_json.specs.Entries.{number_json}
 use Rattle.pg_json_answers.specs.Answers.{event_outcomes_fields}
 use Rattle.pg_json_spans.specs.Refusals.{WantsMemory}
 use Rattle.pg_json_spans.specs.Answers.{GivesLine, GivesVerdict}

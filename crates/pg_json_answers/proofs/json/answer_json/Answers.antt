@@ -1,7 +1,7 @@
 use Rattle.std.proofs.Common.{◌∙◌, List, ap}
 use Rattle.pg_event.specs.declared.event.Event.{Event}
 use Rattle.pg_json.specs.Tree.{data_of}
-use Rattle.pg_json_causes.specs.Causes.{explanation_json}
+use Rattle.pg_json.specs.Causes.{explanation_json}
 use Rattle.pg_json_answers.specs.Answers.{cause_fields}
 use Rattle.pg_json_answers.proofs.json.answer_json.Goals as goal
 

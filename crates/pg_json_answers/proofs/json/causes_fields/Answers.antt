@@ -5,7 +5,7 @@ use Rattle.pg_event.specs.declared.event.Event.{Event}
 use Rattle.pg_explain.specs.declared.explainer.Explanation.{Explanation}
 use Rattle.pg_json.proofs.Lists.{fused}
 use Rattle.pg_json.specs.Tree.{Json, data_of, list, elements}
-use Rattle.pg_json_causes.specs.Causes.{explanation_json}
+use Rattle.pg_json.specs.Causes.{explanation_json}
 use Rattle.pg_json_answers.proofs.json.causes_fields.Goals as goal
 
 pub returns : goal.returns

@@ -1,7 +1,7 @@
 use Rattle.std.proofs.Common.{◌≡◌, map, take}
 use Rattle.serde_json.specs.View.{view}
 use Rattle.pg_json.specs.Tree.{data_of}
-use Rattle.pg_json_causes.specs.Causes.{explanation_json}
+use Rattle.pg_json.specs.Causes.{explanation_json}
 use Rattle.pg_json_answers.proofs.json.each.Given as goal
 
 abbrev pub invariant-loop-explanation : goal.invariant-loop-explanation

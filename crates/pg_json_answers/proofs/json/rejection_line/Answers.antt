@@ -1,7 +1,7 @@
 use Rattle.std.proofs.Common.{codes}
 use Rattle.pg_json.specs.Reports.{with_counts, with_no}
 use Rattle.pg_json.specs.Tree.{Fields}
-use Rattle.pg_json_causes.specs.Causes.{denial_json}
+use Rattle.pg_json.specs.Causes.{denial_json}
 use Rattle.pg_json_answers.specs.Answers.{cause_fields}
 use Rattle.pg_json_answers.proofs.json.rejection_line.Goals as goal
 

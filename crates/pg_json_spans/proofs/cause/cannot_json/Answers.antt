@@ -3,7 +3,7 @@ use Rattle.serde_json.specs.Data.{Data, Members, object, put}
 use Rattle.serde_json.specs.View.{members_view}
 use Rattle.serde_json.proofs.Views.{Entry, view-Object}
 use Rattle.pg_json.specs.Tree.{data_of, members_of, hex, Fields, field, no_fields}
-use Rattle.pg_json_causes.specs.Entries.{number_json}
+use Rattle.pg_json.specs.Entries.{number_json}
 use Rattle.pg_json_spans.proofs.cause.cannot_json.Goals as goal
 
 pub returns : goal.returns

@@ -4,7 +4,7 @@ use Rattle.serde_json.specs.View.{members_view}
 use Rattle.serde_json.proofs.Views.{Entry, view-Object}
 use Rattle.pg_explain.specs.Names.{level_number}
 use Rattle.pg_json.specs.Tree.{data_of, members_of, count, Fields, field, no_fields}
-use Rattle.pg_json_causes.specs.Entries.{number_json}
+use Rattle.pg_json.specs.Entries.{number_json}
 use Rattle.pg_json_spans.specs.Causes.{with_page}
 use Rattle.pg_json_spans.proofs.cause.entry_json.Goals as goal
 

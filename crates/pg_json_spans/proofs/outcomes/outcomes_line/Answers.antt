@@ -2,7 +2,7 @@ use Rattle.std.proofs.Common.{◌∙◌, ap, codes}
 use Rattle.serde_json.specs.Data.{Data, Members, put}
 use Rattle.serde_json.specs.View.{members_view}
 use Rattle.pg_json.specs.Tree.{Fields, data_of, field}
-use Rattle.pg_json_causes.specs.Entries.{number_json}
+use Rattle.pg_json.specs.Entries.{number_json}
 use Rattle.pg_json_answers.specs.Answers.{event_outcomes_fields}
 use Rattle.pg_json_spans.proofs.outcomes.outcomes_line.Goals as goal
 

@@ -1,5 +1,0 @@
-pub mod Entries
-pub mod Findings
-pub mod Lasts
-pub mod Causes
-pub mod Tallies
