@@ -1,2 +1,9 @@
 pub mod Refusals
 pub mod Answers
+pub mod SpannedRefusals
+pub mod SpannedLines
+pub mod Causes
+pub mod Verdicts
+pub mod SpannedAnswers
+pub mod SpannedOutcomes
+pub mod Questions

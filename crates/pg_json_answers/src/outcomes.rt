@@ -109,7 +109,10 @@ fn no_access_fields(alloc: Global, number: Option<u32>) -> Result<Fields, AllocE
 }
 
 /// The fields of the outcomes of an event. Fails only when out of memory.
-pub fn event_outcomes_fields(alloc: Global, outcomes: &EventOutcomes) -> Result<Fields, AllocError>
+pub(crate) fn event_outcomes_fields(
+    alloc: Global,
+    outcomes: &EventOutcomes,
+) -> Result<Fields, AllocError>
     ensures { IfOk result (λ m. members_view m.entries
         ≡ members_of (event_outcomes_fields outcomes.now)) }
 {

@@ -96,7 +96,7 @@ pub fn tell_json<W: Sink>(errors: &mut W, error: AuditError)
 
 /// Says that a record has spans where its events have to stand in one order.
 #[tactic(auto, unfolding(crate::proofs::OnLiterals::objects_on_literals))]
-pub fn tell_spans_json<W: Sink>(errors: &mut W)
+pub(crate) fn tell_spans_json<W: Sink>(errors: &mut W)
     ensures { Tells (filled W.Sink errors.old errors.new) (json_line spans_json) }
 {
     let _ = put_all(
@@ -106,7 +106,7 @@ pub fn tell_spans_json<W: Sink>(errors: &mut W)
 }
 
 /// Writes the object of a malformed event: its number, and the number of the rule that it breaks.
-pub fn tell_malformed_json<W: Sink>(errors: &mut W, event: u64, rule: u8)
+pub(crate) fn tell_malformed_json<W: Sink>(errors: &mut W, event: u64, rule: u8)
     ensures { Tells (filled W.Sink errors.old errors.new) (json_line (malformed_json event rule)) }
 {
     let _ = put_malformed(errors, event, rule);

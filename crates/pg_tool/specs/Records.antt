@@ -26,7 +26,7 @@ use Rattle.pg_json.specs.Tree.{json_line}
 use Rattle.pg_answers.specs.declared.question.Question.{Question}
 use Rattle.pg_answers.specs.declared.question.Question.TheVariants as questions
 use Rattle.pg_json_answers.specs.Refusals.{error_json}
-use Rattle.pg_json_spans.specs.Questions.{AnswersSpans}
+use Rattle.pg_json_answers.specs.Questions.{AnswersSpans}
 use Rattle.pg_ordering.specs.Answers.{OrdersRecord}
 use Rattle.pg_ordering.specs.Shown.{ShowsSpans, TracesSpans}
 use Rattle.pg_ordering.specs.declared.asked.Asked.{Asked}

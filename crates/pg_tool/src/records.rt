@@ -19,8 +19,7 @@ use crate::traces::{certify_trace, explain_trace, show_trace};
 use pg_answers::{Question, certify_first, check_first, name_moments, run_of, upgrade};
 use pg_auditing::{REFUSED, tell, tell_spans};
 use pg_codec::{Sink, Source};
-use pg_json_answers::tell_json;
-use pg_json_spans::answer_spans_json;
+use pg_json_answers::{answer_spans_json, tell_json};
 use pg_ordering::{Asked, certify_spanned, show_spanned, trace_spanned};
 use pg_plan::{
     CertifyOptions, CheckOptions, Checkers, Command, ExplainOptions, OutcomesOptions, ShowOptions,
