@@ -2,16 +2,16 @@
 use Rattle.std.specs.Prelude.{◌≡◌, ◌⊎◌, ℕ, List, [], ◌∷◌, ◌++◌, Option, Some, None, IfSome}
 use Rattle.std.specs.Prelude.{slice_get, take, Bool, true, false, Result, Ok, Err, codes, decimal}
 use Rattle.std.specs.Prelude.{unwrap_or}
-use Rattle.pg_merge.specs.declared.error.LogRefusal.{LogRefusal}
-use Rattle.pg_merge.specs.declared.error.LogRefusal.TheVariants.{Field, Stamps, Processor}
-use Rattle.pg_merge.specs.declared.error.MergeError.{MergeError}
-use Rattle.pg_merge.specs.declared.error.MergeError.TheVariants as merging
-use Rattle.pg_merge.specs.declared.error.Setting.TheVariants as settings
-use Rattle.pg_merge.specs.Logs.{Logged}
-use Rattle.pg_merge.specs.Merged.{IsMerged}
-use Rattle.pg_merge.specs.Numbers.{merge_error_number}
-use Rattle.pg_merge.specs.Reading.{log_reading}
-use Rattle.pg_merge.specs.Runs.{AreOfOneRun, Explains}
+use Rattle.pg_span_codec.specs.declared.log_error.LogRefusal.{LogRefusal}
+use Rattle.pg_span_codec.specs.declared.log_error.LogRefusal.TheVariants.{Field, Stamps, Processor}
+use Rattle.pg_span_codec.specs.declared.log_error.MergeError.{MergeError}
+use Rattle.pg_span_codec.specs.declared.log_error.MergeError.TheVariants as merging
+use Rattle.pg_span_codec.specs.declared.log_error.Setting.TheVariants as settings
+use Rattle.pg_span_codec.specs.Logs.{Logged}
+use Rattle.pg_span_codec.specs.Merged.{IsMerged}
+use Rattle.pg_span_codec.specs.LogNumbers.{merge_error_number}
+use Rattle.pg_span_codec.specs.LogReading.{log_reading}
+use Rattle.pg_span_codec.specs.Runs.{AreOfOneRun, Explains}
 use Rattle.pg_report.specs.declared.error.AuditError.TheVariants as audits
 use Rattle.pg_report.specs.Changes.{Change, Fails}
 use Rattle.pg_report.specs.Numbers.{error_number, error_name}

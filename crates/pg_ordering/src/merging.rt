@@ -1,8 +1,8 @@
 //! The record with spans that logs of single processors make, as `merge` writes it.
 
 ghost use Rattle.std.specs.Prelude.{◌≡◌, map};
-ghost use Rattle.pg_merge.specs.Runs.{AreOfOneRun};
-ghost use Rattle.pg_merge.specs.Merged.{IsMerged};
+ghost use Rattle.pg_span_codec.specs.Runs.{AreOfOneRun};
+ghost use Rattle.pg_span_codec.specs.Merged.{IsMerged};
 ghost use Rattle.pg_codec.specs.Writing.{Puts};
 ghost use Rattle.pg_report.specs.Changes.{filled};
 ghost use Rattle.pg_span_codec.specs.Spelling.{spanned_bytes};
@@ -20,9 +20,10 @@ use pg_auditing::{
     tell_unopened,
 };
 use pg_codec::{Failed, Sink, Source, put_all};
-use pg_merge::{Log, LogRefusal, MergeError, Setting, merge_logs};
 use pg_report::AuditError;
-use pg_span_codec::{reading_of_spanned_spelling, spell_spanned};
+use pg_span_codec::{
+    Log, LogRefusal, MergeError, Setting, merge_logs, reading_of_spanned_spelling, spell_spanned,
+};
 use pg_spanned::SpannedRun;
 use std::alloc::Global;
 

@@ -8,3 +8,13 @@ pub mod Headers
 pub mod Readings
 pub mod Zips
 pub mod Pushes
+pub mod Lists
+pub mod Ends
+pub mod Places
+pub mod Keys
+pub mod Starts
+pub mod LogReadings
+pub mod LogRuns
+pub mod Whole
+pub mod Kept
+pub mod ReadLogs

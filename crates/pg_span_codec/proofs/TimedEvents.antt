@@ -136,7 +136,7 @@ old_takes head tag p bytes x fits named_fits numbered small known well not_acces
     }
 
 -- one of two ways to go on
-chosen : {A : Type 0} (P : Type 0) (b : Bool) (r s y : A) → (b ≡ true → r ≡ y → P) → (b ≡ false → s ≡ y → P) → cond b r s ≡ y → P
+pub chosen : {A : Type 0} (P : Type 0) (b : Bool) (r s y : A) → (b ≡ true → r ≡ y → P) → (b ≡ false → s ≡ y → P) → cond b r s ≡ y → P
 chosen P true r s y f g e = f refl e
 chosen P false r s y f g e = g refl e
 

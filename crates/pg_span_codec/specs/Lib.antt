@@ -4,3 +4,11 @@ pub mod Answers
 pub mod Versions
 pub mod Errors
 pub mod Laws
+pub mod Logs
+pub mod LogReading
+pub mod LogAnswers
+pub mod LogNumbers
+pub mod Runs
+pub mod Merged
+pub mod Parts
+pub mod LogLaws

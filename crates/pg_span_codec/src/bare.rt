@@ -99,7 +99,7 @@ fn assist_of(p: u16, bytes: &[u8]) -> Result<(Event, &[u8]), Refusal>
 /// An event of a processor by the fields after its tag, processor and span, without moments: an
 /// access and an assist get the one moment 0, which means nothing.
 #[tactic(auto, unfolding(crate::specs::Reading::bare_at, pg_event::specs::Reading::fields_at))]
-pub fn bare_of(tag: u8, p: u16, bytes: &[u8]) -> Result<(Event, &[u8]), Refusal>
+pub(crate) fn bare_of(tag: u8, p: u16, bytes: &[u8]) -> Result<(Event, &[u8]), Refusal>
     requires low { 0x10 ≤ tag }
     requires high { tag ≤ 0x16 }
     ensures { Gives (λ x. (x.0, x.1.now)) result (bare_at tag p bytes.now) }
@@ -116,7 +116,7 @@ pub fn bare_of(tag: u8, p: u16, bytes: &[u8]) -> Result<(Event, &[u8]), Refusal>
 }
 
 /// The greatest tag of an event: only version 2, and so version 4, has assists.
-pub fn last_tag(version: Version) -> u8
+pub(crate) fn last_tag(version: Version) -> u8
     ensures value { result ≡ last_tag version }
     ensures bound { result ≤ 0x16 }
 {

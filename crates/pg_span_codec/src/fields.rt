@@ -9,7 +9,7 @@ ghost use Rattle.pg_codec.specs.Reads.{Gives};
 use pg_event::{Outcome, Refusal, Version};
 
 /// A byte.
-pub fn byte_of(bytes: &[u8]) -> Result<(u8, &[u8]), Refusal>
+pub(crate) fn byte_of(bytes: &[u8]) -> Result<(u8, &[u8]), Refusal>
     ensures { Gives (λ x. (x.0, x.1.now)) result (byte_at bytes.now) }
 {
     match bytes {
@@ -19,7 +19,7 @@ pub fn byte_of(bytes: &[u8]) -> Result<(u8, &[u8]), Refusal>
 }
 
 /// A number of two bytes.
-pub fn u16_of(bytes: &[u8]) -> Result<(u16, &[u8]), Refusal>
+pub(crate) fn u16_of(bytes: &[u8]) -> Result<(u16, &[u8]), Refusal>
     ensures { Gives (λ x. (x.0, x.1.now)) result (number_at w16 bytes.now) }
 {
     if bytes.len() < 2 {
@@ -41,7 +41,7 @@ pub(crate) fn u32_of(bytes: &[u8]) -> Result<(u32, &[u8]), Refusal>
 }
 
 /// A number of eight bytes.
-pub fn u64_of(bytes: &[u8]) -> Result<(u64, &[u8]), Refusal>
+pub(crate) fn u64_of(bytes: &[u8]) -> Result<(u64, &[u8]), Refusal>
     ensures { Gives (λ x. (x.0, x.1.now)) result (number_at w64 bytes.now) }
 {
     if bytes.len() < 8 {
@@ -56,7 +56,7 @@ pub fn u64_of(bytes: &[u8]) -> Result<(u64, &[u8]), Refusal>
 
 /// The number of a processor, or how many there are: a byte in version 1, two in version 2.
 #[tactic(auto, unfolding(pg_event::specs::Reading::processor_at))]
-pub fn processor_number(version: Version, bytes: &[u8]) -> Result<(u16, &[u8]), Refusal>
+pub(crate) fn processor_number(version: Version, bytes: &[u8]) -> Result<(u16, &[u8]), Refusal>
     ensures { Gives (λ x. (x.0, x.1.now)) result (processor_at version bytes.now) }
 {
     match version {

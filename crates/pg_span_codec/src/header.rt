@@ -63,7 +63,7 @@ pub(crate) fn says_spans(bytes: &[u8]) -> bool
 /// The CR3 of a processor at the start, which has to be below 2 to the power of `m`, and whether it
 /// has global pages.
 #[tactic(auto, unfolding(pg_event::specs::Reading::start_at))]
-pub fn start_of(maxphyaddr: u8, bytes: &[u8]) -> Result<((u64, bool), &[u8]), Refusal>
+pub(crate) fn start_of(maxphyaddr: u8, bytes: &[u8]) -> Result<((u64, bool), &[u8]), Refusal>
     requires { maxphyaddr ≤ 52 }
     ensures value { Gives (λ x. (x.0, x.1.now)) result (start_at maxphyaddr bytes.now) }
     ensures cr3 { IfOk result (λ x. x.0.0 < 2 ^ maxphyaddr) }
