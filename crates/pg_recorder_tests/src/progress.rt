@@ -1,7 +1,7 @@
 ghost use Rattle.std.specs.Prelude.{◌≡◌};
-ghost use Rattle.pg_progress.specs.Seats.{counts};
+ghost use Rattle.pg_runner.specs.Seats.{counts};
 
-use pg_progress::{Counts, Progress};
+use pg_runner::{Counts, Progress};
 use std::alloc::Global;
 use std::test::Fail;
 

@@ -8,9 +8,10 @@ use pg_codec::{Watched, write_record};
 use pg_event::{Outcome, Record};
 use pg_guest::Advance;
 use pg_pool::{Gate, OpenGate};
-use pg_progress::{Counts, Progress, Publisher};
 use pg_report::{Report, Verdict};
-use pg_runner::{Board, RunError, RunResult, run_guest, run_guest_watched};
+use pg_runner::{
+    Board, Counts, Progress, Publisher, RunError, RunResult, run_guest, run_guest_watched,
+};
 use pg_script::Script;
 use pg_world::Receipt;
 use std::alloc::{AllocError, AllocGlobal, Global};

@@ -1,10 +1,10 @@
 //! How many events the bytes of a record have, and the lines of `--progress`.
 
 ghost use Rattle.std.specs.Prelude.{◌≡◌};
-ghost use Rattle.pg_progress.specs.Seats.{counts};
+ghost use Rattle.pg_runner.specs.Seats.{counts};
 
 use pg_codec::Watched;
-use pg_progress::{Counts, Observer};
+use pg_runner::{Counts, Observer};
 use pg_tool::{Counter, Teller};
 use std::alloc::{AllocError, Global};
 use std::test::Fail;

@@ -5,6 +5,7 @@ pub mod Orders
 pub mod ByTurns
 pub mod AtLines
 pub mod Whole
+pub mod Steps
 mod AfterTurns
 mod GoesOn
 mod OfScripts

@@ -8,8 +8,8 @@ use Rattle.pg_guest.specs.Held.{Held, seen}
 use Rattle.pg_guest.specs.Runs.{ArePlaced}
 use Rattle.pg_guest.specs.Transcripts.{shapes_of}
 use Rattle.pg_guest.specs.Turn.{Processor}
-use Rattle.pg_progress.specs.declared.counts.Counts.{Counts}
-use Rattle.pg_progress.specs.Seats.{Seated, is_at, counts, greater}
+use Rattle.pg_runner.specs.declared.counts.Counts.{Counts}
+use Rattle.pg_runner.specs.Seats.{Seated, is_at, counts, greater}
 use Rattle.pg_runner.specs.Runs.{RunsTo}
 use Rattle.pg_script.specs.Reading.{Scripted, IsScript}
 use Rattle.pg_world.specs.Recording.{Recording, sealed_count, with_taken}

@@ -1,3 +1,5 @@
+pub mod Seats
+pub mod Rising
 pub mod Errors
 pub mod Runs
 pub mod Lines

@@ -1,5 +1,5 @@
+use crate::publisher::Publisher;
 use pg_guest::Processor;
-use pg_progress::Publisher;
 use pg_world::World;
 
 /// What a board was made of, once it takes no more turns.

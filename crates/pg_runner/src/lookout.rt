@@ -1,16 +1,19 @@
 //! The calling thread, while processors run.
 
 ghost use Rattle.std.specs.Prelude.{◌≡◌, IfErr};
-ghost use Rattle.pg_progress.specs.Seats.{IsNotBelow};
+ghost use Rattle.pg_runner.specs.Seats.{IsNotBelow};
 ghost use Rattle.pg_runner.specs.Live.{IsWant};
 
 use crate::board::Board;
+use crate::counts::Counts;
 use crate::error::RunError;
 use crate::live_judging::LiveJudging;
+use crate::observer::Observer;
+use crate::progress::Progress;
+use crate::reader::ReadSeat;
 use crate::segments::take_segments;
 use crossbeam_utils::Backoff;
 use pg_pool::Gate;
-use pg_progress::{Counts, Observer, Progress, ReadSeat};
 use pg_report::Crew;
 use std::sync::atomic::{AtomicU64, Ordering};
 use std::sync::{Mutex, Wait};

@@ -2,7 +2,7 @@
 
 ghost use Rattle.std.specs.Prelude.{◌≡◌, IfOk, IfErr};
 ghost use Rattle.pg_event.specs.Spelling.{IsRecord, record_bytes};
-ghost use Rattle.pg_progress.specs.Seats.{counts};
+ghost use Rattle.pg_runner.specs.Seats.{counts};
 ghost use Rattle.pg_report.specs.Changes.{drawn, filled};
 ghost use Rattle.pg_report.specs.Text.{report_text};
 ghost use Rattle.pg_runner.specs.Runs.{record_of};
@@ -15,9 +15,8 @@ use pg_codec::{IntakeError, Sink, Source, pull_all, put_all, write_record};
 use pg_event::Record;
 use pg_plan::{Checkers, RunOptions};
 use pg_pool::OpenGate;
-use pg_progress::Observer;
 use pg_report::{Crew, Report};
-use pg_runner::{RunError, RunResult, run_guest_followed, run_single};
+use pg_runner::{Observer, RunError, RunResult, run_guest_followed, run_single};
 use pg_script::Script;
 use std::alloc::{AllocGlobal, Global};
 use std::sync::Wait;

@@ -1,7 +1,7 @@
 //! What a command does of its input: of the program's, of files, or of logs.
 
 ghost use Rattle.std.specs.Prelude.{◌≡◌, None, map};
-ghost use Rattle.pg_progress.specs.Seats.{counts};
+ghost use Rattle.pg_runner.specs.Seats.{counts};
 ghost use Rattle.pg_report.specs.Changes.{filled};
 ghost use Rattle.pg_auditing.specs.Streams.{streams};
 ghost use Rattle.pg_tool.specs.Answers.{DoesAsked, DoesCommand, DoesEach, DoesFile, DoesFiles};
@@ -19,7 +19,7 @@ use pg_auditing::{UNOPENED, YES, tell_input, tell_unopened};
 use pg_codec::{Sink, Source};
 use pg_ordering::merge;
 use pg_plan::{Command, Invocation, Plan};
-use pg_progress::{Nobody, Observer};
+use pg_runner::{Nobody, Observer};
 use pg_span_codec::Peeked;
 use std::alloc::{AllocGlobal, Global};
 use std::sync::Wait;

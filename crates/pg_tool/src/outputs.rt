@@ -1,7 +1,7 @@
 //! Where what the program writes goes: to standard output, to a file, or nowhere.
 
 ghost use Rattle.std.specs.Prelude.{◌≡◌};
-ghost use Rattle.pg_progress.specs.Seats.{counts};
+ghost use Rattle.pg_runner.specs.Seats.{counts};
 ghost use Rattle.pg_report.specs.Changes.{drawn, filled};
 ghost use Rattle.pg_auditing.specs.Refusals.{Tells};
 ghost use Rattle.pg_auditing.specs.Streams.{streams};
@@ -16,7 +16,7 @@ use crate::signals::Signals;
 use pg_auditing::{UNCREATED, USAGE, tell_text, tell_uncreated};
 use pg_codec::{Sink, Source};
 use pg_plan::{Command, Invocation};
-use pg_progress::Observer;
+use pg_runner::Observer;
 use pg_span_codec::Peeked;
 use std::alloc::AllocGlobal;
 use std::sync::Wait;

@@ -1,7 +1,7 @@
 //! The program by what its arguments ask for: a command, and what it reads.
 
 ghost use Rattle.std.specs.Prelude.{◌≡◌, false};
-ghost use Rattle.pg_progress.specs.Seats.{counts};
+ghost use Rattle.pg_runner.specs.Seats.{counts};
 ghost use Rattle.pg_report.specs.Changes.{filled};
 ghost use Rattle.pg_tool.specs.Answers.{Answers, GivesText, GivesUsage, opens};
 ghost use Rattle.pg_tool.specs.Guests.{guest_error_status, run_error_status};
@@ -19,9 +19,8 @@ use crate::signals::Signals;
 use pg_auditing::{MEMORY, REFUSED, USAGE, YES, tell, tell_memory, tell_text};
 use pg_codec::{Sink, Source, put_all};
 use pg_plan::{Command, Invocation, Plan, RunOptions, Usage};
-use pg_progress::{Nobody, Observer};
 use pg_report::AuditError;
-use pg_runner::RunError;
+use pg_runner::{Nobody, Observer, RunError};
 use pg_script::{ScriptError, ScriptRefusal};
 use pg_span_codec::Peeked;
 use std::alloc::AllocGlobal;

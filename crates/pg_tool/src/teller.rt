@@ -1,11 +1,11 @@
 //! An observer that tells how far a run has come.
 
 ghost use Rattle.std.specs.Prelude.{◌≡◌};
-ghost use Rattle.pg_progress.specs.Seats.{IsNotBelow, counts};
+ghost use Rattle.pg_runner.specs.Seats.{IsNotBelow, counts};
 
 use crate::line::{is_due, put_line};
 use pg_codec::Sink;
-use pg_progress::{Counts, Observer};
+use pg_runner::{Counts, Observer};
 
 /// Tells a sink how many events and sealed segments a run has, once for all millions of events that
 /// were passed since it was told before. Whether the sink takes the line changes nothing.

@@ -3,7 +3,7 @@
 ghost use Rattle.std.specs.Prelude.{◌≡◌};
 ghost use Rattle.clap.specs.Walk.{texts};
 ghost use Rattle.pg_auditing.specs.Streams.{streams};
-ghost use Rattle.pg_progress.specs.Seats.{counts};
+ghost use Rattle.pg_runner.specs.Seats.{counts};
 ghost use Rattle.pg_tool.specs.Answers.{opens};
 ghost use Rattle.pg_tool.specs.Outputs.{makes};
 ghost use Rattle.pg_tool.specs.Words.{AnswersArguments, AnswersWords};
@@ -13,7 +13,7 @@ use crate::program::pcid_audit_followed;
 use pg_auditing::tell_no_words;
 use pg_codec::{Sink, Source};
 use pg_plan::{NoWords, plan, words_of};
-use pg_progress::Observer;
+use pg_runner::Observer;
 use pg_span_codec::Peeked;
 use std::alloc::AllocGlobal;
 use std::sync::Wait;

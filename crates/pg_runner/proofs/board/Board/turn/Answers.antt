@@ -2,7 +2,7 @@ use Rattle.std.proofs.Common.{◌∙◌, [], ◌∷◌, List, map, ap, sym, subs
 use Rattle.pg_guest.specs.Held.{Held, seen}
 use Rattle.pg_guest.specs.Runs.{ArePlaced}
 use Rattle.pg_guest.specs.CoreRun.{IsCoreRun}
-use Rattle.pg_progress.specs.Seats.{Seated}
+use Rattle.pg_runner.specs.Seats.{Seated}
 use Rattle.pg_runner.proofs.Whole.{front}
 use Rattle.pg_runner.specs.Boards.{Desk, HasToldAll, IsBoard, IsRunOf}
 use Rattle.pg_runner.proofs.GoesOn.{goes_on}

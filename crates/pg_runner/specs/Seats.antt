@@ -1,7 +1,7 @@
 -- What a progress and its seats are to a contract.
 use Rattle.std.specs.Prelude.{ℕ, ◌≤◌, max}
 use Rattle.atomic_table.specs.Seated.{TableId}
-use Rattle.pg_progress.specs.declared.counts.Counts.{Counts}
+use Rattle.pg_runner.specs.declared.counts.Counts.{Counts}
 
 -- which word it is; a progress is seen as this
 abbrev pub WordId : Type 0

@@ -1,6 +1,6 @@
 use Rattle.std.proofs.Common.{rules}
-use Rattle.pg_progress.proofs.Steps.{splits}
-use Rattle.pg_progress.proofs.publisher.Publisher.reader.Goals as goal
+use Rattle.pg_runner.proofs.Steps.{splits}
+use Rattle.pg_runner.proofs.publisher.Publisher.reader.Goals as goal
 
 pub split_seat-seat-requires : goal.split_seat-seat-requires
 split_seat-seat-requires c = (search rules, search rules, splits _ _)

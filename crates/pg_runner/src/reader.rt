@@ -1,5 +1,5 @@
 ghost use Rattle.std.specs.Prelude.{◌≡◌};
-ghost use Rattle.pg_progress.specs.Seats.{is_at, greater};
+ghost use Rattle.pg_runner.specs.Seats.{is_at, greater};
 
 use crate::progress::Progress;
 use crate::rule::Learn;
@@ -14,8 +14,8 @@ pub struct ReadSeat {
 }
 
 impl Model for ReadSeat {
-    ghost use Rattle.pg_progress.specs.Seats.{Seated, counts};
-    ghost use Rattle.pg_progress.specs.Rising.{IsReader};
+    ghost use Rattle.pg_runner.specs.Seats.{Seated, counts};
+    ghost use Rattle.pg_runner.specs.Rising.{IsReader};
 
     ghost Value = { Seated };
 

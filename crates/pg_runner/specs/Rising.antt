@@ -4,8 +4,8 @@ use Rattle.std.specs.Prelude.{◌∷◌, nat_lt, not}
 use mathlib.Core.Option.{some}
 use lib.ListN.{get_elem?}
 use Rattle.atomic_table.specs.Table.{State, Step, Me}
-use Rattle.pg_progress.specs.declared.counts.Counts.{Counts}
-use Rattle.pg_progress.specs.declared.seen.Seen.{Seen}
+use Rattle.pg_runner.specs.declared.counts.Counts.{Counts}
+use Rattle.pg_runner.specs.declared.seen.Seen.{Seen}
 
 abbrev pub seen : Bool → ℕ → ℕ → Seen
 seen s e g = record { stores = s; events = e; segments = g; agrees = true }

@@ -1,7 +1,7 @@
 //! Who is told how far a run has come.
 
-ghost use Rattle.pg_progress.specs.Seats.{IsPair, IsNotBelow, counts};
-ghost use Rattle.pg_progress.specs.declared.counts.Counts.{Counts as Told};
+ghost use Rattle.pg_runner.specs.Seats.{IsPair, IsNotBelow, counts};
+ghost use Rattle.pg_runner.specs.declared.counts.Counts.{Counts as Told};
 
 use crate::counts::Counts;
 

@@ -1,5 +1,5 @@
 ghost use Rattle.std.specs.Prelude.{◌≡◌};
-ghost use Rattle.pg_progress.specs.Seats.{IsPair, IsNotBelow, is_at, counts, greater};
+ghost use Rattle.pg_runner.specs.Seats.{IsPair, IsNotBelow, is_at, counts, greater};
 
 use crate::counts::{Counts, UNIT};
 use crate::progress::Progress;
@@ -17,8 +17,8 @@ pub struct Publisher {
 }
 
 impl Model for Publisher {
-    ghost use Rattle.pg_progress.specs.Seats.{Seated};
-    ghost use Rattle.pg_progress.specs.Rising.{IsPublisher};
+    ghost use Rattle.pg_runner.specs.Seats.{Seated};
+    ghost use Rattle.pg_runner.specs.Rising.{IsPublisher};
 
     ghost Value = { Seated };
 

@@ -7,7 +7,7 @@ pub struct Rises;
 
 impl TableRule<(), Seen, ()> for Rises {
     ghost use Rattle.std.specs.Prelude.{true};
-    ghost use Rattle.pg_progress.specs.Rising.{Rises, seen};
+    ghost use Rattle.pg_runner.specs.Rising.{Rises, seen};
 
     ghost holds = { λ _ s. Rises s };
 
@@ -18,7 +18,7 @@ impl TableRule<(), Seen, ()> for Rises {
 pub struct Store;
 
 impl Play<(), Seen> for Store {
-    ghost use Rattle.pg_progress.specs.Rising.{Stored};
+    ghost use Rattle.pg_runner.specs.Rising.{Stored};
 
     ghost then = { Stored };
 }
@@ -27,7 +27,7 @@ impl Play<(), Seen> for Store {
 pub struct Load;
 
 impl Play<(), Seen> for Load {
-    ghost use Rattle.pg_progress.specs.Rising.{Loaded};
+    ghost use Rattle.pg_runner.specs.Rising.{Loaded};
 
     ghost then = { Loaded };
 }
@@ -36,7 +36,7 @@ impl Play<(), Seen> for Load {
 pub struct Confirm;
 
 impl Play<(), Seen> for Confirm {
-    ghost use Rattle.pg_progress.specs.Rising.{Confirmed};
+    ghost use Rattle.pg_runner.specs.Rising.{Confirmed};
 
     ghost then = { Confirmed };
 }
@@ -46,7 +46,7 @@ pub struct Come;
 
 impl Split<Seen> for Come {
     ghost use Rattle.std.specs.Prelude.{false};
-    ghost use Rattle.pg_progress.specs.Rising.{seen};
+    ghost use Rattle.pg_runner.specs.Rising.{seen};
 
     ghost left = { λ v. v };
 
@@ -58,7 +58,7 @@ pub struct Learn;
 
 impl Join<Seen> for Learn {
     ghost use Rattle.std.specs.Prelude.{false, max};
-    ghost use Rattle.pg_progress.specs.Rising.{seen};
+    ghost use Rattle.pg_runner.specs.Rising.{seen};
 
     ghost both = { λ v w. seen v.stores (max v.events w.events) (max v.segments w.segments) };
 
@@ -70,7 +70,7 @@ pub struct Retire;
 
 impl Join<Seen> for Retire {
     ghost use Rattle.std.specs.Prelude.{false};
-    ghost use Rattle.pg_progress.specs.Rising.{seen, is_below};
+    ghost use Rattle.pg_runner.specs.Rising.{seen, is_below};
 
     ghost both = { λ v w. record v { agrees = is_below w v } };
 

@@ -1,5 +1,5 @@
 ghost use Rattle.std.specs.Prelude.{◌≡◌, ◌≤◌, All, IfOk, vec_len};
-ghost use Rattle.pg_progress.specs.Seats.{IsPair, IsNotBelow, is_at, counts};
+ghost use Rattle.pg_runner.specs.Seats.{IsPair, IsNotBelow, is_at, counts};
 
 use crate::counts::{Counts, NONE, UNIT};
 use crate::publisher::Publisher;
@@ -18,7 +18,7 @@ pub struct Progress {
 
 impl Model for Progress {
     ghost use Rattle.std.specs.Prelude.{◌≡◌};
-    ghost use Rattle.pg_progress.specs.Seats.{WordId};
+    ghost use Rattle.pg_runner.specs.Seats.{WordId};
 
     ghost Value = { WordId };
 

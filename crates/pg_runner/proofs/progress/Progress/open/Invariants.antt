@@ -1,6 +1,6 @@
 use Rattle.std.proofs.Common.{◌≡◌, vec_len, vec_capacity, All}
-use Rattle.pg_progress.specs.Seats.{is_at, counts}
-use Rattle.pg_progress.proofs.progress.Progress.open.Given as goal
+use Rattle.pg_runner.specs.Seats.{is_at, counts}
+use Rattle.pg_runner.proofs.progress.Progress.open.Given as goal
 
 abbrev pub invariant-loop : goal.invariant-loop
 invariant-loop l = record {

@@ -1,7 +1,7 @@
 use Rattle.std.proofs.Common.{rules, ap}
-use Rattle.pg_progress.proofs.Steps.{retires, confirms}
-use Rattle.pg_progress.specs.declared.seen.Seen.{Seen}
-use Rattle.pg_progress.proofs.publisher.Publisher.retire.Goals as goal
+use Rattle.pg_runner.proofs.Steps.{retires, confirms}
+use Rattle.pg_runner.specs.declared.seen.Seen.{Seen}
+use Rattle.pg_runner.proofs.publisher.Publisher.retire.Goals as goal
 
 pub join_seat-requires : goal.join_seat-requires
 join_seat-requires c = (search rules, search rules, search rules, search rules, retires _ _ _ _ (ap (λ (v : Seen). v.stores) c.self.invariant.knows))

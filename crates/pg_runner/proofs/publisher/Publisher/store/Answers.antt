@@ -1,7 +1,7 @@
 use Rattle.std.proofs.Common.{rules, arith, ap}
-use Rattle.pg_progress.specs.declared.seen.Seen.{Seen}
-use Rattle.pg_progress.proofs.Steps.{stores}
-use Rattle.pg_progress.proofs.publisher.Publisher.store.Goals as goal
+use Rattle.pg_runner.specs.declared.seen.Seen.{Seen}
+use Rattle.pg_runner.proofs.Steps.{stores}
+use Rattle.pg_runner.proofs.publisher.Publisher.store.Goals as goal
 
 pub store-requires : goal.store-requires
 store-requires c =

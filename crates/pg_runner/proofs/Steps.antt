@@ -5,8 +5,8 @@ use lib.ListN.{get_elem?}
 use Rattle.std.proofs.lemmas.Bool.Decides.{nat_tests}
 use Rattle.atomic_table.specs.Table.{State, Me, step, keeps, Allows, Splits, Joins, opening}
 use Rattle.atomic_table.proofs.Lists.{at_set, at_snoc}
-use Rattle.pg_progress.specs.declared.seen.Seen.{Seen}
-use Rattle.pg_progress.specs.Rising.{seen, packed, is_below, IsPacked, IsRising, Rises, Stored, Loaded, Confirmed}
+use Rattle.pg_runner.specs.declared.seen.Seen.{Seen}
+use Rattle.pg_runner.specs.Rising.{seen, packed, is_below, IsPacked, IsRising, Rises, Stored, Loaded, Confirmed}
 
 abbrev All : (ℕ → Seen → Type 0) → List Seen → Type 0
 All F views = (id : ℕ) (v : Seen) → get_elem? views id ≡ some v → F id v
