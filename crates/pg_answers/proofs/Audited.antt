@@ -13,7 +13,7 @@ use Rattle.pg_report.specs.Audits.{Audits, HasWritten, IsAudit, IsTheVerdict, Me
 use Rattle.pg_report.specs.Changes.{Change, Adds, AddsSome}
 use Rattle.pg_report.specs.Text.{report_of, report_text}
 use Rattle.pg_report.proofs.Verdicts.{none_bad}
-use Rattle.pg_auditing.specs.Status.{status_of}
+use Rattle.pg_answers.specs.Status.{status_of}
 use Rattle.pg_answers.specs.declared.answer.Answer.{Answer}
 use Rattle.pg_answers.specs.declared.answer.Answer.TheVariants.{Report}
 use Rattle.pg_answers.specs.Answers.{answer_status}

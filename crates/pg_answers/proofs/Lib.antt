@@ -1,5 +1,6 @@
 pub mod WrittenRuns
 pub mod Rows
+pub mod RefusalRows
 pub mod Upgraded
 pub mod GivenTexts
 pub mod Finding

@@ -18,7 +18,7 @@ use Rattle.pg_report.specs.declared.error.AuditError.{AuditError}
 use Rattle.pg_report.specs.declared.report.Report.{Report as Reported}
 use Rattle.pg_report.specs.declared.report.Verdict.TheVariants.{Yes}
 use Rattle.pg_report.specs.Text.{report_of}
-use Rattle.pg_auditing.specs.Status.{error_status, verdict_status}
+use Rattle.pg_answers.specs.Status.{error_status, verdict_status}
 use Rattle.pg_answers.specs.declared.answer.Answer.{Answer}
 use Rattle.pg_answers.specs.declared.answer.Answer.TheVariants.{Report, Summary, Cause, Causes}
 use Rattle.pg_answers.specs.declared.answer.Answer.TheVariants.{Rejection, Events, Outcomes}

@@ -5,7 +5,7 @@ use Rattle.pg_report.specs.declared.error.AuditError.{AuditError}
 use Rattle.pg_report.specs.declared.report.Verdict.{Verdict}
 use Rattle.pg_report.specs.Audits.{IsAudit}
 use Rattle.pg_report.specs.Changes.{Change}
-use Rattle.pg_auditing.specs.Status.{status_of}
+use Rattle.pg_answers.specs.Status.{status_of}
 use Rattle.pg_answers.specs.declared.answer.Answer.{Answer}
 use Rattle.pg_answers.specs.declared.question.Question.TheVariants.{Check}
 use Rattle.pg_answers.specs.Answers.{IsAnswer, answer_status}

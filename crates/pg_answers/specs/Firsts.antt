@@ -21,8 +21,8 @@ use Rattle.pg_report.specs.Audits.{TellsFailures}
 use Rattle.pg_report.specs.Changes.{Change, Adds, AddsSome, AddsNothing}
 use Rattle.pg_report.specs.Going.{IsReading}
 use Rattle.pg_report.specs.Intake.{ReadsRecord, TellsDevice}
-use Rattle.pg_auditing.specs.Refusals.{TellsError}
-use Rattle.pg_auditing.specs.Streams.{Streams}
+use Rattle.pg_answers.specs.Refusals.{TellsError}
+use Rattle.pg_answers.specs.Streams.{Streams}
 use Rattle.pg_answers.specs.declared.answer.Answer.{Answer}
 use Rattle.pg_answers.specs.declared.answer.Answer.TheVariants as answers
 use Rattle.pg_answers.specs.Answers.{answer_status, denied_in}

@@ -1,3 +1,7 @@
+pub mod Reasons
+pub mod Streams
+pub mod Refusals
+pub mod Status
 pub mod Runs
 pub mod Replay
 pub mod RunOf

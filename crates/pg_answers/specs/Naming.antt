@@ -14,9 +14,9 @@ use Rattle.pg_answers.specs.declared.shown.Naming.TheVariants.{Named, Denied}
 use Rattle.pg_answers.specs.declared.answer.Rejection.{Rejection}
 use Rattle.pg_answers.specs.Answers.{IsRejection}
 use Rattle.pg_answers.specs.AnswerTexts.{rejection_text}
-use Rattle.pg_auditing.specs.Refusals.{StaysSame, Tells, refusal_line}
-use Rattle.pg_auditing.specs.Status.{error_status}
-use Rattle.pg_auditing.specs.Streams.{Streams}
+use Rattle.pg_answers.specs.Refusals.{StaysSame, Tells, refusal_line}
+use Rattle.pg_answers.specs.Status.{error_status}
+use Rattle.pg_answers.specs.Streams.{Streams}
 use Rattle.pg_answers.specs.Texts.{IsTextGiven}
 
 abbrev pub with_events : Recorded → List Event → Recorded

@@ -16,9 +16,9 @@ use Rattle.pg_report.specs.Audits.{TellsFailures}
 use Rattle.pg_answers.specs.declared.shown.Shown.{Shown}
 use Rattle.pg_answers.specs.declared.shown.Shown.TheVariants as shown
 use Rattle.pg_answers.specs.Runs.{run_text}
-use Rattle.pg_auditing.specs.Refusals.{TellsError}
-use Rattle.pg_auditing.specs.Status.{error_status}
-use Rattle.pg_auditing.specs.Streams.{Streams}
+use Rattle.pg_answers.specs.Refusals.{TellsError}
+use Rattle.pg_answers.specs.Status.{error_status}
+use Rattle.pg_answers.specs.Streams.{Streams}
 
 -- the bytes spell one record, these steps are its planned run, and this holds of their text
 abbrev pub HasRunText : List ℕ → (List ℕ → Type 0) → Type 0

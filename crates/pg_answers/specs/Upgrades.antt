@@ -14,9 +14,9 @@ use Rattle.pg_report.specs.Changes.{Change, Fails, Works, Adds, AddsSome, AddsNo
 use Rattle.pg_report.specs.Audits.{SpellsOne, ReaderFails, WriterFails, TellsFailures}
 use Rattle.pg_report.specs.Intake.{refusal_up_to}
 use Rattle.pg_answers.specs.declared.shown.ReportText.{ReportText}
-use Rattle.pg_auditing.specs.Status.{verdict_status, error_status}
-use Rattle.pg_auditing.specs.Refusals.{refusal_line, Tells}
-use Rattle.pg_auditing.specs.Streams.{Streams}
+use Rattle.pg_answers.specs.Status.{verdict_status, error_status}
+use Rattle.pg_answers.specs.Refusals.{refusal_line, Tells}
+use Rattle.pg_answers.specs.Streams.{Streams}
 
 -- the record that has version 2, and else the same header and events
 abbrev pub upgraded : Recorded → Recorded

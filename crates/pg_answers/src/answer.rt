@@ -3,7 +3,7 @@
 ghost use Rattle.std.specs.Prelude.{◌≡◌, take};
 ghost use Rattle.pg_answers.specs.Answers.{answer_status, event_outcomes_status};
 
-use pg_auditing::{NO, REFUSED, YES, error_status, verdict_status};
+use crate::statuses::{NO, REFUSED, YES, error_status, verdict_status};
 use pg_check::History;
 use pg_event::{Event, Moments, Selection};
 use pg_explain::{Denial, Explanation, Takers, Tally};

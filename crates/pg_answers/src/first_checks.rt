@@ -5,14 +5,14 @@ ghost use Rattle.pg_codec.specs.Streams.{FailsWithDevice};
 ghost use Rattle.pg_report.specs.Changes.{drawn, filled};
 ghost use Rattle.pg_report.specs.Going.{IsJudging};
 ghost use Rattle.pg_report.specs.Intake.{ReadsRecord, TellsDevice, is_device};
-ghost use Rattle.pg_auditing.specs.Streams.{streams};
+ghost use Rattle.pg_answers.specs.Streams.{streams};
 ghost use Rattle.pg_answers.specs.Audited.{IsCheckText};
 ghost use Rattle.pg_answers.specs.Firsts.{ChecksFirst, IsFirstGiven, IsJudgedUpTo, JudgesUpTo};
 ghost use Rattle.pg_answers.specs.Firsts.{bad_in};
 
 use crate::answer::{Answer, answer_status};
 use crate::firsts::write_answer;
-use pg_auditing::tell_error;
+use crate::refusals::tell_error;
 use pg_check::Judged;
 use pg_codec::{RecordReader, Sink, Source};
 use pg_event::Version;

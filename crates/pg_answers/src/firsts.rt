@@ -8,7 +8,7 @@ ghost use Rattle.pg_codec.specs.Streams.{FailsWithDevice};
 ghost use Rattle.pg_certify.specs.Accounts.{IsAccount};
 ghost use Rattle.pg_report.specs.Changes.{drawn, filled};
 ghost use Rattle.pg_report.specs.Intake.{ReadsRecord, TellsDevice, is_device};
-ghost use Rattle.pg_auditing.specs.Streams.{streams};
+ghost use Rattle.pg_answers.specs.Streams.{streams};
 ghost use Rattle.pg_answers.specs.Accounts.{IsAccounting};
 ghost use Rattle.pg_answers.specs.Firsts.{IsAccountUpTo, ReadsUpTo, GivesFirstOf, IsFirstGiven};
 ghost use Rattle.pg_answers.specs.AnswerTexts.{answer_text};
@@ -19,8 +19,8 @@ ghost use Rattle.pg_report.specs.Audits.{WritesText};
 
 use crate::answer::{Answer, answer_status};
 use crate::certificates::certificate_by;
+use crate::refusals::tell_error;
 use crate::text::answer_text;
-use pg_auditing::tell_error;
 use pg_certify::StreamingCertifier;
 use pg_codec::{RecordReader, Sink, Source};
 use pg_event::Version;

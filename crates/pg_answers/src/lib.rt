@@ -1,5 +1,6 @@
 // SPDX-License-Identifier: MIT OR Apache-2.0
-//! What each command answers of a record, over any streams.
+//! What each command answers of a record, over any streams, exit statuses, and the lines that tell
+//! of what was refused.
 #![tactic(auto)]
 
 mod accounts;
@@ -9,6 +10,7 @@ mod certificates;
 mod checks;
 mod denials;
 mod explanations;
+mod files;
 mod first_checks;
 mod firsts;
 mod laws;
@@ -16,19 +18,24 @@ mod naming;
 mod outcomes;
 mod outcomes_text;
 mod question;
+mod reasons;
+mod refusals;
 mod replayer;
 mod runs;
 mod shown;
+mod statuses;
 mod summaries;
 mod text;
 mod unnamed;
 mod upgrader;
+mod words;
 
 pub use answer::{
     AccessOutcomes, Answer, AssistOutcome, EventOutcomes, Rejection, Summary, answer_status,
     event_outcomes_status,
 };
 pub use answering::answer_record;
+pub use files::{UNCREATED, tell_input, tell_uncreated, tell_unopened};
 pub use first_checks::check_first;
 pub use firsts::certify_first;
 pub use laws::checks_are_audits;
@@ -36,9 +43,17 @@ pub use naming::name_moments;
 pub use outcomes::asked_event;
 pub use outcomes_text::event_outcomes_text;
 pub use question::Question;
+pub use refusals::{
+    put_error, put_line, put_name, put_number, put_place, put_refusal, tell, tell_error,
+    tell_memory, tell_spans, tell_text,
+};
 pub use replayer::run_of;
 pub use runs::run_text;
 pub use shown::Shown;
+pub use statuses::{
+    MEMORY, NO, REFUSED, UNOPENED, USAGE, YES, error_status, status_of, verdict_status,
+};
 pub use text::answer_text;
 pub use unnamed::is_unnamed;
 pub use upgrader::upgrade;
+pub use words::tell_no_words;

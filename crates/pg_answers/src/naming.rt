@@ -7,13 +7,14 @@ ghost use Rattle.pg_report.specs.Audits.{WritesText};
 ghost use Rattle.pg_report.specs.Changes.{drawn, filled};
 ghost use Rattle.pg_report.specs.Intake.{TellsDevice};
 ghost use Rattle.pg_answers.specs.Naming.{IsNaming, NamesRecord, TellsNaming, with_events};
-ghost use Rattle.pg_auditing.specs.Streams.{streams};
+ghost use Rattle.pg_answers.specs.Streams.{streams};
 ghost use Rattle.pg_answers.specs.Texts.{GivesTextOf, IsTextGiven};
 
 use crate::denials::denial_in;
+use crate::refusals::tell;
 use crate::shown::Naming;
+use crate::statuses::{NO, REFUSED, YES, error_status};
 use crate::text::rejection_text;
-use pg_auditing::{NO, REFUSED, YES, error_status, tell};
 use pg_certify::{Certified, certify, denied_events_have_no_run};
 use pg_check::History;
 use pg_codec::{Sink, Source, put_all, write_record};

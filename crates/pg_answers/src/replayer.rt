@@ -10,11 +10,12 @@ ghost use Rattle.pg_report.specs.Intake.{TellsDevice};
 ghost use Rattle.pg_answers.specs.Replay.{end_of_run};
 ghost use Rattle.pg_answers.specs.Runs.{run_text};
 ghost use Rattle.pg_answers.specs.RunOf.{IsRunOf, ShowsRun, WritesRun, run_status};
-ghost use Rattle.pg_auditing.specs.Streams.{streams};
+ghost use Rattle.pg_answers.specs.Streams.{streams};
 
+use crate::refusals::tell_error;
 use crate::runs::run_text;
 use crate::shown::Shown;
-use pg_auditing::{NO, YES, error_status, tell_error};
+use crate::statuses::{NO, YES, error_status};
 use pg_check::History;
 use pg_codec::{Sink, Source};
 use pg_event::Header;

@@ -6,12 +6,13 @@ ghost use Rattle.pg_report.specs.Intake.{TellsDevice};
 ghost use Rattle.pg_report.specs.Audits.{WritesText};
 ghost use Rattle.pg_event.specs.Spelling.{record_bytes};
 ghost use Rattle.pg_report.specs.Text.{report_of};
-ghost use Rattle.pg_auditing.specs.Streams.{streams};
+ghost use Rattle.pg_answers.specs.Streams.{streams};
 ghost use Rattle.pg_answers.specs.Upgrades.{upgraded, IsUpgrade, IsReportText, report_in};
 ghost use Rattle.pg_answers.specs.Upgrades.{TellsReport, Upgrades};
 
+use crate::refusals::tell;
 use crate::shown::ReportText;
-use pg_auditing::{REFUSED, error_status, tell, verdict_status};
+use crate::statuses::{REFUSED, error_status, verdict_status};
 use pg_check::History;
 use pg_codec::{Sink, Source, put_all, write_record};
 use pg_event::{Header, Version};

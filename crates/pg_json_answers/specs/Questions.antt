@@ -1,7 +1,7 @@
 -- What `--json` answers of a question of a record with no one order (versions 3 and 4).
 use Rattle.std.specs.Prelude.{◌≡◌, ◌⊎◌, ℕ, Option, Result, Ok, Err}
 use Rattle.pg_report.specs.Changes.{Change}
-use Rattle.pg_auditing.specs.Streams.{Streams}
+use Rattle.pg_answers.specs.Streams.{Streams}
 use Rattle.pg_spanned.specs.Orders.{Spanned}
 use Rattle.pg_ordering.specs.declared.reading.Unread.{Unread}
 use Rattle.pg_ordering.specs.Readings.{ReadsRun, DeviceTold}

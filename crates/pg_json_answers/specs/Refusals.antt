@@ -9,7 +9,7 @@ use Rattle.pg_report.specs.declared.error.AuditError.TheVariants.{Refused, Devic
 use Rattle.pg_report.specs.declared.error.AuditError.TheVariants.{Thread, Checkers}
 use Rattle.pg_report.specs.Changes.{Change}
 use Rattle.pg_report.specs.Numbers.{rule_number}
-use Rattle.pg_auditing.specs.Refusals.{StaysSame, Tells}
+use Rattle.pg_answers.specs.Refusals.{StaysSame, Tells}
 use Rattle.pg_json.specs.Tree.{Json, count, text, object, Fields, no_fields, field, json_line}
 
 abbrev pub refusal_fields : ℕ → List ℕ → Fields

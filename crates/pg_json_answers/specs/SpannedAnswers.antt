@@ -4,8 +4,8 @@ use Rattle.std.specs.Prelude.{◌≡◌, ◌⊎◌, ℕ, List, Result, Ok, Err}
 use Rattle.pg_event.specs.declared.selection.Selection.{Selection}
 use Rattle.pg_report.specs.declared.error.AuditError.TheVariants.{Device}
 use Rattle.pg_report.specs.Changes.{Change, Fails, Works, Adds, AddsSome}
-use Rattle.pg_auditing.specs.Refusals.{StaysSame, Tells}
-use Rattle.pg_auditing.specs.Streams.{Streams}
+use Rattle.pg_answers.specs.Refusals.{StaysSame, Tells}
+use Rattle.pg_answers.specs.Streams.{Streams}
 use Rattle.pg_spanned.specs.Orders.{Spanned}
 use Rattle.pg_ordering.specs.declared.reading.Unread.{Unread}
 use Rattle.pg_order.specs.declared.verdict.Verdict.{Verdict}

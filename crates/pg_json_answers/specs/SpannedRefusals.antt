@@ -1,6 +1,6 @@
 -- Why a record with spans has no answer, as an object on standard error.
 use Rattle.std.specs.Prelude.{◌≡◌, ℕ}
-use Rattle.pg_auditing.specs.Refusals.{StaysSame, Tells}
+use Rattle.pg_answers.specs.Refusals.{StaysSame, Tells}
 use Rattle.pg_json.specs.Tree.{Json, json_line}
 use Rattle.pg_json_answers.specs.Refusals.{error_json, malformed_json}
 use Rattle.pg_ordering.specs.declared.reading.Unread.{Unread}

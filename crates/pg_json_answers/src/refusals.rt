@@ -3,12 +3,12 @@
 
 ghost use Rattle.pg_codec.specs.Writing.{Puts};
 ghost use Rattle.pg_report.specs.Changes.{filled};
-ghost use Rattle.pg_auditing.specs.Refusals.{Tells};
+ghost use Rattle.pg_answers.specs.Refusals.{Tells};
 ghost use Rattle.pg_json.specs.Tree.{json_line};
 ghost use Rattle.pg_json_answers.specs.Refusals.{error_json, malformed_json, TellsJson};
 ghost use Rattle.pg_json_answers.specs.Refusals.{spans_json};
 
-use pg_auditing::put_number;
+use pg_answers::put_number;
 use pg_codec::{Failed, Sink, put_all};
 use pg_event::Refusal;
 use pg_report::{AuditError, rule_number};

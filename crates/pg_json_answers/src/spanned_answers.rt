@@ -2,7 +2,7 @@
 
 ghost use Rattle.std.specs.Prelude.{◌≡◌};
 ghost use Rattle.pg_report.specs.Changes.{filled};
-ghost use Rattle.pg_auditing.specs.Streams.{streams};
+ghost use Rattle.pg_answers.specs.Streams.{streams};
 ghost use Rattle.pg_ordering.specs.Answers.{status_of};
 ghost use Rattle.pg_json_answers.specs.SpannedAnswers.{GivesLine, GivesVerdict, GivesShown};
 ghost use Rattle.pg_json_answers.specs.SpannedAnswers.{AnswersRun, OrdersJson, ShowsJson};
@@ -13,8 +13,7 @@ use crate::spanned_lines::spanned_json_lines;
 use crate::spanned_outcomes::answer_outcomes;
 use crate::spanned_refusals::{tell_memory, tell_spans, tell_unread};
 use crate::verdict::verdict_line;
-use pg_answers::Question;
-use pg_auditing::{REFUSED, YES};
+use pg_answers::{Question, REFUSED, YES};
 use pg_codec::{Sink, Source, put_all};
 use pg_event::Selection;
 use pg_order::{Verdict, find_ordered_run};

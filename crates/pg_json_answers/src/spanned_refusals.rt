@@ -2,14 +2,14 @@
 
 ghost use Rattle.std.specs.Prelude.{◌≡◌};
 ghost use Rattle.pg_report.specs.Changes.{filled};
-ghost use Rattle.pg_auditing.specs.Refusals.{Tells};
+ghost use Rattle.pg_answers.specs.Refusals.{Tells};
 ghost use Rattle.pg_json.specs.Tree.{json_line};
 ghost use Rattle.pg_json_answers.specs.SpannedRefusals.{spanned_json, TellsUnread};
 ghost use Rattle.pg_json_answers.specs.SpannedRefusals.{WantsMemory, Refuses};
 ghost use Rattle.pg_json_answers.specs.Refusals.{spans_json};
 
 use crate::refusals::{tell_json, tell_malformed_json, tell_spans_json};
-use pg_auditing::{MEMORY, REFUSED};
+use pg_answers::{MEMORY, REFUSED};
 use pg_codec::Sink;
 use pg_ordering::Unread;
 use pg_report::AuditError;

@@ -12,8 +12,8 @@ use Rattle.pg_order.specs.Verdicts.{IsVerdict}
 use Rattle.pg_report.specs.declared.error.AuditError.TheVariants as audits
 use Rattle.pg_report.specs.Audits.{SpellsOne}
 use Rattle.pg_report.specs.Changes.{Change, Fails, Works, Adds, AddsSome}
-use Rattle.pg_auditing.specs.Refusals.{StaysSame, Tells, refusal_line}
-use Rattle.pg_auditing.specs.Streams.{Streams}
+use Rattle.pg_answers.specs.Refusals.{StaysSame, Tells, refusal_line}
+use Rattle.pg_answers.specs.Streams.{Streams}
 use Rattle.pg_ordering.specs.declared.reading.Unread.{Unread}
 use Rattle.pg_ordering.specs.declared.reading.Unread.TheVariants.{Refused, Device, Memory}
 use Rattle.pg_ordering.specs.declared.asked.Asked.{Asked}

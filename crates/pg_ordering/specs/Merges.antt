@@ -18,8 +18,8 @@ use Rattle.pg_report.specs.Numbers.{error_number, error_name}
 use Rattle.pg_spanned.specs.Orders.{Spanned}
 use Rattle.pg_span_codec.specs.Reading.{spanned_reading}
 use Rattle.pg_span_codec.specs.Spelling.{spanned_bytes, SpellsSpanned}
-use Rattle.pg_auditing.specs.Refusals.{StaysSame, Tells, refusal_line, refusal_text, place_text}
-use Rattle.pg_auditing.specs.Refusals.{unopened_line}
+use Rattle.pg_answers.specs.Refusals.{StaysSame, Tells, refusal_line, refusal_text, place_text}
+use Rattle.pg_answers.specs.Refusals.{unopened_line}
 use Rattle.pg_ordering.specs.declared.logs.Stop.{Stop}
 use Rattle.pg_ordering.specs.declared.logs.Stop.TheVariants as stops
 use Rattle.pg_ordering.specs.declared.logs.Untaken.{Untaken}

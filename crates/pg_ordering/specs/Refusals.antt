@@ -1,7 +1,7 @@
 -- The line of a record with spans that is refused.
 use Rattle.std.specs.Prelude.{ℕ, List, ◌++◌, codes, decimal}
 use Rattle.pg_report.specs.declared.error.AuditError.TheVariants as audits
-use Rattle.pg_auditing.specs.Refusals.{refusal_line}
+use Rattle.pg_answers.specs.Refusals.{refusal_line}
 use Rattle.pg_span_codec.specs.declared.refusal.SpannedRefusal.{SpannedRefusal}
 use Rattle.pg_span_codec.specs.declared.refusal.SpannedRefusal.TheVariants.{Plain, Back}
 

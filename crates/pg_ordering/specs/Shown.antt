@@ -2,7 +2,7 @@
 use Rattle.std.specs.Prelude.{◌⊎◌, ℕ, Result, Ok, Err, Some, None}
 use Rattle.pg_event.specs.declared.selection.Selection.{Selection}
 use Rattle.pg_report.specs.Changes.{Change}
-use Rattle.pg_auditing.specs.Streams.{Streams}
+use Rattle.pg_answers.specs.Streams.{Streams}
 use Rattle.pg_spanned.specs.Orders.{Spanned}
 use Rattle.pg_spanned_text.specs.Lines.{spanned_lines}
 use Rattle.pg_ordering.specs.declared.reading.Unread.{Unread}

@@ -7,7 +7,7 @@ ghost use Rattle.pg_event.specs.Spelling.{IsHead, record_bytes};
 ghost use Rattle.pg_report.specs.Changes.{drawn, filled};
 ghost use Rattle.pg_spanned.specs.Spanned.{IsSpanned};
 ghost use Rattle.pg_order.specs.Verdicts.{IsOrderedRun, IsVerdict};
-ghost use Rattle.pg_auditing.specs.Streams.{streams};
+ghost use Rattle.pg_answers.specs.Streams.{streams};
 ghost use Rattle.pg_ordering.specs.Answers.{GivesOut, GivesError, AnswersRun, OrdersRecord};
 ghost use Rattle.pg_ordering.specs.Answers.{Gives, GivesNamed, GivesOrdered, GivesReport};
 ghost use Rattle.pg_ordering.specs.Answers.{GivesReportAside, GivesPicture, GivesRecord};
@@ -20,8 +20,7 @@ use crate::outcomes::{OrderedOutcomes, ordered_outcomes_text, outcomes_in_order}
 use crate::reading::{Unread, read_run};
 use crate::refusals::tell_refusal;
 use crate::texts::{drawn_text, order_text, report_text, trace_text};
-use pg_answers::event_outcomes_status;
-use pg_auditing::{MEMORY, NO, REFUSED, YES, tell};
+use pg_answers::{MEMORY, NO, REFUSED, YES, event_outcomes_status, tell};
 use pg_codec::{Sink, Source, put_all, write_record};
 use pg_event::{Event, Header};
 use pg_order::{Verdict, find_ordered_run, moments_in_order};

@@ -7,7 +7,7 @@ ghost use Rattle.pg_codec.specs.Writing.{Puts};
 ghost use Rattle.pg_report.specs.Changes.{filled};
 ghost use Rattle.pg_span_codec.specs.Spelling.{spanned_bytes};
 ghost use Rattle.pg_ordering.specs.Answers.{GivesOut, WantsMemory};
-ghost use Rattle.pg_auditing.specs.Refusals.{Tells};
+ghost use Rattle.pg_answers.specs.Refusals.{Tells};
 ghost use Rattle.pg_ordering.specs.Merges.{AnswersLogs, Merges, TellsUntaken, GivesRun};
 ghost use Rattle.pg_ordering.specs.Merges.{log_line, log_refusal_text, merge_line, merge_name};
 ghost use Rattle.pg_ordering.specs.Merges.{merge_status, name_at};
@@ -15,7 +15,7 @@ ghost use Rattle.pg_ordering.specs.Openings.{opens};
 
 use crate::answers::{give_out, tell_memory};
 use crate::logs::{Stop, Untaken, logs_of};
-use pg_auditing::{
+use pg_answers::{
     MEMORY, REFUSED, UNOPENED, YES, put_line, put_name, put_number, put_place, put_refusal, tell,
     tell_unopened,
 };

@@ -3,10 +3,10 @@
 ghost use Rattle.std.specs.Prelude.{◌≡◌};
 ghost use Rattle.pg_codec.specs.Writing.{Puts};
 ghost use Rattle.pg_report.specs.Changes.{filled};
-ghost use Rattle.pg_auditing.specs.Refusals.{Tells};
+ghost use Rattle.pg_answers.specs.Refusals.{Tells};
 ghost use Rattle.pg_ordering.specs.Refusals.{spans_line};
 
-use pg_auditing::{put_error, put_number};
+use pg_answers::{put_error, put_number};
 use pg_codec::{Failed, Sink, put_all};
 use pg_report::AuditError;
 use pg_span_codec::SpannedRefusal;

@@ -1,12 +1,12 @@
 //! The events of a record with no one order, a line each.
 
 ghost use Rattle.pg_report.specs.Changes.{filled};
-ghost use Rattle.pg_auditing.specs.Streams.{streams};
+ghost use Rattle.pg_answers.specs.Streams.{streams};
 ghost use Rattle.pg_ordering.specs.Shown.{GivesLines, GivesEvents, ShowsSpans, TracesSpans};
 
 use crate::answers::{give_out, tell_memory, tell_unread};
 use crate::reading::read_run;
-use pg_auditing::YES;
+use pg_answers::YES;
 use pg_codec::{Sink, Source};
 use pg_event::Selection;
 use pg_spanned::SpannedRun;

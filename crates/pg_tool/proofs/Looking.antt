@@ -4,7 +4,7 @@ use Rattle.std.specs.Prelude.{IfOk, IfSome, OnOk}
 use Rattle.std.specs.Io.KnownBytes.{Keeps}
 use Rattle.pg_codec.specs.Reads.{Finds, left_in}
 use Rattle.pg_codec.specs.Streams.{RaisesFailures}
-use Rattle.pg_auditing.specs.Refusals.{StaysSame}
+use Rattle.pg_answers.specs.Refusals.{StaysSame}
 use Rattle.pg_codec.specs.declared.stream.Sink as sinks
 use Rattle.pg_codec.specs.declared.stream.Source.{Ghosts}
 use Rattle.pg_report.specs.Changes.{filled}

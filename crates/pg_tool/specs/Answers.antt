@@ -11,9 +11,9 @@ use Rattle.pg_plan.specs.declared.request.Usage.{Usage}
 use Rattle.pg_plan.specs.declared.request.Usage.TheVariants.{Help, Version, Fault, Memory}
 use Rattle.pg_report.specs.declared.error.AuditError.TheVariants.{Device}
 use Rattle.pg_report.specs.Changes.{Change, Stream, Fails, Works, Adds, AddsSome}
-use Rattle.pg_auditing.specs.Refusals.{StaysSame, Tells, refusal_line, memory_line, unopened_line}
-use Rattle.pg_auditing.specs.Refusals.{input_line}
-use Rattle.pg_auditing.specs.Streams.{Streams}
+use Rattle.pg_answers.specs.Refusals.{StaysSame, Tells, refusal_line, memory_line, unopened_line}
+use Rattle.pg_answers.specs.Refusals.{input_line}
+use Rattle.pg_answers.specs.Streams.{Streams}
 use Rattle.pg_ordering.specs.Merges.{Merges}
 use Rattle.pg_tool.specs.Guests.{RunsGuest}
 use Rattle.pg_tool.specs.Outputs.{Making, DoesHeard, DoesInto}

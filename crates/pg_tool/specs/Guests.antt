@@ -20,8 +20,8 @@ use Rattle.pg_runner.specs.declared.result.RunResult.{RunResult}
 use Rattle.pg_runner.specs.Runs.{IsRunOfScript, record_of}
 use Rattle.pg_tool.specs.declared.guest_error.GuestError.{GuestError}
 use Rattle.pg_tool.specs.declared.guest_error.GuestError.TheVariants.{TooLong, Script, Run, Device}
-use Rattle.pg_auditing.specs.Refusals.{StaysSame, Tells, refusal_text, refusal_line}
-use Rattle.pg_auditing.specs.Streams.{Streams}
+use Rattle.pg_answers.specs.Refusals.{StaysSame, Tells, refusal_text, refusal_line}
+use Rattle.pg_answers.specs.Streams.{Streams}
 
 -- a script has at most so many bytes
 abbrev pub most_bytes : ℕ

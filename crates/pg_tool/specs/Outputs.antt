@@ -9,8 +9,8 @@ use Rattle.pg_plan.specs.declared.request.Command.TheVariants.{Explain, Show, Ou
 use Rattle.pg_plan.specs.declared.request.Command.TheVariants.{Merge}
 use Rattle.pg_plan.specs.declared.request.Plan.{Plan}
 use Rattle.pg_report.specs.Changes.{Change, Works, filled}
-use Rattle.pg_auditing.specs.Refusals.{StaysSame, Tells, uncreated_line}
-use Rattle.pg_auditing.specs.Streams.{Streams}
+use Rattle.pg_answers.specs.Refusals.{StaysSame, Tells, uncreated_line}
+use Rattle.pg_answers.specs.Streams.{Streams}
 
 -- what creating the file of a name may give: a sink that is changed so, or none
 abbrev pub Making : Type 1

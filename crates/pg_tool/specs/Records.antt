@@ -20,8 +20,8 @@ use Rattle.pg_answers.specs.Firsts.{CertifiesFirst, ChecksFirst}
 use Rattle.pg_answers.specs.Naming.{NamesRecord}
 use Rattle.pg_answers.specs.RunOf.{ShowsRun}
 use Rattle.pg_answers.specs.Upgrades.{Upgrades}
-use Rattle.pg_auditing.specs.Refusals.{StaysSame, Tells, refusal_line, spans_line}
-use Rattle.pg_auditing.specs.Streams.{Streams}
+use Rattle.pg_answers.specs.Refusals.{StaysSame, Tells, refusal_line, spans_line}
+use Rattle.pg_answers.specs.Streams.{Streams}
 use Rattle.pg_json.specs.Tree.{json_line}
 use Rattle.pg_answers.specs.declared.question.Question.{Question}
 use Rattle.pg_answers.specs.declared.question.Question.TheVariants as questions

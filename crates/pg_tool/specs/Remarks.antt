@@ -7,7 +7,7 @@ use Rattle.pg_plan.specs.declared.request.Command.TheVariants.{Check, Certify, R
 use Rattle.pg_plan.specs.declared.request.Command.TheVariants.{Explain, Show, Outcomes, Upgrade}
 use Rattle.pg_plan.specs.declared.request.Command.TheVariants.{Merge}
 use Rattle.pg_report.specs.Changes.{Change, Stream}
-use Rattle.pg_auditing.specs.Refusals.{StaysSame, Tells}
+use Rattle.pg_answers.specs.Refusals.{StaysSame, Tells}
 
 -- a change of a stream up to a moment, and from then on
 abbrev pub up_to : Change → Stream → Change

@@ -15,8 +15,8 @@ use Rattle.pg_answers.specs.AnswerTexts.{answer_text}
 use Rattle.pg_answers.specs.Certificates.{IsTheCertificate}
 use Rattle.pg_answers.specs.Found.{IsAbleBy}
 use Rattle.pg_answers.specs.Texts.{IsTextGivenBy}
-use Rattle.pg_auditing.specs.Refusals.{TellsError}
-use Rattle.pg_auditing.specs.Streams.{Streams}
+use Rattle.pg_answers.specs.Refusals.{TellsError}
+use Rattle.pg_answers.specs.Streams.{Streams}
 use Rattle.pg_json_answers.specs.Answers.{answer_json}
 use Rattle.pg_json_answers.specs.Refusals.{TellsJson}
 use Rattle.pg_tool.specs.declared.format.Format.{Format}

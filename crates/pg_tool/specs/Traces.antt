@@ -3,9 +3,9 @@ use Rattle.std.specs.Prelude.{◌≡◌, ℕ, Bool, true, false, List, Result, O
 use Rattle.pg_event.specs.declared.selection.Selection.{Selection}
 use Rattle.pg_event.specs.Spelling.{Recorded}
 use Rattle.pg_answers.specs.Unnamed.{is_unnamed}
-use Rattle.pg_auditing.specs.Refusals.{TellsError}
-use Rattle.pg_auditing.specs.Status.{error_status}
-use Rattle.pg_auditing.specs.Streams.{Streams}
+use Rattle.pg_answers.specs.Refusals.{TellsError}
+use Rattle.pg_answers.specs.Status.{error_status}
+use Rattle.pg_answers.specs.Streams.{Streams}
 use Rattle.pg_report.specs.declared.error.AuditError.{AuditError}
 use Rattle.pg_trace.specs.declared.judged.Traced.{Traced}
 use Rattle.pg_trace.specs.declared.judged.Traced.TheVariants.{Accepted, Rejected}

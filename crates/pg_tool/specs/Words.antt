@@ -5,8 +5,8 @@ use Rattle.std.specs.declared.string.String.{String}
 use Rattle.std.specs.declared.vec.Vec.{Vec}
 use Rattle.clap.specs.Simple.{subcommand_of}
 use Rattle.clap.specs.Walk.{Text}
-use Rattle.pg_auditing.specs.Refusals.{StaysSame, TellsNoWords}
-use Rattle.pg_auditing.specs.Streams.{Streams}
+use Rattle.pg_answers.specs.Refusals.{StaysSame, TellsNoWords}
+use Rattle.pg_answers.specs.Streams.{Streams}
 use Rattle.pg_plan.specs.Commands.{AreTaken, Asks, AsksHelp, AsksOnly, AsksVersion, IsFault}
 use Rattle.pg_plan.specs.Commands.{IsHelp, IsVersion, NamesHelp, NamesVersion, command_line}
 use Rattle.pg_plan.specs.Commands.{files_in, logs_in, output_in}

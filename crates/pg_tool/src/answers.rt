@@ -4,7 +4,7 @@ ghost use Rattle.std.specs.Prelude.{◌≡◌, ◌≢◌, ℕ, IfOk, Ok, Err, st
 ghost use Rattle.pg_answers.specs.Answers.{IsAnswer};
 ghost use Rattle.pg_answers.specs.Found.{IsAbleBy, IsFound};
 ghost use Rattle.pg_answers.specs.Texts.{IsTextGivenBy};
-ghost use Rattle.pg_auditing.specs.Streams.{streams};
+ghost use Rattle.pg_answers.specs.Streams.{streams};
 ghost use Rattle.pg_report.specs.Audits.{WritesText};
 ghost use Rattle.pg_report.specs.Changes.{Change, drawn, filled};
 ghost use Rattle.pg_report.specs.Intake.{TellsDevice};
@@ -12,8 +12,7 @@ ghost use Rattle.pg_tool.specs.Rendered.{AnswersRecord, IsDrawn, IsRendered, IsR
 ghost use Rattle.pg_tool.specs.Rendered.{TellsFailure};
 
 use crate::format::Format;
-use pg_answers::{Answer, Question, answer_record, answer_status, answer_text};
-use pg_auditing::tell_error;
+use pg_answers::{Answer, Question, answer_record, answer_status, answer_text, tell_error};
 use pg_codec::{Sink, Source};
 use pg_json_answers::{answer_json, tell_error_json};
 use pg_picture::picture_text;

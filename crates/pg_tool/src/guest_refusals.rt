@@ -4,10 +4,10 @@ ghost use Rattle.std.specs.Prelude.{◌++◌, codes, decimal};
 ghost use Rattle.pg_codec.specs.Writing.{Puts};
 ghost use Rattle.pg_report.specs.Changes.{filled};
 ghost use Rattle.pg_tool.specs.Guests.{script_line, guest_line};
-ghost use Rattle.pg_auditing.specs.Refusals.{Tells};
+ghost use Rattle.pg_answers.specs.Refusals.{Tells};
 
 use crate::guest_error::GuestError;
-use pg_auditing::{put_error, put_line, put_name, put_number};
+use pg_answers::{put_error, put_line, put_name, put_number};
 use pg_codec::{Failed, Sink, put_all};
 use pg_report::AuditError;
 

@@ -3,7 +3,7 @@
 ghost use Rattle.std.specs.Prelude.{◌≡◌, None, map};
 ghost use Rattle.pg_runner.specs.Seats.{counts};
 ghost use Rattle.pg_report.specs.Changes.{filled};
-ghost use Rattle.pg_auditing.specs.Streams.{streams};
+ghost use Rattle.pg_answers.specs.Streams.{streams};
 ghost use Rattle.pg_tool.specs.Answers.{DoesAsked, DoesCommand, DoesEach, DoesFile, DoesFiles};
 ghost use Rattle.pg_tool.specs.Answers.{DoesInput, DoesNamed, MergesAsked, MergesNamed};
 ghost use Rattle.pg_tool.specs.Answers.{NamesInput, has_several};
@@ -15,7 +15,7 @@ use crate::program::{run, run_followed};
 use crate::records::do_of_record;
 use crate::remarks::{is_input_named, remark};
 use crate::signals::Signals;
-use pg_auditing::{UNOPENED, YES, tell_input, tell_unopened};
+use pg_answers::{UNOPENED, YES, tell_input, tell_unopened};
 use pg_codec::{Sink, Source};
 use pg_ordering::merge;
 use pg_plan::{Command, Invocation, Plan};

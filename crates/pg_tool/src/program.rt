@@ -7,7 +7,7 @@ ghost use Rattle.pg_tool.specs.Answers.{Answers, GivesText, GivesUsage, opens};
 ghost use Rattle.pg_tool.specs.Guests.{guest_error_status, run_error_status};
 ghost use Rattle.pg_tool.specs.Guests.{RunsGuest, TellsGuest};
 ghost use Rattle.pg_tool.specs.Outputs.{makes};
-ghost use Rattle.pg_auditing.specs.Streams.{streams};
+ghost use Rattle.pg_answers.specs.Streams.{streams};
 
 use crate::guest_error::GuestError;
 use crate::guest_refusals::tell_guest;
@@ -16,7 +16,7 @@ use crate::host::Host;
 use crate::outputs::perform_out;
 use crate::remarks::judges_by_moments;
 use crate::signals::Signals;
-use pg_auditing::{MEMORY, REFUSED, USAGE, YES, tell, tell_memory, tell_text};
+use pg_answers::{MEMORY, REFUSED, USAGE, YES, tell, tell_memory, tell_text};
 use pg_codec::{Sink, Source, put_all};
 use pg_plan::{Command, Invocation, Plan, RunOptions, Usage};
 use pg_report::AuditError;

@@ -2,7 +2,7 @@
 
 ghost use Rattle.std.specs.Prelude.{◌≡◌, true};
 ghost use Rattle.pg_report.specs.Changes.{filled};
-ghost use Rattle.pg_auditing.specs.Streams.{streams};
+ghost use Rattle.pg_answers.specs.Streams.{streams};
 ghost use Rattle.pg_ordering.specs.Answers.{OrdersRecord};
 ghost use Rattle.pg_tool.specs.Records.{CertifiesBy, ChecksBy, ExplainsBy, ShowsBy, DoesPlain};
 ghost use Rattle.pg_tool.specs.Records.{explained_of, ShowsSpansBy};
@@ -11,13 +11,14 @@ ghost use Rattle.pg_tool.specs.Records.{DoesOfRecord, reads_record};
 ghost use Rattle.pg_tool.specs.Records.{check_question, telling_question, question_of};
 ghost use Rattle.pg_tool.specs.Records.{format_of, telling_format, in_json, is_json};
 ghost use Rattle.pg_tool.specs.Records.{DoesUnordered, device_line};
-ghost use Rattle.pg_auditing.specs.Refusals.{Tells};
+ghost use Rattle.pg_answers.specs.Refusals.{Tells};
 
 use crate::answers::answer;
 use crate::format::Format;
 use crate::traces::{certify_trace, explain_trace, show_trace};
-use pg_answers::{Question, certify_first, check_first, name_moments, run_of, upgrade};
-use pg_auditing::{REFUSED, tell, tell_spans};
+use pg_answers::{
+    Question, REFUSED, certify_first, check_first, name_moments, run_of, tell, tell_spans, upgrade,
+};
 use pg_codec::{Sink, Source};
 use pg_json_answers::{answer_spans_json, tell_json};
 use pg_ordering::{Asked, certify_spanned, show_spanned, trace_spanned};

@@ -3,12 +3,12 @@
 ghost use Rattle.std.specs.Prelude.{◌≡◌};
 ghost use Rattle.pg_codec.specs.Writing.{Puts};
 ghost use Rattle.pg_report.specs.Changes.{filled};
-ghost use Rattle.pg_auditing.specs.Refusals.{Tells};
+ghost use Rattle.pg_answers.specs.Refusals.{Tells};
 ghost use Rattle.pg_tool.specs.Remarks.{Hints, Remarks, SaysByte, byte_line, hint_line, is_hinted};
 ghost use Rattle.pg_tool.specs.Remarks.{is_input_named, judges_by_moments, writes_json};
 
 use crate::signals::Signals;
-use pg_auditing::{NO, REFUSED, put_number, tell_text};
+use pg_answers::{NO, REFUSED, put_number, tell_text};
 use pg_codec::{Failed, Sink, put_all};
 use pg_plan::Command;
 

@@ -1,7 +1,7 @@
 //! Records with one order as traces.
 
 ghost use Rattle.std.specs.Prelude.{◌≡◌, ◌≢◌, Err};
-ghost use Rattle.pg_auditing.specs.Streams.{streams};
+ghost use Rattle.pg_answers.specs.Streams.{streams};
 ghost use Rattle.pg_report.specs.Changes.{drawn, filled};
 ghost use Rattle.pg_trace.specs.Given.{IsTraceGiven};
 ghost use Rattle.pg_trace.specs.Judged.{IsCertifiedTrace};
@@ -9,8 +9,7 @@ ghost use Rattle.pg_trace.specs.Shown.{IsShownTrace};
 ghost use Rattle.pg_tool.specs.Traces.{IsExplanationTrace, TracesShown, TracesCertified};
 ghost use Rattle.pg_tool.specs.Traces.{TracesExplained, shown_status, traced_status};
 
-use pg_answers::is_unnamed;
-use pg_auditing::{NO, YES, error_status, tell_error};
+use pg_answers::{NO, YES, error_status, is_unnamed, tell_error};
 use pg_codec::{Sink, Source};
 use pg_event::Selection;
 use pg_plan::Checkers;

@@ -2,7 +2,7 @@
 
 ghost use Rattle.std.specs.Prelude.{◌≡◌};
 ghost use Rattle.clap.specs.Walk.{texts};
-ghost use Rattle.pg_auditing.specs.Streams.{streams};
+ghost use Rattle.pg_answers.specs.Streams.{streams};
 ghost use Rattle.pg_runner.specs.Seats.{counts};
 ghost use Rattle.pg_tool.specs.Answers.{opens};
 ghost use Rattle.pg_tool.specs.Outputs.{makes};
@@ -10,7 +10,7 @@ ghost use Rattle.pg_tool.specs.Words.{AnswersArguments, AnswersWords};
 
 use crate::host::Host;
 use crate::program::pcid_audit_followed;
-use pg_auditing::tell_no_words;
+use pg_answers::tell_no_words;
 use pg_codec::{Sink, Source};
 use pg_plan::{NoWords, plan, words_of};
 use pg_runner::Observer;

@@ -4,7 +4,7 @@ use Rattle.pg_codec.proofs.Written.{puts_same}
 use Rattle.pg_codec.proofs.Segments.{puts_then, puts_fails}
 use Rattle.pg_report.specs.Numbers.{error_number, error_name}
 use Rattle.pg_report.specs.declared.error.AuditError.TheVariants.{Refused}
-use Rattle.pg_auditing.specs.Refusals.{refusal_text, place_text}
+use Rattle.pg_answers.specs.Refusals.{refusal_text, place_text}
 use Rattle.pg_ordering.specs.Merges.{log_refusal_text}
 use Rattle.pg_ordering.proofs.merging.put_log_refusal.Goals as goal
 

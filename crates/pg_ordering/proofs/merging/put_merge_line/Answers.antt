@@ -1,6 +1,6 @@
 use Rattle.std.proofs.Common.{◌++◌, codes, ap₂}
 use Rattle.pg_codec.proofs.Written.{puts_same}
-use Rattle.pg_auditing.specs.Refusals.{refusal_text}
+use Rattle.pg_answers.specs.Refusals.{refusal_text}
 use Rattle.pg_ordering.proofs.merging.put_merge_line.Goals as goal
 
 pub returns : goal.returns

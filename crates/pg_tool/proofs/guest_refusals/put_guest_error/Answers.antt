@@ -1,7 +1,7 @@
 use Rattle.std.proofs.Common.{◌++◌, ◌∙◌, codes, ap, ap₂, sym}
 use Rattle.pg_codec.proofs.Written.{puts_same}
 use Rattle.pg_tool.specs.Guests.{guest_line, script_line}
-use Rattle.pg_auditing.specs.Refusals.{refusal_text}
+use Rattle.pg_answers.specs.Refusals.{refusal_text}
 use Rattle.pg_tool.proofs.guest_refusals.put_guest_error.Goals as goal
 
 pub returns-in-TooLong : goal.returns-in-TooLong

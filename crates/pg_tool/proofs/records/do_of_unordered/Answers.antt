@@ -1,6 +1,6 @@
 use Rattle.std.proofs.Common.{sym, subst, ◌∙◌}
 use Rattle.std.specs.Prelude.{Option}
-use Rattle.pg_auditing.specs.Streams.{streams}
+use Rattle.pg_answers.specs.Streams.{streams}
 use Rattle.pg_answers.specs.declared.question.Question.{Question}
 use Rattle.pg_tool.specs.Records.{DoesUnordered}
 use Rattle.pg_tool.proofs.records.do_of_unordered.Goals as goal

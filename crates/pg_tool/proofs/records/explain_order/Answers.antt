@@ -1,5 +1,5 @@
 use Rattle.std.proofs.Common.{subst}
-use Rattle.pg_auditing.specs.Streams.{streams}
+use Rattle.pg_answers.specs.Streams.{streams}
 use Rattle.pg_ordering.specs.declared.asked.Asked.{Asked}
 use Rattle.pg_ordering.specs.Answers.{OrdersRecord}
 use Rattle.pg_tool.proofs.records.explain_order.Goals as goal

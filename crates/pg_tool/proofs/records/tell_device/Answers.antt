@@ -1,7 +1,7 @@
 use Rattle.std.proofs.Common.{sym, subst, ◌∙◌}
 use Rattle.std.specs.Prelude.{Option}
 use Rattle.pg_report.specs.Changes.{filled}
-use Rattle.pg_auditing.specs.Refusals.{Tells}
+use Rattle.pg_answers.specs.Refusals.{Tells}
 use Rattle.pg_answers.specs.declared.question.Question.{Question}
 use Rattle.pg_tool.specs.Records.{device_line}
 use Rattle.pg_tool.proofs.records.tell_device.Goals as goal

@@ -1,4 +1,0 @@
-pub mod Reasons
-pub mod Streams
-pub mod Refusals
-pub mod Status
