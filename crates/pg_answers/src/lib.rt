@@ -3,6 +3,8 @@
 #![tactic(auto)]
 
 mod accounts;
+mod allowed;
+mod allowed_text;
 mod answer;
 mod answering;
 mod certificates;
@@ -24,6 +26,7 @@ mod text;
 mod unnamed;
 mod upgrader;
 
+pub use allowed_text::{MOST_ALLOWED, allowed_note, first_allowed};
 pub use answer::{
     AccessOutcomes, Answer, AssistOutcome, EventOutcomes, Rejection, Summary, answer_status,
     event_outcomes_status,
