@@ -40,8 +40,8 @@ fn allowed_in(
 }
 
 /// The report of a history, and the cause if it is rejected: the first bad event, what its moments
-/// read, what the reason found, whether other moments would do, and which outcomes are allowed in the
-/// place of its own.
+/// read, what the reason found, whether other moments would do, and which outcomes are allowed in
+/// the place of its own.
 fn caused(alloc: Global, history: History) -> Result<Answer, AllocError>
     ensures { IfOk result (IsCause history) }
 {
