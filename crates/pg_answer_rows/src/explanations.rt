@@ -24,6 +24,7 @@ $ explain
 > level 1: moment 5 pcid 0x1 [0x4028] = 0x9007 leaf, written by event 3
 > moments: level 1 at 5 is above event 4
 > other moments would: 4 4 4 4
+> allowed: 0x9123 by 4 4 4 4
 ? 1
 
 == reserved_leaf_read_before_it_was_written
@@ -48,6 +49,7 @@ $ explain
 > level 1: moment 3 pcid 0x1 [0x4028] = 0x0 absent, never written
 > wished: reserved at level 1, found absent
 > other moments would: 4 4 4 4
+> allowed: fault 0xd by 4 4 4 4
 ? 1
 
 == walk_across_a_change_of_pcid
@@ -73,6 +75,7 @@ $ explain
 > level 1: moment 5 pcid 0x2 [0x4028] = 0x9007 leaf, written by event 3
 > pcids: 0x1 at moment 4, 0x2 at moment 5
 > other moments would: 5 5 5 5
+> allowed: 0x9123 by 5 5 5 5
 ? 1
 
 == structure_entry_dropped_by_invpcid
@@ -98,6 +101,7 @@ $ explain
 > level 1: moment 5 pcid 0x1 [0x4028] = 0x9007 leaf, written by event 3
 > dropped: structure entry of level 3 by 4 cpu 1 invpcid 1 0x1 0x0
 > other moments would: 5 5 5 5
+> allowed: 0x9123 by 5 5 5 5
 ? 1
 ";
 
@@ -124,6 +128,7 @@ $ explain
 > level 2: moment 3 pcid 0x1 [0x3000] = 0x600087 leaf, written by event 2
 > dropped: translation of level 2 by 3 cpu 0 invlpg 0x5000
 > other moments would: 4 4 4
+> allowed: 0x605123 by 4 4 4
 ? 1
 
 == global_bit_read_with_pge_off
@@ -149,6 +154,7 @@ $ explain
 > level 1: moment 4 pcid 0x1 [0x4028] = 0x9107 leaf, written by event 3
 > pcids: 0x1 at moment 4, 0x2 at moment 5
 > other moments would: 5 5 5 5
+> allowed: 0x9123 by 5 5 5 5
 ? 1
 
 == absent_root_entry_read_before_the_fault
@@ -168,6 +174,7 @@ $ explain
 > level 4: moment 1 pcid 0x1 [0x1000] = 0x0 absent, never written
 > held: [0x1000] = 0x2007 table at the event, read at moment 1
 > other moments would: 2 2
+> allowed: fault 0x4 by 2 2
 ? 1
 
 == without_moments_as_certify
@@ -194,6 +201,7 @@ $ explain
 > now: level 1 [0x4028] = 0x0 absent, written by event 4
 > now: would give fault 0x4 (user)
 > last: moment 5 by 4 4 4 4; taken by 5 cpu 0 invlpg 0x5000
+> allowed: fault 0x4 by 6 6 6 6
 ? 1
 ";
 
@@ -222,6 +230,7 @@ $ explain
 > expected: 0x9123
 > final: no moments prove this access
 > last: never
+> allowed: 0x9123 by 4 4 4 4
 ? 1
 
 == rights_kept_from_an_old_leaf
@@ -249,6 +258,7 @@ $ explain
 > rights: -u- deny user write
 > final: no moments prove this access
 > last: moment 5 by 4 4 4 4; taken by 5 cpu 0 invlpg 0x5000
+> allowed: fault 0x7 by 6 6 6 6
 ? 1
 
 == fault_of_a_fetch_without_bit_4
@@ -274,6 +284,7 @@ $ explain
 > expected: fault 0x14 (user fetch)
 > final: no moments prove this access
 > last: never
+> allowed: fault 0x14 by 4 4 4 4
 ? 1
 
 == denied_write_of_a_writable_page
@@ -299,6 +310,7 @@ $ explain
 > rights: wu- allow user write
 > final: no moments prove this access
 > last: never
+> allowed: 0x9123 by 4 4 4 4
 ? 1
 
 == supervisor_read_of_a_user_page_with_smap
@@ -325,6 +337,7 @@ $ explain
 > rights: wu- deny super read by SMAP
 > final: no moments prove this access
 > last: never
+> allowed: fault 0x1 by 4 4 4 4
 ? 1
 
 == supervisor_fetch_of_a_user_page_with_smep
@@ -351,6 +364,7 @@ $ explain
 > rights: wu- deny super fetch by SMEP
 > final: no moments prove this access
 > last: never
+> allowed: fault 0x11 by 4 4 4 4
 ? 1
 ";
 
@@ -379,6 +393,7 @@ $ explain
 > dirty: bit 6 of [0x4028] = 0x9027 is 0
 > final: no moments prove this access
 > last: never
+> allowed: none
 ? 1
 
 == version_2_assist_read_before_the_event

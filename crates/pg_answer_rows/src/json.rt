@@ -50,7 +50,8 @@ $ check --all --json
 == explained
 $ explain --json
 < @stale_leaf
->+ {"cause":{"event":{"ac":false,"address":"0x5123","cpu":0,"event":6,"kind":"access","moments":[4,
+>+ {"allowed":[{"by":[6,6,6,6],"fault":"0x4"}],"allowed_count":1,"cause":{"event":{"ac":false,
+>+ "address":"0x5123","cpu":0,"event":6,"kind":"access","moments":[4,
 >+ 4,4,4],"operation":"read","outcome":{"page":"0x9123"},"user":true},"final":true,
 >+ "finding":{"by":{"address":"0x5000","cpu":0,"event":5,"kind":"invlpg"},"entry":"translation",
 >+ "finding":"dropped","level":1},"last":{"by":[4,4,4,4],"moment":5,"taken_by":{"address":"0x5000",
@@ -97,7 +98,8 @@ $ certify --json
 == denied
 $ certify --json
 < @stale_leaf
->+ {"cause":{"dropped_by":{"address":"0x5000","cpu":0,"event":5,"kind":"invlpg"},
+>+ {"allowed":[{"by":[6,6,6,6],"fault":"0x4"}],"allowed_count":1,
+>+ "cause":{"dropped_by":{"address":"0x5000","cpu":0,"event":5,"kind":"invlpg"},
 >+ "event":{"ac":false,"address":"0x5123","cpu":0,"event":6,"kind":"access",
 >+ "operation":"read","outcome":{"page":"0x9123"},"user":true},"given":{"fault":"0x4","fetch":false,
 >+ "present":false,"reserved":false,"user":true,"write":false},"lacking":null,
@@ -122,7 +124,7 @@ $ certify --json
 < 10000028400000000000002790000000000000
 < 1100000523510000000000000023910000000000000100000000
 < 0205000000
->+ {"cause":{"dropped_by":null,"event":{"ac":false,
+>+ {"allowed":[],"allowed_count":0,"cause":{"dropped_by":null,"event":{"ac":false,
 >+ "address":"0x5123","cpu":0,"event":4,
 >+ "kind":"access",
 >+ "operation":"write","outcome":{"page":"0x9123"},"user":true},"given":{"page":"0x9123"},

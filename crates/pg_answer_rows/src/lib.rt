@@ -6,9 +6,9 @@
 #[cfg(test)]
 mod all_rejections;
 #[cfg(test)]
-mod crews;
+mod allowed;
 #[cfg(test)]
-mod explained_events;
+mod crews;
 #[cfg(test)]
 mod explanations;
 #[cfg(test)]

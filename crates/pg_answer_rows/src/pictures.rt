@@ -21,6 +21,7 @@ $ explain --svg
 > <text x='10' y='44'>final: no moments prove this access
 > </text>
 > <text x='10' y='62'>last: moment 5 by 4 4 4 4; taken by event 5</text>
+> <text x='10' y='80'>allowed: fault 0x4;</text>
 >+ <path d='M24 114V420' stroke-width='2' stroke='#bbb'/><text fill='#555' font-size='11'
 >  transform='translate(24 110) rotate(-45)'>cpu 0</text>
 >+ <path d='M148 114V420' stroke-width='2' stroke='#7a5'/><text fill='#555' font-size='11'

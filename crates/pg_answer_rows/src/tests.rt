@@ -1,6 +1,6 @@
 use crate::{
-    all_rejections, explained_events, explanations, json, json_spans, lines, many_lines, outcomes,
-    pictures, span_outcomes, span_pictures, spans, traces,
+    all_rejections, allowed, explanations, json, json_spans, lines, many_lines, outcomes, pictures,
+    span_outcomes, span_pictures, spans, traces,
 };
 use pg_cases::{Case, answers, bytes_of, first_unanswered};
 use std::alloc::AllocGlobal;
@@ -41,8 +41,8 @@ fn outcomes_of_accesses(rt: HostRuntime) -> Result<(), Fail> {
     let texts = [
         outcomes::RECORDS,
         outcomes::ROWS,
-        explained_events::RECORDS,
-        explained_events::ROWS,
+        allowed::RECORDS,
+        allowed::ROWS,
     ];
     expect_all(&rt, &texts)
 }

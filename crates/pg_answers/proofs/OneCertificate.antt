@@ -1,5 +1,5 @@
 -- Whatever certifies a record comes to one answer, and to one text.
-use Rattle.std.proofs.Common.{◌≡◌, ℕ, ◌+◌, ◌<◌, List, ◌++◌, length, take, Option, Some, Ok, Err, refl, ap, sym, ◌∙◌, subst, inl, inr, arith}
+use Rattle.std.proofs.Common.{◌≡◌, ℕ, ◌+◌, ◌<◌, List, ◌++◌, length, take, Option, Some, None, Ok, Err, refl, ap, sym, ◌∙◌, subst, inl, inr, arith}
 use Rattle.std.specs.Prelude.{Result, slice_get}
 use Rattle.std.specs.List.{take-map}
 use Rattle.std.proofs.lemmas.Bool.{cases_lt}
@@ -19,7 +19,13 @@ use Rattle.pg_answers.specs.declared.answer.Answer.{Answer}
 use Rattle.pg_answers.specs.declared.answer.Answer.TheVariants.{Report, Summary, Cause, Causes, Rejection, Events, Outcomes}
 use Rattle.pg_answers.specs.declared.answer.Rejection.{Rejection as Rejected}
 use Rattle.pg_answers.specs.Answers.{IsCertificate, IsRejection, TellsDenial, denied_in}
+use Rattle.std.specs.declared.alloc.Global.{Global}
+use Rattle.std.specs.declared.vec.Vec.{Vec}
+use Rattle.pg_outcomes.specs.declared.allowed.Allowed.{Allowed}
+use Rattle.pg_outcomes.proofs.One.{outcomes_are_one}
+use Rattle.pg_answers.specs.AllowedTexts.{most_allowed, some_lines, rest_line, allowed_lines_of}
 use Rattle.pg_answers.specs.AnswerTexts.{answer_text, denied_report, rejection_text}
+use Rattle.pg_answers.specs.Outcomes.{AreAllowed}
 use Rattle.pg_answers.specs.Certificates.{IsCertificateText, IsTheCertificate}
 use Rattle.pg_answers.specs.Texts.{GivesText}
 use Rattle.pg_answers.proofs.OneDenial.{one_denial}
@@ -47,14 +53,27 @@ one_event head events n m h k =
 
 -- one number, and one text
 -- the text of a rejection, by the record
-told_text : (r : Recorded) (n : ℕ) (x : Rejected) → TellsDenial r n x → rejection_text x ≡ denied_report n (length r.events) (segment_count r) ++ denial_text r.events x.denial
+told_text : (r : Recorded) (n : ℕ) (x : Rejected) → TellsDenial r n x → rejection_text x ≡ denied_report n (length r.events) (segment_count r) ++ denial_text r.events x.denial ++ allowed_lines_of x.allowed
 told_text r n x h =
     let event : Some x.event ≡ slice_get r.events x.denial.number = sym (ap (slice_get r.events) h.number ∙ h.event) in
-    ap (λ (o : Option Event). denied_report x.denial.number x.events x.segments ++ denial_text_by o x.takers x.denial) event
-    ∙ ap (λ (by : Takers). denied_report x.denial.number x.events x.segments ++ denial_text_by (slice_get r.events x.denial.number) by x.denial) h.takers
-    ∙ ap (λ (i : ℕ). denied_report i x.events x.segments ++ denial_text r.events x.denial) h.number
-    ∙ ap (λ (i : ℕ). denied_report n i x.segments ++ denial_text r.events x.denial) h.count
-    ∙ ap (λ (i : ℕ). denied_report n (length r.events) i ++ denial_text r.events x.denial) h.segments
+    let more : List ℕ = allowed_lines_of x.allowed in
+    ap (λ (o : Option Event). denied_report x.denial.number x.events x.segments ++ denial_text_by o x.takers x.denial ++ more) event
+    ∙ ap (λ (by : Takers). denied_report x.denial.number x.events x.segments ++ denial_text_by (slice_get r.events x.denial.number) by x.denial ++ more) h.takers
+    ∙ ap (λ (i : ℕ). denied_report i x.events x.segments ++ denial_text r.events x.denial ++ more) h.number
+    ∙ ap (λ (i : ℕ). denied_report n i x.segments ++ denial_text r.events x.denial ++ more) h.count
+    ∙ ap (λ (i : ℕ). denied_report n (length r.events) i ++ denial_text r.events x.denial ++ more) h.segments
+
+-- what an access might have come to is told in one way
+some_same : (x y : Event) → Some x ≡ Some y → x ≡ y
+some_same x y h = cc
+
+one_allowed : (r : Recorded) (n : ℕ) (e : Event) (x y : Option (Vec Allowed Global)) → AreAllowed r n e x → AreAllowed r n e y → allowed_lines_of x ≡ allowed_lines_of y
+one_allowed r n e None None h k = refl
+one_allowed r n e None (Some ys) h k = absurd cc
+one_allowed r n e (Some xs) None h k = absurd cc
+one_allowed r n e (Some xs) (Some ys) h k =
+    let same : xs.items ≡ ys.items = outcomes_are_one r n e xs.items ys.items h.1 k.1 in
+    ap (λ (zs : List Allowed). some_lines (take most_allowed zs) ++ rest_line (length zs)) same
 
 one_told : (r : Recorded) (n : ℕ) (x y : Rejected) → IsDenied r.head r.events n → TellsDenial r n x → TellsDenial r n y → (x.denial.number ≡ y.denial.number) × (rejection_text x ≡ rejection_text y)
 one_told r n x y denied h k =
@@ -63,7 +82,10 @@ one_told r n x y denied h k =
     let one = one_denial r.head r.events n names.0 x.denial y.denial names.1 h.denial k.denial in
     let text = told_text r n x h in
     let other = told_text r n y k in
-    (number, text ∙ ap (λ d. denied_report n (length r.events) (segment_count r) ++ d) one ∙ sym other)
+    let event : y.event ≡ x.event = some_same y.event x.event (sym k.event ∙ h.event) in
+    let allowed = one_allowed r n x.event x.allowed y.allowed h.allowed (subst (λ e. AreAllowed r n e y.allowed) event k.allowed) in
+    let report : List ℕ = denied_report n (length r.events) (segment_count r) in
+    (number, text ∙ ap (λ d. report ++ d ++ allowed_lines_of x.allowed) one ∙ ap (λ more. report ++ denial_text r.events y.denial ++ more) allowed ∙ sym other)
 
 one_rejection : (r : Recorded) (x y : Rejected) → IsRejection r x → IsRejection r y → (x.denial.number ≡ y.denial.number) × (rejection_text x ≡ rejection_text y)
 one_rejection r x y h k =
@@ -78,17 +100,17 @@ one_certificate r (Rejection x) (Rejection y) h k =
     let one = one_rejection r x y h k in
     (ap Some one.0, one.1)
 one_certificate r (Report a) (Summary b s) h k = absurd k
-one_certificate r (Report a) (Cause b q e) h k = absurd k
+one_certificate r (Report a) (Cause b q e u) h k = absurd k
 one_certificate r (Report a) (Causes b q es s) h k = absurd k
 one_certificate r (Report a) (Events q f) h k = absurd k
 one_certificate r (Report a) (Outcomes q) h k = absurd k
 one_certificate r (Rejection x) (Summary b s) h k = absurd k
-one_certificate r (Rejection x) (Cause b q e) h k = absurd k
+one_certificate r (Rejection x) (Cause b q e u) h k = absurd k
 one_certificate r (Rejection x) (Causes b q es s) h k = absurd k
 one_certificate r (Rejection x) (Events q f) h k = absurd k
 one_certificate r (Rejection x) (Outcomes q) h k = absurd k
 one_certificate r (Summary a t) y h k = absurd h
-one_certificate r (Cause a p d) y h k = absurd h
+one_certificate r (Cause a p d u) y h k = absurd h
 one_certificate r (Causes a p ds t) y h k = absurd h
 one_certificate r (Events p g) y h k = absurd h
 one_certificate r (Outcomes p) y h k = absurd h

@@ -25,7 +25,13 @@ use Rattle.pg_explain.specs.declared.denial.Denial.{Denial}
 use Rattle.pg_explain.specs.Denied.{IsDenialFor, IsDenialOf, DenialsAmongKept}
 use Rattle.pg_explain.specs.Findings.{readings_by, last_of}
 use Rattle.pg_explain.specs.TranslationDrops.{IsDropBy, IsDropFor}
+use Rattle.std.specs.declared.alloc.Global.{Global}
+use Rattle.std.specs.declared.vec.Vec.{Vec}
+use Rattle.pg_outcomes.specs.declared.allowed.Allowed.{Allowed}
+use Rattle.pg_outcomes.specs.Allowing.{AreOutcomes}
+use Rattle.pg_outcomes.specs.Law.{OutcomesAmongKept}
 use Rattle.pg_answers.specs.Accounts.{IsChange, IsDeniedAccount}
+use Rattle.pg_answers.specs.Outcomes.{AreAllowed}
 
 some_same : (x y : Event) → Some x ≡ Some y → x ≡ y
 some_same x y h = cc
@@ -123,6 +129,14 @@ module _ (a : Account) (r : Recorded) (n : ℕ) (e : Event) (h : IsDeniedAccount
   pub dropped_within : (o : Option Last) (dropped : Option ℕ) → IsDropFor a.findings.kept.head a.findings.kept.events n e o dropped → IfSome dropped (λ d. d < length a.findings.kept.events)
   dropped_within o None l = tt
   dropped_within o (Some d) l = let below : d < n = dropped_below a.findings.kept.head a.findings.kept.events n e o d l in omega (arith, below, reach)
+
+  -- what it might have come to by what is kept it might by all events
+  pub allowed_is : OutcomesAmongKept → (x : Option (Vec Allowed Global)) → AreAllowed a.findings.kept n e x → AreAllowed r n e x
+  allowed_is law None l = l
+  allowed_is law (Some xs) l =
+      let kept : AreOutcomes (record { head = r.head; events = a.findings.kept.events }) n e xs.items =
+      subst (λ (x : Head). AreOutcomes (record { head = x; events = a.findings.kept.events }) n e xs.items) h.known.certifying.settings l.1 in
+      (l.0, law r.head a.findings.kept.events r.events n e xs.items h.known.certifying.kept reach kept)
 
   module _ (law : DenialsAmongKept) (taken : TakenByAChange) (drops : DroppedByAChange) (denial : Denial) (of : IsDenialFor a.findings.kept.head a.findings.kept.events n e denial) where
     pub denial_is : IsDenialOf r.head r.events n denial

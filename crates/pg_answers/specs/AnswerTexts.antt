@@ -13,6 +13,7 @@ use Rattle.pg_answers.specs.declared.answer.Answer.TheVariants.{Report, Summary,
 use Rattle.pg_answers.specs.declared.answer.Answer.TheVariants.{Rejection, Events, Outcomes}
 use Rattle.pg_answers.specs.declared.answer.Rejection.{Rejection as Rejected}
 use Rattle.pg_answers.specs.declared.answer.Summary.{Summary as Summed}
+use Rattle.pg_answers.specs.AllowedTexts.{allowed_lines_of}
 use Rattle.pg_answers.specs.OutcomeTexts.{event_outcomes_text}
 
 -- ---- the summary
@@ -49,14 +50,15 @@ denied_report n events segments = denied_head n ++ counts_text events segments
 abbrev pub rejection_text : Rejected → List ℕ
 rejection_text x =
     denied_report x.denial.number x.events x.segments
-    ++ denial_text_by (Some x.event) x.takers x.denial
+    ++ denial_text_by (Some x.event) x.takers x.denial ++ allowed_lines_of x.allowed
 
 -- ---- an answer
 
 abbrev pub answer_text : Answer → List ℕ
 answer_text (Report report) = report_text report
 answer_text (Summary report s) = report_text report ++ summary_text s
-answer_text (Cause report r x) = report_text report ++ explanation_text r.events x
+answer_text (Cause report r x allowed) =
+    report_text report ++ explanation_text r.events x ++ allowed_lines_of allowed
 answer_text (Causes report r xs s) =
     (report_text report ++ causes_text r.events xs.items) ++ summary_text s
 answer_text (Rejection x) = rejection_text x

@@ -14,6 +14,7 @@ use Rattle.pg_explain.specs.Bads.{bads}
 use Rattle.pg_explain.specs.Denied.{IsDenialOf, takers_in}
 use Rattle.pg_explain.specs.Explained.{IsExplained}
 use Rattle.pg_explain.specs.Tallies.{AreTallies}
+use Rattle.pg_outcomes.specs.Asked.{HasRunBefore}
 use Rattle.pg_report.specs.declared.error.AuditError.{AuditError}
 use Rattle.pg_report.specs.declared.report.Report.{Report as Reported}
 use Rattle.pg_report.specs.declared.report.Verdict.TheVariants.{Yes}
@@ -31,7 +32,9 @@ use Rattle.pg_answers.specs.declared.question.Question.TheVariants.{Check, Check
 use Rattle.pg_answers.specs.declared.question.Question.TheVariants.{Explain, ExplainAt}
 use Rattle.pg_answers.specs.declared.question.Question.TheVariants.{ExplainAll, Show}
 use Rattle.pg_answers.specs.declared.question.Question.TheVariants as questions
-use Rattle.pg_answers.specs.Outcomes.{IsAskedEvent, IsEventOutcomesOf}
+use Rattle.pg_answers.specs.Outcomes.{AreAllowed, AreAllowedAt, IsAskedEvent}
+use Rattle.pg_answers.specs.Outcomes.{IsEventOutcomesOf}
+use Rattle.pg_answers.specs.AllowedTexts.{most_allowed}
 use Rattle.pg_answers.specs.Unnamed.{is_unnamed}
 
 -- ---- `certify`
@@ -61,6 +64,7 @@ pub record TellsDenial (r : Recorded) (n : ℕ) (x : Rejected) : Type 0 where
   pub denial : IsDenialOf r.head r.events n x.denial
   pub event : slice_get r.events n ≡ Some x.event
   pub takers : x.takers ≡ takers_in r.events x.denial
+  pub allowed : AreAllowed r n x.event x.allowed
   pub count : x.events ≡ length r.events
   pub segments : x.segments ≡ segment_count r
 
@@ -89,20 +93,22 @@ pub record IsSummary (xs : List Bad) (s : Summed) : Type 0 where
 abbrev pub IsCertificate : Recorded → Answer → Type 0
 IsCertificate r (Report report) = IsCertifiedRecord r × (report ≡ certified_report r)
 IsCertificate r (Summary report s) = ⊥
-IsCertificate r (Cause report q x) = ⊥
+IsCertificate r (Cause report q x allowed) = ⊥
 IsCertificate r (Causes report q xs s) = ⊥
 IsCertificate r (Rejection x) = IsRejection r x
 IsCertificate r (Events q selection) = ⊥
 IsCertificate r (Outcomes x) = ⊥
 
--- the report, and of a no the cause of the first bad event
+-- the report, and of a no the cause of the first bad event, and the outcomes that are allowed in
+-- the place of its own: some run of the machine has the events before it
 abbrev pub IsCause : Recorded → Answer → Type 0
 IsCause r (Report report) =
     (report ≡ report_of r) × (first_bad r.head r.events ≡ None)
 IsCause r (Summary report s) = ⊥
-IsCause r (Cause report q x) =
+IsCause r (Cause report q x allowed) =
     (report ≡ report_of r) × (q ≡ r) × (n : ℕ) × (reason : Reason)
     × (first_bad r.head r.events ≡ Some (n, reason)) × IsExplained r.head r.events n x
+    × AreAllowedAt r n allowed × HasRunBefore r n
 IsCause r (Causes report q xs s) = ⊥
 IsCause r (Rejection x) = ⊥
 IsCause r (Events q selection) = ⊥
@@ -119,7 +125,7 @@ IsExplanation r x = IsExplanationOf (is_unnamed r.events) r x
 abbrev pub IsSummed : Recorded → Answer → Type 0
 IsSummed r (Report report) = ⊥
 IsSummed r (Summary report s) = (report ≡ report_of r) × IsSummary (bads r.head r.events) s
-IsSummed r (Cause report q x) = ⊥
+IsSummed r (Cause report q x allowed) = ⊥
 IsSummed r (Causes report q xs s) = ⊥
 IsSummed r (Rejection x) = ⊥
 IsSummed r (Events q selection) = ⊥
@@ -128,7 +134,7 @@ IsSummed r (Outcomes x) = ⊥
 abbrev pub AreCauses : ℕ → Recorded → Answer → Type 0
 AreCauses most r (Report report) = ⊥
 AreCauses most r (Summary report s) = ⊥
-AreCauses most r (Cause report q x) = ⊥
+AreCauses most r (Cause report q x allowed) = ⊥
 AreCauses most r (Causes report q xs s) =
     (report ≡ report_of r) × (q ≡ r)
     × AreExplanations r.head r.events (take most (bads r.head r.events)) xs.items
@@ -141,7 +147,7 @@ AreCauses most r (Outcomes x) = ⊥
 abbrev pub IsOutcomesAnswerAt : Recorded → ℕ → ℕ → Answer → Type 0
 IsOutcomesAnswerAt r n most (Report report) = ⊥
 IsOutcomesAnswerAt r n most (Summary report s) = ⊥
-IsOutcomesAnswerAt r n most (Cause report q x) = ⊥
+IsOutcomesAnswerAt r n most (Cause report q x allowed) = ⊥
 IsOutcomesAnswerAt r n most (Causes report q xs s) = ⊥
 IsOutcomesAnswerAt r n most (Rejection x) = IsRejection r x × (x.denial.number < n)
 IsOutcomesAnswerAt r n most (Events q selection) = ⊥
@@ -158,16 +164,12 @@ IsOutcomesAnswer asked most r x = (found : Option ℕ)
 
 -- ---- `explain --event n`
 
--- how many outcomes it tells at most
-abbrev pub most_outcomes : ℕ
-most_outcomes = 16
-
 -- event n, or one before it, is denied, and why; or none is, and these are the outcomes of event n
 abbrev pub IsDeniedUpTo : ℕ → Recorded → Answer → Type 0
 IsDeniedUpTo n r x =
     ((y : Rejected) × IsRejection r y × (y.denial.number ≤ n) × (x ≡ Rejection y))
     ⊎ (((d : ℕ) → d ≤ n → IsDenied r.head r.events d → ⊥)
-    × IsOutcomesAnswer (Some n) most_outcomes r x)
+    × IsOutcomesAnswer (Some n) most_allowed r x)
 
 -- whether event n, or one before it, is bad by its moments
 abbrev pub is_bad_up_to : ℕ → Option (ℕ × Reason) → Bool
@@ -177,7 +179,7 @@ is_bad_up_to n (Some found) = nat_le found.0 n
 -- it is, and why; or none is, and these are the outcomes of event n
 abbrev pub IsBadUpTo : Bool → ℕ → Recorded → Answer → Type 0
 IsBadUpTo true n r x = IsCause r x
-IsBadUpTo false n r x = IsOutcomesAnswer (Some n) most_outcomes r x
+IsBadUpTo false n r x = IsOutcomesAnswer (Some n) most_allowed r x
 
 -- of a record that names no moments, and of one that names some
 abbrev pub IsExplanationAtOf : Bool → ℕ → Recorded → Answer → Type 0
@@ -202,7 +204,7 @@ IsAnswer (questions.Outcomes asked most) r x = IsOutcomesAnswer asked most r x
 abbrev pub denied_in : Answer → Option ℕ
 denied_in (Report report) = None
 denied_in (Summary report s) = None
-denied_in (Cause report r x) = None
+denied_in (Cause report r x allowed) = None
 denied_in (Causes report r xs s) = None
 denied_in (Rejection x) = Some x.denial.number
 denied_in (Events r selection) = None
@@ -218,7 +220,7 @@ event_outcomes_status (NoAccess told) = 2
 abbrev pub status_of : Answer → ℕ
 status_of (Report report) = verdict_status report.verdict
 status_of (Summary report s) = verdict_status report.verdict
-status_of (Cause report r x) = 1
+status_of (Cause report r x allowed) = 1
 status_of (Causes report r xs s) = verdict_status report.verdict
 status_of (Rejection x) = 1
 status_of (Events r selection) = 0

@@ -77,7 +77,7 @@ JudgesUpTo left (Err e) = IfSome left (λ bytes. ReadsRecord Two bytes (Err e))
 abbrev pub bad_in : Answer → Option ℕ
 bad_in (answers.Report report) = event_in report.verdict
 bad_in (answers.Summary report s) = None
-bad_in (answers.Cause report r x) = None
+bad_in (answers.Cause report r x allowed) = None
 bad_in (answers.Causes report r xs s) = None
 bad_in (answers.Rejection x) = None
 bad_in (answers.Events r selection) = None

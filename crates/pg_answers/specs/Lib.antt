@@ -11,6 +11,7 @@ pub mod Found
 pub mod Unnamed
 pub mod Outcomes
 pub mod OutcomeTexts
+pub mod AllowedTexts
 pub mod Answers
 pub mod AnswerTexts
 pub mod Certificates

@@ -4,6 +4,9 @@ use Rattle.std.specs.Prelude.{None, slice_get, IfSome}
 use Rattle.pg_event.specs.declared.event.Event.{Event}
 use Rattle.pg_event.specs.Spelling.{Recorded}
 use Rattle.pg_search.specs.Law.{names_moments}
+use Rattle.std.specs.declared.alloc.Global.{Global}
+use Rattle.std.specs.declared.vec.Vec.{Vec}
+use Rattle.pg_outcomes.specs.declared.allowed.Allowed.{Allowed}
 use Rattle.pg_outcomes.specs.Placed.{is_access}
 use Rattle.pg_outcomes.specs.Allowing.{AreOutcomes}
 use Rattle.pg_outcomes.specs.Asked.{HasRunBefore, MayCome}
@@ -35,6 +38,14 @@ IsAskedEvent events (Some n) None = length events ≤ n
 IsAskedEvent events (Some n) (Some found) = (found ≡ n) × (n < length events)
 
 -- ---- its outcomes
+
+-- of an access every outcome that it may have as event n, of another event nothing
+abbrev pub AreAllowed : Recorded → ℕ → Event → Option (Vec Allowed Global) → Type 0
+AreAllowed r n e None = is_access e ≡ false
+AreAllowed r n e (Some xs) = (is_access e ≡ true) × AreOutcomes r n e xs.items
+
+abbrev pub AreAllowedAt : Recorded → ℕ → Option (Vec Allowed Global) → Type 0
+AreAllowedAt r n allowed = (e : Event) × (slice_get r.events n ≡ Some e) × AreAllowed r n e allowed
 
 -- every outcome that access n may have, of which so many are told at most
 pub record IsOutcomesOf (r : Recorded) (n most : ℕ) (x : AccessOutcomes) : Type 0 where

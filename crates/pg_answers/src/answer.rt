@@ -32,6 +32,9 @@ pub struct Rejection {
     pub event: Event,
     /// The events that took its last moments away.
     pub takers: Takers,
+    /// Every outcome that it may have in the place of its own, in rising order, where it is an
+    /// access.
+    pub allowed: Option<Vec<Allowed>>,
 }
 
 /// Every outcome that an access may have after the events before it.
@@ -90,8 +93,9 @@ pub enum Answer {
     Report(Report),
     /// The report, and a summary of the bad events.
     Summary(Report, Summary),
-    /// The report of a no, the record, and the cause of its first bad event.
-    Cause(Report, History, Explanation),
+    /// The report of a no, the record, the cause of its first bad event, and every outcome that it
+    /// may have in the place of its own, where it is an access.
+    Cause(Report, History, Explanation, Option<Vec<Allowed>>),
     /// The report, the record, the causes of its first bad events, and a summary of all of them.
     Causes(Report, History, Vec<Explanation>, Summary),
     /// Why no run has the record's events.

@@ -11,11 +11,13 @@ ghost use Rattle.pg_explain.specs.Lasts.{taken_in, dropped_in};
 ghost use Rattle.pg_answers.specs.Accounts.{IsChange, IsDeniedAccount};
 ghost use Rattle.pg_answers.specs.Answers.{TellsDenial};
 
+use crate::allowed::allowed_at;
 use crate::answer::Rejection;
 use pg_certify::StreamingCertifier;
 use pg_check::History;
 use pg_event::Event;
 use pg_explain::{Takers, denials_among_kept, deny, deny_event, takers_in};
+use pg_outcomes::outcomes_among_kept;
 use pg_search::{Last, Seen, dropped_by_a_change, taken_by_a_change};
 use std::alloc::{AllocError, Global};
 
@@ -32,12 +34,14 @@ pub(crate) fn denial_in(
     let events = history.events();
     let event = events[number as usize];
     let takers = takers_in(events, &denial);
+    let allowed = allowed_at(alloc, &Seen::of(history), number as u32, &event)?;
     Ok(Rejection {
         events: history.len(),
         segments: history.segments(),
         denial,
         event,
         takers,
+        allowed,
     })
 }
 
@@ -77,6 +81,7 @@ pub(crate) fn denial_by(
         IfOk result (TellsDenial r number) }
 {
     denials_among_kept();
+    outcomes_among_kept();
     taken_by_a_change();
     dropped_by_a_change();
     let certifying = account.certifying();
@@ -86,11 +91,13 @@ pub(crate) fn denial_by(
         taken: taken_of(account, denial.last),
         dropped: dropped_of(account, denial.dropped),
     };
+    let allowed = allowed_at(alloc, &seen, number as u32, event)?;
     Ok(Rejection {
         events: certifying.len(),
         segments: certifying.segments(),
         denial,
         event: *event,
         takers,
+        allowed,
     })
 }

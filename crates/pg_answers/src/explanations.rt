@@ -1,11 +1,14 @@
 //! A record's report, and the cause of a rejection.
 
-ghost use Rattle.std.specs.Prelude.{◌≡◌, IfErr, IfOk};
+ghost use Rattle.std.specs.Prelude.{◌≡◌, ◌<◌, IfErr, IfOk, length};
 ghost use Rattle.pg_event.specs.Witness.{first_bad};
 ghost use Rattle.pg_answers.specs.Answers.{IsCause, IsExplanation, IsExplanationAt};
 ghost use Rattle.pg_answers.specs.Answers.{IsDeniedUpTo, is_bad_up_to};
+ghost use Rattle.pg_answers.specs.Outcomes.{AreAllowedAt};
 ghost use Rattle.pg_answers.specs.Found.{MayFail};
 
+use crate::allowed::allowed_at;
+use crate::allowed_text::MOST_ALLOWED;
 use crate::answer::Answer;
 use crate::certificates::certify_whole;
 use crate::denials::denial_in;
@@ -14,26 +17,44 @@ use crate::summaries::cause_of;
 use crate::unnamed::is_unnamed;
 use pg_certify::{certified_events_run, denied_events_have_no_run, first_denied};
 use pg_check::History;
+use pg_outcomes::Allowed;
 use pg_plan::Checkers;
 use pg_report::{AuditError, Verdict, report_of};
+use pg_run_of::accepted_events_run;
+use pg_search::Seen;
 use std::alloc::{AllocError, AllocGlobal, Global};
 use std::sync::Wait;
 use std::thread::Threads;
 
-/// How many outcomes of an event `explain` tells at most.
-const MOST_OUTCOMES: u32 = 16;
+/// Every outcome that the event with this number of a history may have, where it is an access.
+fn allowed_in(
+    alloc: Global,
+    history: &History,
+    number: u64,
+) -> Result<Option<Vec<Allowed>>, AllocError>
+    requires { number < length history.now.events }
+    ensures { IfOk result (AreAllowedAt history.now number) }
+{
+    let event = history.events()[number as usize];
+    allowed_at(alloc, &Seen::of(history), number as u32, &event)
+}
 
 /// The report of a history, and the cause if it is rejected: the first bad event, what its moments
-/// read, what the reason found, and whether other moments would do.
+/// read, what the reason found, whether other moments would do, and which outcomes are allowed in
+/// the place of its own.
 fn caused(alloc: Global, history: History) -> Result<Answer, AllocError>
     ensures { IfOk result (IsCause history) }
 {
+    // Events that are witnessed have a run.
+    accepted_events_run();
+    let _events = history.events();
     let report = report_of(&history);
     match report.verdict {
         Verdict::Yes => Ok(Answer::Report(report)),
         Verdict::No { event, .. } => {
             let cause = cause_of(alloc, &history, event)?;
-            Ok(Answer::Cause(report, history, cause))
+            let allowed = allowed_in(alloc, &history, event)?;
+            Ok(Answer::Cause(report, history, cause, allowed))
         }
     }
 }
@@ -61,9 +82,9 @@ fn denied_up_to(alloc: Global, history: &History, number: u32) -> Result<Answer,
         Some(denied) => if denied <= number as u64 {
             Ok(Answer::Rejection(denial_in(alloc, history, denied)?))
         } else {
-            outcomes_asked(alloc, history, Some(number), MOST_OUTCOMES)
+            outcomes_asked(alloc, history, Some(number), MOST_ALLOWED as u32)
         }
-        None => outcomes_asked(alloc, history, Some(number), MOST_OUTCOMES),
+        None => outcomes_asked(alloc, history, Some(number), MOST_ALLOWED as u32),
     }
 }
 
@@ -81,7 +102,7 @@ pub(crate) fn explained_at(
     } else if is_bad_up_to(&history, number) {
         caused(alloc, history)
     } else {
-        outcomes_asked(alloc, &history, Some(number), MOST_OUTCOMES)
+        outcomes_asked(alloc, &history, Some(number), MOST_ALLOWED as u32)
     }
 }
 

@@ -4,6 +4,8 @@
 #![tactic(auto)]
 
 mod accounts;
+mod allowed;
+mod allowed_text;
 mod answer;
 mod answering;
 mod certificates;
@@ -30,6 +32,7 @@ mod unnamed;
 mod upgrader;
 mod words;
 
+pub use allowed_text::{MOST_ALLOWED, allowed_note, first_allowed};
 pub use answer::{
     AccessOutcomes, Answer, AssistOutcome, EventOutcomes, Rejection, Summary, answer_status,
     event_outcomes_status,

@@ -7,6 +7,7 @@ ghost use Rattle.pg_answers.specs.AnswerTexts.{denied_head, denied_report, rejec
 ghost use Rattle.pg_answers.specs.AnswerTexts.{summary_text, tally_line, tally_lines};
 ghost use Rattle.pg_explain.specs.Text.{explanation_text};
 
+use crate::allowed_text::push_allowed_lines;
 use crate::answer::{Answer, Rejection, Summary};
 use crate::outcomes_text::event_outcomes_text;
 use pg_event::Event;
@@ -110,10 +111,12 @@ pub(crate) fn rejection_text(alloc: Global, rejection: &Rejection) -> Result<Str
         event,
         takers,
         denial,
+        allowed,
         ..
     } = rejection;
     let told = denial_text_by(alloc, Some(*event), *takers, denial)?;
     text.push_str(told.as_str())?;
+    push_allowed_lines(&mut text, allowed)?;
     Ok(text)
 }
 
@@ -128,9 +131,10 @@ pub fn answer_text(alloc: Global, answer: &Answer) -> Result<String, AllocError>
             push_summary(alloc, &mut text, summary)?;
             Ok(text)
         }
-        Answer::Cause(report, history, explanation) => {
+        Answer::Cause(report, history, explanation, allowed) => {
             let mut text = report.text(alloc)?;
             push_cause(alloc, &mut text, history.events(), explanation)?;
+            push_allowed_lines(&mut text, allowed)?;
             Ok(text)
         }
         Answer::Causes(report, history, explanations, summary) => {

@@ -32,6 +32,7 @@ $ explain
 > accessed: bit 5 of [0x1000] = 0x2007 is 0
 > final: no moments prove this access
 > last: never
+> allowed: none
 ? 1
 
 == sample_global_leaf_under_other_pcid
@@ -63,6 +64,7 @@ $ explain
 > level 1: moment 4 pcid 0x1 [0x4028] = 0x9007 leaf, written by event 3
 > dropped: translation of level 1 by 4 cpu 0 invlpg 0x5000
 > other moments would: 5 5 5 5
+> allowed: 0x9123 by 5 5 5 5
 ? 1
 
 == sample_stale_leaf_after_invlpg
@@ -85,6 +87,7 @@ $ explain
 > dropped: translation of level 1 by 5 cpu 0 invlpg 0x5000
 > final: no moments prove this access
 > last: moment 5 by 4 4 4 4; taken by 5 cpu 0 invlpg 0x5000
+> allowed: fault 0x4 by 6 6 6 6
 ? 1
 
 == sample_stale_leaf_never_invalidated
@@ -149,5 +152,6 @@ $ explain
 > dropped: translation of level 1 by 5 cpu 0 invlpg 0x5000
 > final: no moments prove this access
 > last: moment 5 by 4 4 4 4; taken by 5 cpu 0 invlpg 0x5000
+> allowed: fault 0x4 by 6 6 6 6
 ? 1
 ";

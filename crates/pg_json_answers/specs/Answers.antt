@@ -1,6 +1,8 @@
 -- Answers as JSON: the same answer as that of the text, in another form.
 use Rattle.std.specs.Prelude.{ℕ, ◌+◌, Bool, if◌then◌else◌, List, [], ◌∷◌, ◌++◌, map, codes}
 use Rattle.std.specs.Prelude.{Option, Some, None, take, length}
+use Rattle.std.specs.declared.alloc.Global.{Global}
+use Rattle.std.specs.declared.vec.Vec.{Vec}
 use Rattle.pg_event.specs.declared.event.Event.{Event}
 use Rattle.pg_event.specs.declared.event.Outcome.{Outcome}
 use Rattle.pg_event.specs.declared.event.Outcome.TheVariants.{Page, Fault}
@@ -19,6 +21,7 @@ use Rattle.pg_answers.specs.declared.answer.Rejection.{Rejection as Rejected}
 use Rattle.pg_answers.specs.declared.answer.Summary.{Summary as Summed}
 use Rattle.pg_json.specs.Tree.{Json, nothing, count, counts, hex, list, elements, object}
 use Rattle.pg_json.specs.Tree.{json_line}
+use Rattle.pg_answers.specs.AllowedTexts.{most_allowed}
 use Rattle.pg_json.specs.Tree.{Fields, no_fields, field}
 use Rattle.pg_json.specs.Events.{event_json, claim_json}
 use Rattle.pg_json.specs.Reports.{with_counts, with_no, with_report}
@@ -54,11 +57,21 @@ with_result (Fault code) others = field (codes "fault") (hex code) others
 abbrev pub allowed_json : Allowed → Json
 allowed_json x = object (with_result x.outcome (field (codes "by") (counts x.moments) no_fields))
 
--- ---- a no of `certify`: its report, and the cause
+-- what an access might have come to, of which sixteen outcomes are told at most, and how many there
+-- are; of an event that is no access there is nothing
+abbrev pub with_allowed : Option (Vec Allowed Global) → Fields → Fields
+with_allowed None others = others
+with_allowed (Some xs) others =
+    field (codes "allowed") (list (elements (map allowed_json (take most_allowed xs.items))))
+    (field (codes "allowed_count") (count (length xs.items)) others)
 
+-- ---- a no of `certify`
+
+-- its report, the cause, and what the event might have come to
 abbrev pub rejection_json : Rejected → Json
 rejection_json x = object (with_no x.denial.number 14 (codes "no moments")
-    (with_counts x.events x.segments (cause_fields (denial_json x.event x.takers x.denial))))
+    (with_counts x.events x.segments
+    (with_allowed x.allowed (cause_fields (denial_json x.event x.takers x.denial)))))
 
 -- ---- events
 
@@ -106,8 +119,9 @@ event_outcomes_fields (NoAccess told) = no_access_fields told
 abbrev pub answer_json : Answer → List ℕ
 answer_json (Report report) = json_line (object (with_report report no_fields))
 answer_json (Summary report s) = json_line (object (with_report report (summary_fields s)))
-answer_json (Cause report r x) =
-    json_line (object (with_report report (cause_fields (explanation_json r.events x))))
+answer_json (Cause report r x allowed) =
+    json_line (object (with_report report
+    (with_allowed allowed (cause_fields (explanation_json r.events x)))))
 answer_json (Causes report r xs s) =
     json_line (object (with_report report (causes_fields r.events xs.items s)))
 answer_json (Rejection x) = json_line (rejection_json x)

@@ -10,7 +10,7 @@ ghost use Rattle.pg_json_answers.specs.Answers.{answer_json, cause_fields, cause
 ghost use Rattle.pg_json_answers.specs.Answers.{rejection_json, summary_fields};
 
 use crate::lines::shown_json;
-use crate::outcomes::outcomes_line;
+use crate::outcomes::{outcomes_line, put_allowed};
 use pg_answers::{Answer, Rejection, Summary};
 use pg_event::Event;
 use pg_explain::Explanation;
@@ -103,9 +103,11 @@ fn rejection_line(alloc: Global, rejection: &Rejection) -> Result<String, AllocE
         denial,
         event,
         takers,
+        allowed,
     } = rejection;
     let cause = denial_json(alloc, event, *takers, denial)?;
     let mut fields = cause_fields(alloc, cause)?;
+    put_allowed(&mut fields, alloc, allowed)?;
     put_counts(&mut fields, alloc, *events, *segments)?;
     put_no(&mut fields, alloc, denial.number as u64, 14, "no moments")?;
     line_of(alloc, fields)
@@ -122,9 +124,10 @@ pub fn answer_json(alloc: Global, answer: &Answer) -> Result<String, AllocError>
             let fields = summary_fields(alloc, summary)?;
             report_line(alloc, *report, fields)
         }
-        Answer::Cause(report, history, explanation) => {
+        Answer::Cause(report, history, explanation, allowed) => {
             let cause = explanation_json(alloc, history.events(), explanation)?;
-            let fields = cause_fields(alloc, cause)?;
+            let mut fields = cause_fields(alloc, cause)?;
+            put_allowed(&mut fields, alloc, allowed)?;
             report_line(alloc, *report, fields)
         }
         Answer::Causes(report, history, explanations, summary) => {

@@ -5,10 +5,11 @@ ghost use Rattle.serde_json.specs.View.{view, members_view};
 ghost use Rattle.pg_json.specs.Tree.{Fields as ToldFields, data_of, members_of, counts, field};
 ghost use Rattle.pg_json.specs.Tree.{no_fields, object, json_line};
 ghost use Rattle.pg_json_answers.specs.Answers.{with_result, allowed_json, asked_fields};
+ghost use Rattle.pg_json_answers.specs.Answers.{with_allowed};
 ghost use Rattle.pg_json_answers.specs.Answers.{outcomes_fields, by_json, assist_fields};
 ghost use Rattle.pg_json_answers.specs.Answers.{no_access_fields, event_outcomes_fields};
 
-use pg_answers::{AccessOutcomes, AssistOutcome, EventOutcomes};
+use pg_answers::{AccessOutcomes, AssistOutcome, EventOutcomes, MOST_ALLOWED, first_allowed};
 use pg_event::{Event, Moments, Outcome};
 use pg_json::{
     Fields, claim_json, line_of, list_of, number_json, numbers_json, object_of, put_count, put_hex,
@@ -57,6 +58,25 @@ fn each(alloc: Global, found: &[Allowed]) -> Result<Vec<Value>, AllocError>
         values.push(value)?;
     }
     Ok(values)
+}
+
+/// Puts what an access might have come to, behind the cause of its rejection.
+pub(crate) fn put_allowed(
+    fields: &mut Fields,
+    alloc: Global,
+    allowed: &Option<Vec<Allowed>>,
+) -> Result<(), AllocError>
+    ensures { (told : ToldFields) → members_view fields.old.entries ≡ members_of told → OnOk result
+        (members_view fields.new.entries ≡ members_of (with_allowed allowed.now told)) }
+{
+    match allowed {
+        None => Ok(()),
+        Some(found) => {
+            put_count(fields, alloc, "allowed_count", found.len() as u64)?;
+            let told = each(alloc, first_allowed(found, MOST_ALLOWED))?;
+            put(fields, alloc, "allowed", list_of(told))
+        }
+    }
 }
 
 /// The event, without its moments.

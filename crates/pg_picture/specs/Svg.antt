@@ -88,11 +88,15 @@ taken_text None None = codes "last: never"
 taken_text None (Some last) = seen_text last
 taken_text (Some ws) last = []
 
-abbrev pub lines_text : List Event → Explanation → List ℕ
-lines_text events x =
+-- the lines above the lanes: the cause, and a note
+abbrev pub cause_lines : List Event → Explanation → List ℕ
+cause_lines events x =
     finding_line (finding_text events x.finding)
     ++ (placed_text 10 44 (last_text (deed_name (slice_get events x.number)) x.other)
     ++ placed_text 10 62 (taken_text x.other x.last))
+
+abbrev pub lines_text : List Event → Explanation → List ℕ → List ℕ
+lines_text events x note = cause_lines events x ++ placed_text 10 80 note
 
 -- ---- lanes
 
@@ -196,10 +200,10 @@ arrows_text (a ∷ bs) = arrow_text a ++ arrows_text bs
 
 -- ---- the whole
 
-abbrev pub head_text : List Event → Explanation → Layout → List ℕ
-head_text events x l =
+abbrev pub head_text : List Event → Explanation → List ℕ → Layout → List ℕ
+head_text events x note l =
     open_text l.height l.letters ++ (title_text x.number ++ (markers_text
-    ++ (paper_text l.height ++ lines_text events x)))
+    ++ (paper_text l.height ++ lines_text events x note)))
 
 abbrev pub lanes_of : Layout → List ℕ
 lanes_of l = lanes_text l.height l.lanes.items ++ walk_lane_text l.height
@@ -212,12 +216,12 @@ things_text events l =
     event_boxes_text events l.events.items ++ (entry_boxes_text l.entries.items
     ++ arrows_text l.arrows.items)
 
-abbrev pub svg_text : List Event → Explanation → Layout → List ℕ
-svg_text events x l =
-    head_text events x l
+abbrev pub svg_text : List Event → Explanation → List ℕ → Layout → List ℕ
+svg_text events x note l =
+    head_text events x note l
     ++ (lanes_of l ++ (keys_text ++ (things_text events l ++ codes "</svg>\n")))
 
--- this is the picture of an explanation
-abbrev pub IsPicture : Head → List Event → Explanation → List ℕ → Type 0
-IsPicture head events x text =
-    (l : Layout) × IsLayout head events x l × (text ≡ svg_text events x l)
+-- this is the picture of an explanation, with a note
+abbrev pub IsPicture : Head → List Event → Explanation → List ℕ → List ℕ → Type 0
+IsPicture head events x note text =
+    (l : Layout) × IsLayout head events x l × (text ≡ svg_text events x note l)

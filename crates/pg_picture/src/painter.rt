@@ -2,7 +2,8 @@
 
 ghost use Rattle.std.specs.Prelude.{◌≡◌, ◌++◌, IfOk, OnOk, string_bytes};
 ghost use Rattle.pg_picture.specs.Svg.{open_text, markers_text, paper_text, title_text};
-ghost use Rattle.pg_picture.specs.Svg.{finding_line, seen_text, taken_text, lines_text, lanes_text};
+ghost use Rattle.pg_picture.specs.Svg.{finding_line, seen_text, taken_text, cause_lines};
+ghost use Rattle.pg_picture.specs.Svg.{lines_text, lanes_text};
 ghost use Rattle.pg_picture.specs.Svg.{event_box_text, event_boxes_text, entry_box_text};
 ghost use Rattle.pg_picture.specs.Svg.{entry_boxes_text, arrows_text, head_text, lanes_of};
 ghost use Rattle.pg_picture.specs.Svg.{things_text, svg_text, IsPicture};
@@ -91,15 +92,15 @@ fn push_taken(
     }
 }
 
-/// Appends the lines above the lanes.
-fn push_lines(
+/// Appends the lines of the cause.
+fn push_cause_lines(
     alloc: Global,
     text: &mut String,
     events: &[Event],
     explanation: &Explanation,
 ) -> Result<(), AllocError>
     ensures { OnOk result (string_bytes text.new
-        ≡ string_bytes text.old ++ lines_text events.now explanation.now) }
+        ≡ string_bytes text.old ++ cause_lines events.now explanation.now) }
 {
     let mut finding = String::new(alloc);
     push_finding(&mut finding, events, explanation.finding)?;
@@ -111,6 +112,21 @@ fn push_lines(
     let mut taken = String::new(alloc);
     push_taken(&mut taken, explanation.other, explanation.last)?;
     push_placed(text, 10, 62, taken.as_str())
+}
+
+/// Appends the lines above the lanes.
+fn push_lines(
+    alloc: Global,
+    text: &mut String,
+    events: &[Event],
+    explanation: &Explanation,
+    note: &str,
+) -> Result<(), AllocError>
+    ensures { OnOk result (string_bytes text.new
+        ≡ string_bytes text.old ++ lines_text events.now explanation.now note.now) }
+{
+    push_cause_lines(alloc, text, events, explanation)?;
+    push_placed(text, 10, 80, note)
 }
 
 fn push_lanes(text: &mut String, foot: u64, lanes: &[Lane]) -> Result<(), AllocError>
@@ -192,16 +208,17 @@ fn push_head(
     text: &mut String,
     events: &[Event],
     explanation: &Explanation,
+    note: &str,
     layout: &Layout,
 ) -> Result<(), AllocError>
     ensures { OnOk result (string_bytes text.new
-        ≡ string_bytes text.old ++ head_text events.now explanation.now layout.now) }
+        ≡ string_bytes text.old ++ head_text events.now explanation.now note.now layout.now) }
 {
     push_open(text, layout.height, layout.letters)?;
     push_title(text, explanation.number)?;
     push_markers(text)?;
     push_paper(text, layout.height)?;
-    push_lines(alloc, text, events, explanation)
+    push_lines(alloc, text, events, explanation, note)
 }
 
 fn push_all_lanes(text: &mut String, layout: &Layout) -> Result<(), AllocError>
@@ -232,13 +249,14 @@ fn svg_text(
     alloc: Global,
     events: &[Event],
     explanation: &Explanation,
+    note: &str,
     layout: &Layout,
 ) -> Result<String, AllocError>
     ensures { IfOk result (λ t. string_bytes t
-        ≡ svg_text events.now explanation.now layout.now) }
+        ≡ svg_text events.now explanation.now note.now layout.now) }
 {
     let mut text = String::new(alloc);
-    push_head(alloc, &mut text, events, explanation, layout)?;
+    push_head(alloc, &mut text, events, explanation, note, layout)?;
     push_all_lanes(&mut text, layout)?;
     push_keys(&mut text)?;
     push_things(alloc, &mut text, events, layout)?;
@@ -248,16 +266,17 @@ fn svg_text(
 
 /// An explanation as a picture: one SVG, 1,200 pixels wide, without scripts. It shows each event
 /// that the explanation names, in the lane of its processor, the entries of the walk at their
-/// moments, and which event wrote or dropped which entry. It takes one pass over the events. Fails
-/// only when out of memory.
+/// moments, and which event wrote or dropped which entry. A note stands in a line of its own above
+/// them. It takes one pass over the events. Fails only when out of memory.
 pub fn picture_text(
     alloc: Global,
     history: &History,
     explanation: &Explanation,
+    note: &str,
 ) -> Result<String, AllocError>
     ensures { IfOk result (λ t. IsPicture history.now.head history.now.events explanation.now
-        (string_bytes t)) }
+        note.now (string_bytes t)) }
 {
     let layout = lay_out(alloc, history, explanation)?;
-    svg_text(alloc, history.events(), explanation, &layout)
+    svg_text(alloc, history.events(), explanation, note, &layout)
 }

@@ -73,6 +73,7 @@ $ certify
 > now: level 1 [0x4028] = 0x0 absent, written by event 4
 > now: would give fault 0x4 (user)
 > last: moment 5 by 4 4 4 4; taken by 5 cpu 0 invlpg 0x5000
+> allowed: fault 0x4 by 6 6 6 6
 ? 1
 
 # Reads change nothing: the numbers of the entries' writers are not their ranks. The fault that
@@ -105,6 +106,7 @@ $ certify
 > now: level 1 [0x4028] = 0x0 absent, written by event 5
 > now: would give fault 0x4 (user)
 > last: moment 6 by 5 5 5 5; taken by 6 cpu 0 user read 0x5123 -> fault 0x4 (user) moments 6 6 6 6
+> allowed: fault 0x4 by 7 7 7 7
 ? 1
 
 == certified_by_an_upper_entry_that_is_kept
@@ -178,6 +180,7 @@ $ certify
 > now: level 1 [0x4028] = 0x9007 leaf, written by event 4
 > now: would give 0x9123
 > last: moment 4 by 4 4 4 4; taken by 4 cpu 0 write [0x4028] = 0x9007
+> allowed: 0x9123 by 5 5 5 5
 ? 1
 
 == certified_across_a_load_of_cr3_that_drops_nothing
@@ -222,6 +225,7 @@ $ certify
 > now: level 1 [0x4028] = 0x0 absent, written by event 4
 > now: would give fault 0x4 (user)
 > last: moment 5 by 4 4 4 4; taken by 5 cpu 0 cr3 0x1001
+> allowed: fault 0x4 by 6 6 6 6
 ? 1
 
 == certified_assists
@@ -266,6 +270,7 @@ $ certify
 > now: would give 0x9123
 > now: dirty: bit 6 of [0x4028] = 0x9027 is 0
 > last: never
+> allowed: none
 ? 1
 
 # A write that the rights deny sets A first.
@@ -292,6 +297,7 @@ $ certify
 > now: would give fault 0x7 (present write user)
 > now: accessed: bit 5 of [0x4028] = 0x9005 is 0
 > last: never
+> allowed: none
 ? 1
 
 # The first of two entries without A is named.
@@ -318,6 +324,7 @@ $ certify
 > now: would give 0x9123
 > now: accessed: bit 5 of [0x2000] = 0x3007 is 0
 > last: never
+> allowed: none
 ? 1
 
 # The answer is another one, whatever the flags.
@@ -343,6 +350,7 @@ $ certify
 > now: level 1 [0x4028] = 0x9007 leaf, written by event 3
 > now: would give 0x9123
 > last: never
+> allowed: none
 ? 1
 
 # An absent entry is not used, so it needs no flag: only the code is another one.
@@ -364,6 +372,7 @@ $ certify
 > now: level 3 [0x2000] = 0x0 absent, written by event 1
 > now: would give fault 0x6 (write user)
 > last: never
+> allowed: fault 0x6 by 2 2
 ? 1
 
 == denied_never
@@ -388,6 +397,7 @@ $ certify
 > now: level 1 [0x4028] = 0x9007 leaf, written by event 3
 > now: would give 0x9123
 > last: never
+> allowed: 0x9123 by 4 4 4 4
 ? 1
 
 == denied_at_the_least_event
@@ -413,6 +423,7 @@ $ certify
 > now: level 1 [0x4028] = 0x9007 leaf, written by event 3
 > now: would give 0x9123
 > last: never
+> allowed: 0x9123 by 4 4 4 4
 ? 1
 
 == denied_write_of_a_page_that_is_read_only_now
@@ -439,6 +450,7 @@ $ certify
 > now: level 1 [0x4028] = 0x9005 leaf, written by event 4
 > now: would give fault 0x7 (present write user)
 > last: moment 5 by 4 4 4 4; taken by 5 cpu 0 invlpg 0x5000
+> allowed: fault 0x7 by 6 6 6 6
 ? 1
 
 == denied_answer_by_a_reserved_leaf
@@ -463,6 +475,7 @@ $ certify
 > now: level 1 [0x4028] = 0x800000009007 reserved, written by event 3
 > now: would give fault 0xd (present user reserved)
 > last: never
+> allowed: fault 0xd by 4 4 4 4
 ? 1
 
 == denied_answer_by_a_page_of_2_mb
@@ -485,6 +498,7 @@ $ certify
 > now: level 2 [0x3000] = 0x600087 leaf, written by event 2
 > now: would give 0x605123
 > last: never
+> allowed: 0x605123 by 3 3 3
 ? 1
 
 == denied_dirty_assist_of_a_read_only_leaf

@@ -23,6 +23,7 @@ $ certify --first
 > now: level 1 [0x4028] = 0x9007 leaf, written by event 3
 > now: would give 0x9123
 > last: never
+> allowed: 0x9123 by 7 7 7 7
 ? 1
 
 == the_same_read_to_its_end

@@ -10,6 +10,7 @@ use Rattle.pg_answers.specs.declared.answer.Answer.TheVariants.{Report, Summary,
 use Rattle.pg_answers.specs.declared.answer.Answer.TheVariants.{Rejection, Events, Outcomes}
 use Rattle.pg_answers.specs.declared.question.Question.{Question}
 use Rattle.pg_answers.specs.declared.question.Question.TheVariants as questions
+use Rattle.pg_answers.specs.AllowedTexts.{allowed_note}
 use Rattle.pg_answers.specs.Answers.{IsAnswer, answer_status}
 use Rattle.pg_answers.specs.AnswerTexts.{answer_text}
 use Rattle.pg_answers.specs.Certificates.{IsTheCertificate}
@@ -26,7 +27,8 @@ use Rattle.pg_tool.specs.declared.format.Format.TheVariants.{Text, Json, Picture
 abbrev pub IsDrawn : Answer → List ℕ → Type 0
 IsDrawn (Report report) text = text ≡ answer_text (Report report)
 IsDrawn (Summary report s) text = text ≡ answer_text (Summary report s)
-IsDrawn (Cause report r x) text = IsPicture r.head r.events x text
+IsDrawn (Cause report r x allowed) text =
+    IsPicture r.head r.events x (allowed_note allowed) text
 IsDrawn (Causes report r xs s) text = text ≡ answer_text (Causes report r xs s)
 IsDrawn (Rejection x) text = text ≡ answer_text (Rejection x)
 IsDrawn (Events r selection) text = text ≡ answer_text (Events r selection)

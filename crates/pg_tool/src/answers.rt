@@ -12,7 +12,9 @@ ghost use Rattle.pg_tool.specs.Rendered.{AnswersRecord, IsDrawn, IsRendered, IsR
 ghost use Rattle.pg_tool.specs.Rendered.{TellsFailure};
 
 use crate::format::Format;
-use pg_answers::{Answer, Question, answer_record, answer_status, answer_text, tell_error};
+use pg_answers::{
+    Answer, Question, allowed_note, answer_record, answer_status, answer_text, tell_error,
+};
 use pg_codec::{Sink, Source};
 use pg_json_answers::{answer_json, tell_error_json};
 use pg_picture::picture_text;
@@ -27,7 +29,10 @@ fn drawn(alloc: Global, answer: &Answer) -> Result<String, AllocError>
     ensures { IfOk result (λ t. IsDrawn answer.now (string_bytes t)) }
 {
     match answer {
-        Answer::Cause(_, history, explanation) => picture_text(alloc, history, explanation),
+        Answer::Cause(_, history, explanation, allowed) => {
+            let note = allowed_note(alloc, allowed)?;
+            picture_text(alloc, history, explanation, note.as_str())
+        }
         Answer::Report(_)
         | Answer::Summary(..)
         | Answer::Causes(..)

@@ -7,7 +7,8 @@ use Rattle.pg_certify.specs.Accounts.{Account}
 use Rattle.pg_explain.specs.declared.denial.Denial.{Denial}
 use Rattle.pg_explain.specs.Denied.{IsDenialFor}
 use Rattle.pg_certify.specs.Windows.{IsCertifying}
-use Rattle.pg_answers.proofs.Told.{low, reach, well, names, within, dropped_within, changes_last, changes_dropped, denial_is}
+use Rattle.pg_answers.proofs.Told.{low, reach, well, names, within, dropped_within, changes_last, changes_dropped, denial_is, allowed_is}
+use Rattle.pg_answers.specs.Outcomes.{AreAllowed}
 use Rattle.pg_answers.proofs.denials.denial_by.Goals as goal
 
 pub overflow_cast-number : goal.overflow_cast-number
@@ -23,6 +24,14 @@ deny_event-requires-clause-well c =
 
 pub deny_event-requires-clause-names : goal.deny_event-requires-clause-names
 deny_event-requires-clause-names c = names c.args.account.now c.requires.0 c.args.number c.args.event.now c.requires.1
+
+pub allowed_at-requires-clause-within : goal.allowed_at-requires-clause-within
+allowed_at-requires-clause-within c =
+    subst (λ (q : Recorded). c.args.number ≤ length q.events) (sym (c.among-seen.ensures ∙ c.kept.ensures ∙ ap (λ (f : Findings). f.kept) c.certifying-certifying.ensures)) (reach c.args.account.now c.requires.0 c.args.number c.args.event.now c.requires.1)
+
+pub allowed_at-requires-clause-well : goal.allowed_at-requires-clause-well
+allowed_at-requires-clause-well c =
+    subst (λ (q : Recorded). broken_rule q.head c.args.event.now ≡ None) (sym (c.among-seen.ensures ∙ c.kept.ensures ∙ ap (λ (f : Findings). f.kept) c.certifying-certifying.ensures)) (well c.args.account.now c.requires.0 c.args.number c.args.event.now c.requires.1)
 
 pub taken_of-requires : goal.taken_of-requires
 taken_of-requires c =
@@ -45,6 +54,7 @@ returns c = λ r h.
     let of : IsDenialFor kept.head kept.events c.args.number c.args.event.now c.in_ok-denial.denial = subst (λ (q : Recorded). IsDenialFor q.head q.events c.args.number c.args.event.now c.in_ok-denial.denial) (c.among-seen.ensures ∙ c.kept.ensures ∙ ap (λ (f : Findings). f.kept) c.certifying-certifying.ensures) c.in_ok-denial.ensures in
     let changes = changes_last a r c.args.number e h c.denials_among_kept.ensures c.taken_by_a_change.ensures c.dropped_by_a_change.ensures denial of in
     let dropped = changes_dropped a r c.args.number e h c.denials_among_kept.ensures c.taken_by_a_change.ensures c.dropped_by_a_change.ensures denial of in
+    let allowed : AreAllowed kept c.args.number e c.in_ok-allowed.allowed = subst (λ (q : Recorded). AreAllowed q c.args.number e c.in_ok-allowed.allowed) (c.among-seen.ensures ∙ c.kept.ensures ∙ ap (λ (f : Findings). f.kept) c.certifying-certifying.ensures) c.in_ok-allowed.ensures in
     let known : IsCertifying c.certifying-certifying.result.now r.head r.events = rw c.certifying-certifying.ensures h.known.certifying in
     record {
       number = of.number;
@@ -53,4 +63,5 @@ returns c = λ r h.
       takers = cc (c.taken_of.ensures r.head r.events h.known changes, c.dropped_of.ensures r.head r.events h.known dropped);
       count = c.len.ensures r.head r.events known;
       segments = c.segments.ensures r.head r.events known;
+      allowed = allowed_is a r c.args.number e h c.outcomes_among_kept.ensures c.in_ok-allowed.allowed allowed;
     }

@@ -8,4 +8,4 @@ pub returns : goal.returns
 returns c =
     let l = c.in_ok-layout.layout in
     let all = c.events.ensures.events in
-    IfOk-weaker c.svg_text.result _ _ (λ t h. (l, c.in_ok-layout.ensures, h ∙ ap (λ (es : List Event). svg_text es c.args.explanation.now l) all)) c.svg_text.ensures
+    IfOk-weaker c.svg_text.result _ _ (λ t h. (l, c.in_ok-layout.ensures, h ∙ ap (λ (es : List Event). svg_text es c.args.explanation.now c.args.note.now l) all)) c.svg_text.ensures

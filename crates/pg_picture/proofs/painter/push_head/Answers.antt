@@ -14,6 +14,6 @@ returns c =
     let three = string_bytes c.push_markers.new.text in
     let four = string_bytes c.push_paper.new.text in
     let five = string_bytes c.push_lines.new.text in
-    let lines = lines_text c.args.events.now x in
+    let lines = lines_text c.args.events.now x c.args.note.now in
     on_ok_weaker c.push_lines.result (λ (w : five ≡ four ++ lines). five_written old one two three four five (open_text l.height l.letters) (title_text x.number) markers_text (paper_text l.height) lines c.in_ok-push_open.ensures c.in_ok-push_title.ensures c.in_ok-push_markers.ensures c.in_ok-push_paper.ensures w)
     c.push_lines.ensures
