@@ -1,13 +1,9 @@
 -- The events in an order, one for each number.
-use Rattle.std.proofs.Common.{◌≡◌, ℕ, zero, suc, ◌+◌, ◌<◌, List, [], ◌∷◌, length, length-append, Some, refl, ap, ◌∙◌, arith}
+use Rattle.std.proofs.Common.{◌≡◌, ℕ, suc, ◌+◌, ◌<◌, List, [], ◌∷◌, length, length-append, ap, ◌∙◌, arith}
 use Rattle.std.specs.Prelude.{slice_get, option_to_list}
 use Rattle.pg_event.specs.declared.event.Event.{Event}
+use Rattle.pg_reach.proofs.Histories.{event_there}
 use Rattle.pg_spanned.specs.Orders.{ordered}
-
-event_there : (xs : List Event) (n : ℕ) → n < length xs → (e : Event) × (slice_get xs n ≡ Some e)
-event_there [] n lt = absurd (omega (arith, lt))
-event_there (x ∷ xs) zero lt = (x, refl)
-event_there (x ∷ xs) (suc n) lt = event_there xs n (omega (arith, lt))
 
 -- there are as many of them
 pub length_in_order : (events : List Event) (order : List ℕ) → ((k i : ℕ) → slice_get order k ≡ Some i → i < length events) → length (ordered events order) ≡ length order

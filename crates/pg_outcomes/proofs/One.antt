@@ -11,7 +11,7 @@ use Rattle.pg_search.specs.Changes.{AreKeptOf, WitnessedAmongKept}
 use Rattle.pg_search.specs.Freshness.{is_as_fresh, is_as_fresh_back}
 use Rattle.pg_search.specs.Law.{AreWitness}
 use Rattle.pg_outcomes.specs.declared.allowed.Allowed.{Allowed}
-use Rattle.pg_outcomes.specs.Placed.{with_outcome}
+use Rattle.pg_reach.specs.Placed.{with_outcome}
 use Rattle.pg_outcomes.specs.Allowing.{IsAllowed, IsBefore, IsTold, AreOutcomes}
 use Rattle.pg_outcomes.specs.Law.{OutcomesAmongKept, OutcomesAreOne}
 

@@ -1,6 +1,6 @@
 -- Outcomes that are found, one candidate after another.
-use Rattle.std.proofs.Common.{◌≡◌, ℕ, zero, suc, ◌+◌, ◌<◌, ◌≤◌, List, [], ◌∷◌, ◌++◌, length, take, take_all, get_or, sym, ◌∙◌, subst, inl, inr, arith, length-append}
-use Rattle.std.specs.Prelude.{Result, Ok, Err, IfOk}
+use Rattle.std.proofs.Common.{◌≡◌, ℕ, zero, suc, ◌+◌, ◌<◌, ◌≤◌, List, [], ◌∷◌, ◌++◌, length, take, take_all, get_or, Some, None, refl, sym, ◌∙◌, subst, inl, inr, arith, length-append}
+use Rattle.std.specs.Prelude.{Result, Ok, Err, IfOk, IfSome}
 use Rattle.std.specs.List.{Any, AllPairs, Contains}
 use Rattle.std.proofs.lemmas.List.{take_more, get_or-take, get_or_append_left, length-take}
 use Rattle.std.proofs.lemmas.List.Elements.{All-nil, All-push, Contains-append_left, Contains-append_cases, Contains-push}
@@ -9,6 +9,9 @@ use Rattle.std.proofs.Math.Seq.{get_or-append_seam}
 use Rattle.pg_event.specs.declared.event.Event.{Event}
 use Rattle.pg_event.specs.declared.event.Outcome.{Outcome}
 use Rattle.pg_event.specs.Spelling.{Recorded}
+use Rattle.pg_search.specs.Law.{AreWitness, AreFreshestOf}
+use Rattle.pg_reach.specs.Placed.{with_outcome}
+use Rattle.pg_reach.specs.ByOutcome.{Findings, AreByOutcome}
 use Rattle.pg_outcomes.specs.declared.allowed.Allowed.{Allowed}
 use Rattle.pg_outcomes.specs.Allowing.{IsAllowed, IsBefore, IsTold, AreOutcomes}
 use Rattle.pg_outcomes.specs.Candidates.{AreCandidates, AreFound, IsToldOf}
@@ -97,3 +100,14 @@ are_outcomes r n e os xs c h = record {
 pub ok_more : {A E : Type 0} (P Q : A → Type 0) → ((x : A) → P x → Q x) → (r : Result A E) → IfOk r P → IfOk r Q
 ok_more P Q more (Ok x) h = more x h
 ok_more P Q more (Err e) h = tt
+
+-- what is found for an outcome
+
+pub told_of : (r : Recorded) (n : ℕ) (e : Event) (found : Findings) (o : Outcome) (ws : List ℕ) → AreByOutcome r n e found → found o ≡ Some ws → IsToldOf r n e o (record { outcome = o; moments = ws })
+told_of r n e found o ws h is = (refl, record {
+  witness = subst (λ x. IfSome x (AreWitness r.head r.events n (with_outcome o e))) is (h.some o);
+  freshest = subst (λ x. IfSome x (AreFreshestOf r.head r.events n (with_outcome o e))) is (h.freshest o);
+})
+
+pub none_of : (r : Recorded) (n : ℕ) (e : Event) (found : Findings) (o : Outcome) → AreByOutcome r n e found → found o ≡ None → IsAllowed r.head r.events n e o → ⊥
+none_of r n e found o h is allowed = h.none o is allowed.0 allowed.1

@@ -30,7 +30,9 @@ use Rattle.pg_run_of.specs.Plan.{root_at}
 use Rattle.pg_run_of.proofs.Standing.{seen, given}
 use Rattle.pg_run_of.proofs.Accesses.{guard_none, bar_none, last_none, claim_holds}
 use Rattle.pg_run_of.proofs.Chains.{reading_at}
-use Rattle.pg_outcomes.specs.Pages.{page_of, page_by, page_at}
+use Rattle.pg_reach.specs.Given.{page_by, cause_of, code_by}
+use Rattle.pg_reach.proofs.Gives.{page_end, code_end}
+use Rattle.pg_outcomes.specs.Pages.{page_at}
 use Rattle.pg_outcomes.proofs.Words.{no_page_at_four}
 
 -- a reading of a table of memory: its place in the table, its value and its moment
@@ -77,53 +79,10 @@ walk_read m events n la root w (y ∷ ys) h =
 
 -- ---- ends
 
-leaf_page : (cfg : Cfg) (kind : AccessKind) (rights : Rights) (address page : ℕ) (o : Outcome) → o ≡ Page page → failing_leaf cfg kind rights address o ≡ None → address ≡ page
-leaf_page cfg kind rights address page (Page x) is h =
-    let one : x ≡ page = cc in
-    let allowed = guard_none (is_allowed cfg rights kind) _ _ h in
-    sym (eqb-true x address (last_none (x == address) _ allowed.1)) ∙ one
-leaf_page cfg kind rights address page (Fault code) is h = absurd (cc)
-
-leaf_code : (cfg : Cfg) (kind : AccessKind) (rights : Rights) (address code : ℕ) (o : Outcome) → o ≡ Fault code → failing_leaf cfg kind rights address o ≡ None → code ≡ fault_code cfg kind causes.Denied
-leaf_code cfg kind rights address code (Page x) is h = absurd (cc)
-leaf_code cfg kind rights address code (Fault d) is h =
-    let one : d ≡ code = cc in
-    let denied = bar_none (is_allowed cfg rights kind) _ _ h in
-    sym one ∙ eqb-true d (fault_code cfg kind causes.Denied) (last_none (d == fault_code cfg kind causes.Denied) _ denied.1)
-
-fault_page : (cfg : Cfg) (c : Claim) (cause : Cause) (moment page : ℕ) (o : Outcome) → o ≡ Page page → failing_fault cfg c cause moment o ≡ None → ⊥
-fault_page cfg c cause moment page (Page x) is h = cc
-fault_page cfg c cause moment page (Fault code) is h = cc
-
-fault_at_event : (cfg : Cfg) (c : Claim) (cause : Cause) (moment code : ℕ) (o : Outcome) → o ≡ Fault code → failing_fault cfg c cause moment o ≡ None → code ≡ fault_code cfg c.kind cause
-fault_at_event cfg c cause moment code (Page x) is h = absurd (cc)
-fault_at_event cfg c cause moment code (Fault d) is h =
-    let one : d ≡ code = cc in
-    let here = guard_none (moment == c.number) _ _ h in
-    sym one ∙ eqb-true d (fault_code cfg c.kind cause) (last_none (d == fault_code cfg c.kind cause) _ here.1)
-
-leaf_end : (head : Head) (events : List Event) (c : Claim) (pcid : ℕ) (q : Reading) (frame shift : ℕ) (g : Bool) → failing_end head events c pcid q (kinds.Leaf frame shift g) ≡ None →
-    failing_leaf head.cfg c.kind q.rights (frame + c.la % 2 ^ shift) c.outcome ≡ None
-leaf_end head events c pcid q frame shift g h =
-    let global : Bool = g && (control_at head events c.p q.moment).pge in
-    let kept = guard_none (survives head events c.p (λ d e. must_drop_translation d e (translation_key pcid shift global c.la)) q.moment c.number) _ _ h in
-    (bar_none (not ((control_at head events c.p c.number).pcid == pcid) && not global) _ _ kept.1).1
-
--- the page of a claim is the one that the entry gives which is read last
-page_end : (head : Head) (events : List Event) (c : Claim) (pcid : ℕ) (q : Reading) (k : Kind) (page : ℕ) → c.outcome ≡ Page page → failing_end head events c pcid q k ≡ None → page_of k c.la ≡ Some page
-page_end head events c pcid q (kinds.Leaf frame shift g) page is h =
-    ap Some (leaf_page head.cfg c.kind q.rights (frame + c.la % 2 ^ shift) page c.outcome is (leaf_end head events c pcid q frame shift g h))
-page_end head events c pcid q kinds.Absent page is h = absurd (fault_page head.cfg c causes.Absent q.moment page c.outcome is h)
-page_end head events c pcid q kinds.Reserved page is h = absurd (fault_page head.cfg c causes.Reserved q.moment page c.outcome is h)
-page_end head events c pcid q (kinds.Table addr) page is h = absurd (cc)
-
--- the code of a claim is that of a cause
-code_end : (head : Head) (events : List Event) (c : Claim) (pcid : ℕ) (q : Reading) (k : Kind) (code : ℕ) → c.outcome ≡ Fault code → failing_end head events c pcid q k ≡ None → (cause : Cause) × (code ≡ fault_code head.cfg c.kind cause)
-code_end head events c pcid q (kinds.Leaf frame shift g) code is h =
-    (causes.Denied, leaf_code head.cfg c.kind q.rights (frame + c.la % 2 ^ shift) code c.outcome is (leaf_end head events c pcid q frame shift g h))
-code_end head events c pcid q kinds.Absent code is h = (causes.Absent, fault_at_event head.cfg c causes.Absent q.moment code c.outcome is h)
-code_end head events c pcid q kinds.Reserved code is h = (causes.Reserved, fault_at_event head.cfg c causes.Reserved q.moment code c.outcome is h)
-code_end head events c pcid q (kinds.Table addr) code is h = absurd (cc)
+-- a code is that of a cause
+caused_by : (cfg : Cfg) (kind : AccessKind) (code : ℕ) (o : Option Cause) → code_by cfg kind o ≡ Some code → (cause : Cause) × (code ≡ fault_code cfg kind cause)
+caused_by cfg kind code None h = absurd (cc)
+caused_by cfg kind code (Some cause) h = let is : fault_code cfg kind cause ≡ code = cc in (cause, sym is)
 
 -- ---- accesses
 
@@ -164,4 +123,4 @@ code_caused r c (w ∷ ws) code is good =
     let rest : List Reading = readings head.cfg.m (mem_at events) c.la Three gave.table gave.rights ws in
     let h = claim_holds head events c start.pcid (w ∷ ws) read rest good in
     let last : Reading = last_or read rest in
-    code_end head events c start.pcid last (kind_of head.cfg last.level last.value) code is h.ends
+    caused_by head.cfg c.kind code (cause_of (kind_of head.cfg last.level last.value)) (code_end head events c start.pcid last (kind_of head.cfg last.level last.value) code is h.ends)

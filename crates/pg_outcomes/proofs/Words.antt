@@ -19,9 +19,11 @@ use Rattle.pg_event.specs.Spelling.{Recorded}
 use Rattle.pg_event.specs.Values.{written, mem_at}
 use Rattle.pg_event.specs.Walk.{entry_address}
 use Rattle.pg_search.proofs.Stepping.{take_next}
+use Rattle.pg_reach.proofs.Histories.{event_there}
 use Rattle.pg_search.specs.Writers.{word_of, written_from, HaveWritten}
 use Rattle.pg_search.specs.declared.written.Written.{Written}
-use Rattle.pg_outcomes.specs.Pages.{page_of, page_by, page_at, with_pages, HavePages}
+use Rattle.pg_reach.specs.Given.{page_of, page_by}
+use Rattle.pg_outcomes.specs.Pages.{page_at, with_pages, HavePages}
 
 -- ---- memory
 
@@ -100,11 +102,6 @@ of_word xs r w word la page Two h =
     Contains-append_left _ _ page (Contains-append_right (xs ++ option_to_list (page_at r w word Three la)) _ page (listed (page_at r w word Two la) page h))
 of_word xs r w word la page One h =
     Contains-append_right (xs ++ option_to_list (page_at r w word Three la) ++ option_to_list (page_at r w word Two la)) _ page (listed (page_at r w word One la) page h)
-
-event_there : (xs : List Event) (n : ℕ) → n < length xs → (e : Event) × (slice_get xs n ≡ Some e)
-event_there [] n lt = absurd (omega (arith, lt))
-event_there (x ∷ xs) zero lt = (x, refl)
-event_there (x ∷ xs) (suc n) lt = event_there xs n (omega (arith, lt))
 
 -- what a word has at a moment it had at none, or an event before it left it
 abbrev IsLeft : List Event → ℕ → ℕ → Type 0

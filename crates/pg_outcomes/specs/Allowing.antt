@@ -8,7 +8,7 @@ use Rattle.pg_event.specs.Heads.{Head}
 use Rattle.pg_event.specs.Spelling.{Recorded}
 use Rattle.pg_search.specs.Law.{AreWitness, AreFreshestOf}
 use Rattle.pg_outcomes.specs.declared.allowed.Allowed.{Allowed}
-use Rattle.pg_outcomes.specs.Placed.{with_outcome}
+use Rattle.pg_reach.specs.Placed.{with_outcome}
 
 -- some moments witness the access with this outcome as event n
 abbrev pub IsAllowed : Head → List Event → ℕ → Event → Outcome → Type 0

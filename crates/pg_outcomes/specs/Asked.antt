@@ -6,7 +6,7 @@ use Rattle.pg_search.specs.Law.{names_moments, AreWitness, AreFreshestOf}
 use Rattle.pg_certify.specs.Certified.{HasRunButMoments, IsDenied}
 use Rattle.pg_outcomes.specs.declared.asked.Found.{Found}
 use Rattle.pg_outcomes.specs.declared.asked.Found.TheVariants.{Rejected, Outcomes, Assist, NoAccess}
-use Rattle.pg_outcomes.specs.Placed.{is_access}
+use Rattle.pg_reach.specs.Placed.{is_access}
 use Rattle.pg_outcomes.specs.Allowing.{AreOutcomes}
 
 -- event d, before number n, is the least that no moments witness

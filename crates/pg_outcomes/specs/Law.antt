@@ -8,7 +8,7 @@ use Rattle.pg_event.specs.Form.{broken_rule}
 use Rattle.pg_event.specs.Spelling.{Recorded}
 use Rattle.pg_check.specs.Kept.{AreWellFormed}
 use Rattle.pg_certify.specs.Certified.{HasRunButMoments}
-use Rattle.pg_outcomes.specs.Placed.{is_access, with_outcome}
+use Rattle.pg_reach.specs.Placed.{is_access, with_outcome}
 use Rattle.pg_search.specs.Changes.{AreKeptOf}
 use Rattle.pg_outcomes.specs.declared.allowed.Allowed.{Allowed}
 use Rattle.pg_outcomes.specs.Allowing.{IsAllowed, AreOutcomes}

@@ -1,29 +1,17 @@
 -- The addresses that an access may get from any value that a word had.
-use Rattle.std.specs.Prelude.{◌≡◌, ℕ, ◌+◌, ◌≤◌, ◌%◌, ◌^◌, ◌==◌, if◌then◌else◌, List, ◌++◌}
+use Rattle.std.specs.Prelude.{◌≡◌, ℕ, ◌≤◌, ◌%◌, ◌==◌, if◌then◌else◌, List, ◌++◌}
 use Rattle.std.specs.Prelude.{Option, Some, None, option_to_list}
 use Rattle.std.specs.List.{Contains}
 use Rattle.std.specs.List.Sorted.{IsStrictlyIncreasing}
-use Rattle.pg_entry.specs.declared.Cfg.{Cfg}
-use Rattle.pg_entry.specs.declared.Kind.{Kind}
-use Rattle.pg_entry.specs.declared.Kind.TheVariants as kinds
 use Rattle.pg_entry.specs.declared.Level.{Level}
 use Rattle.pg_entry.specs.declared.Level.TheVariants.{Three, Two, One}
-use Rattle.pg_entry.specs.Kinds.{kind_of}
 use Rattle.pg_event.specs.Spelling.{Recorded}
 use Rattle.pg_event.specs.Values.{mem_at}
 use Rattle.pg_event.specs.Walk.{entry_address}
+use Rattle.pg_reach.specs.Given.{page_by}
 
--- the physical address that a linear one gets by an entry of a kind, where that is a page
-abbrev pub page_of : Kind → ℕ → Option ℕ
-page_of (kinds.Leaf frame shift global_bit) la = Some (frame + la % 2 ^ shift)
-page_of (kinds.Table addr) la = None
-page_of kinds.Absent la = None
-page_of kinds.Reserved la = None
-
-abbrev pub page_by : Cfg → Level → ℕ → ℕ → Option ℕ
-page_by cfg level value la = page_of (kind_of cfg level value) la
-
--- that by the value that a word has at a moment, where its place in a table is that of the entry
+-- the physical address that a linear one gets by the value that a word has at a moment, where its
+-- place in a table is that of the entry
 abbrev pub page_at : Recorded → ℕ → ℕ → Level → ℕ → Option ℕ
 page_at r w word level la =
     if word % 4096 == entry_address 0 level la

@@ -2,7 +2,7 @@
 
 ghost use Rattle.std.specs.Prelude.{◌≡◌, ◌≤◌, ◌++◌, true, None, length, map, IfOk, OnOk};
 ghost use Rattle.pg_event.specs.declared.event.Outcome.TheVariants.{Page};
-ghost use Rattle.pg_outcomes.specs.Placed.{is_access};
+ghost use Rattle.pg_reach.specs.Placed.{is_access};
 ghost use Rattle.pg_outcomes.specs.Candidates.{faults_of, AreCandidates};
 
 use crate::pages::pages;

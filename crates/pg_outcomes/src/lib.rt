@@ -9,7 +9,8 @@ mod laws;
 mod outcomes;
 mod pages;
 
-pub use allowed::{Allowed, is_access, with_outcome};
+pub use allowed::Allowed;
 pub use asked::{Found, outcomes_of};
 pub use laws::{allowed_exactly_where_a_run_exists, outcomes_among_kept, outcomes_are_one};
 pub use outcomes::outcomes_at;
+pub use pg_reach::{is_access, with_outcome};

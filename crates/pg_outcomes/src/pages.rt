@@ -1,29 +1,18 @@
 //! The addresses that an access may get from any value that a word had.
 
 ghost use Rattle.std.specs.Prelude.{◌≡◌, ◌≤◌, ◌++◌, length, IfOk, OnOk, option_to_list};
-ghost use Rattle.pg_outcomes.specs.Pages.{page_by, page_at, with_pages, HavePages};
+ghost use Rattle.pg_outcomes.specs.Pages.{page_at, with_pages, HavePages};
 ghost use Rattle.std.specs.List.Sorted.{IsStrictlyIncreasing};
 ghost use Rattle.pg_outcomes.specs.Pages.{AreAscending};
 
-use pg_entry::{Cfg, Entry, Kind, Level, classify, page_offset};
+use pg_entry::{Entry, Level};
 use pg_event::entry_address;
+use pg_reach::page_by;
 use pg_search::Seen;
 use std::alloc::{AllocError, Global};
 
-/// The physical address that an access to a linear one gets by an entry of a level, where the entry
-/// refers to a page.
-fn page_by(cfg: Cfg, level: Level, value: u64, la: u64) -> Option<u64>
-    requires { (36 ≤ cfg.m) × (cfg.m ≤ 52) }
-    ensures { result ≡ page_by cfg level value la }
-{
-    match classify(cfg, level, Entry(value)) {
-        Kind::Leaf { frame, shift, .. } => Some(frame + page_offset(la, shift)),
-        Kind::Absent | Kind::Reserved | Kind::Table { .. } => None,
-    }
-}
-
-/// That address by the value that a word has at a moment, where the word may be the entry of the
-/// level: its place in a table is that of the entry.
+/// The physical address that an access to a linear one gets by the value that a word has at a
+/// moment, where the word may be the entry of the level: its place in a table is that of the entry.
 fn page_at(seen: &Seen<'_>, moment: u32, word: u64, level: Level, la: u64) -> Option<u64>
     ensures { result ≡ page_at seen.now moment word level la }
 {
@@ -31,7 +20,7 @@ fn page_at(seen: &Seen<'_>, moment: u32, word: u64, level: Level, la: u64) -> Op
         return None;
     }
     let cfg = seen.header().cfg;
-    page_by(cfg, level, seen.value_at(moment, word), la)
+    page_by(cfg, level, Entry(seen.value_at(moment, word)), la)
 }
 
 /// Adds an address, where there is one.

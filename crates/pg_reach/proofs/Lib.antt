@@ -8,6 +8,8 @@ mod Nexts
 mod Levels
 mod Refusals
 mod Later
+pub mod Gives
+mod EveryOutcome
 mod Coming
 mod Whole
 mod Passed
@@ -16,4 +18,4 @@ mod Passing
 mod Pieces
 mod Cases
 mod Before
-mod Histories
+pub mod Histories

@@ -53,7 +53,7 @@ up_to_less (Some n) more j le h = omega (arith, le, h)
 
 passed_at : (r : Recorded) (v : Walker) (e : Event) (j : ℕ) (level : Level) (x : Reach) (last : Option ℕ) → v.number < 2 ^ 32 → j ≤ v.number → (IsUpTo last j → ⊥) → ArePassed r v e level (max x.from 0) (min x.to v.number + 1) x last →
     AreRefused r (at_number v j) e level (max x.from 0) (min x.to j + 1) x None
-passed_at r v e j level x last small low not h = λ w from lt under wanted.
+passed_at r v e j level x last small low not h = λ w from lt under wanted gives.
     let is : IsPassed r v e level x last w = h w from (omega (arith, lt, low)) under wanted in
     record {
       m = is.m;

@@ -49,6 +49,8 @@ use Rattle.pg_reach.proofs.Fresh.{later_fresh, fresher_on}
 use Rattle.pg_reach.specs.Asking.{want_by, Asks, last_moment, pcid_of, AreUnder}
 use Rattle.pg_reach.specs.Bounds.{AreBounds}
 use Rattle.pg_reach.specs.Ends.{IsRefused, AreRefused}
+use Rattle.pg_reach.specs.Given.{GivesBy}
+use Rattle.pg_reach.proofs.Gives.{end_gives}
 use Rattle.pg_reach.proofs.Coming.{AreLevels, EndsIn, begins_in, ends_in}
 use Rattle.pg_reach.proofs.Later.{leaf_later}
 
@@ -91,15 +93,16 @@ record Latest (r : Recorded) (v : Walker) (e : Event) (want : Want) (at : Level)
   none : failing_event r.head r.events (max m v.number) (with_moments (ws ++ m ∷ []) e) ≡ None → IsFresher v.freshest found all
 
 latest_of : (r : Recorded) (v : Walker) (e : Event) (since : ℕ) (b : Bounds) (lists : Level → List Reach) (found : Option (List ℕ)) (last : Reading) (all : List ℕ) → AreWhole r v e since b lists found → (h : EndsIn r v (want_by e) since lists last all) →
-    Latest r v e (want_by e) h.at h.to h.w found all
-latest_of r v e since b lists found last all whole h =
+    GivesBy r.head.cfg e (kind_of r.head.cfg h.at (seen (mem_at r.events) v.la h.at h.to h.w)) → Latest r v e (want_by e) h.at h.to h.w found all
+latest_of r v e since b lists found last all whole h gives =
     let x : Reach = h.there.0 in
     let table : x.table ≡ h.to = h.there.2.table in
     let seen_in : Parent → ℕ → ℕ = λ t k. seen (mem_at r.events) v.la h.at t k in
     let reach : IsReach r v h.at x = All-contains (IsReach r v h.at) (lists h.at) x (whole.each h.at) h.there.1 in
     let refused : AreRefused r v e h.at (max x.from since) (min x.to v.number + 1) x found = All-contains (λ x. AreRefused r v e h.at (max x.from since) (min x.to v.number + 1) x found) (lists h.at) x (whole.refused h.at) h.there.1 in
     let wanted : is_wanted (want_by e) (kind_of r.head.cfg h.at (seen_in x.table h.w)) ≡ true = ap (λ t. is_wanted (want_by e) (kind_of r.head.cfg h.at (seen_in t h.w))) table ∙ h.wanted in
-    let is : IsRefused r v e h.at x found h.w = refused h.w (omega (arith, h.there.2.from, h.late)) (omega (arith, h.there.2.to, h.low)) h.under wanted in
+    let same : GivesBy r.head.cfg e (kind_of r.head.cfg h.at (seen_in x.table h.w)) = subst (λ t. GivesBy r.head.cfg e (kind_of r.head.cfg h.at (seen_in t h.w))) (sym table) gives in
+    let is : IsRefused r v e h.at x found h.w = refused h.w (omega (arith, h.there.2.from, h.late)) (omega (arith, h.there.2.to, h.low)) h.under wanted same in
     let by = reach.way is.m (omega (arith, h.there.2.from, is.later)) is.within is.under in
     let value : seen_in h.to is.m ≡ seen_in h.to h.w = subst (λ t. seen_in t is.m ≡ seen_in t h.w) table is.same in
     let fresh : v.freshest ≡ true → is_as_fresh (up_to is.m x.latest) all ≡ true = λ f. ap (is_as_fresh (up_to is.m x.latest)) (sym h.is) ∙ later_fresh x h.w is.m h.before reach.next is.small is.later (h.there.2.fresh f) in
@@ -172,11 +175,13 @@ access_refused r v flags outcome own since b lists found whole (w ∷ ws) good a
     let holds : Holds head events v.p v.la v.pcid (want_of outcome) v.number Four root (w ∷ ws) = subst (λ pcid. Holds head events v.p v.la pcid (want_of outcome) v.number Four root (w ∷ ws)) alike
     (record { order = h.walk.order; kinds = h.walk.kinds; alike = h.walk.alike; kept = h.walk.kept; cached = h.flags.tables }) in
     let end = ends_in r v since b (want_of outcome) lists whole.small whole.bounds whole.levels Four root [] w ws holds late (begins_in r v since b (want_of outcome) lists whole.small whole.bounds whole.levels w ws holds late) in
-    let latest = latest_of r v e since b lists found (last_or read rest) (w ∷ ws) whole end in
     let value : (last_or read rest).value ≡ seen (mem_at events) v.la end.at end.to end.w = ap (λ (q : Reading). q.value) end.same in
     let ends : failing_end head events c v.pcid (reading_at events v.la end.at end.to end.w) (kind_of head.cfg end.at (seen (mem_at events) v.la end.at end.to end.w)) ≡ None =
     ap (λ pcid. failing_end head events c pcid (reading_at events v.la end.at end.to end.w) (kind_of head.cfg end.at (seen (mem_at events) v.la end.at end.to end.w))) (sym alike)
     ∙ ap (λ (q : Reading). failing_end head events c start.pcid q (kind_of head.cfg q.level q.value)) (sym end.same) ∙ h.ends in
+    let gives : GivesBy head.cfg e (kind_of head.cfg end.at (seen (mem_at events) v.la end.at end.to end.w)) =
+    end_gives head events c v.pcid (reading_at events v.la end.at end.to end.w) (kind_of head.cfg end.at (seen (mem_at events) v.la end.at end.to end.w)) ends in
+    let latest = latest_of r v e since b lists found (last_or read rest) (w ∷ ws) whole end gives in
     let later : Claim = claim_of (max latest.m v.number) v.p flags v.la outcome in
     let last : failing_end head events later v.pcid (reading_at events v.la end.at end.to latest.m) (kind_of head.cfg end.at (seen (mem_at events) v.la end.at end.to latest.m)) ≡ None =
     ap (λ n. failing_end head events later v.pcid (reading_at events v.la end.at end.to latest.m) (kind_of head.cfg end.at n)) latest.same
@@ -203,7 +208,7 @@ assist_refused r v flags word own since b lists found judged whole (w ∷ ws) go
     let holds : Holds head events v.p v.la v.pcid wants.Present v.number Four root (w ∷ ws) = subst (λ pcid. Holds head events v.p v.la pcid wants.Present v.number Four root (w ∷ ws)) alike
     (record { order = h.walk.order; kinds = h.walk.kinds; alike = h.walk.alike; kept = h.walk.kept; cached = h.tables }) in
     let end = ends_in r v since b wants.Present lists whole.small whole.bounds whole.levels Four root [] w ws holds late (begins_in r v since b wants.Present lists whole.small whole.bounds whole.levels w ws holds late) in
-    let latest = latest_of r v e since b lists found (last_or read rest) (w ∷ ws) whole end in
+    let latest = latest_of r v e since b lists found (last_or read rest) (w ∷ ws) whole end tt in
     let updated : is_updated head.cfg u (reading_at events v.la end.at end.to end.w) ≡ true = ap (is_updated head.cfg u) (sym end.same) ∙ h.updated in
     let now : end.w ≡ v.number = eqb-true _ _ (and_parts _ _ (and_parts _ _ updated).0).0 in
     let is : latest.m ≡ max latest.m v.number = omega (arith, now, latest.later) in

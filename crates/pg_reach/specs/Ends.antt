@@ -13,6 +13,7 @@ use Rattle.pg_reach.specs.declared.reach.Reach.{Reach}
 use Rattle.pg_reach.specs.Stays.{IsUnder}
 use Rattle.pg_reach.specs.Reaching.{entry_of, up_to, IsFresher}
 use Rattle.pg_reach.specs.Asking.{want_by}
+use Rattle.pg_reach.specs.Given.{GivesBy}
 
 -- the moments that lead to a reach, and a last one, witness the event at a number only where such
 -- are found
@@ -22,11 +23,13 @@ IsNoWitness r v e n x m found =
     failing_event r.head r.events n (with_moments (up_to m x.latest) e) ≡ None →
     IsFresher v.freshest found (up_to m x.latest)
 
--- that is so if a piece may be read and is what the event wants, of reading it last
+-- that is so if a piece may be read, is what the event wants and may give its outcome, of reading it
+-- last
 abbrev pub IsNoEnd :
     Recorded → Walker → Event → Level → Reach → Piece → Option (List ℕ) → Type 0
 IsNoEnd r v e level x piece found = (m : ℕ) → piece.read ≡ Some m →
     is_wanted (want_by e) (kind_of r.head.cfg level piece.entry) ≡ true →
+    GivesBy r.head.cfg e (kind_of r.head.cfg level piece.entry) →
     IsNoWitness r v e v.number x m found
 
 -- the same entry can be read at a later moment, or at this one, and witnesses the event then, at
@@ -41,9 +44,11 @@ pub record IsRefused (r : Recorded) (v : Walker) (e : Event) (level : Level) (x 
   pub same : entry_of r v level x.table m ≡ entry_of r v level x.table w
   pub none : IsNoWitness r v e (max m v.number) x m found
 
--- that is so of each entry that the event wants, from one moment up to, not with, another
+-- that is so of each entry that the event wants and that may give its outcome, from one moment up
+-- to, not with, another
 abbrev pub AreRefused :
     Recorded → Walker → Event → Level → ℕ → ℕ → Reach → Option (List ℕ) → Type 0
 AreRefused r v e level since until x found = (w : ℕ) → since ≤ w → w < until → IsUnder r v w →
     is_wanted (want_by e) (kind_of r.head.cfg level (entry_of r v level x.table w)) ≡ true →
+    GivesBy r.head.cfg e (kind_of r.head.cfg level (entry_of r v level x.table w)) →
     IsRefused r v e level x found w

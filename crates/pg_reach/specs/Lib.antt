@@ -3,6 +3,9 @@ pub mod Parts
 pub mod Views
 pub mod Reaching
 pub mod Asking
+pub mod Placed
+pub mod Given
 pub mod Ends
+pub mod ByOutcome
 pub mod WitnessedUpTo
 pub mod Bounds

@@ -54,7 +54,7 @@ fn is_up_to(last: Option<u32>, number: u32) -> bool
 }
 
 /// Whether moments witness an event as one with a number.
-fn is_witness(
+pub(crate) fn is_witness(
     seen: &Seen<'_>,
     memo: &mut Memo<'_>,
     event: &Event,

@@ -1,18 +1,14 @@
-use Rattle.std.proofs.Common.{◌≡◌, ◌<◌, ℕ, zero, suc, List, [], ◌∷◌, length, Some, refl, arith}
+use Rattle.std.proofs.Common.{◌≡◌, ◌<◌, List, length, Some, refl}
 use Rattle.std.specs.Prelude.{slice_get}
 use Rattle.std.proofs.lemmas.Option.{slice_get_read}
 use Rattle.pg_event.specs.declared.event.Event.{Event}
+use Rattle.pg_reach.proofs.Histories.{event_there}
 use Rattle.pg_outcomes.proofs.Steps.{ok_more}
 use Rattle.pg_outcomes.proofs.asked.outcomes_of.Goals as goal
 
-there : (xs : List Event) (n : ℕ) → n < length xs → (e : Event) × (slice_get xs n ≡ Some e)
-there [] n lt = absurd (omega (arith, lt))
-there (x ∷ xs) zero lt = (x, refl)
-there (x ∷ xs) (suc n) lt = there xs n (omega (arith, lt))
-
 pub returns-in-Some : goal.returns-in-Some
 returns-in-Some c =
-    let at = there c.args.history.now.events c.args.number c.requires in
+    let at = event_there c.args.history.now.events c.args.number c.requires in
     (at.0, at.1, rw c.in-Some.is at c.in_ok-denied.ensures.some)
 
 pub returns-in-None : goal.returns-in-None

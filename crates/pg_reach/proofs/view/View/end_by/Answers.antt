@@ -12,7 +12,7 @@ returns-in-None-clause-fresher c =
     newer_fresher c.args.self.now.walker.freshest c.args.found c.up_to-moments.result (λ f. c.is_enough.ensures.fresher c.if-is_enough.false (freshest ∙ f))
 
 pub returns-in-None-clause-none : goal.returns-in-None-clause-none
-returns-in-None-clause-none c = λ m read wanted good f.
+returns-in-None-clause-none c = λ m read wanted gives good f.
     let is : c.in-Some.read ≡ m = cc (c.in-Some.is, read) in
     let moments : c.up_to-moments.result ≡ up_to m c.args.x.now.latest = c.up_to-moments.ensures ∙ ap (λ k. up_to k c.args.x.now.latest) is in
     subst (λ ms. is_as_fresh c.up_to-moments.result ms ≡ true) moments (fresh_refl c.up_to-moments.result)
