@@ -23,8 +23,8 @@ IsNoWitness r v e n x m found =
     failing_event r.head r.events n (with_moments (up_to m x.latest) e) ≡ None →
     IsFresher v.freshest found (up_to m x.latest)
 
--- that is so if a piece may be read, is what the event wants and may give its outcome, of reading it
--- last
+-- that is so if a piece may be read, is what the event wants and may give its outcome, of reading
+-- it last
 abbrev pub IsNoEnd :
     Recorded → Walker → Event → Level → Reach → Piece → Option (List ℕ) → Type 0
 IsNoEnd r v e level x piece found = (m : ℕ) → piece.read ≡ Some m →
