@@ -1,5 +1,5 @@
 -- There is one list of the outcomes of an access.
-use Rattle.std.proofs.Common.{◌≡◌, ℕ, zero, suc, ◌<◌, ◌&&◌, ◌==◌, nat_lt, Bool, true, false, List, [], ◌∷◌, length, get_or, reverse, refl, ap, sym, ◌∙◌, subst, inl, inr, ◌⊎◌, arith}
+use Rattle.std.proofs.Common.{◌≡◌, ℕ, zero, suc, ◌<◌, ◌&&◌, ◌==◌, nat_lt, true, false, List, [], ◌∷◌, length, get_or, reverse, refl, ap, sym, ◌∙◌, subst, inl, inr, ◌⊎◌, arith}
 use Rattle.std.specs.List.{All, Any, AllPairs}
 use Rattle.std.proofs.lemmas.Bool.{cases_Bool, or_cases, and_parts, eqb-true, ltb-true}
 use Rattle.std.proofs.lemmas.List.{reverse-reverse}
@@ -7,12 +7,12 @@ use Rattle.pg_event.specs.declared.event.Event.{Event}
 use Rattle.pg_event.specs.declared.event.Outcome.{Outcome}
 use Rattle.pg_event.specs.declared.event.Outcome.TheVariants.{Page, Fault}
 use Rattle.pg_event.specs.Spelling.{Recorded}
-use Rattle.pg_search.specs.Changes.{AreKeptOf, WitnessedAmongKept}
+use Rattle.pg_search.specs.Changes.{WitnessedAmongKept}
 use Rattle.pg_search.specs.Freshness.{is_as_fresh, is_as_fresh_back}
 use Rattle.pg_search.specs.Law.{AreWitness}
 use Rattle.pg_outcomes.specs.declared.allowed.Allowed.{Allowed}
 use Rattle.pg_reach.specs.Placed.{with_outcome}
-use Rattle.pg_outcomes.specs.Allowing.{IsAllowed, IsBefore, IsTold, AreOutcomes}
+use Rattle.pg_outcomes.specs.Allowing.{IsAllowed, IsBefore, IsTold}
 use Rattle.pg_outcomes.specs.Law.{OutcomesAmongKept, OutcomesAreOne}
 
 -- ---- moments

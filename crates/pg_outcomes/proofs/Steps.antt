@@ -104,10 +104,13 @@ ok_more P Q more (Err e) h = tt
 -- what is found for an outcome
 
 pub told_of : (r : Recorded) (n : ℕ) (e : Event) (found : Findings) (o : Outcome) (ws : List ℕ) → AreByOutcome r n e found → found o ≡ Some ws → IsToldOf r n e o (record { outcome = o; moments = ws })
-told_of r n e found o ws h is = (refl, record {
-  witness = subst (λ x. IfSome x (AreWitness r.head r.events n (with_outcome o e))) is (h.some o);
-  freshest = subst (λ x. IfSome x (AreFreshestOf r.head r.events n (with_outcome o e))) is (h.freshest o);
-})
+told_of r n e found o ws h is = (
+  refl,
+  record {
+    witness = subst (λ x. IfSome x (AreWitness r.head r.events n (with_outcome o e))) is (h.some o);
+    freshest = subst (λ x. IfSome x (AreFreshestOf r.head r.events n (with_outcome o e))) is (h.freshest o);
+  },
+)
 
 pub none_of : (r : Recorded) (n : ℕ) (e : Event) (found : Findings) (o : Outcome) → AreByOutcome r n e found → found o ≡ None → IsAllowed r.head r.events n e o → ⊥
 none_of r n e found o h is allowed = h.none o is allowed.0 allowed.1

@@ -1,34 +1,30 @@
 -- What the moments of an access say of its outcome.
-use Rattle.std.proofs.Common.{◌≡◌, ℕ, ◌+◌, ◌-◌, ◌*◌, ◌/◌, ◌<◌, ◌≤◌, ◌%◌, ◌^◌, ◌==◌, ◌&&◌, not, nat_le, Bool, true, cond, List, [], ◌∷◌, refl, ap, sym, ◌∙◌, subst, inl, inr, ◌⊎◌, arith, Some, None}
-use Rattle.std.proofs.lemmas.Bool.{and_parts, eq-eqb, eqb-true, leb-true}
+use Rattle.std.proofs.Common.{◌≡◌, ℕ, ◌+◌, ◌-◌, ◌*◌, ◌/◌, ◌<◌, ◌≤◌, ◌%◌, ◌^◌, nat_le, true, cond, List, [], ◌∷◌, refl, ap, sym, ◌∙◌, subst, inl, inr, ◌⊎◌, arith, Option, Some, None}
+use Rattle.std.proofs.lemmas.Bool.{and_parts, eq-eqb, leb-true}
 use Rattle.std.proofs.Math.Nat.{mod-lt}
 use Rattle.std.proofs.lemmas.Nat.{mod-mul-add}
 use Rattle.pg_entry.specs.declared.Cfg.{Cfg}
 use Rattle.pg_entry.specs.declared.Cause.{Cause}
-use Rattle.pg_entry.specs.declared.Cause.TheVariants as causes
-use Rattle.pg_entry.specs.declared.Kind.{Kind}
-use Rattle.pg_entry.specs.declared.Kind.TheVariants as kinds
 use Rattle.pg_entry.specs.declared.Level.{Level}
 use Rattle.pg_entry.specs.declared.Level.TheVariants.{Four, Three}
 use Rattle.pg_entry.specs.declared.AccessKind.{AccessKind}
 use Rattle.pg_entry.specs.declared.Rights.{Rights}
 use Rattle.pg_entry.specs.Kinds.{kind_of, table_of}
-use Rattle.pg_entry.specs.Permission.{is_allowed, fault_code}
+use Rattle.pg_entry.specs.Permission.{fault_code}
 use Rattle.pg_event.specs.declared.claim.Claim.{Claim}
 use Rattle.pg_event.specs.declared.control.Control.{Control}
 use Rattle.pg_event.specs.declared.event.Event.{Event}
-use Rattle.pg_event.specs.declared.event.Outcome.{Outcome}
 use Rattle.pg_event.specs.declared.event.Outcome.TheVariants.{Page, Fault}
 use Rattle.pg_event.specs.declared.walk.Parent.{Parent}
 use Rattle.pg_event.specs.Heads.{Head}
-use Rattle.pg_event.specs.Invalidation.{level_shift, translation_key, must_drop_translation}
+use Rattle.pg_event.specs.Invalidation.{level_shift}
 use Rattle.pg_event.specs.Spelling.{Recorded}
 use Rattle.pg_event.specs.Values.{mem_at, control_at}
 use Rattle.pg_event.specs.Walk.{Reading, readings, below, entry_address}
-use Rattle.pg_event.specs.Witness.{last_or, survives, is_in_order, failing_leaf, failing_fault, failing_end, failing_access}
+use Rattle.pg_event.specs.Witness.{last_or, is_in_order, failing_access}
 use Rattle.pg_run_of.specs.Plan.{root_at}
 use Rattle.pg_run_of.proofs.Standing.{seen, given}
-use Rattle.pg_run_of.proofs.Accesses.{guard_none, bar_none, last_none, claim_holds}
+use Rattle.pg_run_of.proofs.Accesses.{claim_holds}
 use Rattle.pg_run_of.proofs.Chains.{reading_at}
 use Rattle.pg_reach.specs.Given.{page_by, cause_of, code_by}
 use Rattle.pg_reach.proofs.Gives.{page_end, code_end}
