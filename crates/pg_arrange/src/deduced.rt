@@ -181,7 +181,7 @@ impl<'a> Maker<'a> {
     /// What all walks that may witness an event need: none where there is no such walk; nothing
     /// where not all of them are known. What some need is added to `open`.
     fn needs_of_all(
-        &self,
+        &mut self,
         asked: &Asked,
         open: &mut Vec<Edge>,
     ) -> Result<Option<Vec<Edge>>, AllocError> {

@@ -4,7 +4,7 @@
 ghost use Rattle.std.specs.Prelude.{◌≤◌};
 
 use crate::lists::Lists;
-use crate::numbers::{NEVER, after_last, first_from, number};
+use crate::numbers::{NEVER, after_last, first_from};
 use pg_entry::Level;
 use pg_event::{Control, Event, Outcome, bits_from, changes_pge, level_shift};
 use std::alloc::{AllocError, Global};
@@ -19,13 +19,31 @@ enum Scope {
     Structures(u16),
     /// Translations of a PCID that are not global.
     Space(u16),
-    /// Structure entries of level 4 of a PCID for an address.
+    /// What lies in a range of addresses.
+    Of(Range),
+}
+
+/// What is cached of the addresses that have the same entry at a level.
+#[derive(Clone, Copy)]
+pub(crate) enum Range {
+    /// Structure entries of level 4 of a PCID.
     Top(u16),
-    /// Translations of a PCID for an address, and structure entries of this level for it. What
-    /// drops the translations alone drops all structure entries of the PCID.
+    /// Translations of a PCID, and structure entries of this level. What drops the translations
+    /// alone drops all structure entries of the PCID.
     Page(u16, Level),
-    /// Translations for an address that are global.
+    /// Global translations.
     GlobalPage(Level),
+}
+
+/// What an event drops for an address: of a PCID, and for each size of page.
+#[derive(Clone, Copy)]
+struct Dropped {
+    pcid: u16,
+    la: u64,
+    /// Whether it drops structure entries of level 4 for this address alone.
+    is_top: bool,
+    /// Whether it drops global translations.
+    is_global: bool,
 }
 
 /// For each processor and scope the events by which it is dropped, by their places among those of
@@ -33,12 +51,9 @@ enum Scope {
 #[derive(Drop)]
 pub(crate) struct Drops {
     lists: Vec<Lists>,
+    /// Those of all ranges but the pages of a PCID, once they are asked for often.
+    wide: Vec<Lists>,
 }
-
-/// So many scopes of all processors are found quickly, and so many of each.
-const SLOTS: u32 = 16_384;
-
-const LEAST_SLOTS: u32 = 64;
 
 const PAGES: [Level; 3] = [Level::One, Level::Two, Level::Three];
 
@@ -54,40 +69,149 @@ pub(crate) fn rank_of(level: Level) -> u64
     }
 }
 
+impl Range {
+    /// The level of the entry that all its addresses have.
+    fn level(self) -> Level {
+        match self {
+            Range::Top(_) => Level::Four,
+            Range::Page(_, level) | Range::GlobalPage(level) => level,
+        }
+    }
+}
+
+/// What an address has in common with all others of a range.
+fn prefix(range: Range, la: u64) -> u64 {
+    bits_from(level_shift(range.level()), la)
+}
+
 fn key(scope: Scope, la: u64) -> u64 {
-    let (kind, pcid, level) = match scope {
-        Scope::All => (0, 0, None),
-        Scope::Most => (1, 0, None),
-        Scope::Structures(pcid) => (2, pcid, None),
-        Scope::Space(pcid) => (3, pcid, None),
-        Scope::Top(pcid) => (4, pcid, Some(Level::Four)),
-        Scope::Page(pcid, level) => (7 + rank_of(level), pcid, Some(level)),
-        Scope::GlobalPage(level) => (10 + rank_of(level), 0, Some(level)),
+    let (kind, pcid) = match scope {
+        Scope::All => (0, 0),
+        Scope::Most => (1, 0),
+        Scope::Structures(pcid) => (2, pcid),
+        Scope::Space(pcid) => (3, pcid),
+        Scope::Of(Range::Top(pcid)) => (4, pcid),
+        Scope::Of(Range::Page(pcid, level)) => (7 + rank_of(level), pcid),
+        Scope::Of(Range::GlobalPage(level)) => (10 + rank_of(level), 0),
     };
-    let bits = match level {
-        Some(level) => bits_from(level_shift(level), la),
-        None => 0,
+    let bits = match scope {
+        Scope::Of(range) => prefix(range, la),
+        _ => 0,
     };
     kind << 58 ^ (pcid as u64) << 36 ^ bits
+}
+
+/// The address of which an event drops what is cached, where it drops that alone.
+fn address_of(event: &Event) -> Option<u64> {
+    match *event {
+        Event::Access {
+            la,
+            outcome: Outcome::Fault(_),
+            ..
+        }
+        | Event::Invlpg { la, .. }
+        | Event::Invpcid { kind: 0, la, .. } => Some(la),
+        Event::Access {
+            outcome: Outcome::Page(_),
+            ..
+        }
+        | Event::Write { .. }
+        | Event::Assist { .. }
+        | Event::MovCr3 { .. }
+        | Event::MovCr4Pge { .. }
+        | Event::Invpcid { .. } => None,
+    }
+}
+
+/// What an event drops for an address alone. Without PGE there are no global translations.
+fn dropped_by(event: &Event, control: Control) -> Option<Dropped> {
+    let la = address_of(event)?;
+    match *event {
+        Event::Invpcid { pcid, .. } => Some(Dropped {
+            pcid,
+            la,
+            is_top: true,
+            is_global: false,
+        }),
+        Event::Access { .. }
+        | Event::Invlpg { .. }
+        | Event::Write { .. }
+        | Event::Assist { .. }
+        | Event::MovCr3 { .. }
+        | Event::MovCr4Pge { .. } => Some(Dropped {
+            pcid: control.pcid,
+            la,
+            is_top: !matches!(event, Event::Invlpg { .. }),
+            is_global: control.pge,
+        }),
+    }
+}
+
+/// Whether an event may drop what lies in the range that an address has, whatever the control
+/// registers.
+pub(crate) fn may_drop(event: &Event, range: Range, la: u64) -> bool {
+    match address_of(event) {
+        Some(other) => prefix(range, other) == prefix(range, la),
+        None => false,
+    }
+}
+
+/// Whether an event drops what lies in the range that an address has.
+pub(crate) fn drops_range(event: &Event, control: Control, range: Range, la: u64) -> bool {
+    let Some(dropped) = dropped_by(event, control) else {
+        return false;
+    };
+    let is_its = match range {
+        Range::Top(pcid) => dropped.is_top && dropped.pcid == pcid,
+        Range::Page(pcid, _) => dropped.pcid == pcid,
+        Range::GlobalPage(_) => dropped.is_global,
+    };
+    is_its && prefix(range, dropped.la) == prefix(range, la)
+}
+
+/// So many lists of lists, of which none has a number yet.
+fn no_lists(alloc: Global, count: usize) -> Result<Vec<Lists>, AllocError> {
+    let mut lists = Vec::with_capacity(alloc, count)?;
+    for _ in 0..count {
+        lists.push(Lists::new(alloc))?;
+    }
+    Ok(lists)
+}
+
+fn settle_all(lists: &mut Vec<Lists>) -> Result<(), AllocError> {
+    for lists in lists.iter_mut() {
+        lists.settle()?;
+    }
+    Ok(())
 }
 
 impl Drops {
     /// Of so many processors.
     pub(crate) fn new(alloc: Global, processors: usize) -> Result<Drops, AllocError> {
-        let mut lists = Vec::with_capacity(alloc, processors)?;
-        let share = SLOTS.checked_div(number(processors)).unwrap_or(0);
-        for _ in 0..processors {
-            lists.push(Lists::new(alloc, share.max(LEAST_SLOTS)))?;
-        }
-        Ok(Drops { lists })
+        Ok(Drops {
+            lists: no_lists(alloc, processors)?,
+            wide: Vec::new(alloc),
+        })
     }
 
     /// Makes the lists, once all is noted.
     pub(crate) fn settle(&mut self) -> Result<(), AllocError> {
-        for lists in self.lists.iter_mut() {
-            lists.settle()?;
-        }
+        settle_all(&mut self.lists)
+    }
+
+    /// Whether there are lists of the other ranges.
+    pub(crate) fn is_wide(&self) -> bool {
+        !self.wide.is_empty()
+    }
+
+    /// Begins the lists of the other ranges.
+    pub(crate) fn begin_wide(&mut self, alloc: Global) -> Result<(), AllocError> {
+        self.wide = no_lists(alloc, self.lists.len())?;
         Ok(())
+    }
+
+    pub(crate) fn settle_wide(&mut self) -> Result<(), AllocError> {
+        settle_all(&mut self.wide)
     }
 
     fn push(&mut self, p: u16, scope: Scope, la: u64, place: u32) -> Result<(), AllocError> {
@@ -107,85 +231,82 @@ impl Drops {
         self.push(p, Scope::Most, 0, place)
     }
 
-    fn push_pages(
-        &mut self,
-        p: u16,
-        pcid: u16,
-        la: u64,
-        globals: bool,
-        place: u32,
-    ) -> Result<(), AllocError> {
-        for level in PAGES {
-            self.push(p, Scope::Page(pcid, level), la, place)?;
-            if globals {
-                self.push(p, Scope::GlobalPage(level), la, place)?;
-            }
-        }
-        Ok(())
-    }
-
-    fn note_invpcid(
-        &mut self,
-        p: u16,
-        kind: u8,
-        pcid: u16,
-        la: u64,
-        place: u32,
-    ) -> Result<(), AllocError> {
+    fn note_invpcid(&mut self, p: u16, kind: u8, pcid: u16, place: u32) -> Result<(), AllocError> {
         match kind {
-            0 => {
-                self.push(p, Scope::Top(pcid), la, place)?;
-                self.push_pages(p, pcid, la, false, place)
-            }
+            0 => Ok(()),
             1 => self.push_space(p, pcid, place),
             2 => self.push_all(p, place),
             _ => self.push(p, Scope::Most, 0, place),
         }
     }
 
-    /// Notes what an event drops, which stands at this place among those of its processor. Without
-    /// PGE there are no global translations, and a change of PGE drops all.
+    /// Notes what an event drops, which stands at this place among those of its processor: of ranges
+    /// the pages of a PCID. A change of PGE drops all.
     pub(crate) fn note(
         &mut self,
+        p: u16,
         event: &Event,
         control: Control,
         place: u32,
     ) -> Result<(), AllocError> {
-        let pcid = control.pcid;
+        if let Some(Dropped { pcid, la, .. }) = dropped_by(event, control) {
+            self.push(p, Scope::Of(Range::Page(pcid, Level::One)), la, place)?;
+        }
         match *event {
-            Event::Access {
-                p,
-                la,
-                outcome: Outcome::Fault(_),
-                ..
-            } => {
-                self.push(p, Scope::Top(pcid), la, place)?;
-                self.push_pages(p, pcid, la, control.pge, place)
-            }
-            Event::MovCr3 { p, operand } => {
+            Event::MovCr3 { operand, .. } => {
                 if operand >> 63 > 0 {
                     return Ok(());
                 }
                 self.push_space(p, (operand % 4096) as u16, place)
             }
-            Event::Invlpg { p, la } => {
-                self.push(p, Scope::Structures(pcid), 0, place)?;
-                self.push_pages(p, pcid, la, control.pge, place)
-            }
-            Event::Invpcid { p, kind, pcid, la } => self.note_invpcid(p, kind, pcid, la, place),
-            Event::MovCr4Pge { p, on } => {
+            Event::Invlpg { .. } => self.push(p, Scope::Structures(control.pcid), 0, place),
+            Event::Invpcid { kind, pcid, .. } => self.note_invpcid(p, kind, pcid, place),
+            Event::MovCr4Pge { on, .. } => {
                 if !changes_pge(control, on) {
                     return Ok(());
                 }
                 self.push_all(p, place)
             }
-            Event::Access {
-                outcome: Outcome::Page(_),
-                ..
-            }
-            | Event::Write { .. }
-            | Event::Assist { .. } => Ok(()),
+            Event::Access { .. } | Event::Write { .. } | Event::Assist { .. } => Ok(()),
         }
+    }
+
+    fn push_wide(&mut self, p: u16, range: Range, la: u64, place: u32) -> Result<(), AllocError> {
+        match self.wide.get_mut(p as usize) {
+            Some(lists) => lists.push(key(Scope::Of(range), la), place),
+            None => Ok(()),
+        }
+    }
+
+    /// Notes what an event drops of the other ranges.
+    pub(crate) fn note_wide(
+        &mut self,
+        p: u16,
+        event: &Event,
+        control: Control,
+        place: u32,
+    ) -> Result<(), AllocError> {
+        let Some(dropped) = dropped_by(event, control) else {
+            return Ok(());
+        };
+        let Dropped {
+            pcid,
+            la,
+            is_top,
+            is_global,
+        } = dropped;
+        if is_top {
+            self.push_wide(p, Range::Top(pcid), la, place)?;
+        }
+        for level in PAGES {
+            if level != Level::One {
+                self.push_wide(p, Range::Page(pcid, level), la, place)?;
+            }
+            if is_global {
+                self.push_wide(p, Range::GlobalPage(level), la, place)?;
+            }
+        }
+        Ok(())
     }
 
     fn of(&self, p: u16, scope: Scope, la: u64) -> &[u32] {
@@ -195,67 +316,48 @@ impl Drops {
         }
     }
 
+    /// When a page of a PCID is dropped.
+    pub(crate) fn page(&self, p: u16, pcid: u16, la: u64) -> &[u32] {
+        self.of(p, Scope::Of(Range::Page(pcid, Level::One)), la)
+    }
+
+    /// When one of the other ranges is dropped, once there are such lists.
+    pub(crate) fn wide(&self, p: u16, range: Range, la: u64) -> &[u32] {
+        match self.wide.get(p as usize) {
+            Some(lists) => lists.of(key(Scope::Of(range), la)),
+            None => &[],
+        }
+    }
+
     /// When structure entries of a PCID for an address are dropped.
     pub(crate) fn structures(&self, p: u16, pcid: u16, la: u64) -> StructureDrops<'_> {
         StructureDrops {
             most: self.of(p, Scope::Most, 0),
             space: self.of(p, Scope::Structures(pcid), 0),
-            four: self.of(p, Scope::Top(pcid), la),
-            three: self.of(p, Scope::Page(pcid, Level::Three), la),
-            two: self.of(p, Scope::Page(pcid, Level::Two), la),
+            is_wide: self.is_wide(),
+            four: self.wide(p, Range::Top(pcid), la),
+            three: self.wide(p, Range::Page(pcid, Level::Three), la),
+            two: self.wide(p, Range::Page(pcid, Level::Two), la),
         }
     }
 
-    /// The last slot up to which a translation of a slot lasts; of global ones the PCID is of no
-    /// account.
-    pub(crate) fn translation_to(
-        &self,
-        p: u16,
-        page: (u16, Level, bool),
-        la: u64,
-        slot: u32,
-    ) -> u32 {
-        let (pcid, level, is_global) = page;
+    /// The last slot up to which a translation of a slot lasts, whatever its address; of global
+    /// ones the PCID is of no account.
+    pub(crate) fn all_to(&self, p: u16, pcid: u16, is_global: bool, slot: u32) -> u32 {
         if is_global {
-            let all = first_from(self.of(p, Scope::All, 0), slot);
-            return all.min(first_from(self.of(p, Scope::GlobalPage(level), la), slot));
+            return first_from(self.of(p, Scope::All, 0), slot);
         }
         let most = first_from(self.of(p, Scope::Most, 0), slot);
-        let space = first_from(self.of(p, Scope::Space(pcid), 0), slot);
-        let page = first_from(self.of(p, Scope::Page(pcid, level), la), slot);
-        most.min(space).min(page)
+        most.min(first_from(self.of(p, Scope::Space(pcid), 0), slot))
     }
 
-    /// The first slot from which on a translation lasts, for each size of page, of translations of
-    /// the PCID and of global ones, where there are such.
-    pub(crate) fn translations_from(
-        &self,
-        p: u16,
-        control: Control,
-        la: u64,
-        slot: u32,
-    ) -> [(u32, u32); 3] {
-        let pcid = control.pcid;
-        let most = after_last(self.of(p, Scope::Most, 0), slot);
-        let space = after_last(self.of(p, Scope::Space(pcid), 0), slot);
-        let own = most.max(space);
-        let mut lows = [(own, NEVER); 3];
-        for (i, level) in PAGES.iter().enumerate() {
-            let page = after_last(self.of(p, Scope::Page(pcid, *level), la), slot);
-            if let Some(low) = lows.get_mut(i) {
-                low.0 = own.max(page);
-                if control.pge {
-                    low.1 = self.global_from(p, *level, la, slot);
-                }
-            }
+    /// The first slot from which on a translation lasts, whatever its address.
+    pub(crate) fn all_from(&self, p: u16, pcid: u16, is_global: bool, slot: u32) -> u32 {
+        if is_global {
+            return after_last(self.of(p, Scope::All, 0), slot);
         }
-        lows
-    }
-
-    /// The first slot from which on a global translation lasts.
-    fn global_from(&self, p: u16, level: Level, la: u64, slot: u32) -> u32 {
-        let all = after_last(self.of(p, Scope::All, 0), slot);
-        all.max(after_last(self.of(p, Scope::GlobalPage(level), la), slot))
+        let most = after_last(self.of(p, Scope::Most, 0), slot);
+        most.max(after_last(self.of(p, Scope::Space(pcid), 0), slot))
     }
 }
 
@@ -264,12 +366,19 @@ impl Drops {
 pub(crate) struct StructureDrops<'d> {
     most: &'d [u32],
     space: &'d [u32],
+    is_wide: bool,
+    /// Of each level, where wide ranges are listed.
     four: &'d [u32],
     three: &'d [u32],
     two: &'d [u32],
 }
 
 impl<'d> StructureDrops<'d> {
+    /// Whether all of them are listed here, and not only those of any address.
+    pub(crate) fn is_wide(&self) -> bool {
+        self.is_wide
+    }
+
     /// Of entries of a level.
     fn prefix(&self, level: Level) -> &'d [u32] {
         match level {
@@ -280,7 +389,7 @@ impl<'d> StructureDrops<'d> {
         }
     }
 
-    /// The first slot from which on an entry lasts up to a slot.
+    /// The first slot from which on an entry lasts up to a slot, by what is listed here.
     pub(crate) fn from(&self, level: Level, slot: u32) -> u32 {
         let most = after_last(self.most, slot);
         let space = after_last(self.space, slot);
@@ -288,12 +397,8 @@ impl<'d> StructureDrops<'d> {
         most.max(space).max(prefix)
     }
 
-    /// The last slot up to which an entry of a slot lasts, as far as those of level 2 do.
+    /// The last slot up to which an entry of a slot lasts, by what is listed here for addresses.
     pub(crate) fn to(&self, level: Level, slot: u32) -> u32 {
-        match level {
-            Level::Four => first_from(self.four, slot),
-            Level::Three => first_from(self.three, slot),
-            Level::Two | Level::One => NEVER,
-        }
+        first_from(self.prefix(level), slot)
     }
 }

@@ -40,9 +40,6 @@ pub(crate) struct Facts<'a> {
 /// A step is so many events for each processor.
 const STEP: u32 = 8;
 
-/// So many words are found quickly.
-const WORD_SLOTS: u32 = 16_384;
-
 /// The word that an event writes, if it writes one.
 pub(crate) fn word_of(event: &Event) -> Option<u64> {
     match *event {
@@ -83,7 +80,7 @@ impl<'a> Facts<'a> {
             step: number(processors).saturating_mul(STEP),
             drops: Drops::new(alloc, processors)?,
             stays: Stays::new(alloc),
-            writes: Lists::new(alloc, WORD_SLOTS),
+            writes: Lists::new(alloc),
             reach: 0,
             sure: Sure::none(alloc),
         };
@@ -132,7 +129,7 @@ impl<'a> Facts<'a> {
 
     fn note_control(&mut self, event: &Event, p: u16, place: u32) -> Result<(), AllocError> {
         let control = self.stays.control(p, place);
-        self.drops.note(event, control, place)?;
+        self.drops.note(p, event, control, place)?;
         if matches!(event, Event::MovCr3 { .. } | Event::MovCr4Pge { .. }) {
             let maxphyaddr = self.run.header().cfg.m;
             let next = controlled(maxphyaddr, p, control, event);

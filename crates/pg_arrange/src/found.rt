@@ -1,10 +1,10 @@
 //! Translations that were found to stand in the order so far.
 
-use crate::numbers::{NEVER, at, number};
+use crate::keys::Keys;
+use crate::numbers::{NEVER, number};
 use pg_entry::{Level, Rights};
 use pg_event::bits_from;
 use std::alloc::{AllocError, Global};
-use std::collections::HashMap;
 use std::mem::swap;
 
 /// So many are kept at least. Twice as many are at most: those before are forgotten.
@@ -41,9 +41,9 @@ struct Noted {
 
 #[derive(Drop)]
 pub(crate) struct Found {
-    ids: HashMap<u64, u32>,
-    /// For each address the place of the last that was found, or `NEVER`.
-    last: Vec<u32>,
+    /// With each address the place of the last that was found, or `NEVER`, and a slot after which
+    /// none lasts: most are dropped before the address is used again.
+    addresses: Keys,
     /// How many were forgotten.
     forgotten: u32,
     /// Those after, and then the latest.
@@ -71,42 +71,33 @@ impl Noted {
 impl Found {
     pub(crate) fn new(alloc: Global) -> Found {
         Found {
-            ids: HashMap::new(alloc),
-            last: Vec::new(alloc),
+            addresses: Keys::new(alloc),
             forgotten: 0,
             older: Vec::new(alloc),
             noted: Vec::new(alloc),
         }
     }
 
-    /// The place of the last for an address, or `NEVER`.
-    pub(crate) fn last(&self, p: u16, la: u64) -> u32 {
-        match self.ids.get(&key(p, la)) {
-            Some(id) => self.last_of(*id),
-            None => NEVER,
+    /// The place of the last for an address, or `NEVER` where none lasts up to this slot.
+    pub(crate) fn last(&self, p: u16, la: u64, slot: u32) -> u32 {
+        let id = self.addresses.find(key(p, la)).unwrap_or(NEVER);
+        match self.addresses.get(id) {
+            Some(address) if slot <= address.last => address.first,
+            _ => NEVER,
         }
     }
 
-    /// The number of an address, which it gets once something is found for it.
-    fn id(&mut self, key: u64) -> Result<u32, AllocError> {
-        match self.ids.get(&key) {
-            Some(id) => Ok(*id),
-            None => {
-                let id = number(self.last.len());
-                self.last.push(NEVER)?;
-                self.ids.insert(key, id)?;
-                Ok(id)
+    /// Notes the place of the last for the address with this number, and up to where it lasts. The
+    /// place of the one before it.
+    fn note_last(&mut self, id: u32, place: u32, until: u32) -> u32 {
+        match self.addresses.get_mut(id) {
+            Some(address) => {
+                let before = address.first;
+                address.first = place;
+                address.last = address.last.max(until);
+                before
             }
-        }
-    }
-
-    fn last_of(&self, id: u32) -> u32 {
-        at(&self.last, id)
-    }
-
-    fn set_last(&mut self, id: u32, place: u32) {
-        if let Some(last) = self.last.get_mut(id as usize) {
-            *last = place;
+            None => NEVER,
         }
     }
 
@@ -153,10 +144,9 @@ impl Found {
         moment: u32,
     ) -> Result<(), AllocError> {
         self.make_room();
-        let id = self.id(key(p, la))?;
-        let before = self.last_of(id);
+        let id = self.addresses.find_or_add(key(p, la), NEVER, 0)?;
         let place = self.middle().saturating_add(number(self.noted.len()));
-        self.set_last(id, place);
+        let before = self.note_last(id, place, known.until);
         self.noted.push(Noted {
             value: known.value,
             until: known.until,
@@ -196,7 +186,7 @@ impl Found {
                 break;
             }
             self.pop();
-            self.set_last(noted.id, noted.before);
+            self.note_last(noted.id, noted.before, 0);
         }
     }
 }

@@ -20,6 +20,12 @@ impl Looked {
         }
     }
 
+    /// Forgets all of them.
+    pub(crate) fn clear(&mut self) {
+        self.count = 0;
+        self.is_full = false;
+    }
+
     pub(crate) fn note(&mut self, word: u64) {
         if self.may_have(word) {
             return;

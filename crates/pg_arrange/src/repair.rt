@@ -96,10 +96,11 @@ fn key_of(event: u32, edges: &[Edge]) -> u64 {
 impl<'a> Maker<'a> {
     /// The walks that may witness an event in some order, and whether all were looked at.
     pub(crate) fn possible_hits(
-        &self,
+        &mut self,
         asked: &Asked,
         limits: Limits,
     ) -> Result<(Vec<Hit>, bool), AllocError> {
+        self.widen_if_due()?;
         let view = View {
             facts: &self.facts,
             made: &self.made,
@@ -107,12 +108,18 @@ impl<'a> Maker<'a> {
         };
         let mut sweep = Sweep::new(self.alloc, view, asked, limits, Looked::new());
         sweep.run()?;
-        let Sweep { hits, is_whole, .. } = sweep;
+        let Sweep {
+            hits,
+            is_whole,
+            looks,
+            ..
+        } = sweep;
+        self.looks = self.looks.saturating_add(looks);
         Ok((hits, is_whole))
     }
 
     /// Some walks that may witness an event; where there is none, whether that is sure.
-    fn some_hits(&self, asked: &Asked, is_hard: bool) -> Result<(Vec<Hit>, bool), AllocError> {
+    fn some_hits(&mut self, asked: &Asked, is_hard: bool) -> Result<(Vec<Hit>, bool), AllocError> {
         let (windows, hits) = if is_hard { (64, 512) } else { (6, 64) };
         let found = self.possible_hits(
             asked,

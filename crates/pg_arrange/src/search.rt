@@ -83,6 +83,8 @@ pub(crate) struct Maker<'a> {
     pub made: Made,
     found: Found,
     scratch: Scratch,
+    /// The words that were looked at for the event that was asked last.
+    looked: Looked,
     pub learned: Learned,
     pub tries: Tries,
     pub chance: Chance,
@@ -92,6 +94,8 @@ pub(crate) struct Maker<'a> {
     fronts: Vec<Front>,
     /// How much of what was raised in `facts.sure` is sure, and not supposed.
     pub surely: usize,
+    /// How many events were looked at one by one for what they drop.
+    pub looks: u32,
 }
 
 /// The rank of writes, after all others.
@@ -150,12 +154,14 @@ impl<'a> Maker<'a> {
             made,
             found: Found::new(alloc),
             scratch: Scratch::new(alloc),
+            looked: Looked::new(),
             learned: Learned::new(alloc),
             tries: Tries::new(alloc),
             chance: Chance::new(1),
             waits: vec![in alloc; Wait::none(); processors]?,
             fronts: vec![in alloc; none; processors]?,
             surely: 0,
+            looks: 0,
         };
         maker.find_fronts();
         Ok(maker)
@@ -213,25 +219,32 @@ impl<'a> Maker<'a> {
         })
     }
 
-    /// Whether an event is witnessed if it comes next, by a search of so many windows; what it
-    /// looked at, and whether these were all windows.
-    fn look(&mut self, asked: &Asked, windows: u32) -> Result<(bool, Looked, bool), AllocError> {
+    /// Lists the drops of wide ranges, once so many events were looked at for them one by one as
+    /// there are in all.
+    pub(crate) fn widen_if_due(&mut self) -> Result<(), AllocError> {
+        if self.looks as usize > self.facts.run.len() {
+            self.facts.widen(self.alloc)?;
+        }
+        Ok(())
+    }
+
+    /// Whether an event is witnessed if it comes next, by all windows.
+    pub(crate) fn is_witnessed(&mut self, asked: &Asked) -> Result<bool, AllocError> {
+        self.widen_if_due()?;
+        self.looked.clear();
         let mut witness = Witness {
             alloc: self.alloc,
             facts: &self.facts,
             made: &self.made,
             found: &mut self.found,
             scratch: &mut self.scratch,
-            looked: Looked::new(),
+            looked: &mut self.looked,
             is_whole: true,
+            looks: 0,
         };
-        let can_come = witness.is_witnessed(asked, windows)?;
-        Ok((can_come, witness.looked, witness.is_whole))
-    }
-
-    /// Whether an event is witnessed if it comes next, by all windows.
-    pub(crate) fn is_witnessed(&mut self, asked: &Asked) -> Result<bool, AllocError> {
-        Ok(self.look(asked, ALL_WINDOWS)?.0)
+        let is_witnessed = witness.is_witnessed(asked, ALL_WINDOWS)?;
+        self.looks = self.looks.saturating_add(witness.looks);
+        Ok(is_witnessed)
     }
 
     /// Whether an event waits that was not looked for in all windows.
@@ -244,32 +257,44 @@ impl<'a> Maker<'a> {
 
     /// Whether the next event of a processor can come next.
     fn may_come(&mut self, p: u16, event: u32) -> Result<bool, AllocError> {
-        let (windows, was_whole) = match self.waits.get(p as usize) {
-            Some(wait) if wait.event == event => {
-                if !wait.is_stale {
-                    return Ok(wait.can_come);
-                }
-                if wait.can_come {
-                    (FEW_WINDOWS, None)
-                } else {
-                    // What stood before the last drop is as it was.
-                    (1, Some(wait.is_whole))
-                }
-            }
-            _ => (FEW_WINDOWS, None),
+        match self.waits.get(p as usize) {
+            Some(wait) if wait.event == event && !wait.is_stale => Ok(wait.can_come),
+            _ => self.ask(p, event),
+        }
+    }
+
+    /// Asks anew whether the next event of a processor can come next.
+    fn ask(&mut self, p: u16, event: u32) -> Result<bool, AllocError> {
+        let is_again = match self.waits.get(p as usize) {
+            Some(wait) => wait.event == event && !wait.can_come,
+            None => false,
         };
         let control = self.front_control(p);
         let Some(asked) = asked_under(&self.facts, event, control) else {
             return Ok(true);
         };
-        let (can_come, looked, is_whole) = self.look(&asked, windows)?;
+        self.looked.clear();
+        let mut witness = Witness {
+            alloc: self.alloc,
+            facts: &self.facts,
+            made: &self.made,
+            found: &mut self.found,
+            scratch: &mut self.scratch,
+            looked: &mut self.looked,
+            is_whole: true,
+            looks: 0,
+        };
+        // If it waits in vain, what stood before the last drop is as it was.
+        let can_come = witness.is_witnessed(&asked, if is_again { 1 } else { FEW_WINDOWS })?;
+        let is_whole = witness.is_whole;
+        self.looks = self.looks.saturating_add(witness.looks);
         if let Some(wait) = self.waits.get_mut(p as usize) {
             *wait = Wait {
                 event,
                 can_come,
                 is_stale: false,
-                looked,
-                is_whole: was_whole.unwrap_or(is_whole),
+                looked: self.looked,
+                is_whole: if is_again { wait.is_whole } else { is_whole },
             };
         }
         Ok(can_come)
@@ -395,6 +420,7 @@ impl<'a> Maker<'a> {
     /// The next step: an event is put next, or others are taken back. Where none of these helps,
     /// the events that wait.
     fn step(&mut self) -> Result<Option<Vec<u32>>, AllocError> {
+        self.widen_if_due()?;
         match self.choose()? {
             Some(event) => {
                 self.put(event)?;

@@ -2,11 +2,12 @@
 //! the slots of its processor.
 
 use crate::asked::Asked;
-use crate::drops::StructureDrops;
+use crate::drops::{Range, StructureDrops};
 use crate::facts::Facts;
 use crate::looked::Looked;
 use crate::made::Made;
 use crate::numbers::NEVER;
+use crate::ranges::Area;
 use crate::stays::{Stay, last_in, next_in};
 use crate::versions::{Version, made_versions, possible_versions};
 use pg_entry::{Entry, Kind, Level, Rights, combine};
@@ -144,7 +145,8 @@ pub(crate) struct Sweep<'v> {
     /// The stays under the PCID in the window that is looked at, of which no part lies outside but
     /// of the first and the last.
     stays: &'v [Stay],
-    /// The end of the window.
+    /// The last slot of the window, and its end.
+    last: u32,
     end: u32,
     over: Vec<Spell>,
     under: Vec<Spell>,
@@ -154,6 +156,8 @@ pub(crate) struct Sweep<'v> {
     pub looked: Looked,
     /// Whether all was looked at.
     pub is_whole: bool,
+    /// So many events were looked at one by one for what they drop.
+    pub looks: u32,
 }
 
 /// Whether what was written to a word was surely overwritten before a source of what was read above
@@ -182,6 +186,7 @@ impl<'v> Sweep<'v> {
                 .drops
                 .structures(asked.p, asked.control.pcid, asked.la),
             stays: &[],
+            last: 0,
             end: 0,
             over: Vec::new(alloc),
             under: Vec::new(alloc),
@@ -189,6 +194,7 @@ impl<'v> Sweep<'v> {
             hits: Vec::new(alloc),
             looked,
             is_whole: true,
+            looks: 0,
         }
     }
 
@@ -203,22 +209,27 @@ impl<'v> Sweep<'v> {
         self.hits.len() >= self.limits.hits
     }
 
+    /// The first slot of the window that ends at a slot: structure entries of level 2 last from it.
+    fn window_from(&mut self, slot: u32) -> u32 {
+        let least = self.drops.from(Level::Two, slot);
+        if self.drops.is_wide() {
+            return least;
+        }
+        let range = Range::Page(self.pcid, Level::Two);
+        let Asked { p, la, .. } = *self.asked;
+        let facts = self.view.facts;
+        facts.wide_from(Area { p, range, la }, least, slot, &mut self.looks)
+    }
+
     /// All walks that end between the last drop and the event, or under any PCID where its page is
     /// global.
     pub(crate) fn run(&mut self) -> Result<(), AllocError> {
-        let Asked {
-            p,
-            slot,
-            control,
-            la,
-            ..
-        } = *self.asked;
-        if !self.asked.is_page() {
-            let from = self.drops.from(Level::Two, slot);
-            return self.window(from, slot);
-        }
-        let from = self.drops.from(Level::Two, slot);
+        let Asked { slot, control, .. } = *self.asked;
+        let from = self.window_from(slot);
         self.window(from, slot)?;
+        if !self.asked.is_page() {
+            return Ok(());
+        }
         self.is_newest = false;
         if self.is_done() || self.limits.windows < 2 {
             return Ok(());
@@ -269,8 +280,8 @@ impl<'v> Sweep<'v> {
             la,
             ..
         } = *self.asked;
-        let drops = &self.view.facts.drops;
-        let lows = drops.translations_from(p, control, la, slot);
+        let facts = self.view.facts;
+        let lows = facts.translations_from(p, control, la, slot, &mut self.looks);
         self.lows = Some(lows);
         lows
     }
@@ -298,7 +309,7 @@ impl<'v> Sweep<'v> {
         for _ in 0..self.limits.windows {
             match view.facts.stays.last(p, pcid, last) {
                 Some(end) if end >= least => {
-                    let from = self.drops.from(Level::Two, end);
+                    let from = self.window_from(end);
                     self.window(from, end)?;
                     if self.is_done() || from == 0 {
                         return Ok(());
@@ -316,6 +327,7 @@ impl<'v> Sweep<'v> {
     fn window(&mut self, first: u32, last: u32) -> Result<(), AllocError> {
         let view = self.view;
         let p = self.asked.p;
+        self.last = last;
         self.end = view.end(p, last);
         self.over.clear();
         let stays = view.facts.stays.of(p, self.pcid);
@@ -570,10 +582,25 @@ impl<'v> Sweep<'v> {
 
     /// Until when a structure entry of a slot lasts: those of level 2, and all that is dropped with
     /// them, up to the end of the window.
-    fn lasts_to(&self, level: Level, slot: u32) -> u32 {
-        match self.drops.to(level, slot) {
-            drop if drop == NEVER => self.end,
-            drop => self.view.end(self.asked.p, drop).min(self.end),
+    fn lasts_to(&mut self, level: Level, slot: u32) -> u32 {
+        let pcid = self.pcid;
+        let range = match level {
+            Level::Four => Range::Top(pcid),
+            Level::Three => Range::Page(pcid, level),
+            Level::Two | Level::One => return self.end,
+        };
+        let view = self.view;
+        let Asked { p, la, .. } = *self.asked;
+        let drop = if self.drops.is_wide() {
+            self.drops.to(level, slot)
+        } else {
+            let area = Area { p, range, la };
+            view.facts.wide_to(area, slot, self.last, &mut self.looks)
+        };
+        if drop >= self.last {
+            self.end
+        } else {
+            view.end(p, drop).min(self.end)
         }
     }
 

@@ -24,9 +24,11 @@ pub(crate) struct Witness<'w> {
     pub found: &'w mut Found,
     pub scratch: &'w mut Scratch,
     /// The words that were looked at.
-    pub looked: Looked,
+    pub looked: &'w mut Looked,
     /// Whether all windows were looked at.
     pub is_whole: bool,
+    /// So many events were looked at one by one for what they drop.
+    pub looks: u32,
 }
 
 /// What the walk of now comes to.
@@ -38,7 +40,7 @@ enum Now {
 
 impl<'w> Witness<'w> {
     fn is_known(&self, asked: &Asked) -> bool {
-        let mut next = self.found.last(asked.p, asked.la);
+        let mut next = self.found.last(asked.p, asked.la, asked.slot);
         for _ in 0..MOST_KNOWN {
             let Some((known, before)) = self.found.get(next) else {
                 return false;
@@ -78,7 +80,7 @@ impl<'w> Witness<'w> {
             rights = combine(rights, Entry(value));
             if asked.is_page() {
                 if asked.suits(self.facts, value, kind, rights) {
-                    return Now::Page(known_of(self.facts, asked, value, rights, level, kind));
+                    return Now::Page(self.known_of(asked, value, rights, level, kind));
                 }
             } else if asked.suits_now(self.facts, address, kind, rights) {
                 return Now::Witnessed;
@@ -112,7 +114,8 @@ impl<'w> Witness<'w> {
         self.sweep(asked, windows)
     }
 
-    fn sweep(&mut self, asked: &Asked, windows: u32) -> Result<bool, AllocError> {
+    /// The first walk in the order so far that witnesses the event.
+    fn first_hit(&mut self, asked: &Asked, windows: u32) -> Result<Option<Hit>, AllocError> {
         let view = View {
             facts: self.facts,
             made: self.made,
@@ -123,73 +126,83 @@ impl<'w> Witness<'w> {
             hits: 1,
             is_each: false,
         };
-        let mut sweep = Sweep::new(self.alloc, view, asked, limits, self.looked);
+        let mut sweep = Sweep::new(self.alloc, view, asked, limits, *self.looked);
         sweep.swap_lists(self.scratch);
         sweep.run()?;
         sweep.swap_lists(self.scratch);
-        self.looked = sweep.looked;
+        *self.looked = sweep.looked;
         self.is_whole = sweep.is_whole;
-        let Some(hit) = sweep.hits.first().copied() else {
+        self.looks = self.looks.saturating_add(sweep.looks);
+        Ok(sweep.hits.first().copied())
+    }
+
+    fn sweep(&mut self, asked: &Asked, windows: u32) -> Result<bool, AllocError> {
+        let Some(hit) = self.first_hit(asked, windows)? else {
             return Ok(false);
         };
         if asked.is_page() {
-            let known = known_by(self.facts, self.made, asked, &hit);
+            let known = self.known_by(asked, &hit);
             self.found.note(asked.p, asked.la, known, self.made.now())?;
         }
         Ok(true)
     }
-}
 
-/// A translation that the walk of now finds.
-fn known_of(
-    facts: &Facts<'_>,
-    asked: &Asked,
-    value: u64,
-    rights: Rights,
-    level: Level,
-    kind: Kind,
-) -> Known {
-    let is_global = matches!(
-        kind,
-        Kind::Leaf {
-            global_bit: true,
-            ..
-        }
-    ) && asked.control.pge;
-    let Asked {
-        p,
-        slot,
-        la,
-        control,
-        ..
-    } = *asked;
-    let page = (control.pcid, level, is_global);
-    Known {
-        value,
-        rights,
-        level,
-        is_global,
-        pcid: control.pcid,
-        until: facts.drops.translation_to(p, page, la, slot),
+    /// The last slot up to which a translation of a slot lasts.
+    fn until(&mut self, asked: &Asked, page: (u16, Level, bool), slot: u32) -> u32 {
+        let facts = self.facts;
+        let Asked { p, la, .. } = *asked;
+        facts.translation_to(p, page, la, slot, &mut self.looks)
     }
-}
 
-/// A translation that a walk found.
-fn known_by(facts: &Facts<'_>, made: &Made, asked: &Asked, hit: &Hit) -> Known {
-    let last = match hit.readings.get(hit.count.wrapping_sub(1)) {
-        Some(reading) => reading.to,
-        None => 0,
-    };
-    let Asked { p, la, .. } = *asked;
-    let page = (hit.pcid, hit.level, hit.is_global);
-    Known {
-        value: hit.value,
-        rights: hit.rights,
-        level: hit.level,
-        is_global: hit.is_global,
-        pcid: hit.pcid,
-        until: facts
-            .drops
-            .translation_to(p, page, la, made.slot(facts, p, last)),
+    /// A translation that the walk of now finds.
+    fn known_of(
+        &mut self,
+        asked: &Asked,
+        value: u64,
+        rights: Rights,
+        level: Level,
+        kind: Kind,
+    ) -> Known {
+        let is_global = matches!(
+            kind,
+            Kind::Leaf {
+                global_bit: true,
+                ..
+            }
+        ) && asked.control.pge;
+        let pcid = asked.control.pcid;
+        Known {
+            value,
+            rights,
+            level,
+            is_global,
+            pcid,
+            until: self.until(asked, (pcid, level, is_global), asked.slot),
+        }
+    }
+
+    /// A translation that a walk found.
+    fn known_by(&mut self, asked: &Asked, hit: &Hit) -> Known {
+        let last = match hit.readings.get(hit.count.wrapping_sub(1)) {
+            Some(reading) => reading.to,
+            None => 0,
+        };
+        let Hit {
+            value,
+            rights,
+            level,
+            is_global,
+            pcid,
+            ..
+        } = *hit;
+        let slot = self.made.slot(self.facts, asked.p, last);
+        Known {
+            value,
+            rights,
+            level,
+            is_global,
+            pcid,
+            until: self.until(asked, (pcid, level, is_global), slot),
+        }
     }
 }
