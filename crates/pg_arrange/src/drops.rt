@@ -240,8 +240,8 @@ impl Drops {
         }
     }
 
-    /// Notes what an event drops, which stands at this place among those of its processor: of ranges
-    /// the pages of a PCID. A change of PGE drops all.
+    /// Notes what an event drops, which stands at this place among those of its processor: of
+    /// ranges the pages of a PCID. A change of PGE drops all.
     pub(crate) fn note(
         &mut self,
         p: u16,

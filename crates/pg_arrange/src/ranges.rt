@@ -1,7 +1,7 @@
 //! When what a processor has cached of a range of addresses is dropped. The drops of the pages of a
-//! PCID are listed. Those of wide ranges, and of global pages, are several times as many, but seldom
-//! asked for: so they are listed only once the events were looked at one by one so often that it
-//! would take longer to go on with that.
+//! PCID are listed. Those of wide ranges, and of global pages, are several times as many, but
+//! seldom asked for: so they are listed only once the events were looked at one by one so often
+//! that it would take longer to go on with that.
 
 use crate::drops::{Range, drops_range, may_drop};
 use crate::facts::Facts;
