@@ -29,7 +29,7 @@ pub enum InOrder {
 }
 
 /// So many events are certified at a time, so that no copy of a whole run is made.
-const WINDOW: usize = 16_384;
+const WINDOW: usize = 1_024;
 
 /// The events of a run whose numbers stand between two places of a list.
 fn events_between(
