@@ -1,6 +1,6 @@
 -- The events in an order, one for each number.
-use Rattle.std.proofs.Common.{◌≡◌, ℕ, suc, ◌+◌, ◌<◌, List, [], ◌∷◌, length, length-append, ap, ◌∙◌, arith}
-use Rattle.std.specs.Prelude.{Some, slice_get, option_to_list}
+use Rattle.std.proofs.Common.{◌≡◌, ℕ, suc, ◌+◌, ◌<◌, List, [], ◌∷◌, length, length-append, Some, refl, ap, ◌∙◌, arith}
+use Rattle.std.specs.Prelude.{slice_get, option_to_list}
 use Rattle.pg_event.specs.declared.event.Event.{Event}
 use Rattle.pg_reach.proofs.Histories.{event_there}
 use Rattle.pg_spanned.specs.Orders.{ordered}
