@@ -6,9 +6,11 @@ pub mod ByTurns
 pub mod AtLines
 pub mod Whole
 mod AfterTurns
+mod Batches
+mod Beginnings
+mod GivenOut
 mod GoesOn
 mod OfScripts
-mod SameEvents
 mod Untaken
 mod WholeRuns
 mod WholeSegments

@@ -3,4 +3,5 @@ pub mod Runs
 pub mod Lines
 pub mod Boards
 pub mod Guests
+pub mod Given
 pub mod Live

@@ -3,10 +3,12 @@
 //! and the receipts of their processors.
 #![tactic(auto)]
 
+mod batch;
 mod board;
 mod ending;
 mod error;
 mod finished;
+mod given;
 mod guest;
 mod live_judging;
 mod lookout;
@@ -14,8 +16,8 @@ mod processor;
 mod processor_threads;
 mod record_report;
 mod result;
-mod same;
 mod segments;
+mod shared;
 mod single;
 mod turns;
 
