@@ -16,16 +16,15 @@ use pg_world::World;
 use std::alloc::{AllocError, Global};
 
 /// Processor `p` of a script, before the first of its instructions.
-fn processor_of(alloc: Global, script: &Script, p: u16) -> Result<Processor, AllocError>
+fn processor_of(alloc: Global, script: &Script, p: u16) -> Processor<'_>
     requires { p < length script.now.head.processors }
-    ensures { IfOk result (λ processor. IsNew script.now p processor) }
+    ensures { IsNew script.now p result }
 {
-    let instructions = Vec::from_slice(alloc, script.instructions(p))?;
-    Ok(Processor::new(alloc, script.header(), p, instructions))
+    Processor::new(alloc, script.header(), p, script.instructions(p))
 }
 
 /// The processors of a script, each before the first of its instructions.
-pub fn processors(alloc: Global, script: &Script) -> Result<Vec<Processor>, AllocError>
+pub fn processors(alloc: Global, script: &Script) -> Result<Vec<Processor<'_>>, AllocError>
     ensures made { IfOk result (λ processors. AreNew script.now processors.items) }
     ensures quiet { IfOk result
         (λ processors. IsQuiet (unwritten script.now.head) (map seen processors.items)) }
@@ -36,7 +35,7 @@ pub fn processors(alloc: Global, script: &Script) -> Result<Vec<Processor>, Allo
     let count = header.processors.len();
     let mut processors = Vec::new(alloc);
     for p in 0..count as u16 {
-        processors.push(processor_of(alloc, script, p)?)?;
+        processors.push(processor_of(alloc, script, p))?;
     }
     Ok(processors)
 }
@@ -50,7 +49,7 @@ pub fn processors(alloc: Global, script: &Script) -> Result<Vec<Processor>, Allo
 pub fn drive(
     alloc: Global,
     world: &mut World,
-    processors: &mut [Processor],
+    processors: &mut [Processor<'_>],
     turns: &[u16],
 ) -> Result<Vec<Advance>, AllocError>
     requires placed { ArePlaced world.old.head processors.old }

@@ -24,9 +24,9 @@ use std::marker::Model;
 /// A recorded processor: it carries out its instructions in their order, by turns, and keeps the
 /// receipts of its events.
 #[derive(Drop)]
-pub struct Processor {
+pub struct Processor<'a> {
     number: u16,
-    instructions: Vec<Instruction>,
+    instructions: &'a [Instruction],
     /// The number of the next instruction.
     place: usize,
     /// Where the walk for it stands: a page, a table, or not begun.
@@ -35,14 +35,14 @@ pub struct Processor {
     shadow: Shadow,
 }
 
-impl Model for Processor {
+impl<'a> Model for Processor<'a> {
     ghost use Rattle.pg_guest.specs.Held.{Held, IsProcessor};
 
     ghost Value = { Held };
 
     ghost view = { λ x. record {
       number = x.number;
-      instructions = x.instructions.items;
+      instructions = x.instructions.now;
       place = x.place;
       way = x.way;
       transcript = x.transcript.items;
@@ -51,7 +51,7 @@ impl Model for Processor {
 
     ghost invariant = { λ x. IsProcessor (record {
       number = x.number;
-      instructions = x.instructions.items;
+      instructions = x.instructions.now;
       place = x.place;
       way = x.way;
       transcript = x.transcript.items;
@@ -69,13 +69,18 @@ fn note(transcript: &mut Vec<Receipt>, shadow: &mut Shadow, receipt: &Receipt)
     shadow.happened(&receipt.event);
 }
 
-impl Processor {
+impl<'a> Processor<'a> {
     /// Processor `p` of a run, before the first of these instructions.
-    pub fn new(alloc: Global, header: &Header, p: u16, instructions: Vec<Instruction>) -> Processor
+    pub fn new(
+        alloc: Global,
+        header: &Header,
+        p: u16,
+        instructions: &'a [Instruction],
+    ) -> Processor<'a>
         requires head { IsHead header.now }
         requires processor { p < length header.now.processors }
         ensures number { result.number ≡ p }
-        ensures fresh { seen result ≡ fresh header.now p instructions.items }
+        ensures fresh { seen result ≡ fresh header.now p instructions.now }
     {
         Processor {
             number: p,
@@ -98,7 +103,7 @@ impl Processor {
     pub fn instructions(&self) -> &[Instruction]
         ensures { result.now ≡ self.now.instructions }
     {
-        self.instructions.as_slice()
+        self.instructions
     }
 
     /// The receipts of its events so far, in their order.
@@ -110,7 +115,7 @@ impl Processor {
 
     /// What `transcript` gives, and nothing else of the processor.
     pub fn into_transcript(self) -> Vec<Receipt>
-        ensures { result.items ≡ self.transcript }
+        ensures { result.items ≡ self.entry.transcript }
     {
         self.transcript
     }

@@ -42,7 +42,7 @@ fn world_of(alloc: Global, script: &Script) -> Result<World, AllocError>
 }
 
 /// The world and the processors of a script.
-fn started(alloc: Global, script: &Script) -> Result<(World, Vec<Processor>), AllocError>
+fn started(alloc: Global, script: &Script) -> Result<(World, Vec<Processor<'_>>), AllocError>
     ensures { IfOk result (λ run. ArePlaced run.0.head run.1.items) }
 {
     let world = world_of(alloc, script)?;
@@ -50,7 +50,7 @@ fn started(alloc: Global, script: &Script) -> Result<(World, Vec<Processor>), Al
 }
 
 /// The last answer of some turns of the processors at these places.
-fn last_of(world: &mut World, guests: &mut [Processor], turns: &[usize]) -> Advance
+fn last_of(world: &mut World, guests: &mut [Processor<'_>], turns: &[usize]) -> Advance
     requires placed { ArePlaced world.old.head guests.old }
     requires turns { AllByRecursion (λ p. p < length guests.old) turns.now }
 {
@@ -64,7 +64,7 @@ fn last_of(world: &mut World, guests: &mut [Processor], turns: &[usize]) -> Adva
 
 /// How many instructions the first of two processors has and how many events it recorded, and how
 /// many the other one recorded.
-fn lengths_of(guests: &[Processor]) -> Option<(usize, usize, usize)> {
+fn lengths_of(guests: &[Processor<'_>]) -> Option<(usize, usize, usize)> {
     let first = guests.first()?;
     let other = guests.last()?;
     let lengths = (first.instructions().len(), first.transcript().len());

@@ -21,7 +21,7 @@ use std::alloc::{AllocError, Global};
 /// instruction again.
 pub(crate) fn turn(
     world: &mut World,
-    guests: &mut [Processor],
+    guests: &mut [Processor<'_>],
     p: u16,
     refused: &mut u64,
 ) -> Advance

@@ -26,7 +26,7 @@ pub(crate) struct Ran {
 /// Turns of the first processor until it has ended.
 fn turn_to_end(
     world: &mut World,
-    guests: &mut [Processor],
+    guests: &mut [Processor<'_>],
     refused: &mut u64,
 ) -> Result<(), AllocError>
     requires placed { ArePlaced world.old.head guests.old }

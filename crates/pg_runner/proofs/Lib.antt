@@ -7,9 +7,11 @@ pub mod AtLines
 pub mod Whole
 pub mod Steps
 mod AfterTurns
+mod Batches
+mod Beginnings
+mod GivenOut
 mod GoesOn
 mod OfScripts
-mod SameEvents
 mod Untaken
 mod WholeRuns
 mod WholeSegments

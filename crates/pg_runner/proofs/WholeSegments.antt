@@ -1,13 +1,9 @@
 -- Events of whole segments, and more of them.
-use Rattle.std.proofs.Common.{◌≡◌, ℕ, ◌+◌, ◌-◌, ◌%◌, ◌^◌, ◌<◌, List, [], ◌∷◌, ◌++◌, take, drop, length, false, Option, Some, None, IfSome, inr, sym, ◌∙◌, ap, subst, arith, length-append}
+use Rattle.std.proofs.Common.{◌≡◌, ℕ, ◌+◌, ◌-◌, ◌%◌, ◌^◌, ◌<◌, List, [], ◌∷◌, ◌++◌, take, drop, length, inr, sym, ◌∙◌, ap, subst, arith, length-append}
 use Rattle.std.proofs.Math.Nat.{mod-add-mod, add-mod_right}
 use Rattle.std.specs.List.{AllByRecursion}
 use Rattle.std.proofs.lemmas.List.{take_all, length-drop}
 use Rattle.pg_check.specs.Kept.{AreWellFormed}
-use Rattle.std.specs.declared.alloc.Global.{Global}
-use Rattle.std.specs.declared.vec.Vec.{Vec}
-use Rattle.pg_runner.specs.Boards.{Desk, after_take}
-use Rattle.pg_event.proofs.Chunks.{all_append}
 use Rattle.pg_event.specs.declared.event.Event.{Event}
 use Rattle.pg_event.specs.Heads.{Head}
 use Rattle.pg_event.specs.Spelling.{Recorded, IsRecord}
@@ -16,8 +12,8 @@ use Rattle.pg_report.specs.declared.team.Team.{Team}
 use Rattle.pg_report.specs.Teams.{IsTeam, MayGoOn}
 use Rattle.pg_report.specs.Judging.{IsReportOf}
 use Rattle.pg_report.specs.Text.{report_of}
-use Rattle.pg_world.specs.Kept.{IsSegment}
-use Rattle.pg_runner.specs.Live.{IsWatched}
+use Rattle.pg_runner.specs.Live.{IsBegun, IsWatched}
+use Rattle.pg_runner.proofs.Beginnings.{begins_with}
 
 mod_sum : (a b s : ℕ) → a % s ≡ 0 → b % s ≡ 0 → (a + b) % s ≡ 0
 mod_sum a b s first more = sym (mod-add-mod a s b) ∙ ap (λ n. (n + b) % s) first ∙ ap (λ n. n % s) (nothing b) ∙ more
@@ -49,53 +45,34 @@ more_follows t events more was well limit = record {
 
 -- ---- the rest of a record
 
-abbrev pub rest_of : List Event → List Event → List Event
-rest_of all first = take (length all - length first) (drop (length first) all)
+abbrev pub rest_of : List Event → ℕ → List Event
+rest_of all n = take (length all - n) (drop n all)
 
-rest_is : (all first : List Event) → rest_of all first ≡ drop (length first) all
-rest_is all first = take_all (length all - length first) (drop (length first) all) (omega (arith, length-drop (length first) all))
+rest_is : (all first : List Event) (n : ℕ) → n ≡ length first → rest_of all n ≡ drop (length first) all
+rest_is all first n same = ap (rest_of all) same ∙ take_all (length all - length first) (drop (length first) all) (omega (arith, length-drop (length first) all))
 
 all_rest : {X : Type 0} (P : X → Type 0) (xs ys : List X) → AllByRecursion P (xs ++ ys) → AllByRecursion P ys
 all_rest P [] ys all = all
 all_rest P (x ∷ xs) ys all = all_rest P xs ys all.1
 
-pub rest_follows : (t : Team) (all first : List Event) → IsWatched t first → all ≡ first ++ drop (length first) all → IsRecord (record { head = t.judged.head; events = all }) → MayGoOn t (rest_of all first)
-rest_follows t all first was begins is =
+-- so many events were judged
+judged_count : (t : Team) (all : List Event) (n : ℕ) (begun : IsBegun t all) → n ≡ t.judged.count → n ≡ length begun.first
+judged_count t all n begun same = same ∙ begun.watched.team.judged.count
+
+pub rest_follows : (t : Team) (all : List Event) (n : ℕ) → IsBegun t all → n ≡ t.judged.count → IsRecord (record { head = t.judged.head; events = all }) → MayGoOn t (rest_of all n)
+rest_follows t all n begun same is =
+    let first : List Event = begun.first in
+    let begins : all ≡ first ++ drop (length first) all = begins_with first all begun.begins in
     let rest : List Event = drop (length first) all in
     let well : AreWellFormed t.judged.head rest = all_rest _ first rest (subst (AreWellFormed t.judged.head) begins is.well) in
     let count : length all ≡ length first + length rest = ap length begins ∙ length-append first rest in
     let limit : length first + length rest < 2 ^ 32 = omega (arith, count, is.count) in
-    subst (MayGoOn t) (sym (rest_is all first)) (more_follows t first rest was well limit)
+    subst (MayGoOn t) (sym (rest_is all first n (judged_count t all n begun same))) (more_follows t first rest begun.watched well limit)
 
-pub rest_reported : (t new : Team) (all first : List Event) (report : Report) → all ≡ first ++ drop (length first) all → IsTeam new t.judged.head (first ++ rest_of all first) → IsReportOf new.judged report
+pub rest_reported : (t new : Team) (all : List Event) (n : ℕ) (report : Report) (begun : IsBegun t all) → n ≡ t.judged.count → IsTeam new t.judged.head (begun.first ++ rest_of all n) → IsReportOf new.judged report
     → report ≡ report_of (record { head = t.judged.head; events = all })
-rest_reported t new all first report begins team told =
-    let whole : first ++ rest_of all first ≡ all = ap (λ es. first ++ es) (rest_is all first) ∙ sym begins in
-    told t.judged.head (first ++ rest_of all first) team.judged ∙ ap (λ (es : List Event). let r : Recorded = record { head = t.judged.head; events = es } in report_of r) whole
-
--- ---- segments taken from a board
-
-pub record AreTaken (b : Desk) (head : Head) (events : List Event) : Type 0 where
-  pub head_is : b.world.head ≡ head
-  pub unfinished : b.world.finished ≡ false
-  pub well : AreWellFormed head events
-  pub whole : length events % head.segment ≡ 0
-
-stays_so : (taken : Option (Vec Event Global)) (old new : Desk) → new ≡ after_take taken old → (new.world.head ≡ old.world.head) × (new.world.finished ≡ old.world.finished)
-stays_so None old new is = (ap (λ (b : Desk). b.world.head) is, ap (λ (b : Desk). b.world.finished) is)
-stays_so (Some segment) old new is = (ap (λ (b : Desk). b.world.head) is, ap (λ (b : Desk). b.world.finished) is)
-
-pub taken_on : (taken : Option (Vec Event Global)) (segment : Vec Event Global) (old new : Desk) (head : Head) (xs added ys : List Event) → new ≡ after_take taken old → taken ≡ Some segment
-    → IfSome taken (λ s. IsSegment old.world s.items) → AreTaken old head xs → added ≡ segment.items → ys ≡ xs ++ added → AreTaken new head ys
-taken_on taken segment old new head xs added ys is some formed was same items =
-    let so = stays_so taken old new is in
-    let one : IsSegment old.world segment.items = subst (λ (o : Option (Vec Event Global)). IfSome o (λ s. IsSegment old.world s.items)) some formed in
-    let all : xs ++ segment.items ≡ ys = ap (λ es. xs ++ es) (sym same) ∙ sym items in
-    let well : AreWellFormed head segment.items = subst (λ (h : Head). AreWellFormed h segment.items) was.head_is one.well in
-    let full : length segment.items ≡ head.segment = one.full was.unfinished ∙ ap (λ (h : Head). h.segment) was.head_is in
-    record {
-      head_is = so.0 ∙ was.head_is;
-      unfinished = so.1 ∙ was.unfinished;
-      well = subst (AreWellFormed head) all (all_append _ xs segment.items was.well well);
-      whole = subst (λ es. length es % head.segment ≡ 0) all (full_more xs segment.items head.segment was.whole full);
-    }
+rest_reported t new all n report begun same team told =
+    let first : List Event = begun.first in
+    let begins : all ≡ first ++ drop (length first) all = begins_with first all begun.begins in
+    let whole : first ++ rest_of all n ≡ all = ap (λ es. first ++ es) (rest_is all first n (judged_count t all n begun same)) ∙ sym begins in
+    told t.judged.head (first ++ rest_of all n) team.judged ∙ ap (λ (es : List Event). let r : Recorded = record { head = t.judged.head; events = es } in report_of r) whole

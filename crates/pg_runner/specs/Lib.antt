@@ -5,4 +5,5 @@ pub mod Runs
 pub mod Lines
 pub mod Boards
 pub mod Guests
+pub mod Given
 pub mod Live

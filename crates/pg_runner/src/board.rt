@@ -1,5 +1,6 @@
 ghost use Rattle.std.specs.Prelude.{◌≡◌, ◌≢◌, ◌<◌, ◌∷◌, [], length, map, None, IfOk, IfSome};
 ghost use Rattle.std.specs.Prelude.{IsTrue, IsNone, OnErr, ◌↔◌, true, false};
+ghost use mathlib.Core.List.{IsPrefix};
 ghost use Rattle.pg_guest.specs.Held.{seen};
 ghost use Rattle.pg_guest.specs.Runs.{AreNew};
 ghost use Rattle.pg_guest.specs.CoreRun.{IsCoreRun, unwritten};
@@ -31,7 +32,7 @@ use std::marker::Model;
 #[derive(Drop)]
 pub struct Board<'a> {
     world: World,
-    processors: Vec<Processor>,
+    processors: Vec<Processor<'a>>,
     publisher: Publisher,
     progress: &'a Progress,
 }
@@ -64,7 +65,7 @@ fn counts_of(world: &World) -> Counts
 }
 
 /// Whether a processor has the instructions that a script has for it.
-fn has_instructions(processor: &Processor, script: &Script) -> bool
+fn has_instructions(processor: &Processor<'_>, script: &Script) -> bool
     ensures { let h = processor.now in
         IsTrue result ↔ (h.instructions ≡ instructions_of h.number script.now.tasks) }
 {
@@ -79,7 +80,7 @@ impl<'a> Board<'a> {
     /// Fails where memory is refused.
     pub fn new(
         alloc: Global,
-        script: &Script,
+        script: &'a Script,
         publisher: Publisher,
         progress: &'a Progress,
     ) -> Result<Board<'a>, AllocError>
@@ -123,6 +124,7 @@ impl<'a> Board<'a> {
         ensures turn { IsCoreRun self.old.world (map seen self.old.processors)
             (p ∷ []) (result ∷ []) self.new.world (map seen self.new.processors) }
         ensures count { length self.new.processors ≡ length self.old.processors }
+        ensures grows { IsPrefix self.old.world.events self.new.world.events }
         ensures ended { result ≡ Advance.Ended → HasToldAll p (map seen self.new.processors) }
         ensures going { result ≢ Advance.Stopped Stop.Finished }
         ensures script { (script : Scripted) →
@@ -168,7 +170,7 @@ impl<'a> Board<'a> {
     }
 
     /// Finishes the record, and stores its counts.
-    pub fn finish(self) -> Finished
+    pub fn finish(self) -> Finished<'a>
         ensures world { result.world ≡ record self.entry.world { finished = true } }
         ensures processors { result.processors.items ≡ self.entry.processors }
         ensures stored { result.publisher ≡ stored_after self.entry.publisher result.world }

@@ -1,23 +1,24 @@
 //! What is left once the threads are joined.
 
-ghost use Rattle.std.specs.Prelude.{◌≡◌, ◌≢◌, ◌<◌, ℕ, length, map, IfOk, IfErr, IsTrue};
+ghost use Rattle.std.specs.Prelude.{◌≡◌, ◌≢◌, ◌<◌, ℕ, length, map, IfOk, IfErr, IfSome, IsTrue};
 ghost use Rattle.std.specs.Prelude.{slice_get};
+ghost use mathlib.Core.List.{IsPrefix};
 ghost use Rattle.pg_runner.specs.Boards.{HasToldAll, IsRunOf};
 ghost use Rattle.pg_guest.specs.Held.{seen};
 ghost use Rattle.pg_event.specs.Spelling.{IsRecord};
 ghost use Rattle.pg_runner.specs.Runs.{record_of};
-ghost use Rattle.pg_runner.specs.Live.{IsWant};
+ghost use Rattle.pg_runner.specs.Live.{IsBegun, IsWant};
 ghost use Rattle.pg_runner.specs.Guests.{IsGuestRun, HaveToldAll, StayBut};
 
 use crate::board::Board;
 use crate::error::RunError;
 use crate::finished::Finished;
-use crate::live_judging::LiveJudging;
+use crate::record_report::report_by;
 use crate::result::RunResult;
 use crate::single::{run_single, transcripts_of};
 use pg_guest::{Advance, Stop};
 use pg_pool::Gate;
-use pg_report::Crew;
+use pg_report::{Crew, Team};
 use pg_script::Script;
 use std::alloc::Global;
 use std::sync::Wait;
@@ -41,6 +42,7 @@ fn end_one(board: &mut Board<'_>, script: &Script, p: u16) -> Result<bool, RunEr
     ensures script { IsRunOf script.now board.new.world board.new.processors }
     ensures count { length board.new.processors ≡ length board.old.processors }
     ensures others { StayBut p (map seen board.old.processors) (map seen board.new.processors) }
+    ensures grows { IsPrefix board.old.world.events board.new.world.events }
     ensures ended { IfOk result (λ ended. IsTrue ended →
         HasToldAll p (map seen board.new.processors)) }
     ensures err { IfErr result IsWant }
@@ -61,6 +63,7 @@ fn end_one(board: &mut Board<'_>, script: &Script, p: u16) -> Result<bool, RunEr
 fn end_all(board: &mut Board<'_>, script: &Script) -> Result<bool, RunError>
     requires { IsRunOf script.now board.old.world board.old.processors }
     ensures script { IsRunOf script.now board.new.world board.new.processors }
+    ensures grows { IsPrefix board.old.world.events board.new.world.events }
     ensures ended { IfOk result (λ ended. IsTrue ended →
         HaveToldAll (map seen board.new.processors)) }
     ensures err { IfErr result IsWant }
@@ -81,10 +84,11 @@ fn result_of<R: Threads + Wait + Sync, H: Gate>(
     crew: &Crew<'_, R, H>,
     script: &Script,
     board: Board<'_>,
-    judging: &mut LiveJudging,
+    team: Option<Team>,
 ) -> Result<RunResult, RunError>
     requires script { IsRunOf script.now board.world board.processors }
     requires ended { HaveToldAll (map seen board.processors) }
+    requires begun { IfSome team (λ t. IsBegun t board.world.events) }
     ensures ok { IfOk result (λ run. IsGuestRun script.now run) }
     ensures formed { IfOk result (λ run. IsRecord (record_of run.trace)) }
     ensures err { IfErr result IsWant }
@@ -97,7 +101,7 @@ fn result_of<R: Threads + Wait + Sync, H: Gate>(
         publisher: _,
     } = board.finish();
     let trace = world.into_record();
-    let report = match judging.report(crew, &trace) {
+    let report = match report_by(crew, team, &trace) {
         Ok(report) => report,
         Err(e) => return Err(e),
     };
@@ -115,6 +119,7 @@ fn told_all(board: &mut Board<'_>, script: &Script) -> Result<bool, RunError>
         IsRunOf script.now board.new.world board.new.processors) }
     ensures told { IfOk result (λ told. IsTrue told →
         HaveToldAll (map seen board.new.processors)) }
+    ensures grows { IsPrefix board.old.world.events board.new.world.events }
     ensures err { IfErr result IsWant }
 {
     if !board.is_of(script) {
@@ -123,21 +128,22 @@ fn told_all(board: &mut Board<'_>, script: &Script) -> Result<bool, RunError>
     end_all(board, script)
 }
 
-/// Ends the run of a script on the calling thread, and judges what was not judged before. Where the
-/// board is another script's, or does not come to its end, which no threads bring about, the script
-/// is run anew.
+/// Ends the run of a script on the calling thread, and judges what was not judged before by this
+/// team, if there is one. Where the board is another script's, or does not come to its end, which
+/// no threads bring about, the script is run anew.
 pub(crate) fn ended<R: Threads + Wait + Sync, H: Gate>(
     crew: &Crew<'_, R, H>,
     script: &Script,
     mut board: Board<'_>,
-    judging: &mut LiveJudging,
+    team: Option<Team>,
 ) -> Result<RunResult, RunError>
+    requires { IfSome team (λ t. IsBegun t board.world.events) }
     ensures ok { IfOk result (λ run. IsGuestRun script.now run) }
     ensures formed { IfOk result (λ run. IsRecord (record_of run.trace)) }
     ensures err { IfErr result IsWant }
 {
     match told_all(&mut board, script) {
-        Ok(true) => result_of(crew, script, board, judging),
+        Ok(true) => result_of(crew, script, board, team),
         Ok(false) => anew(crew.alloc, script),
         Err(e) => Err(e),
     }

@@ -11,6 +11,7 @@ ghost use Rattle.pg_runner.specs.Live.{IsWant};
 use crate::board::Board;
 use crate::ending::ended;
 use crate::error::RunError;
+use crate::given::{Naming, Opened};
 use crate::live_judging::LiveJudging;
 use crate::lookout::Lookout;
 use crate::observer::{Nobody, Observer};
@@ -19,17 +20,14 @@ use crate::progress::Progress;
 use crate::publisher::Publisher;
 use crate::reader::ReadSeat;
 use crate::result::RunResult;
+use crate::shared::Shared;
 use pg_pool::{Gate, OpenGate};
 use pg_report::Crew;
 use pg_script::Script;
 use std::alloc::{AllocError, Global};
+use std::marker::Brand;
 use std::sync::{Mutex, Wait};
 use std::thread::Threads;
-
-/// What is judged before anything is recorded.
-fn nothing_judged<R, H>(crew: &Crew<'_, R, H>, script: &Script) -> Result<LiveJudging, AllocError> {
-    LiveJudging::new(crew, script.header().clone()?)
-}
 
 /// The counts of a run at its start, with their publisher and their one reader.
 fn told_by_one_word(alloc: Global) -> Result<(Progress, Publisher, ReadSeat), AllocError>
@@ -43,6 +41,33 @@ fn told_by_one_word(alloc: Global) -> Result<(Progress, Publisher, ReadSeat), Al
     Ok((progress, publisher, seat))
 }
 
+/// The run on a board that was opened for it, by a name for what is given out of it.
+fn run_named<J: Naming + Send + Sync, R: Threads + Wait + Sync, G: Gate, H: Gate, O: Observer>(
+    crew: &Crew<'_, R, H>,
+    script: &Script,
+    gate: &G,
+    board: Board<'_>,
+    lookout: &mut Lookout<'_, O>,
+    opened: Opened,
+) -> Result<RunResult, RunError>
+    requires name { opened.seen.book ≡ J.book }
+    requires board { board.world.taken ≡ 0 }
+    ensures ok { IfOk result (λ run. IsGuestRun script.now run) }
+    ensures formed { IfOk result (λ run. IsRecord (record_of run.trace)) }
+    ensures err { IfErr result IsWant }
+{
+    let (count, given) = opened.named::<J>();
+    let mut judging = LiveJudging::new(crew, script.header().clone()?, count, given.again())?;
+    let shared = Mutex::new(Shared::new(board, given));
+    match run_processors(crew, &shared, script, gate, lookout, &mut judging) {
+        Ok(()) => {
+            let (board, team) = shared.into_inner().apart(judging);
+            ended(crew, script, board, team)
+        }
+        Err(e) => Err(e),
+    }
+}
+
 /// The run on a board that was opened for it.
 fn run_on<R: Threads + Wait + Sync, G: Gate, H: Gate, O: Observer>(
     crew: &Crew<'_, R, H>,
@@ -50,36 +75,13 @@ fn run_on<R: Threads + Wait + Sync, G: Gate, H: Gate, O: Observer>(
     gate: &G,
     board: Board<'_>,
     lookout: &mut Lookout<'_, O>,
-    judging: &mut LiveJudging,
 ) -> Result<RunResult, RunError>
+    requires { board.world.taken ≡ 0 }
     ensures ok { IfOk result (λ run. IsGuestRun script.now run) }
     ensures formed { IfOk result (λ run. IsRecord (record_of run.trace)) }
     ensures err { IfErr result IsWant }
 {
-    let shared = Mutex::new(board);
-    match run_processors(crew, &shared, script, gate, lookout, judging) {
-        Ok(()) => ended(crew, script, shared.into_inner(), judging),
-        Err(e) => Err(e),
-    }
-}
-
-/// The run that an observer sees, judged by what is passed in.
-fn run_judged<R: Threads + Wait + Sync, G: Gate, H: Gate, O: Observer + Drop>(
-    crew: &Crew<'_, R, H>,
-    script: &Script,
-    gate: &G,
-    observer: O,
-    judging: &mut LiveJudging,
-) -> Result<RunResult, RunError>
-    requires { O.told observer ≡ counts 0 0 }
-    ensures ok { IfOk result (λ run. IsGuestRun script.now run) }
-    ensures formed { IfOk result (λ run. IsRecord (record_of run.trace)) }
-    ensures err { IfErr result IsWant }
-{
-    let (progress, publisher, seat) = told_by_one_word(crew.alloc)?;
-    let mut lookout = Lookout::new(&progress, seat, observer);
-    let board = Board::new(crew.alloc, script, publisher, &progress)?;
-    run_on(crew, script, gate, board, &mut lookout, judging)
+    run_named::<Brand, R, G, H, O>(crew, script, gate, board, lookout, Opened::new())
 }
 
 /// Runs a script, each processor in a thread of its own, and has its segments judged by a crew
@@ -103,8 +105,10 @@ pub fn run_guest_followed<R: Threads + Wait + Sync, G: Gate, H: Gate, O: Observe
     ensures formed { IfOk result (λ run. IsRecord (record_of run.trace)) }
     ensures err { IfErr result IsWant }
 {
-    let mut judging = nothing_judged(crew, script)?;
-    run_judged(crew, script, gate, observer, &mut judging)
+    let (progress, publisher, seat) = told_by_one_word(crew.alloc)?;
+    let mut lookout = Lookout::new(&progress, seat, observer);
+    let board = Board::new(crew.alloc, script, publisher, &progress)?;
+    run_on(crew, script, gate, board, &mut lookout)
 }
 
 /// Runs a script as `run_guest_followed` does, with no observer, by a crew of so many checkers,

@@ -4,11 +4,13 @@
 //! without a lock.
 #![tactic(auto)]
 
+mod batch;
 mod board;
 mod counts;
 mod ending;
 mod error;
 mod finished;
+mod given;
 mod guest;
 mod live_judging;
 mod lookout;
@@ -21,9 +23,9 @@ mod reader;
 mod record_report;
 mod result;
 mod rule;
-mod same;
 mod seen;
 mod segments;
+mod shared;
 mod single;
 mod turns;
 

@@ -4,14 +4,14 @@ ghost use Rattle.std.specs.Prelude.{◌≡◌, IfErr};
 ghost use Rattle.pg_runner.specs.Seats.{IsNotBelow};
 ghost use Rattle.pg_runner.specs.Live.{IsWant};
 
-use crate::board::Board;
 use crate::counts::Counts;
 use crate::error::RunError;
+use crate::given::Naming;
 use crate::live_judging::LiveJudging;
 use crate::observer::Observer;
 use crate::progress::Progress;
 use crate::reader::ReadSeat;
-use crate::segments::take_segments;
+use crate::shared::Shared;
 use crossbeam_utils::Backoff;
 use pg_pool::Gate;
 use pg_report::Crew;
@@ -49,44 +49,27 @@ impl<'a, O: Observer> Lookout<'a, O> {
     }
 }
 
-/// Takes the segments that wait, and judges them by a round of checkers, without the lock.
-fn judge_round<R: Threads + Wait + Sync, H: Gate>(
-    crew: &Crew<'_, R, H>,
-    shared: &Mutex<Board<'_>>,
-    judging: &mut LiveJudging,
-) -> Result<(), RunError>
-    ensures { IfErr result IsWant }
-{
-    let Some(header) = judging.header() else {
-        return Ok(());
-    };
-    let events = take_segments(crew.rt, crew.alloc, shared, header)?;
-    judging.more(crew, &events)
-}
-
 /// Judges segments as they are sealed, until so many threads have ended, and looks once more then.
 /// After an error there is no further round, and no further look.
-pub(crate) fn watch<R: Threads + Wait + Sync, H: Gate, O: Observer>(
+pub(crate) fn watch<R: Threads + Wait + Sync, H: Gate, O: Observer, J: Naming>(
     crew: &Crew<'_, R, H>,
-    shared: &Mutex<Board<'_>>,
+    shared: &Mutex<Shared<'_, J>>,
     lookout: &mut Lookout<'_, O>,
     ended: &AtomicU64,
     started: u64,
-    judging: &mut LiveJudging,
+    judging: &mut LiveJudging<J>,
 ) -> Result<(), RunError>
     ensures { IfErr result IsWant }
 {
     let backoff = Backoff::new();
-    let mut taken = 0;
     for _ in crew.rt.forever() {
         let is_over = ended.load(Ordering::SeqCst) >= started;
         let segments = lookout.look().segments;
         if is_over {
             return Ok(());
         }
-        if segments > taken {
-            taken = segments;
-            if let Err(e) = judge_round(crew, shared, judging) {
+        if segments as u64 > judging.segments() {
+            if let Err(e) = judging.judge_round(crew, shared) {
                 return Err(e);
             }
             backoff.reset();

@@ -2,7 +2,8 @@
 
 ghost use Rattle.std.specs.Prelude.{◌≢◌};
 
-use crate::board::Board;
+use crate::given::Naming;
+use crate::shared::Shared;
 use pg_guest::{Advance, Stop};
 use pg_pool::Gate;
 use std::sync::atomic::{AtomicU64, Ordering};
@@ -21,18 +22,14 @@ pub(crate) enum Left {
 
 /// One turn, in one hold of the lock. What else it leaves is told by nothing but the board's type,
 /// since whoever takes the lock next may change it.
-fn locked_turn<R: Wait>(rt: &R, shared: &Mutex<Board<'_>>, p: u16) -> Advance
+fn locked_turn<R: Wait, J: Naming>(rt: &R, shared: &Mutex<Shared<'_, J>>, p: u16) -> Advance
     ensures { result ≢ Advance.Stopped Stop.Finished }
 {
-    let mut board = shared.lock(rt);
-    if p as usize >= board.count() {
-        return Advance::Ended;
-    }
-    board.turn(p)
+    shared.lock(rt).turn(p)
 }
 
 /// Turns of a processor, until one carries its next instruction out.
-fn carry_out<R: Wait>(rt: &R, shared: &Mutex<Board<'_>>, p: u16) -> Left {
+fn carry_out<R: Wait, J: Naming>(rt: &R, shared: &Mutex<Shared<'_, J>>, p: u16) -> Left {
     for _ in rt.forever() {
         match locked_turn(rt, shared, p) {
             Advance::Read(_) | Advance::Assisted(_) => {}
@@ -48,9 +45,9 @@ fn carry_out<R: Wait>(rt: &R, shared: &Mutex<Board<'_>>, p: u16) -> Left {
 
 /// Carries so many instructions of a processor out, each through the gate, which is called outside
 /// the lock. Says whether memory was refused.
-fn carry_all<R: Wait, G: Gate>(
+fn carry_all<R: Wait, G: Gate, J: Naming>(
     rt: &R,
-    shared: &Mutex<Board<'_>>,
+    shared: &Mutex<Shared<'_, J>>,
     p: u16,
     instructions: usize,
     gate: &G,
@@ -69,9 +66,9 @@ fn carry_all<R: Wait, G: Gate>(
 }
 
 /// What a processor's thread does: it counts itself among those that have ended once it has.
-pub(crate) fn run_processor<R: Wait, G: Gate>(
+pub(crate) fn run_processor<R: Wait, G: Gate, J: Naming>(
     rt: &R,
-    shared: &Mutex<Board<'_>>,
+    shared: &Mutex<Shared<'_, J>>,
     p: u16,
     instructions: usize,
     ended: &AtomicU64,

@@ -3,12 +3,13 @@
 ghost use Rattle.std.specs.Prelude.{◌≡◌, ◌≢◌, ◌⊎◌, ◌↔◌, true, Err, IfErr, length};
 ghost use Rattle.pg_runner.specs.Live.{IsWant};
 
-use crate::board::Board;
 use crate::error::RunError;
+use crate::given::Naming;
 use crate::live_judging::LiveJudging;
 use crate::lookout::{Lookout, watch};
 use crate::observer::Observer;
 use crate::processor::run_processor;
+use crate::shared::Shared;
 use pg_pool::Gate;
 use pg_report::Crew;
 use pg_script::Script;
@@ -68,13 +69,13 @@ fn processor_count(script: &Script) -> u16
 /// Lets each processor of a script carry its instructions out in a thread of its own, if it has
 /// any, and judges what they seal. All threads that were started are joined before it answers, also
 /// where a thread was refused.
-fn run_all<R: Threads + Wait + Sync, G: Gate, H: Gate, O: Observer>(
+fn run_all<R: Threads + Wait + Sync, G: Gate, H: Gate, O: Observer, J: Naming + Send + Sync>(
     crew: &Crew<'_, R, H>,
-    shared: &Mutex<Board<'_>>,
+    shared: &Mutex<Shared<'_, J>>,
     script: &Script,
     gate: &G,
     lookout: &mut Lookout<'_, O>,
-    judging: &mut LiveJudging,
+    judging: &mut LiveJudging<J>,
 ) -> Met {
     let rt = crew.rt;
     let ended = AtomicU64::new(0);
@@ -111,13 +112,19 @@ fn run_all<R: Threads + Wait + Sync, G: Gate, H: Gate, O: Observer>(
 /// Runs all processors of a script, each that has instructions in a thread of its own, and judges
 /// what they seal. It answers once all threads have ended, and says out of memory where memory and
 /// a thread were refused.
-pub(crate) fn run_processors<R: Threads + Wait + Sync, G: Gate, H: Gate, O: Observer>(
+pub(crate) fn run_processors<
+    R: Threads + Wait + Sync,
+    G: Gate,
+    H: Gate,
+    O: Observer,
+    J: Naming + Send + Sync,
+>(
     crew: &Crew<'_, R, H>,
-    shared: &Mutex<Board<'_>>,
+    shared: &Mutex<Shared<'_, J>>,
     script: &Script,
     gate: &G,
     lookout: &mut Lookout<'_, O>,
-    judging: &mut LiveJudging,
+    judging: &mut LiveJudging<J>,
 ) -> Result<(), RunError>
     ensures { IfErr result IsWant }
 {

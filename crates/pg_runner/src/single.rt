@@ -24,7 +24,7 @@ fn carry_out(
     script: &Script,
     line: usize,
     world: &mut World,
-    processors: &mut [Processor],
+    processors: &mut [Processor<'_>],
 ) -> Result<(), AllocError>
     requires line { line < length script.now.tasks }
     requires placed { ArePlaced world.old.head processors.old }
@@ -51,7 +51,7 @@ fn carry_out(
 fn carry_out_all(
     script: &Script,
     world: &mut World,
-    processors: &mut [Processor],
+    processors: &mut [Processor<'_>],
 ) -> Result<(), AllocError>
     requires placed { ArePlaced world.old.head processors.old }
     requires before { AreCarriedOut script.now 0 world.old (map seen processors.old) }
@@ -67,10 +67,10 @@ fn carry_out_all(
 /// The receipts of each processor.
 pub fn transcripts_of(
     alloc: Global,
-    processors: Vec<Processor>,
+    processors: Vec<Processor<'_>>,
 ) -> Result<Vec<Vec<Receipt>>, AllocError>
     ensures { IfOk result (λ all. map (λ own. own.items) all.items
-        ≡ map (λ h. h.transcript) processors.items) }
+        ≡ map (λ h. h.transcript) processors.entry.items) }
 {
     let mut all = Vec::new(alloc);
     for processor in processors {

@@ -9,7 +9,7 @@ use pg_guest::{Advance, Processor};
 use pg_world::World;
 
 /// One turn of processor `p`.
-pub fn turn(world: &mut World, processors: &mut [Processor], p: u16) -> Advance
+pub fn turn(world: &mut World, processors: &mut [Processor<'_>], p: u16) -> Advance
     requires placed { ArePlaced world.old.head processors.old }
     requires within { p < length processors.old }
     ensures turned { IsCoreRun world.old (map seen processors.old) (p ∷ []) (result ∷ [])

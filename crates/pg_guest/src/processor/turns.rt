@@ -19,7 +19,7 @@ use pg_script::Instruction;
 use pg_shadow::Found;
 use pg_world::World;
 
-impl Processor {
+impl<'a> Processor<'a> {
     /// Where the walk for an access stands: one that has not begun begins with what is cached.
     fn begun(&self, la: u64, kind: AccessKind, header: &Header) -> Found
         ensures value { result ≡ begun header.now (cached self.now.shadow) la kind self.now.way }

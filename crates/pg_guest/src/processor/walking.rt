@@ -19,7 +19,7 @@ use pg_entry::{Cfg, Entry, Kind, classify, combine, dirty};
 use pg_shadow::{Found, KeptLeaf, KeptTable};
 use pg_world::{LevelRead, Walk, World};
 
-impl Processor {
+impl<'a> Processor<'a> {
     /// Keeps the table that an entry refers to: the walk has come to it.
     fn keep_table(&mut self, walk: &Walk, kept: KeptTable) -> Advance
         requires table { IsTableAt (cached self.old.shadow).width walk.now.level kept.table

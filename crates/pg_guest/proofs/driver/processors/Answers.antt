@@ -9,8 +9,8 @@ loop-p-preserved c =
     let made = c.loop-p.invariant in
     let hs = c.loop-p.processors.items in
     rw c.in_ok-push.ensures.items (record {
-      count = length-append hs (c.in_ok-processor_of.field-0 ∷ []) ∙ ap (λ n. n + 1) made.count;
-      each = one_more c.args.script.now c.loop-p.p hs c.in_ok-processor_of.field-0 made c.in_ok-processor_of.ensures;
+      count = length-append hs (c.processor_of.result ∷ []) ∙ ap (λ n. n + 1) made.count;
+      each = one_more c.args.script.now c.loop-p.p hs c.processor_of.result made c.processor_of.ensures;
     })
 
 pub returns : goal.returns

@@ -1,9 +1,10 @@
-use Rattle.std.proofs.Common.{◌≡◌, ◌∙◌, List, map, ap, ap₂, subst}
+use Rattle.std.proofs.Common.{◌≡◌, ◌∙◌, IfSome, List, map, ap, ap₂, sym, subst}
 use Rattle.pg_event.specs.declared.event.Event.{Event}
 use Rattle.pg_event.specs.Heads.{Head}
 use Rattle.pg_event.specs.Spelling.{Recorded, IsRecord}
 use Rattle.pg_guest.specs.Held.{Held}
 use Rattle.pg_world.specs.Recording.{Recording, recorded}
+use Rattle.pg_runner.specs.Live.{IsBegun}
 use Rattle.pg_runner.specs.Runs.{record_of}
 use Rattle.pg_runner.proofs.WholeRuns.{whole_run, says_yes}
 use Rattle.pg_runner.proofs.ending.result_of.Goals as goal
@@ -24,3 +25,8 @@ returns-clause-ok g c =
       report = c.in-Ok.ensures.ok;
       yes = says_yes script end c.args.board.processors trace c.in-Ok.report c.requires.script same c.in-Ok.ensures.ok;
     }
+
+pub report_by-requires-clause-begun : goal.report_by-requires-clause-begun
+report_by-requires-clause-begun g c = λ _ _.
+    let events : c.into_record-trace.result.events.items ≡ c.args.board.world.events = c.into_record-trace.ensures.events ∙ ap (λ (r : Recording). r.events) c.finish-world.ensures.world in
+    subst (λ (es : List Event). IfSome c.args.team (λ t. IsBegun t es)) (sym events) c.requires.begun

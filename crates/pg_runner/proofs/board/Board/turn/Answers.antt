@@ -5,6 +5,7 @@ use Rattle.pg_guest.specs.CoreRun.{IsCoreRun}
 use Rattle.pg_runner.specs.Seats.{Seated}
 use Rattle.pg_runner.proofs.Whole.{front}
 use Rattle.pg_runner.specs.Boards.{Desk, HasToldAll, IsBoard, IsRunOf}
+use Rattle.pg_runner.proofs.GivenOut.{turn_grows}
 use Rattle.pg_runner.proofs.GoesOn.{goes_on}
 use Rattle.pg_runner.proofs.OfScripts.{board_open, turned_board, ended_told, script_kept}
 use Rattle.pg_runner.proofs.board.Board.turn.Goals as goal
@@ -51,3 +52,11 @@ returns-clause-going c =
     let run : IsCoreRun c.self.inside.world (map seen c.self.inside.processors.items) (c.args.p ∷ []) (c.turn-answer.result ∷ []) end (map seen ys) =
     subst (λ (hs : List Held). IsCoreRun c.self.inside.world (map seen hs) (c.args.p ∷ []) (c.turn-answer.result ∷ []) end (map seen ys)) c.deref_mut.ensures.value c.turn-answer.ensures.turned in
     goes_on c.self.inside.world end (map seen c.self.inside.processors.items) (map seen ys) c.args.p c.turn-answer.result (board_open _ _ c.self.invariant.0) run
+
+pub returns-clause-grows : goal.returns-clause-grows
+returns-clause-grows c =
+    let ys = c.turn-answer.new.processors in
+    let end = c.turn-answer.new.world in
+    let run : IsCoreRun c.self.inside.world (map seen c.self.inside.processors.items) (c.args.p ∷ []) (c.turn-answer.result ∷ []) end (map seen ys) =
+    subst (λ (hs : List Held). IsCoreRun c.self.inside.world (map seen hs) (c.args.p ∷ []) (c.turn-answer.result ∷ []) end (map seen ys)) c.deref_mut.ensures.value c.turn-answer.ensures.turned in
+    rw (← c.self.view_is) (turn_grows c.self.inside.world end c.self.inside.processors.items (map seen ys) c.args.p c.turn-answer.result c.self.invariant.0 run)

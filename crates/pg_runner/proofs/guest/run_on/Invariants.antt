@@ -1,0 +1,5 @@
+use Rattle.pg_runner.proofs.guest.run_on.Given as goal
+
+-- the history that was just opened
+abbrev pub ghosts-run_named : goal.ghosts-run_named
+ghosts-run_named g a = record { book = a.opened.seen.book }
