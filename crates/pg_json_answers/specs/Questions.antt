@@ -1,5 +1,5 @@
 -- What `--json` answers of a question of a record with no one order (versions 3 and 4).
-use Rattle.std.specs.Prelude.{◌≡◌, ◌⊎◌, ℕ, Option, Result, Ok, Err}
+use Rattle.std.specs.Prelude.{ℕ, Option, Result, Ok, Err}
 use Rattle.pg_report.specs.Changes.{Change}
 use Rattle.pg_answers.specs.Streams.{Streams}
 use Rattle.pg_spanned.specs.Orders.{Spanned}
