@@ -6,6 +6,7 @@ pub mod Local
 pub mod Widths
 pub mod Pulled
 pub mod Next
+pub mod Named
 pub mod Adding
 pub mod Going
 pub mod Steps

@@ -5,3 +5,4 @@ pub mod Reads
 pub mod Parts
 pub mod Readers
 pub mod Intakes
+pub mod Bare

@@ -2,12 +2,14 @@
 
 ghost use Rattle.std.specs.Prelude.{◌≡◌, ◌≤◌, ◌<◌, None, IfOk, IfNone, vec_len, vec_capacity};
 ghost use Rattle.pg_event.specs.Form.{broken_rule};
-ghost use Rattle.pg_event.specs.Reading.{write_at, access_at, mov_cr3_at, invlpg_at, invpcid_at};
-ghost use Rattle.pg_event.specs.Reading.{mov_cr4_pge_at, assist_at, fields_at, last_tag, event_at};
+ghost use Rattle.pg_event.specs.Reading.{write_at, mov_cr3_at, invlpg_at, invpcid_at};
+ghost use Rattle.pg_event.specs.Reading.{mov_cr4_pge_at, fields_at, last_tag, event_at};
 ghost use Rattle.pg_codec.specs.Reads.{Gives, Adds, judged, seen};
+ghost use Rattle.pg_codec.specs.Bare.{moments_in, access_in, assist_in, fields_in, event_in};
 
 use crate::fields::{byte_of, moments_of, outcome_of, processor_number, u16_of, u64_of};
-use pg_event::{Event, Header, Refusal, Version, well_formed};
+use crate::naming::Naming;
+use pg_event::{Event, Header, Moments, Refusal, Version, well_formed};
 
 #[inline(always)]
 #[tactic(auto, unfolding(pg_event::specs::Reading::write_at))]
@@ -19,15 +21,26 @@ fn write_of(p: u16, bytes: &[u8]) -> Result<(Event, &[u8]), Refusal>
     Ok((Event::Write { p, addr, value }, rest))
 }
 
+/// The moments after the other fields, where they are named.
 #[inline(always)]
-#[tactic(auto, unfolding(pg_event::specs::Reading::access_at))]
-fn access_of(p: u16, bytes: &[u8]) -> Result<(Event, &[u8]), Refusal>
-    ensures { Gives (λ x. (x.0, x.1.now)) result (access_at p bytes.now) }
+fn moments_after(naming: Naming, bytes: &[u8]) -> Result<(Moments, &[u8]), Refusal>
+    ensures { Gives (λ x. (x.0, x.1.now)) result (moments_in naming bytes.now) }
+{
+    match naming {
+        Naming::Named => moments_of(bytes),
+        Naming::Bare => Ok((Moments::first(0), bytes)),
+    }
+}
+
+#[inline(always)]
+#[tactic(auto, unfolding(crate::specs::Bare::access_in))]
+fn access_of(naming: Naming, p: u16, bytes: &[u8]) -> Result<(Event, &[u8]), Refusal>
+    ensures { Gives (λ x. (x.0, x.1.now)) result (access_in naming p bytes.now) }
 {
     let (flags, rest) = byte_of(bytes)?;
     let (la, rest) = u64_of(rest)?;
     let (outcome, rest) = outcome_of(rest)?;
-    match moments_of(rest) {
+    match moments_after(naming, rest) {
         Err(refusal) => Err(refusal),
         Ok((moments, rest)) => Ok((
             Event::Access {
@@ -84,14 +97,14 @@ fn mov_cr4_pge_of(p: u16, bytes: &[u8]) -> Result<(Event, &[u8]), Refusal>
 }
 
 #[inline(always)]
-#[tactic(auto, unfolding(pg_event::specs::Reading::assist_at))]
-fn assist_of(p: u16, bytes: &[u8]) -> Result<(Event, &[u8]), Refusal>
-    ensures { Gives (λ x. (x.0, x.1.now)) result (assist_at p bytes.now) }
+#[tactic(auto, unfolding(crate::specs::Bare::assist_in))]
+fn assist_of(naming: Naming, p: u16, bytes: &[u8]) -> Result<(Event, &[u8]), Refusal>
+    ensures { Gives (λ x. (x.0, x.1.now)) result (assist_in naming p bytes.now) }
 {
     let (flags, rest) = byte_of(bytes)?;
     let (la, rest) = u64_of(rest)?;
     let (word, rest) = u64_of(rest)?;
-    match moments_of(rest) {
+    match moments_after(naming, rest) {
         Err(refusal) => Err(refusal),
         Ok((moments, rest)) => Ok((
             Event::Assist {
@@ -106,25 +119,29 @@ fn assist_of(p: u16, bytes: &[u8]) -> Result<(Event, &[u8]), Refusal>
     }
 }
 
-/// The fields of an event after its tag and processor.
-#[tactic(auto, unfolding(pg_event::specs::Reading::fields_at))]
-fn fields_of(tag: u8, p: u16, bytes: &[u8]) -> Result<(Event, &[u8]), Refusal>
-    ensures { Gives (λ x. (x.0, x.1.now)) result (fields_at tag p bytes.now) }
+/// The event at the front of the bytes, which begin after its tag and processor, and the bytes
+/// behind it; or the refusal of its first field that is cut or fails its check.
+#[tactic(auto, unfolding(crate::specs::Bare::fields_in, pg_event::specs::Reading::fields_at))]
+pub fn fields_of(naming: Naming, tag: u8, p: u16, bytes: &[u8]) -> Result<(Event, &[u8]), Refusal>
+    requires low { 0x10 ≤ tag }
+    requires high { tag ≤ 0x16 }
+    ensures { Gives (λ x. (x.0, x.1.now)) result (fields_in naming tag p bytes.now) }
 {
     match tag {
         0x10 => write_of(p, bytes),
-        0x11 => access_of(p, bytes),
+        0x11 => access_of(naming, p, bytes),
         0x12 => mov_cr3_of(p, bytes),
         0x13 => invlpg_of(p, bytes),
         0x14 => invpcid_of(p, bytes),
         0x15 => mov_cr4_pge_of(p, bytes),
-        _ => assist_of(p, bytes),
+        _ => assist_of(naming, p, bytes),
     }
 }
 
 /// The greatest tag of an event: only version 2 has assists.
-fn last_tag(version: Version) -> u8
-    ensures { result ≡ last_tag version }
+pub fn last_tag(version: Version) -> u8
+    ensures value { result ≡ last_tag version }
+    ensures bound { result ≤ 0x16 }
 {
     match version {
         Version::One => 0x15,
@@ -132,15 +149,17 @@ fn last_tag(version: Version) -> u8
     }
 }
 
-/// Event number `i`, which has to be well formed.
-#[tactic(auto, unfolding(pg_event::specs::Reading::event_at))]
-pub(crate) fn event_of<'a>(
+/// Event number `i` at the front of the bytes, which has to be well formed, and the bytes behind
+/// it; or its first refusal.
+#[tactic(auto, unfolding(crate::specs::Bare::event_in))]
+pub fn event_of<'a>(
+    naming: Naming,
     header: &Header,
     i: u64,
     bytes: &'a [u8],
 ) -> Result<(Event, &'a [u8]), Refusal>
     requires { header.now.cfg.m ≤ 52 }
-    ensures value { Gives (λ x. (x.0, x.1.now)) result (event_at header.now i bytes.now) }
+    ensures value { Gives (λ x. (x.0, x.1.now)) result (event_in naming header.now i bytes.now) }
     ensures well { IfOk result (λ x. broken_rule header.now x.0 ≡ None) }
 {
     let (tag, rest) = byte_of(bytes)?;
@@ -148,7 +167,7 @@ pub(crate) fn event_of<'a>(
         return Err(Refusal::Tag);
     }
     let (p, rest) = processor_number(header.version, rest)?;
-    match fields_of(tag, p, rest) {
+    match fields_of(naming, tag, p, rest) {
         Err(refusal) => Err(refusal),
         Ok((event, rest)) => match well_formed(header, &event) {
             Ok(()) => Ok((event, rest)),
@@ -183,13 +202,15 @@ fn add(
 /// Adds an event of any tag.
 #[inline(never)]
 fn add_any(header: &Header, tag: u8, p: u16, bytes: &[u8], events: &mut Vec<Event>) -> Option<usize>
+    requires low { 0x10 ≤ tag }
+    requires high { tag ≤ 0x16 }
     requires address { header.now.cfg.m ≤ 52 }
     requires room { vec_len events.old < vec_capacity events.old }
     ensures added { Adds events.old.items events.new.items result
         (λ i. judged header.now i (fields_at tag p bytes.now)) }
     ensures kept { IfNone result (events.new ≡ events.old) }
 {
-    add(header, &fields_of(tag, p, bytes), events)
+    add(header, &fields_of(Naming::Named, tag, p, bytes), events)
 }
 
 /// Adds an event by its fields after its tag and processor. The tags of which records have many
@@ -202,6 +223,8 @@ fn add_fields(
     bytes: &[u8],
     events: &mut Vec<Event>,
 ) -> Option<usize>
+    requires low { 0x10 ≤ tag }
+    requires high { tag ≤ 0x16 }
     requires address { header.now.cfg.m ≤ 52 }
     requires room { vec_len events.old < vec_capacity events.old }
     ensures added { Adds events.old.items events.new.items result
@@ -210,8 +233,8 @@ fn add_fields(
 {
     match tag {
         0x10 => add(header, &write_of(p, bytes), events),
-        0x11 => add(header, &access_of(p, bytes), events),
-        0x16 => add(header, &assist_of(p, bytes), events),
+        0x11 => add(header, &access_of(Naming::Named, p, bytes), events),
+        0x16 => add(header, &assist_of(Naming::Named, p, bytes), events),
         _ => add_any(header, tag, p, bytes, events),
     }
 }

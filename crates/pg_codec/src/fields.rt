@@ -1,4 +1,5 @@
-//! Fields at the front of a slice. Each answers its value and the bytes after it.
+//! Fields at the front of a slice. Each reader answers the value and the bytes after it, or refuses
+//! bytes that are too few.
 
 ghost use Rattle.std.specs.Prelude.{◌≡◌, ◌+◌, ◌*◌, ◌≤◌, length, Ok};
 ghost use Rattle.std.specs.Int.{w16, w32, w64, from_le_bytes};
@@ -9,8 +10,9 @@ ghost use Rattle.pg_codec.specs.Parts.{with_front};
 
 use pg_event::{Moments, Outcome, Refusal, Version};
 
+/// A byte.
 #[inline(always)]
-pub(crate) fn byte_of(bytes: &[u8]) -> Result<(u8, &[u8]), Refusal>
+pub fn byte_of(bytes: &[u8]) -> Result<(u8, &[u8]), Refusal>
     ensures { Gives (λ x. (x.0, x.1.now)) result (byte_at bytes.now) }
 {
     match bytes {
@@ -45,8 +47,9 @@ fn u64_in(bytes: &[u8]) -> u64
     ])
 }
 
+/// A number of two bytes.
 #[inline(always)]
-pub(crate) fn u16_of(bytes: &[u8]) -> Result<(u16, &[u8]), Refusal>
+pub fn u16_of(bytes: &[u8]) -> Result<(u16, &[u8]), Refusal>
     ensures { Gives (λ x. (x.0, x.1.now)) result (number_at w16 bytes.now) }
 {
     if bytes.len() < 2 {
@@ -66,8 +69,9 @@ fn u32_front(bytes: &[u8]) -> (u32, &[u8])
     (u32_in(front), rest)
 }
 
+/// A number of four bytes.
 #[inline(always)]
-pub(crate) fn u32_of(bytes: &[u8]) -> Result<(u32, &[u8]), Refusal>
+pub fn u32_of(bytes: &[u8]) -> Result<(u32, &[u8]), Refusal>
     ensures { Gives (λ x. (x.0, x.1.now)) result (number_at w32 bytes.now) }
 {
     if bytes.len() < 4 {
@@ -76,8 +80,9 @@ pub(crate) fn u32_of(bytes: &[u8]) -> Result<(u32, &[u8]), Refusal>
     Ok(u32_front(bytes))
 }
 
+/// A number of eight bytes.
 #[inline(always)]
-pub(crate) fn u64_of(bytes: &[u8]) -> Result<(u64, &[u8]), Refusal>
+pub fn u64_of(bytes: &[u8]) -> Result<(u64, &[u8]), Refusal>
     ensures { Gives (λ x. (x.0, x.1.now)) result (number_at w64 bytes.now) }
 {
     if bytes.len() < 8 {
@@ -87,10 +92,10 @@ pub(crate) fn u64_of(bytes: &[u8]) -> Result<(u64, &[u8]), Refusal>
     Ok((u64_in(front), rest))
 }
 
-/// The number of a processor, or how many there are.
+/// The number of a processor, or how many there are: a byte in version 1, two in version 2.
 #[inline(always)]
 #[tactic(auto, unfolding(pg_event::specs::Reading::processor_at))]
-pub(crate) fn processor_number(version: Version, bytes: &[u8]) -> Result<(u16, &[u8]), Refusal>
+pub fn processor_number(version: Version, bytes: &[u8]) -> Result<(u16, &[u8]), Refusal>
     ensures { Gives (λ x. (x.0, x.1.now)) result (processor_at version bytes.now) }
 {
     match version {

@@ -13,6 +13,7 @@ use crate::decoder::{add_event, event_of};
 use crate::error::ReadError;
 use crate::fields::{byte_of, u32_of};
 use crate::front::{settings_of, start_of};
+use crate::naming::Naming;
 use crate::settings::Settings;
 use crate::spelling::LONGEST_PART;
 use crate::stream::Source;
@@ -100,7 +101,7 @@ fn next_event<R: Source>(
     ensures well { IfOk result (λ e. broken_rule header.now e ≡ None) }
 {
     buffer.prepare(source)?;
-    let part = counted(&event_of(header, i, buffer.unread()));
+    let part = counted(&event_of(Naming::Named, header, i, buffer.unread()));
     taken(buffer, part)
 }
 

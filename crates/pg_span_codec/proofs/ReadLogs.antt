@@ -20,8 +20,9 @@ use Rattle.pg_event.proofs.Events.{bounds_of, processor_again, processor_takes}
 use Rattle.pg_event.proofs.Chunks.{all_parts, all_append}
 use Rattle.pg_event.proofs.Spellings.{bytes_at}
 use Rattle.pg_codec.proofs.Next.{all_bytes}
-use Rattle.pg_span_codec.specs.Reading.{bare_at, timed_at}
-use Rattle.pg_span_codec.specs.Spelling.{IsBare}
+use Rattle.pg_codec.specs.declared.naming.Naming.TheVariants as namings
+use Rattle.pg_codec.specs.Bare.{IsBare, fields_in, event_in}
+use Rattle.pg_span_codec.specs.Reading.{timed_at}
 use Rattle.pg_span_codec.proofs.TimedEvents.{chosen, timed_takes}
 use Rattle.pg_span_codec.specs.declared.log.LogHeader.{LogHeader}
 use Rattle.pg_span_codec.specs.declared.log.Stamped.{Stamped}
@@ -29,7 +30,7 @@ use Rattle.pg_span_codec.specs.declared.log_error.LogRefusal.{LogRefusal}
 use Rattle.pg_span_codec.specs.declared.log_error.LogRefusal.TheVariants as faults
 use Rattle.pg_span_codec.specs.LogLaws.{ReadLogsAreLogs}
 use Rattle.pg_span_codec.specs.Logs.{Logged, alone, end_mark, AreLogSettings, IsOwn, StandsAbove, Rise, IsLog}
-use Rattle.pg_span_codec.specs.LogReading.{field, log_magic_at, log_header_at, bare_event_at, stamped_at, end_at, next_at, events_at, log_reading}
+use Rattle.pg_span_codec.specs.LogReading.{field, log_magic_at, log_header_at, stamped_at, end_at, next_at, events_at, log_reading}
 
 -- ---- steps
 
@@ -72,12 +73,12 @@ record IsRead (head : Head) (x : Event × List ℕ) : Type 0 where
 no_span : AreBytes (to_le_bytes w32 0)
 no_span = (omega arith, (omega arith, (omega arith, (omega arith, tt))))
 
-event_read : (head : Head) (i : ℕ) (bytes : List ℕ) (x : Event × List ℕ) → IsBytes bytes → bare_event_at head i bytes ≡ Ok x → IsRead head x
-unfolding bare_event_at timed_at
+event_read : (head : Head) (i : ℕ) (bytes : List ℕ) (x : Event × List ℕ) → IsBytes bytes → event_in namings.Bare head i bytes ≡ Ok x → IsRead head x
+unfolding event_in timed_at
 event_read head i bytes x fits e =
     from_passing (is_between 0x10 (last_tag head.version)) refusals.Tag (byte_at bytes) _ x e (λ a a_is tag e.
     from_bind (processor_at head.version a.1) _ x e (λ b b_is e.
-    from_bind (bare_at a.0 b.0 b.1) _ x e (λ d d_is e.
+    from_bind (fields_in namings.Bare a.0 b.0 b.1) _ x e (λ d d_is e.
     let judged = well_is i (broken_rule head d.0) d x e in
     let t0 = byte_takes bytes a fits a_is in
     let t1 = processor_takes head.version a.1 b t0.0.rest_fits b_is in
@@ -110,7 +111,7 @@ stamped_read head own i begin bytes x fits e =
     let t = number_takes w64 (2 ^ 64) wide64 bytes end fits end_is in
     let above = passed (ltb begin end.0 && ltb end.0 end_mark) (faults.Stamps i) _ x e in
     let both = and_parts (ltb begin end.0) (ltb end.0 end_mark) above.0 in
-    from_field (bare_event_at head i end.1) _ x above.1 (λ d d_is e.
+    from_field (event_in namings.Bare head i end.1) _ x above.1 (λ d d_is e.
     let event = event_read head i end.1 d t.0.rest_fits d_is in
     let own_is = passed (eqb (processor_of d.0) own) (faults.Processor i) _ x e in
     let made : Stamped × List ℕ = (record { begin = begin; end = end.0; event = d.0 }, d.1) in

@@ -16,7 +16,8 @@ use Rattle.pg_event.proofs.Spellings.{bytes_at}
 use Rattle.pg_spanned.specs.Orders.{Spanned}
 use Rattle.pg_spanned.specs.Spanned.{IsSpanned}
 use Rattle.pg_span_codec.specs.declared.refusal.SpannedRefusal.TheVariants.{Plain}
-use Rattle.pg_span_codec.specs.Spelling.{IsBare, Timed, timed, spans_header_bytes, timed_segments_bytes, spanned_bytes, IsSpelled, SpellsSpanned}
+use Rattle.pg_codec.specs.Bare.{IsBare}
+use Rattle.pg_span_codec.specs.Spelling.{Timed, timed, spans_header_bytes, timed_segments_bytes, spanned_bytes, IsSpelled, SpellsSpanned}
 use Rattle.pg_span_codec.specs.Reading.{plain, spans_header_at, next_segments_at, no_events, spanned_reading}
 use Rattle.pg_span_codec.specs.Laws.{NoBytesSpellTwoRuns, ReadingOfSpannedSpelling, SpelledWhereRead}
 use Rattle.pg_span_codec.proofs.Binds.{bind_on, bind_from, plain_on, plain_from, value_is, test_from}

@@ -19,35 +19,37 @@ use Rattle.pg_event.proofs.Events.{processor_again, processor_takes, outcome_aga
 use Rattle.pg_event.proofs.Chunks.{all_parts, all_append}
 use Rattle.pg_event.proofs.Spellings.{bytes_at}
 use Rattle.pg_codec.proofs.Next.{all_bytes}
-use Rattle.pg_span_codec.specs.Spelling.{no_moments, IsBare, bare_bytes, Timed, timed_bytes}
-use Rattle.pg_span_codec.specs.Reading.{bare_access_at, bare_assist_at, bare_at, timed_at}
+use Rattle.pg_codec.specs.declared.naming.Naming.TheVariants as namings
+use Rattle.pg_codec.specs.Bare.{no_moments, IsBare, bare_bytes, access_in, assist_in, fields_in}
+use Rattle.pg_span_codec.specs.Spelling.{Timed, timed_bytes}
+use Rattle.pg_span_codec.specs.Reading.{timed_at}
 
 both : (xs ys : List ℕ) → AreBytes xs → AreBytes ys → AreBytes (xs ++ ys)
 both xs ys a b = all_append (λ (n : ℕ). n < 256) xs ys a b
 
 access_again : (p flags la : ℕ) (outcome : Outcome) (moments rest : List ℕ) → la < 2 ^ 64 → FitsOutcome outcome → moments ≡ no_moments
-    → bare_access_at p (flags ∷ to_le_bytes w64 la ++ (outcome_bytes outcome ++ rest)) ≡ Ok (Access p flags la outcome moments, rest)
-unfolding bare_access_at
+    → access_in namings.Bare p (flags ∷ to_le_bytes w64 la ++ (outcome_bytes outcome ++ rest)) ≡ Ok (Access p flags la outcome moments, rest)
+unfolding access_in
 access_again p flags la outcome moments rest lt fits bare =
     ok_bind _ _ _ (number_again w64 (2 ^ 64) wide64 la (outcome_bytes outcome ++ rest) lt)
     ∙ (ok_bind _ _ _ (outcome_again outcome rest fits)
     ∙ ap (λ (ms : List ℕ). Ok (Access p flags la outcome ms, rest)) (sym bare))
 
 assist_again : (p flags la word : ℕ) (moments rest : List ℕ) → la < 2 ^ 64 → word < 2 ^ 64 → moments ≡ no_moments
-    → bare_assist_at p (flags ∷ to_le_bytes w64 la ++ (to_le_bytes w64 word ++ rest)) ≡ Ok (Assist p flags la word moments, rest)
-unfolding bare_assist_at
+    → assist_in namings.Bare p (flags ∷ to_le_bytes w64 la ++ (to_le_bytes w64 word ++ rest)) ≡ Ok (Assist p flags la word moments, rest)
+unfolding assist_in
 assist_again p flags la word moments rest la_fits word_fits bare =
     ok_bind _ _ _ (number_again w64 (2 ^ 64) wide64 la (to_le_bytes w64 word ++ rest) la_fits)
     ∙ (ok_bind _ _ _ (number_again w64 (2 ^ 64) wide64 word rest word_fits)
     ∙ ap (λ (ms : List ℕ). Ok (Assist p flags la word ms, rest)) (sym bare))
 
-pub bare_again : (e : Event) (rest : List ℕ) → FitsEvent e → IsBare e → bare_at (tag_of e) (processor_of e) (bare_bytes e ++ rest) ≡ Ok (e, rest)
-unfolding bare_at
+pub bare_again : (e : Event) (rest : List ℕ) → FitsEvent e → IsBare e → fields_in namings.Bare (tag_of e) (processor_of e) (bare_bytes e ++ rest) ≡ Ok (e, rest)
+unfolding fields_in
 bare_again (Write p addr value) rest fits bare = fields_again (Write p addr value) rest fits
 bare_again (Access p flags la outcome moments) rest fits bare =
-    ap (λ (w : List ℕ). bare_access_at p (flags ∷ w)) (append_assoc (to_le_bytes w64 la) (outcome_bytes outcome) rest) ∙ access_again p flags la outcome moments rest fits.1 fits.2 bare
+    ap (λ (w : List ℕ). access_in namings.Bare p (flags ∷ w)) (append_assoc (to_le_bytes w64 la) (outcome_bytes outcome) rest) ∙ access_again p flags la outcome moments rest fits.1 fits.2 bare
 bare_again (Assist p flags la word moments) rest fits bare =
-    ap (λ (w : List ℕ). bare_assist_at p (flags ∷ w)) (append_assoc (to_le_bytes w64 la) (to_le_bytes w64 word) rest) ∙ assist_again p flags la word moments rest fits.1 fits.2 bare
+    ap (λ (w : List ℕ). assist_in namings.Bare p (flags ∷ w)) (append_assoc (to_le_bytes w64 la) (to_le_bytes w64 word) rest) ∙ assist_again p flags la word moments rest fits.1 fits.2 bare
 bare_again (MovCr3 p operand) rest fits bare = fields_again (MovCr3 p operand) rest fits
 bare_again (Invlpg p la) rest fits bare = fields_again (Invlpg p la) rest fits
 bare_again (Invpcid p kind pcid la) rest fits bare = fields_again (Invpcid p kind pcid la) rest fits
@@ -65,8 +67,8 @@ pub record TakesBare (tag p : ℕ) (bytes : List ℕ) (x : Event × List ℕ) : 
 one_moment : AllByRecursion (λ (w : ℕ). w < 2 ^ 32) no_moments
 one_moment = (omega arith, tt)
 
-access_takes : (p : ℕ) (bytes : List ℕ) (x : Event × List ℕ) → IsBytes bytes → bare_access_at p bytes ≡ Ok x → TakesBare 0x11 p bytes x
-unfolding bare_access_at
+access_takes : (p : ℕ) (bytes : List ℕ) (x : Event × List ℕ) → IsBytes bytes → access_in namings.Bare p bytes ≡ Ok x → TakesBare 0x11 p bytes x
+unfolding access_in
 access_takes p bytes x fits e =
     from_bind (byte_at bytes) _ x e (λ a a_is e.
     from_bind (number_at w64 a.1) _ x e (λ b b_is e.
@@ -79,8 +81,8 @@ access_takes p bytes x fits e =
     subst (TakesBare 0x11 p bytes) (ok_is (Access p a.0 b.0 c.0 no_moments, c.1) x e)
     (record { tagged = refl; named = refl; parts = e02.parts; rest_fits = e02.rest_fits; fits = (t0.1, t1.1, t2.1, record { some = omega arith; few = omega arith; fit = one_moment }); bare = refl }))))
 
-assist_takes : (p : ℕ) (bytes : List ℕ) (x : Event × List ℕ) → IsBytes bytes → bare_assist_at p bytes ≡ Ok x → TakesBare 0x16 p bytes x
-unfolding bare_assist_at
+assist_takes : (p : ℕ) (bytes : List ℕ) (x : Event × List ℕ) → IsBytes bytes → assist_in namings.Bare p bytes ≡ Ok x → TakesBare 0x16 p bytes x
+unfolding assist_in
 assist_takes p bytes x fits e =
     from_bind (byte_at bytes) _ x e (λ a a_is e.
     from_bind (number_at w64 a.1) _ x e (λ b b_is e.
@@ -141,12 +143,12 @@ chosen P true r s y f g e = f refl e
 chosen P false r s y f g e = g refl e
 
 bare_takes : (head : Head) (tag p : ℕ) (bytes : List ℕ) (x : Event × List ℕ) → IsBytes bytes → AreBytes (processor_bytes head.version p) → p < 2 ^ 16 → tag < 256
-    → is_between 0x10 (last_tag head.version) tag ≡ true → broken_rule head x.0 ≡ None → bare_at tag p bytes ≡ Ok x → TakesBare tag p bytes x
-unfolding bare_at
+    → is_between 0x10 (last_tag head.version) tag ≡ true → broken_rule head x.0 ≡ None → fields_in namings.Bare tag p bytes ≡ Ok x → TakesBare tag p bytes x
+unfolding fields_in
 bare_takes head tag p bytes x fits named_fits numbered small known well =
-    chosen (TakesBare tag p bytes x) (eqb tag 0x11) (bare_access_at p bytes) _ (Ok x)
+    chosen (TakesBare tag p bytes x) (eqb tag 0x11) (access_in namings.Bare p bytes) _ (Ok x)
     (λ h e. subst (λ (n : ℕ). TakesBare n p bytes x) (sym (eqb-true _ _ h)) (access_takes p bytes x fits e))
-    (λ not_access. chosen (TakesBare tag p bytes x) (eqb tag 0x16) (bare_assist_at p bytes) (fields_at tag p bytes) (Ok x)
+    (λ not_access. chosen (TakesBare tag p bytes x) (eqb tag 0x16) (assist_in namings.Bare p bytes) (fields_at tag p bytes) (Ok x)
     (λ h e. subst (λ (n : ℕ). TakesBare n p bytes x) (sym (eqb-true _ _ h)) (assist_takes p bytes x fits e))
     (λ not_assist e. old_takes head tag p bytes x fits named_fits numbered small known well (eqb-false _ _ not_access) (eqb-false _ _ not_assist) e))
 
@@ -200,7 +202,7 @@ timed_takes head bytes x fits well e =
     from_passing (is_between 0x10 (last_tag head.version)) refusals.Tag (byte_at bytes) _ x e (λ a a_is tag e.
     from_bind (processor_at head.version a.1) _ x e (λ b b_is e.
     from_bind (number_at w32 b.1) _ x e (λ c c_is e.
-    from_bind (bare_at a.0 b.0 c.1) _ x e (λ d d_is e.
+    from_bind (fields_in namings.Bare a.0 b.0 c.1) _ x e (λ d d_is e.
     let made : Timed × List ℕ = ((d.0, c.0), d.1) in
     let same : made ≡ x = ok_is made x e in
     let d_well : broken_rule head d.0 ≡ None = ap (λ (y : Timed × List ℕ). broken_rule head y.0.0) same ∙ well in

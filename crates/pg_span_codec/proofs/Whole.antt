@@ -8,7 +8,7 @@ use Rattle.pg_event.specs.Heads.{Head}
 use Rattle.pg_event.specs.declared.event.Event.{Event}
 use Rattle.pg_event.specs.Form.{processor_of, broken_rule}
 use Rattle.pg_event.specs.Spelling.{FitsEvent}
-use Rattle.pg_span_codec.specs.Spelling.{IsBare}
+use Rattle.pg_codec.specs.Bare.{IsBare}
 use Rattle.pg_span_codec.specs.declared.log.Stamped.{Stamped}
 use Rattle.pg_span_codec.specs.Logs.{Logged, alone, IsOwn, IsLog}
 use Rattle.pg_span_codec.specs.Runs.{IsPartOf, events_of}

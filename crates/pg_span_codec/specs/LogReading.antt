@@ -8,10 +8,11 @@ use Rattle.std.specs.Int.{w16, w64}
 use Rattle.pg_event.specs.declared.event.Event.{Event}
 use Rattle.pg_event.specs.declared.refusal.Refusal.TheVariants as refusals
 use Rattle.pg_event.specs.Heads.{Head, most_processors, least_maxphyaddr, most_maxphyaddr}
-use Rattle.pg_event.specs.Form.{processor_of, broken_rule}
+use Rattle.pg_event.specs.Form.{processor_of}
 use Rattle.pg_event.specs.Reading.{◌>>=◌, Part, byte_at, number_at, passing, is_between}
-use Rattle.pg_event.specs.Reading.{version_at, start_at, processor_at, last_tag, well_formed_at}
-use Rattle.pg_span_codec.specs.Reading.{bare_at}
+use Rattle.pg_event.specs.Reading.{version_at, start_at}
+use Rattle.pg_codec.specs.declared.naming.Naming.TheVariants.{Bare}
+use Rattle.pg_codec.specs.Bare.{event_in}
 use Rattle.pg_span_codec.specs.declared.log.LogHeader.{LogHeader}
 use Rattle.pg_span_codec.specs.declared.log.Stamped.{Stamped}
 use Rattle.pg_span_codec.specs.declared.log_error.LogRefusal.{LogRefusal}
@@ -55,14 +56,6 @@ log_header_at bytes = do
     start.1,
   )
 
--- event number i, without moments
-unfoldable pub bare_event_at : Head → ℕ → List ℕ → Part Event
-bare_event_at head i bytes = do
-  tag ← passing (is_between 0x10 (last_tag head.version)) refusals.Tag (byte_at bytes)
-  p ← processor_at head.version tag.1
-  e ← bare_at tag.0 p.0 p.1
-  well_formed_at i (broken_rule head e.0) e
-
 -- an event has to be of the log's processor
 abbrev pub own_at : ℕ → ℕ → ℕ → ℕ → Event × List ℕ → LogPart Stamped
 own_at own i begin end e =
@@ -74,7 +67,7 @@ unfoldable pub stamped_at : Head → ℕ → ℕ → ℕ → List ℕ → LogPar
 stamped_at head own i begin bytes = do
   end ← field (number_at w64 bytes)
   if nat_lt begin end.0 && nat_lt end.0 end_mark then
-      (field (bare_event_at head i end.1) >>= own_at own i begin end.0) else Err (faults.Stamps i)
+      (field (event_in Bare head i end.1) >>= own_at own i begin end.0) else Err (faults.Stamps i)
 
 -- the end mark, after its first field, of a log with so many events
 unfoldable pub end_at : ℕ → List ℕ → LogPart (Option Stamped)

@@ -5,7 +5,7 @@ use Rattle.pg_event.specs.Heads.{Head, most_processors, least_maxphyaddr, most_m
 use Rattle.pg_event.specs.Heads.{most_segment}
 use Rattle.pg_event.specs.Form.{processor_of, broken_rule}
 use Rattle.pg_event.specs.Spelling.{FitsEvent}
-use Rattle.pg_span_codec.specs.Spelling.{IsBare}
+use Rattle.pg_codec.specs.Bare.{IsBare}
 use Rattle.pg_span_codec.specs.declared.log.LogHeader.{LogHeader}
 use Rattle.pg_span_codec.specs.declared.log.Stamped.{Stamped}
 

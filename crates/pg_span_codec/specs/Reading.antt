@@ -3,9 +3,7 @@
 use Rattle.std.specs.Prelude.{ℕ, zero, suc, ◌+◌, ◌^◌, Bool, true, ◌&&◌, ◌||◌, ◌==◌, nat_lt}
 use Rattle.std.specs.Prelude.{nat_le, if◌then◌else◌, List, [], ◌∷◌, ◌++◌, length}
 use Rattle.std.specs.Prelude.{Option, Some, None, Result, Ok, Err}
-use Rattle.std.specs.Int.{w16, w32, w64}
-use Rattle.pg_event.specs.declared.event.Event.{Event}
-use Rattle.pg_event.specs.declared.event.Event.TheVariants as events
+use Rattle.std.specs.Int.{w16, w32}
 use Rattle.pg_event.specs.declared.event.Malformed.{Malformed}
 use Rattle.pg_event.specs.declared.refusal.Refusal.TheVariants as refusals
 use Rattle.pg_event.specs.declared.version.Version.{Version}
@@ -14,11 +12,13 @@ use Rattle.pg_event.specs.Heads.{Head, most_processors, least_maxphyaddr, most_m
 use Rattle.pg_event.specs.Heads.{most_segment}
 use Rattle.pg_event.specs.Form.{broken_rule}
 use Rattle.pg_event.specs.Reading.{◌>>=◌, Part, byte_at, number_at, passing, is_between, magic_at}
-use Rattle.pg_event.specs.Reading.{processor_at, starts_at, outcome_at, fields_at, last_tag}
+use Rattle.pg_event.specs.Reading.{processor_at, starts_at, last_tag}
+use Rattle.pg_codec.specs.declared.naming.Naming.TheVariants.{Bare}
+use Rattle.pg_codec.specs.Bare.{fields_in}
 use Rattle.pg_spanned.specs.Orders.{Spanned}
 use Rattle.pg_span_codec.specs.declared.refusal.SpannedRefusal.{SpannedRefusal}
 use Rattle.pg_span_codec.specs.declared.refusal.SpannedRefusal.TheVariants.{Plain, Back}
-use Rattle.pg_span_codec.specs.Spelling.{no_moments, Timed}
+use Rattle.pg_span_codec.specs.Spelling.{Timed}
 
 -- what reading a part gives: its value and the bytes after it
 abbrev pub SpannedPart : Type 0 → Type 0
@@ -66,34 +66,13 @@ spans_header_at bytes = do
   version ← spans_front_at bytes
   settings_behind version.0 version.1
 
--- the fields of an access and of an assist, without moments
-unfoldable pub bare_access_at : ℕ → List ℕ → Part Event
-bare_access_at p bytes = do
-  flags ← byte_at bytes
-  la ← number_at w64 flags.1
-  outcome ← outcome_at la.1
-  Ok (events.Access p flags.0 la.0 outcome.0 no_moments, outcome.1)
-
-unfoldable pub bare_assist_at : ℕ → List ℕ → Part Event
-bare_assist_at p bytes = do
-  flags ← byte_at bytes
-  la ← number_at w64 flags.1
-  word ← number_at w64 la.1
-  Ok (events.Assist p flags.0 la.0 word.0 no_moments, word.1)
-
--- the fields of an event after its tag, processor and span
-unfoldable pub bare_at : ℕ → ℕ → List ℕ → Part Event
-bare_at tag p bytes =
-    if tag == 0x11 then bare_access_at p bytes else
-    if tag == 0x16 then bare_assist_at p bytes else fields_at tag p bytes
-
 -- an event with its span
 unfoldable pub timed_at : Version → List ℕ → Part Timed
 timed_at version bytes = do
   tag ← passing (is_between 0x10 (last_tag version)) refusals.Tag (byte_at bytes)
   p ← processor_at version tag.1
   back ← number_at w32 p.1
-  e ← bare_at tag.0 p.0 back.1
+  e ← fields_in Bare tag.0 p.0 back.1
   Ok ((e.0, back.0), e.1)
 
 -- a run and the event that ended next

@@ -2,47 +2,20 @@
 use Rattle.std.specs.Prelude.{◌≡◌, ℕ, zero, suc, ◌+◌, List, [], ◌∷◌, ◌++◌, length, take, drop}
 use Rattle.std.specs.Prelude.{codes}
 use Rattle.std.specs.List.{flat_map, zip, AllByRecursion}
-use Rattle.std.specs.Int.{w16, w32, w64, to_le_bytes}
+use Rattle.std.specs.Int.{w16, w32, to_le_bytes}
 use Rattle.pg_event.specs.declared.event.Event.{Event}
-use Rattle.pg_event.specs.declared.event.Event.TheVariants.{Write, Access, Assist, MovCr3, Invlpg}
-use Rattle.pg_event.specs.declared.event.Event.TheVariants.{Invpcid, MovCr4Pge}
 use Rattle.pg_event.specs.declared.version.Version.{Version}
 use Rattle.pg_event.specs.Heads.{Head}
 use Rattle.pg_event.specs.Form.{processor_of}
-use Rattle.pg_event.specs.Spelling.{version_number, processor_bytes, outcome_bytes, tag_of}
-use Rattle.pg_event.specs.Spelling.{field_bytes, start_bytes, end_bytes, FitsEvent}
+use Rattle.pg_event.specs.Spelling.{version_number, processor_bytes, tag_of, start_bytes}
+use Rattle.pg_event.specs.Spelling.{end_bytes, FitsEvent}
+use Rattle.pg_codec.specs.Bare.{IsBare, bare_bytes}
 use Rattle.pg_spanned.specs.Orders.{Spanned}
 use Rattle.pg_spanned.specs.Spanned.{IsSpanned}
 
 -- events of version 1 have spans in version 3, and those of version 2 in version 4
 abbrev pub spans_number : Version → ℕ
 spans_number version = version_number version + 2
-
--- the moments of an access or an assist that names none
-abbrev pub no_moments : List ℕ
-no_moments = 0 ∷ []
-
--- an event that names no moments
-abbrev pub IsBare : Event → Type 0
-IsBare (Access p flags la outcome moments) = moments ≡ no_moments
-IsBare (Assist p flags la word moments) = moments ≡ no_moments
-IsBare (Write p addr value) = Unit {0}
-IsBare (MovCr3 p operand) = Unit {0}
-IsBare (Invlpg p la) = Unit {0}
-IsBare (Invpcid p kind pcid la) = Unit {0}
-IsBare (MovCr4Pge p on) = Unit {0}
-
--- the fields of an event without its moments
-abbrev pub bare_bytes : Event → List ℕ
-bare_bytes (Access p flags la outcome moments) =
-    flags ∷ (to_le_bytes w64 la ++ outcome_bytes outcome)
-bare_bytes (Assist p flags la word moments) =
-    flags ∷ (to_le_bytes w64 la ++ to_le_bytes w64 word)
-bare_bytes (Write p addr value) = field_bytes (Write p addr value)
-bare_bytes (MovCr3 p operand) = field_bytes (MovCr3 p operand)
-bare_bytes (Invlpg p la) = field_bytes (Invlpg p la)
-bare_bytes (Invpcid p kind pcid la) = field_bytes (Invpcid p kind pcid la)
-bare_bytes (MovCr4Pge p on) = field_bytes (MovCr4Pge p on)
 
 -- an event, and how many of those before it had not yet ended when it began
 abbrev pub Timed : Type 0

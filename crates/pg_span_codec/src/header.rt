@@ -11,7 +11,7 @@ ghost use Rattle.pg_span_codec.specs.Reading.{settings_behind, spans_header_at};
 ghost use Rattle.pg_span_codec.specs.Versions.{says_spans};
 
 use crate::error::SpannedError;
-use crate::fields::{byte_of, processor_number, u16_of, u32_of, u64_of};
+use pg_codec::{byte_of, processor_number, u16_of, u32_of, u64_of};
 use pg_entry::{Cfg, CfgFlags};
 use pg_event::{
     Header, LEAST_MAXPHYADDR, MOST_MAXPHYADDR, MOST_SEGMENT, Refusal, Version, most_processors,

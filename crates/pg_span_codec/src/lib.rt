@@ -4,16 +4,13 @@
 //! make.
 #![tactic(auto)]
 
-mod bare;
 mod error;
-mod fields;
 mod front;
 mod gathering;
 mod header;
 mod laws;
 mod log;
 mod log_error;
-mod log_event;
 mod log_header;
 mod log_laws;
 mod log_number;
@@ -24,6 +21,7 @@ mod peeked;
 mod reader;
 mod refusal;
 mod spelling;
+mod timed;
 mod united;
 
 pub use error::SpannedError;

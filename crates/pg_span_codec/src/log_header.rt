@@ -6,9 +6,9 @@ ghost use Rattle.pg_codec.specs.Reads.{Gives};
 ghost use Rattle.pg_span_codec.specs.Logs.{AreLogSettings};
 ghost use Rattle.pg_span_codec.specs.LogReading.{log_magic_at, log_header_at};
 
-use crate::fields::{byte_of, u16_of};
 use crate::header::start_of;
 use crate::log::LogHeader;
+use pg_codec::{byte_of, u16_of};
 use pg_entry::{Cfg, CfgFlags};
 use pg_event::{LEAST_MAXPHYADDR, MOST_MAXPHYADDR, Refusal, Version, most_processors};
 

@@ -9,11 +9,10 @@ ghost use Rattle.pg_span_codec.specs.Logs.{alone};
 ghost use Rattle.pg_span_codec.specs.LogReading.{log_header_at, stamped_at, end_at, next_at};
 ghost use Rattle.pg_span_codec.specs.LogReading.{events_at, log_reading};
 
-use crate::fields::u64_of;
 use crate::log::{Log, LogHeader, Stamped};
 use crate::log_error::{LogError, LogRefusal};
-use crate::log_event::event_of;
 use crate::log_header::header_of;
+use pg_codec::{Naming, event_of, u64_of};
 use pg_event::{Header, MOST_SEGMENT, Refusal, processor_of};
 use std::alloc::{AllocError, Global};
 use std::cell::Cell;
@@ -53,7 +52,7 @@ fn stamped_of<'a>(
     if end <= begin || end == END_MARK {
         return Err(LogRefusal::Stamps { event: i });
     }
-    match event_of(header, i, rest) {
+    match event_of(Naming::Bare, header, i, rest) {
         Err(refusal) => Err(LogRefusal::Field(refusal)),
         Ok((event, rest)) => {
             if processor_of(&event) != own {

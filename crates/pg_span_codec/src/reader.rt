@@ -7,11 +7,11 @@ ghost use Rattle.pg_span_codec.specs.Reading.{plain, next_event_at, next_events_
 ghost use Rattle.pg_span_codec.specs.Reading.{next_segment_at, total_at, tag_at, next_segments_at};
 ghost use Rattle.pg_span_codec.specs.Reading.{spanned_reading};
 
-use crate::bare::timed_of;
 use crate::error::SpannedError;
-use crate::fields::{byte_of, u32_of};
 use crate::header::header_of;
 use crate::refusal::SpannedRefusal;
+use crate::timed::timed_of;
+use pg_codec::{byte_of, u32_of};
 use pg_event::{Refusal, well_formed};
 use pg_spanned::SpannedRun;
 use std::alloc::Global;

@@ -6,7 +6,7 @@ use Rattle.std.specs.List.{AllByRecursion}
 use Rattle.std.proofs.lemmas.List.Elements.{recursion_from_All}
 use Rattle.pg_event.specs.Form.{broken_rule}
 use Rattle.pg_event.specs.Spelling.{FitsEvent}
-use Rattle.pg_span_codec.specs.Spelling.{IsBare}
+use Rattle.pg_codec.specs.Bare.{IsBare}
 use Rattle.pg_span_codec.proofs.Lists.{each_weaker}
 use Rattle.pg_span_codec.specs.declared.log.Stamped.{Stamped}
 use Rattle.pg_span_codec.specs.Runs.{AreOfOneRun, events_of}
